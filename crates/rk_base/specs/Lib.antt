@@ -1,0 +1,5 @@
+pub mod Canonical
+pub mod Errno
+pub mod Faults
+pub mod Paid
+pub mod Text

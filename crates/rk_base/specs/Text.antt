@@ -1,0 +1,74 @@
+-- Texts of paths, in the order of their bytes.
+use Rattle.std.specs.Prelude.{ℕ, ◌+◌, List, [], ◌∷◌, ◌++◌, take, drop, length, nat_eq, not, ◌&&◌, ◌||◌, Bool, ◌==◌, if◌then◌else◌}
+use Rattle.std.specs.Ordering.{nat_cmp}
+use Rattle.std.specs.declared.cmp.Ordering.{Ordering}
+use Rattle.std.specs.Cmp.Lexicographic.{slice_cmp, pointwise}
+
+abbrev pub Text : Type 0
+Text = List ℕ
+
+-- texts compare by their bytes
+abbrev pub text_cmp : Text → Text → Ordering
+text_cmp = slice_cmp nat_cmp
+
+abbrev pub same_text : Text → Text → Bool
+same_text = pointwise nat_eq
+
+abbrev pub is_slash : ℕ → Bool
+is_slash b = b == 47
+
+abbrev pub root : Text
+root = 47 ∷ []
+
+abbrev pub is_root : Text → Bool
+is_root path = same_text path root
+
+abbrev pub or_root : Text → Text
+or_root [] = root
+or_root (b ∷ bs) = b ∷ bs
+
+-- the place of the last slash of what stands from place i on, or else the given one
+abbrev pub last_slash : ℕ → ℕ → Text → ℕ
+last_slash last i [] = last
+last_slash last i (b ∷ bs) = last_slash (if is_slash b then i else last) (i + 1) bs
+
+-- the directory that a path stands in; the root's is the root
+unfoldable pub parent : Text → Text
+parent path = or_root (take (last_slash 0 0 path) path)
+
+-- the last name of a path
+abbrev pub name_of : Text → Text
+name_of path = drop (last_slash 0 0 path + 1) path
+
+-- a path as what a name is put after
+abbrev pub stem : Text → Text
+stem path = if is_root path then [] else path
+
+-- the path of a name in a directory
+unfoldable pub join : Text → Text → Text
+join dir name = stem dir ++ 47 ∷ name
+
+-- whether a path stands in this directory
+unfoldable pub is_in : Text → Text → Bool
+is_in dir path = not (is_root path) && same_text (parent path) dir
+
+abbrev pub begins_with : Text → Text → Bool
+begins_with text front = same_text (take (length front) text) front
+
+-- whether a path is this one or stands anywhere below it
+unfoldable pub is_within : Text → Text → Bool
+is_within above path = same_text path above || begins_with path (stem above ++ 47 ∷ [])
+
+-- the path that a path has after all within `from` has gone to `to`
+unfoldable pub moved : Text → Text → Text → Text
+moved from to path = if is_within from path then to ++ drop (length from) path else path
+
+-- the name of the hidden directory at the root
+abbrev pub hidden : Text
+hidden = 46 ∷ 114 ∷ 107 ∷ 114 ∷ []
+
+abbrev pub dot : Text
+dot = 46 ∷ []
+
+abbrev pub dot_dot : Text
+dot_dot = 46 ∷ 46 ∷ []

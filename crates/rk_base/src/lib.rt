@@ -1,0 +1,20 @@
+//! Byte strings, names and paths, refusals, the budget of turns and the count of steps.
+#![tactic(auto)]
+
+mod budget;
+mod bytes;
+mod errno;
+mod memory;
+mod name;
+mod path;
+mod steps;
+mod text;
+
+pub use budget::Budget;
+pub use bytes::Bytes;
+pub use errno::Errno;
+pub use memory::NoMemory;
+pub use name::Name;
+pub use path::{Path, PathFault};
+pub use steps::Steps;
+pub use text::is_name;

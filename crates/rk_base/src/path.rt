@@ -1,0 +1,198 @@
+// Paths.
+ghost use Rattle.std.specs.Prelude.{◌≡◌, ◌↔◌, IsTrue, ℕ, List, IfOk, nat_eq, Some, refl, true};
+ghost use Rattle.std.specs.Ordering.{nat_cmp};
+ghost use Rattle.std.specs.Hash as fed;
+ghost use Rattle.std.specs.Cmp.{po, partial_equiv_from_equiv, nat_eq_equiv, unsigned_ties, unsigned_Decides};
+ghost use Rattle.std.specs.Cmp.Lexicographic.{slice_cmp, pointwise, lists_equiv, lists_ties, nat_list_cmp_total};
+ghost use Rattle.rk_base.specs.Text.{root, join, parent, stem, name_of, or_root, is_root};
+ghost use Rattle.rk_base.specs.Canonical.{is_canonical, is_name};
+ghost use Rattle.rk_base.specs.Faults.{Reads};
+ghost use Rattle.rk_base.specs.declared.path.PathFault.TheVariants as fault;
+
+use crate::text::{is_canonical, last_slash};
+use crate::{Bytes, Name, NoMemory};
+use std::alloc::{AllocError, Global};
+use std::cmp::Ordering;
+use std::hash::{Hash, Hasher};
+use std::marker::Model;
+
+/// Why bytes are no name, or a text is no path.
+#[derive(Clone, Copy, Debug, PartialEq, Eq)]
+pub enum PathFault {
+    Invalid,
+    NoMemory,
+}
+
+impl From<NoMemory> for PathFault {
+    ghost from_gives = { λ _ e. e ≡ fault.NoMemory };
+
+    fn from(_: NoMemory) -> PathFault {
+        PathFault::NoMemory
+    }
+}
+
+/// A path: `/`, or names each after one slash. Paths are ordered by the bytes of their texts.
+#[derive(Debug, Drop)]
+pub struct Path {
+    text: Bytes,
+}
+
+impl Model for Path {
+    ghost use Rattle.std.specs.Prelude.{◌≡◌, List, ℕ, true};
+    ghost use Rattle.rk_base.specs.Canonical.{is_canonical};
+
+    ghost Value = { List ℕ };
+
+    ghost view = { λ p. p.text };
+
+    ghost invariant = { λ p. is_canonical p.text ≡ true };
+}
+
+// A path as what a name is put after.
+fn stem(dir: &[u8]) -> &[u8]
+    ensures { result.now ≡ stem dir.now }
+{
+    if dir == b"/".as_slice() { b"" } else { dir }
+}
+
+#[tactic(auto, unfolding(crate::specs::Text::join))]
+fn join(alloc: Global, dir: &[u8], name: &[u8]) -> Result<Vec<u8>, AllocError>
+    ensures { IfOk result (λ v. v.items ≡ join dir.now name.now) }
+{
+    let mut text = Vec::from_slice(alloc, stem(dir))?;
+    text.push(b'/')?;
+    text.extend_from_slice(name)?;
+    Ok(text)
+}
+
+impl Path {
+    /// The path of this canonical text; `Invalid` exactly where it is none.
+    pub fn parse(alloc: Global, text: &[u8]) -> Result<Path, PathFault>
+        ensures { Reads (is_canonical text.now) text.now result }
+    {
+        if !is_canonical(text) {
+            return Err(PathFault::Invalid);
+        }
+        let text = Bytes::from_slice(alloc, text)?;
+        Ok(Path { text })
+    }
+
+    /// The root, `/`.
+    pub fn root(alloc: Global) -> Result<Path, NoMemory>
+        ensures { IfOk result (λ p. p ≡ root) }
+    {
+        let text = Bytes::from_slice(alloc, b"/")?;
+        Ok(Path { text })
+    }
+
+    /// The path of a name in this directory.
+    pub fn join(&self, alloc: Global, name: &Name) -> Result<Path, NoMemory>
+        ensures { IfOk result (λ p. p ≡ join self.now name.now) }
+    {
+        let text = join(alloc, self.text.as_slice(), name.as_slice())?;
+        Ok(Path {
+            text: Bytes::new(text),
+        })
+    }
+
+    /// The canonical text.
+    pub fn text(&self) -> &[u8]
+        ensures value { result.now ≡ self.now }
+        ensures canonical { is_canonical self.now ≡ true }
+    {
+        self.text.as_slice()
+    }
+
+    /// The text of the directory that it stands in; the root's is the root.
+    #[tactic(auto, unfolding(crate::specs::Text::parent))]
+    pub fn parent_text(&self) -> &[u8]
+        ensures { result.now ≡ parent self.now }
+    {
+        let text = self.text();
+        match &text[..last_slash(text)] {
+            [] => b"/",
+            front => front,
+        }
+    }
+
+    /// Its last name; nothing for the root.
+    pub fn name(&self) -> &[u8]
+        ensures { result.now ≡ name_of self.now }
+    {
+        let text = self.text();
+        let last = last_slash(text);
+        if last < text.len() {
+            &text[last + 1..]
+        } else {
+            b""
+        }
+    }
+
+    pub fn is_root(&self) -> bool
+        ensures { result ≡ is_root self.now }
+    {
+        self.text() == b"/".as_slice()
+    }
+
+    /// Whether both are one path.
+    pub fn same(&self, other: &Path) -> bool
+        ensures { IsTrue result ↔ (self.now ≡ other.now) }
+    {
+        self.text.same(&other.text)
+    }
+
+    pub fn copy(&self) -> Result<Path, NoMemory>
+        ensures { IfOk result (λ p. p ≡ self.now) }
+    {
+        let text = self.text.copy()?;
+        Ok(Path { text })
+    }
+}
+
+impl PartialEq for Path {
+    ghost eq = { pointwise nat_eq };
+
+    ghost laws = { partial_equiv_from_equiv (lists_equiv nat_eq_equiv) };
+
+    fn eq(&self, other: &Path) -> bool {
+        self.text() == other.text()
+    }
+}
+
+impl Eq for Path {
+    ghost laws = { lists_equiv nat_eq_equiv };
+}
+
+impl PartialOrd for Path {
+    ghost partial_cmp = { λ x y. Some (slice_cmp nat_cmp x y) };
+
+    ghost laws = { po nat_list_cmp_total (lists_ties nat_cmp unsigned_ties) };
+
+    fn partial_cmp(&self, other: &Path) -> Option<Ordering> {
+        Some(self.cmp(other))
+    }
+}
+
+impl Ord for Path {
+    ghost cmp = { slice_cmp nat_cmp };
+
+    ghost total = { nat_list_cmp_total };
+
+    ghost matches_partial_cmp = { λ x y. refl };
+
+    ghost matches_eq = { lists_ties nat_cmp unsigned_ties };
+
+    fn cmp(&self, other: &Path) -> Ordering {
+        self.text().cmp(other.text())
+    }
+}
+
+impl Hash for Path {
+    ghost hash_input = { fed.slice fed.u8 };
+
+    ghost respects_eq = { (fed.items_Alike (fed.same_Alike fed.u8 unsigned_Decides)).fed };
+
+    fn hash<H: Hasher>(&self, state: &mut H) {
+        self.text().hash(state);
+    }
+}
