@@ -1,0 +1,8 @@
+use Rattle.std.proofs.Common.{refl, ap, ◌∙◌, ◌≡◌, List, true}
+use Rattle.rk_calls.specs.declared.vars.Var.{Var}
+use Rattle.rk_calls.specs.Keys.{are_variables}
+use Rattle.rk_calls.proofs.vars.VarList.new.Goals as goal
+
+pub invariant_of-result : goal.invariant_of-result
+unfolding are_variables
+invariant_of-result c = ap (λ (vars : List Var). are_variables vars) c.new.ensures.items

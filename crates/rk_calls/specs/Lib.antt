@@ -1,0 +1,13 @@
+pub mod Costly
+pub mod Fits
+pub mod Fix
+pub mod Given
+pub mod Heard
+pub mod Keys
+pub mod Laws
+pub mod RefMaps
+pub mod Refs
+pub mod Saying
+pub mod Starts
+pub mod Talk
+pub mod Vars

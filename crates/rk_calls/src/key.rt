@@ -1,0 +1,98 @@
+// Keys of commands.
+ghost use Rattle.std.specs.Prelude.{◌≡◌, ◌↔◌, ◌<◌, IsTrue, IfOk, length, true};
+ghost use Rattle.std.specs.List.{list_any};
+ghost use Rattle.rk_base.specs.Text.{is_slash};
+ghost use Rattle.rk_calls.specs.Keys.{key_of, takes_variables, is_key};
+
+use crate::{VarList, WordList};
+use rk_base::{Bytes, NoMemory, Path};
+use std::marker::Model;
+
+/// What a command is known by: its words, its working directory and, where the first word is `sh` or has a
+/// slash, its exported variables.
+#[derive(Debug, Drop, PartialEq, Eq, Hash)]
+pub struct Key {
+    argv: WordList,
+    wd: Path,
+    vars: VarList,
+}
+
+impl Model for Key {
+    ghost use Rattle.std.specs.Prelude.{◌≡◌, true};
+    ghost use Rattle.rk_calls.specs.Keys.{KeyValue, is_key};
+
+    ghost Value = { KeyValue };
+
+    ghost view = { λ k. record { argv = k.argv; wd = k.wd; vars = k.vars } };
+
+    ghost invariant = { λ k. is_key k.argv k.vars ≡ true };
+
+    ghost inverse = { λ v. record { argv = v.argv; wd = v.wd; vars = v.vars } };
+}
+
+fn has_slash(word: &[u8]) -> bool
+    ensures { result ≡ list_any is_slash word.now }
+{
+    word.iter().any(|b| *b == b'/')
+}
+
+fn takes_variables(argv: &[Bytes]) -> bool
+    ensures { result ≡ takes_variables argv.now }
+{
+    match argv {
+        [] => false,
+        [word, ..] => word.as_slice() == b"sh".as_slice() || has_slash(word.as_slice()),
+    }
+}
+
+impl Key {
+    /// The key of a command of at least one word. The variables are dropped where the first word is neither
+    /// `sh` nor has a slash.
+    pub fn new(argv: WordList, wd: Path, exported: VarList) -> Key
+        requires { 0 < length argv }
+        ensures { result ≡ key_of argv wd exported }
+    {
+        let vars = if takes_variables(argv.as_slice()) {
+            exported
+        } else {
+            exported.cleared()
+        };
+        Key { argv, wd, vars }
+    }
+
+    pub fn argv(&self) -> &WordList
+        ensures value { result.now ≡ self.now.argv }
+        ensures key { is_key self.now.argv self.now.vars ≡ true }
+    {
+        &self.argv
+    }
+
+    /// The working directory.
+    pub fn wd(&self) -> &Path
+        ensures { result.now ≡ self.now.wd }
+    {
+        &self.wd
+    }
+
+    pub fn vars(&self) -> &VarList
+        ensures { result.now ≡ self.now.vars }
+    {
+        &self.vars
+    }
+
+    /// Whether both are one key.
+    pub fn same(&self, other: &Key) -> bool
+        ensures { IsTrue result ↔ (self.now ≡ other.now) }
+    {
+        self.argv.same(&other.argv) && self.wd.same(&other.wd) && self.vars.same(&other.vars)
+    }
+
+    pub fn copy(&self) -> Result<Key, NoMemory>
+        ensures { IfOk result (λ k. k ≡ self.now) }
+    {
+        let argv = self.argv.copy()?;
+        let wd = self.wd.copy()?;
+        let vars = self.vars.copy()?;
+        Ok(Key { argv, wd, vars })
+    }
+}

@@ -1,0 +1,80 @@
+// What a launched command's descriptors stand for.
+ghost use Rattle.std.specs.Prelude.{◌≡◌, ◌↔◌, IsTrue, IfOk, IfSome, length, true};
+ghost use Rattle.rk_calls.specs.RefMaps.{is_refmap, number_of, with_output};
+
+use rk_base::NoMemory;
+use std::alloc::Global;
+use std::marker::Model;
+
+/// Pairs of a descriptor of the launched command, 0 to 9, and the launcher's number that it stands for; each
+/// descriptor once, ascending.
+#[derive(Debug, Drop)]
+pub struct RefMap {
+    pairs: Vec<(u8, u64)>,
+}
+
+impl Model for RefMap {
+    ghost use Rattle.std.specs.Prelude.{◌≡◌, List, ℕ, true};
+    ghost use Rattle.rk_calls.specs.RefMaps.{is_refmap};
+
+    ghost Value = { List (ℕ × ℕ) };
+
+    ghost view = { λ m. m.pairs.items };
+
+    ghost invariant = { λ m. is_refmap m.pairs.items ≡ true };
+}
+
+impl RefMap {
+    /// Each descriptor from 0 to 9 stands for the same number, but 1 for this one.
+    #[tactic(auto, unfolding(crate::specs::RefMaps::is_refmap))]
+    pub fn with_output(alloc: Global, output: u64) -> Result<RefMap, NoMemory>
+        ensures { IfOk result (λ m. m ≡ with_output output) }
+    {
+        let pairs = vec![in alloc;
+            (0, 0),
+            (1, output),
+            (2, 2),
+            (3, 3),
+            (4, 4),
+            (5, 5),
+            (6, 6),
+            (7, 7),
+            (8, 8),
+            (9, 9),
+        ]?;
+        Ok(RefMap { pairs })
+    }
+
+    pub fn as_slice(&self) -> &[(u8, u64)]
+        ensures value { result.now ≡ self.now }
+        ensures refmap { is_refmap self.now ≡ true }
+    {
+        self.pairs.as_slice()
+    }
+
+    /// The number that a descriptor stands for.
+    pub fn number_of(&self, descriptor: u8) -> Option<u64>
+        ensures { result ≡ number_of descriptor self.now }
+    {
+        'pairs: for (d, number) in &self.pairs {
+            if *d == descriptor {
+                return Some(*number);
+            }
+        }
+        None
+    }
+
+    /// Whether both are the same pairs.
+    pub fn same(&self, other: &RefMap) -> bool
+        ensures { IsTrue result ↔ (self.now ≡ other.now) }
+    {
+        self.pairs.as_slice() == other.pairs.as_slice()
+    }
+
+    pub fn copy(&self) -> Result<RefMap, NoMemory>
+        ensures { IfOk result (λ m. m ≡ self.now) }
+    {
+        let pairs = self.pairs.clone()?;
+        Ok(RefMap { pairs })
+    }
+}

@@ -1,0 +1,115 @@
+// Lists of variables.
+ghost use Rattle.std.specs.Prelude.{◌≡◌, ◌↔◌, IsTrue, [], IfOk, IfSome, IfNone, true, false};
+ghost use Rattle.rk_calls.specs.Keys.{are_variables, is_variable, is_start, is_more};
+
+use rk_base::{Bytes, NoMemory};
+use std::alloc::Global;
+use std::hash::{Hash, Hasher};
+use std::marker::Model;
+
+/// A variable: its name and its value.
+#[derive(Debug, Drop, Clone, PartialEq, Eq)]
+pub struct Var {
+    pub name: Bytes,
+    pub value: Bytes,
+}
+
+/// Variables, ascending by name, each name once. A name is a letter or `_`, then letters, digits and `_`.
+#[derive(Debug, Drop)]
+pub struct VarList {
+    vars: Vec<Var>,
+}
+
+impl Model for VarList {
+    ghost use Rattle.std.specs.Prelude.{◌≡◌, List, true};
+    ghost use Rattle.rk_calls.specs.declared.vars.Var.{Var};
+    ghost use Rattle.rk_calls.specs.Keys.{are_variables};
+
+    ghost Value = { List Var };
+
+    ghost view = { λ v. v.vars.items };
+
+    ghost invariant = { λ v. are_variables v.vars.items ≡ true };
+}
+
+impl VarList {
+    /// No variables.
+    pub fn new(alloc: Global) -> VarList
+        ensures { result ≡ [] }
+    {
+        VarList {
+            vars: Vec::new(alloc),
+        }
+    }
+
+    pub fn as_slice(&self) -> &[Var]
+        ensures value { result.now ≡ self.now }
+        ensures variables { are_variables self.now ≡ true }
+    {
+        self.vars.as_slice()
+    }
+
+    /// The same list without its variables, at no memory.
+    pub fn cleared(self) -> VarList
+        ensures { result ≡ [] }
+    {
+        let VarList { mut vars } = self;
+        vars.clear();
+        VarList { vars }
+    }
+
+    pub fn is_empty(&self) -> bool
+        ensures { IsTrue result ↔ (self.now ≡ []) }
+    {
+        self.vars.is_empty()
+    }
+
+    /// Whether both are the same variables.
+    pub fn same(&self, other: &VarList) -> bool
+        ensures { IsTrue result ↔ (self.now ≡ other.now) }
+    {
+        self.vars.as_slice() == other.vars.as_slice()
+    }
+
+    pub fn copy(&self) -> Result<VarList, NoMemory>
+        ensures { IfOk result (λ v. v ≡ self.now) }
+    {
+        let vars = self.vars.clone()?;
+        Ok(VarList { vars })
+    }
+}
+
+impl PartialEq for VarList {
+    ghost use Rattle.std.specs.Cmp.{partial_equiv_from_equiv};
+    ghost use Rattle.std.specs.Cmp.Lexicographic.{pointwise, lists_equiv};
+    ghost use Rattle.rk_calls.specs.Vars.{var_eq, var_eq_equiv};
+
+    ghost eq = { pointwise var_eq };
+
+    ghost laws = { partial_equiv_from_equiv (lists_equiv var_eq_equiv) };
+
+    fn eq(&self, other: &VarList) -> bool {
+        self.vars.as_slice() == other.vars.as_slice()
+    }
+}
+
+impl Eq for VarList {
+    ghost use Rattle.std.specs.Cmp.Lexicographic.{lists_equiv};
+    ghost use Rattle.rk_calls.specs.Vars.{var_eq_equiv};
+
+    ghost laws = { lists_equiv var_eq_equiv };
+}
+
+// Equal lists feed alike, since they feed nothing: few keys differ in their variables alone.
+impl Hash for VarList {
+    ghost use Rattle.std.specs.Prelude.{[]};
+    ghost use Rattle.std.specs.Hash.{none_alike};
+    ghost use Rattle.std.specs.Cmp.Lexicographic.{pointwise};
+    ghost use Rattle.rk_calls.specs.Vars.{var_eq};
+
+    ghost hash_input = { λ _. [] };
+
+    ghost respects_eq = { (none_alike (pointwise var_eq)).fed };
+
+    fn hash<H: Hasher>(&self, _state: &mut H) {}
+}
