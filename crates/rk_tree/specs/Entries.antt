@@ -1,0 +1,45 @@
+-- What stands at each path.
+use Rattle.std.specs.Prelude.{◌≡◌, ◌≢◌, ◌≤◌, ℕ, [], Bool, true, false, ◌==◌, Option, Some, None}
+use Rattle.std.specs.List.{list_any}
+use Rattle.std.specs.FinMap.{FinMap, get}
+use Rattle.rk_base.specs.Text.{Text, text_cmp, root, parent, join, hidden, is_within}
+use Rattle.rk_base.specs.Canonical.{is_canonical}
+use Rattle.rk_tree.specs.declared.entry.Kind.{Kind}
+use Rattle.rk_tree.specs.declared.entry.Kind.TheVariants as kind
+use Rattle.rk_tree.specs.declared.entry.Entry.{Entry}
+use Rattle.rk_tree.specs.declared.entry.Entry.TheVariants.{File, Dir, Link}
+
+-- a finite map from paths to what stands there
+abbrev pub Entries : Type 0
+Entries = FinMap text_cmp Entry
+
+abbrev pub kind_of : Entry → Kind
+kind_of (File mode bytes) = kind.File
+kind_of (Dir mode) = kind.Dir
+kind_of (Link text) = kind.Link
+
+abbrev pub is_dir : Option Entry → Bool
+is_dir None = false
+is_dir (Some (File mode bytes)) = false
+is_dir (Some (Dir mode)) = true
+is_dir (Some (Link text)) = false
+
+abbrev pub is_nul : ℕ → Bool
+is_nul b = b == 0
+
+-- a mode is at most 0777, and a link's text is not empty and has no NUL
+abbrev pub IsFit : Entry → Type 0
+IsFit (File mode bytes) = mode ≤ 511
+IsFit (Dir mode) = mode ≤ 511
+IsFit (Link text) = (text ≢ []) × (list_any is_nul text ≡ false)
+
+-- what a whole tree shows
+pub record IsWholeSnapshot (snapshot : Entries) : Type 0 where
+  -- the root is a directory
+  pub root_dir : is_dir (get snapshot root) ≡ true
+  -- each path is a canonical text and stands in a directory
+  pub canonical : (path : Text) (it : Entry) → get snapshot path ≡ Some it → is_canonical path ≡ true
+  pub placed : (path : Text) (it : Entry) → get snapshot path ≡ Some it → is_dir (get snapshot (parent path)) ≡ true
+  -- nothing stands at the hidden name or below it
+  pub unseen : (path : Text) → is_within (join root hidden) path ≡ true → get snapshot path ≡ None
+  pub fit : (path : Text) (it : Entry) → get snapshot path ≡ Some it → IsFit it

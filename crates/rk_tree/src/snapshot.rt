@@ -1,0 +1,79 @@
+// Snapshots.
+ghost use Rattle.std.specs.Prelude.{◌≡◌, ◌↔◌, IsTrue, option_copied, OnOk, OnErr};
+ghost use Rattle.std.specs.FinMap.{empty, entries, get, insert, len};
+
+use crate::Entry;
+use rk_base::{NoMemory, Path};
+use std::alloc::Global;
+use std::collections::BTreeMap;
+use std::marker::Model;
+
+/// What stands at each path: a finite map, in the order of the paths' texts.
+#[derive(Drop)]
+pub struct Snapshot {
+    rows: BTreeMap<Path, Entry>,
+}
+
+impl Model for Snapshot {
+    ghost use Rattle.std.specs.FinMap as map;
+    ghost use Rattle.std.specs.Coded.{coded_list, coded_ℕ};
+    ghost use Rattle.rk_tree.specs.Entries.{Entries};
+
+    ghost Value = { Entries };
+
+    ghost use Rattle.rk_tree.specs.contracts.entry.Entry as it;
+
+    ghost coded = { map.code (coded_list coded_ℕ) it.the_row.coded };
+
+    ghost use Rattle.rk_tree.specs.Rows.{map_of};
+
+    ghost view = { λ s. map_of s.rows.entries };
+}
+
+impl Snapshot {
+    /// Nothing at any path.
+    pub fn new(alloc: Global) -> Snapshot
+        ensures { result ≡ empty }
+    {
+        Snapshot {
+            rows: BTreeMap::new(alloc),
+        }
+    }
+
+    /// What stands at a path.
+    pub fn get(&self, path: &Path) -> Option<&Entry>
+        ensures { option_copied result ≡ get self.now path.now }
+    {
+        self.rows.get(path)
+    }
+
+    /// An entry at a path, in the place of what stood there.
+    pub fn put(&mut self, path: Path, it: Entry) -> Result<(), NoMemory>
+        ensures ok { OnOk result (self.new ≡ insert self.old path it) }
+        ensures err { OnErr result (self.new ≡ self.old) }
+    {
+        self.rows.insert(path, it)?;
+        Ok(())
+    }
+
+    /// How many paths there are.
+    pub fn len(&self) -> usize
+        ensures { result ≡ len self.now }
+    {
+        self.rows.len()
+    }
+
+    pub fn is_empty(&self) -> bool
+        ensures { IsTrue result ↔ (len self.now ≡ 0) }
+    {
+        self.len() == 0
+    }
+
+    /// The paths with their entries, ascending by the paths' texts.
+    pub fn rows(&self) -> &BTreeMap<Path, Entry>
+        ensures { result.now.entries ≡ entries self.now }
+    {
+        let _count = self.rows.len();
+        &self.rows
+    }
+}
