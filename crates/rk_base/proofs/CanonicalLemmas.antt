@@ -1,22 +1,22 @@
 -- Canonical texts stay canonical.
-use Rattle.std.proofs.Common.{suc, ◌+◌, ◌<◌, ◌≤◌, length, take, drop, Option, Some, None, arith, inl, inr, position, ◌≡◌, ℕ, List, [], ◌∷◌, ◌++◌, Bool, true, false, cond, not, ◌&&◌, ◌||◌, refl, sym, ap, subst, ◌∙◌}
-use Rattle.std.specs.List.{list_all, list_any, slice_split, onto_first, position_or_len}
+use Rattle.std.proofs.Common.{suc, ◌+◌, ◌<◌, ◌≤◌, length, take, drop, Some, None, arith, inl, inr, position, ◌≡◌, ℕ, List, [], ◌∷◌, ◌++◌, Bool, true, false, cond, not, ◌&&◌, ◌||◌, refl, sym, ap, ◌∙◌}
+use Rattle.std.specs.List.{list_all, list_any, onto_first, position_or_len}
 use Rattle.std.proofs.lemmas.List.Folds.{list_all-append}
 use Rattle.std.proofs.lemmas.List.{drop-drop}
 use Rattle.std.proofs.lemmas.List.Splits.{slice_split_first}
 use Rattle.std.proofs.lemmas.Bool.Decides.{leb_tells}
-use Rattle.rk_base.specs.Text.{Text, is_slash, is_root, root, stem, join}
+use Rattle.rk_base.specs.Text.{Text, is_slash, is_root, root, join}
 use Rattle.rk_base.specs.Canonical.{is_barred, is_name, is_empty, components, begins_named, is_canonical}
 
 pub both : (a b : Bool) → (a && b) ≡ true → (a ≡ true) × (b ≡ true)
 both true b h = (refl, h)
 both false b h = cc
 
-either : (a b : Bool) → (a || b) ≡ false → (a ≡ false) × (b ≡ false)
+pub either : (a b : Bool) → (a || b) ≡ false → (a ≡ false) × (b ≡ false)
 either false b h = (refl, h)
 either true b h = cc
 
-denied : (b : Bool) → not b ≡ true → b ≡ false
+pub denied : (b : Bool) → not b ≡ true → b ≡ false
 denied true h = cc
 denied false h = refl
 
@@ -51,7 +51,7 @@ components-alone (x ∷ xs) h =
     let s = either (is_slash x) _ e.0 in
     ap (λ (b : Bool). cond b ([] ∷ components xs) (onto_first x (components xs))) s.0 ∙ ap (onto_first x) (components-alone xs e.1)
 
-name-unbarred : (name : Text) → is_name name ≡ true → list_any is_barred name ≡ false
+pub name-unbarred : (name : Text) → is_name name ≡ true → list_any is_barred name ≡ false
 unfolding is_name
 name-unbarred name h = denied _ (both _ _ (both _ _ (both _ _ h).0).0).1
 

@@ -1,5 +1,5 @@
 -- Texts of paths, in the order of their bytes.
-use Rattle.std.specs.Prelude.{ℕ, ◌+◌, List, [], ◌∷◌, ◌++◌, take, drop, length, nat_eq, not, ◌&&◌, ◌||◌, Bool, ◌==◌, if◌then◌else◌}
+use Rattle.std.specs.Prelude.{ℕ, ◌+◌, List, [], ◌∷◌, ◌++◌, take, drop, length, nat_eq, count_by, not, ◌&&◌, ◌||◌, Bool, ◌==◌, if◌then◌else◌}
 use Rattle.std.specs.Ordering.{nat_cmp}
 use Rattle.std.specs.declared.cmp.Ordering.{Ordering}
 use Rattle.std.specs.Cmp.Lexicographic.{slice_cmp, pointwise}
@@ -47,6 +47,10 @@ stem path = if is_root path then [] else path
 -- the path of a name in a directory
 unfoldable pub join : Text → Text → Text
 join dir name = stem dir ++ 47 ∷ name
+
+-- how many names a path has
+unfoldable pub depth : Text → ℕ
+depth path = if is_root path then 0 else count_by is_slash path
 
 -- whether a path stands in this directory
 unfoldable pub is_in : Text → Text → Bool

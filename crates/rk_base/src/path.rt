@@ -1,10 +1,10 @@
 // Paths.
-ghost use Rattle.std.specs.Prelude.{◌≡◌, ◌↔◌, IsTrue, ℕ, List, IfOk, nat_eq, Some, refl, true};
+ghost use Rattle.std.specs.Prelude.{◌≡◌, ◌+◌, ◌↔◌, IsTrue, ℕ, List, IfOk, nat_eq, Some, refl, true};
 ghost use Rattle.std.specs.Ordering.{nat_cmp};
 ghost use Rattle.std.specs.Hash as fed;
 ghost use Rattle.std.specs.Cmp.{po, partial_equiv_from_equiv, nat_eq_equiv, unsigned_ties, unsigned_Decides};
 ghost use Rattle.std.specs.Cmp.Lexicographic.{slice_cmp, pointwise, lists_equiv, lists_ties, nat_list_cmp_total};
-ghost use Rattle.rk_base.specs.Text.{root, join, parent, stem, name_of, or_root, is_root};
+ghost use Rattle.rk_base.specs.Text.{depth, root, join, parent, stem, name_of, or_root, is_root};
 ghost use Rattle.rk_base.specs.Canonical.{is_canonical, is_name};
 ghost use Rattle.rk_base.specs.Faults.{Reads};
 ghost use Rattle.rk_base.specs.declared.path.PathFault.TheVariants as fault;
@@ -87,7 +87,8 @@ impl Path {
 
     /// The path of a name in this directory.
     pub fn join(&self, alloc: Global, name: &Name) -> Result<Path, NoMemory>
-        ensures { IfOk result (λ p. p ≡ join self.now name.now) }
+        ensures path { IfOk result (λ p. p ≡ join self.now name.now) }
+        ensures deeper { depth (join self.now name.now) ≡ depth self.now + 1 }
     {
         let text = join(alloc, self.text.as_slice(), name.as_slice())?;
         Ok(Path {
@@ -101,6 +102,14 @@ impl Path {
         ensures canonical { is_canonical self.now ≡ true }
     {
         self.text.as_slice()
+    }
+
+    /// The directory that it stands in; the root's is the root.
+    pub fn parent(&self) -> Result<Path, NoMemory>
+        ensures { IfOk result (λ p. p ≡ parent self.now) }
+    {
+        let text = Bytes::from_slice(self.text.allocator(), self.parent_text())?;
+        Ok(Path { text })
     }
 
     /// The text of the directory that it stands in; the root's is the root.

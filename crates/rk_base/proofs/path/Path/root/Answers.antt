@@ -1,4 +1,4 @@
-use Rattle.std.proofs.Common.{subst, sym, ap, ◌∙◌}
+use Rattle.std.proofs.Common.{ap, ◌∙◌}
 use Rattle.rk_base.specs.Canonical.{is_canonical}
 use Rattle.rk_base.proofs.CanonicalLemmas.{root-canonical}
 use Rattle.rk_base.proofs.path.Path.root.Goals as goal
