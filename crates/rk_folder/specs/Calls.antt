@@ -22,6 +22,15 @@ Caused before now allowed (Ok it) = (now ≡ before) × (allowed ≡ true)
 Caused before now allowed (Err Failed) = (before ≤ now) × MatchBool allowed (Rose before now) (now ≡ before)
 Caused before now allowed (Err NoMemory) = now ≡ before
 
+abbrev pub IsNoFault : {T : Type 0} → Result T FolderErr → Type 0
+IsNoFault (Ok it) = Unit {0}
+IsNoFault (Err Failed) = ⊥
+IsNoFault (Err NoMemory) = Unit {0}
+
+-- a steady folder stays steady, and no call that it allows is a fault
+abbrev pub Steadily : {T : Type 0} → Bool → Bool → Bool → Result T FolderErr → Type 0
+Steadily before now allowed result = (now ≡ before) × (before ≡ true → allowed ≡ true → IsNoFault result)
+
 -- what a read tells of what stands at its path
 abbrev pub got_of : Option Standing → Option Got
 got_of None = Some Absent

@@ -1,4 +1,5 @@
 pub mod Calls
 pub mod Counts
+pub mod Sinks
 pub mod Told
 pub mod Whole

@@ -1,9 +1,9 @@
 // A folder: what it holds where it tells that, how deep it reaches, and two counts of faults.
-ghost use Rattle.std.specs.Prelude.{◌≡◌, ◌≤◌, ℕ, Option, IfOk, OnOk};
+ghost use Rattle.std.specs.Prelude.{◌≡◌, ◌≤◌, ℕ, Bool, Option, IfOk, OnOk};
 ghost use Rattle.rk_base.specs.Text.{depth};
 ghost use Rattle.rk_folder.specs.Told.{Held, can_list, can_read, can_write, can_make_dir, can_remove_file, can_remove_dir, can_rename, with_standing, without, renamed};
 ghost use Rattle.rk_folder.specs.Whole.{TellsWhole};
-ghost use Rattle.rk_folder.specs.Calls.{allows, Caused, Lists, Reads, Changes, Writes};
+ghost use Rattle.rk_folder.specs.Calls.{allows, Caused, Lists, Reads, Changes, Writes, Steadily};
 ghost use Rattle.rk_folder.specs.declared.folder.Standing.TheVariants.{Dir};
 ghost use Rattle.rk_folder.specs.declared.folder.FolderErr.TheVariants as err;
 
@@ -87,11 +87,15 @@ pub trait Folder {
     /// More names than this no path has that is listed.
     ghost reach: { Self → ℕ };
 
+    /// Whether no call that it allows is a fault.
+    ghost steady: { Self → Bool };
+
     /// What stands in a directory, ascending by name.
     fn list(&mut self, alloc: Global, dir: &Path) -> Result<Vec<Item>, FolderErr>
         ensures items { IfOk result (λ items. Lists (told self.old) dir.now items.items) }
         ensures within { OnOk result (depth dir.now ≤ reach self.old) }
         ensures cause { Caused (read_faults self.old) (read_faults self.new) (allows (told self.old) (can_list dir.now)) result }
+        ensures steady { Steadily (steady self.old) (steady self.new) (allows (told self.old) (can_list dir.now)) result }
 
         ensures held { told self.new ≡ told self.old }
         ensures other { write_faults self.new ≡ write_faults self.old }
@@ -101,6 +105,7 @@ pub trait Folder {
     fn read(&mut self, alloc: Global, file: &Path) -> Result<Got, FolderErr>
         ensures got { IfOk result (Reads (told self.old) file.now) }
         ensures cause { Caused (read_faults self.old) (read_faults self.new) (allows (told self.old) (can_read file.now)) result }
+        ensures steady { Steadily (steady self.old) (steady self.new) (allows (told self.old) (can_read file.now)) result }
 
         ensures held { told self.new ≡ told self.old }
         ensures other { write_faults self.new ≡ write_faults self.old }
@@ -111,30 +116,35 @@ pub trait Folder {
     fn write(&mut self, alloc: Global, file: &Path, bytes: &[u8]) -> Result<(), FolderErr>
         ensures held { Writes file.now bytes.now (allows (told self.old) (can_write file.now)) (told self.old) (told self.new) result }
         ensures cause { Caused (write_faults self.old) (write_faults self.new) (allows (told self.old) (can_write file.now)) result }
+        ensures steady { Steadily (steady self.old) (steady self.new) (allows (told self.old) (can_write file.now)) result }
         ensures other { read_faults self.new ≡ read_faults self.old };
 
     /// Makes a directory where nothing stands.
     fn make_dir(&mut self, alloc: Global, dir: &Path) -> Result<(), FolderErr>
         ensures held { Changes (with_standing dir.now Dir) (told self.old) (told self.new) result }
         ensures cause { Caused (write_faults self.old) (write_faults self.new) (allows (told self.old) (can_make_dir dir.now)) result }
+        ensures steady { Steadily (steady self.old) (steady self.new) (allows (told self.old) (can_make_dir dir.now)) result }
         ensures other { read_faults self.new ≡ read_faults self.old };
 
     /// Removes a file.
     fn remove_file(&mut self, alloc: Global, file: &Path) -> Result<(), FolderErr>
         ensures held { Changes (without file.now) (told self.old) (told self.new) result }
         ensures cause { Caused (write_faults self.old) (write_faults self.new) (allows (told self.old) (can_remove_file file.now)) result }
+        ensures steady { Steadily (steady self.old) (steady self.new) (allows (told self.old) (can_remove_file file.now)) result }
         ensures other { read_faults self.new ≡ read_faults self.old };
 
     /// Removes an empty directory, which isn't the root.
     fn remove_dir(&mut self, alloc: Global, dir: &Path) -> Result<(), FolderErr>
         ensures held { Changes (without dir.now) (told self.old) (told self.new) result }
         ensures cause { Caused (write_faults self.old) (write_faults self.new) (allows (told self.old) (can_remove_dir dir.now)) result }
+        ensures steady { Steadily (steady self.old) (steady self.new) (allows (told self.old) (can_remove_dir dir.now)) result }
         ensures other { read_faults self.new ≡ read_faults self.old };
 
     /// Gives a file another path, at which a file stands, or nothing.
     fn rename(&mut self, alloc: Global, from: &Path, to: &Path) -> Result<(), FolderErr>
         ensures held { Changes (renamed from.now to.now) (told self.old) (told self.new) result }
         ensures cause { Caused (write_faults self.old) (write_faults self.new) (allows (told self.old) (can_rename from.now to.now)) result }
+        ensures steady { Steadily (steady self.old) (steady self.new) (allows (told self.old) (can_rename from.now to.now)) result }
         ensures other { read_faults self.new ≡ read_faults self.old };
 
     /// The root is a directory, and so is what each other path stands in.

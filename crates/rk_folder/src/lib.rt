@@ -2,5 +2,7 @@
 #![tactic(auto)]
 
 mod folder;
+mod sink;
 
 pub use folder::{Folder, FolderErr, Got, Item, Standing};
+pub use sink::{MemSink, RealSink, Sink, SinkErr};

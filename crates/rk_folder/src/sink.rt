@@ -1,0 +1,175 @@
+// Where output goes, with a count of faults.
+ghost use Rattle.std.specs.Prelude.{◌≡◌, ◌++◌, ◌∷◌, [], ℕ, List, Bool, true, false, Option, Some, None, OnOk, OnErr, take};
+ghost use Rattle.rk_base.specs.Canonical.{is_empty};
+ghost use Rattle.rk_folder.specs.Sinks.{Puts, PutCaused, PutSteadily};
+
+use rk_base::NoMemory;
+use std::alloc::Global;
+use std::io::Write;
+use std::marker::Model;
+
+/// Why bytes were not put.
+#[derive(Clone, Copy, Debug, PartialEq, Eq)]
+pub enum SinkErr {
+    /// A fault.
+    Failed,
+    NoMemory,
+}
+
+/// Bytes that go out one piece after another.
+pub trait Sink {
+    /// The bytes so far, where it tells them.
+    ghost so_far: { Self → Option (List ℕ) };
+
+    /// How many puts were faults, up to 2^64 - 1.
+    ghost faults: { Self → ℕ };
+
+    /// Whether no put is a fault.
+    ghost steady: { Self → Bool };
+
+    /// Puts the bytes out. At an error a front of them went out.
+    fn put(&mut self, bytes: &[u8]) -> Result<(), SinkErr>
+        ensures put { Puts bytes.now (so_far self.old) (so_far self.new) result }
+        ensures cause { PutCaused (faults self.old) (faults self.new) result }
+        ensures steady { PutSteadily (steady self.old) (steady self.new) result };
+}
+
+/// A sink in memory. Puts of given numbers fail.
+#[derive(Drop)]
+pub struct MemSink {
+    bytes: Vec<u8>,
+    // the numbers of the puts that are to fail, and how many bytes go out before
+    failing: Vec<(u64, usize)>,
+    puts: u64,
+    faults: u64,
+}
+
+impl Model for MemSink {
+    ghost use Rattle.rk_folder.specs.Sinks.{Sunk};
+
+    ghost Value = { Sunk };
+
+    ghost view = { λ s. record { bytes = s.bytes.items; failing = s.failing.items; puts = s.puts; faults = s.faults } };
+}
+
+// How many bytes go out of the put of this number, where it is to fail.
+fn failing_at(failing: &[(u64, usize)], number: u64) -> Option<usize>
+    ensures { is_empty failing.now ≡ true → result ≡ None }
+{
+    for (put, after) in failing {
+        if *put == number {
+            return Some(*after);
+        }
+    }
+    None
+}
+
+fn front(bytes: &[u8], n: usize) -> &[u8]
+    ensures { result.now ≡ take n bytes.now }
+{
+    if n < bytes.len() { &bytes[..n] } else { bytes }
+}
+
+impl MemSink {
+    /// A sink that nothing was put in, and of which no put fails.
+    pub fn new(alloc: Global) -> MemSink
+        ensures { result ≡ record { bytes = []; failing = []; puts = 0; faults = 0 } }
+    {
+        MemSink {
+            bytes: Vec::new(alloc),
+            failing: Vec::new(alloc),
+            puts: 0,
+            faults: 0,
+        }
+    }
+
+    /// Lets the put of this number, from 1 on, fail after so many bytes.
+    pub fn fail_at(&mut self, put: u64, after: usize) -> Result<(), NoMemory>
+        ensures ok { OnOk result (self.new ≡ record self.old { failing = self.old.failing ++ (put, after) ∷ [] }) }
+        ensures err { OnErr result (self.new ≡ self.old) }
+    {
+        self.failing.push((put, after))?;
+        Ok(())
+    }
+
+    /// The bytes so far.
+    pub fn bytes(&self) -> &[u8]
+        ensures { result.now ≡ self.now.bytes }
+    {
+        self.bytes.as_slice()
+    }
+
+    /// How many puts were faults.
+    pub fn faults(&self) -> u64
+        ensures { result ≡ self.now.faults }
+    {
+        self.faults
+    }
+}
+
+impl Sink for MemSink {
+    ghost so_far = { λ s. Some s.bytes };
+
+    ghost faults = { λ s. s.faults };
+
+    ghost steady = { λ s. is_empty s.failing };
+
+    fn put(&mut self, bytes: &[u8]) -> Result<(), SinkErr> {
+        self.puts = self.puts.saturating_add(1);
+        match failing_at(&self.failing, self.puts) {
+            Some(after) => {
+                if self.bytes.extend_from_slice(front(bytes, after)).is_err() {
+                    return Err(SinkErr::NoMemory);
+                }
+                self.faults = self.faults.saturating_add(1);
+                Err(SinkErr::Failed)
+            }
+            None => match self.bytes.extend_from_slice(bytes) {
+                Ok(()) => Ok(()),
+                Err(_) => Err(SinkErr::NoMemory),
+            },
+        }
+    }
+}
+
+/// A sink over any writer. It tells nothing of what it holds.
+#[derive(Drop)]
+pub struct RealSink<W: Write + Drop> {
+    writer: W,
+    faults: u64,
+}
+
+impl<W: Write + Drop> RealSink<W> {
+    /// A sink that puts its bytes in this writer.
+    pub fn new(writer: W) -> RealSink<W> {
+        RealSink { writer, faults: 0 }
+    }
+}
+
+// Writes all of the bytes, in as many pieces as it takes. A write that takes nothing fails.
+fn write_whole<W: Write>(writer: &mut W, bytes: &[u8]) -> bool {
+    let mut rest = bytes;
+    while !rest.is_empty() {
+        match writer.write(rest) {
+            Ok(0) | Err(_) => return false,
+            Ok(n) => rest = &rest[n..],
+        }
+    }
+    true
+}
+
+impl<W: Write + Drop> Sink for RealSink<W> {
+    ghost so_far = { λ _. None };
+
+    ghost faults = { λ s. s.faults };
+
+    ghost steady = { λ _. false };
+
+    fn put(&mut self, bytes: &[u8]) -> Result<(), SinkErr> {
+        if write_whole(&mut self.writer, bytes) {
+            return Ok(());
+        }
+        self.faults = self.faults.saturating_add(1);
+        Err(SinkErr::Failed)
+    }
+}
