@@ -11,6 +11,8 @@ mod machine;
 mod refmap;
 mod refs;
 mod same;
+#[cfg(test)]
+mod tests;
 mod turn;
 mod vars;
 mod words;
