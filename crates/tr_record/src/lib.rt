@@ -1,0 +1,10 @@
+//! The trace of a build: the records of its commands, in launch order.
+#![tactic(auto)]
+
+mod records;
+mod steps;
+mod table;
+
+pub use records::Record;
+pub use steps::{Step, StepList};
+pub use table::Table;

@@ -1,0 +1,129 @@
+// The table of records.
+ghost use Rattle.std.specs.Prelude.{◌≡◌, ◌≢◌, ℕ, ◌<◌, [], length, option_copied, slice_get, IfOk, OnOk, OnErr, IfSome, IfNone};
+ghost use Rattle.tr_record.specs.Rec.{rec_at, begun, stepped, ended, count_of};
+
+use crate::records::is_of;
+use crate::{Record, Step, StepList};
+use rk_base::NoMemory;
+use rk_calls::Key;
+use std::alloc::Global;
+use std::marker::Model;
+
+/// Records in launch order, found by key and ordinal.
+#[derive(Debug, Drop)]
+pub struct Table {
+    records: Vec<Record>,
+}
+
+impl Model for Table {
+    ghost use Rattle.std.specs.Prelude.{List};
+    ghost use Rattle.tr_record.specs.declared.records.Record.{Record};
+
+    ghost Value = { List Record };
+
+    ghost view = { λ t. t.records.items };
+}
+
+impl Table {
+    /// No records.
+    pub fn new(alloc: Global) -> Table
+        ensures { result ≡ [] }
+    {
+        Table {
+            records: Vec::new(alloc),
+        }
+    }
+
+    /// How many records there are.
+    pub fn len(&self) -> usize
+        ensures { result ≡ length self.now }
+    {
+        self.records.len()
+    }
+
+    /// A command of this key is launched. Its number is told; its ordinal is the count of its key so far.
+    pub fn begin(&mut self, key: Key) -> Result<usize, NoMemory>
+        ensures place { IfOk result (λ i. i ≡ length self.old) }
+        ensures table { OnOk result (self.new ≡ begun key self.old) }
+    {
+        let alloc = *self.records.allocator();
+        let i = self.records.len();
+        let ordinal = self.count(&key) as u64;
+        let steps = StepList::new(alloc);
+        self.records.push(Record {
+            key,
+            ordinal,
+            steps,
+            exit: 0,
+            exit_cost: 0,
+        })?;
+        Ok(i)
+    }
+
+    /// The command of this number has taken a step.
+    pub fn add_step(&mut self, i: usize, step: Step) -> Result<(), NoMemory>
+        requires { i < length self.old }
+        ensures ok { OnOk result (self.new ≡ stepped i step self.old) }
+        ensures err { OnErr result (self.new ≡ self.old) }
+    {
+        let rec = &mut self.records[i];
+        rec.steps.push(step)
+    }
+
+    /// The command of this number has exited with this status, at what was paid since its last step.
+    pub fn end(&mut self, i: usize, exit: u8, exit_cost: u32)
+        requires { i < length self.old }
+        ensures { self.new ≡ ended i exit exit_cost self.old }
+    {
+        let rec = &mut self.records[i];
+        rec.exit = exit;
+        rec.exit_cost = exit_cost;
+    }
+
+    /// The record of this number; `None` exactly where there is none.
+    pub fn get(&self, i: usize) -> Option<&Record>
+        ensures { option_copied result ≡ slice_get self.now i }
+    {
+        self.records.get(i)
+    }
+
+    /// The record of this number.
+    pub fn at(&self, i: usize) -> &Record
+        requires { i < length self.now }
+        ensures { result.now ≡ rec_at i self.now }
+    {
+        &self.records[i]
+    }
+
+    /// How many records of this key there are.
+    pub fn count(&self, key: &Key) -> usize
+        ensures { result ≡ count_of key.now self.now }
+    {
+        self.records.iter().filter(|rec| is_of(rec, key)).count()
+    }
+
+    /// The number of the record of this key and ordinal; `None` exactly where there is none.
+    pub fn place(&self, key: &Key, ordinal: u64) -> Option<usize>
+        ensures some { IfSome result (λ i. (i < length self.now) × ((rec_at i self.now).key ≡ key.now) × ((rec_at i self.now).ordinal ≡ ordinal)) }
+        ensures none { IfNone result ((i : ℕ) → i < length self.now → (rec_at i self.now).key ≡ key.now → (rec_at i self.now).ordinal ≢ ordinal) }
+    {
+        'records: for i in 0..self.records.len() {
+            let rec = &self.records[i];
+            if rec.ordinal == ordinal && rec.key.same(key) {
+                return Some(i);
+            }
+        }
+        None
+    }
+
+    /// The record of this key and ordinal; `None` exactly where there is none.
+    pub fn find(&self, key: &Key, ordinal: u64) -> Option<&Record>
+        ensures some { IfSome result (λ rec. (rec.now.key ≡ key.now) × (rec.now.ordinal ≡ ordinal)) }
+        ensures none { IfNone result ((i : ℕ) → i < length self.now → (rec_at i self.now).key ≡ key.now → (rec_at i self.now).ordinal ≢ ordinal) }
+    {
+        match self.place(key, ordinal) {
+            Some(i) => Some(&self.records[i]),
+            None => None,
+        }
+    }
+}
