@@ -1,10 +1,14 @@
 // Each call that takes memory, once where there is enough.
+ghost use Rattle.std.specs.Prelude.{◌≡◌, IfOk, length};
+
 use crate::{Answer, Call, How, Key, RefMap, Refs, VarList, WordList, same_answer, same_call};
-use rk_base::{Bytes, Path};
+use rk_base::{Bytes, NoMemory, Path};
 use std::alloc::Global;
 use std::test::Fail;
 
-fn words(alloc: Global) -> Result<WordList, Fail> {
+fn words(alloc: Global) -> Result<WordList, NoMemory>
+    ensures { IfOk result (λ words. length words ≡ 1) }
+{
     let mut words = WordList::new(Vec::new(alloc));
     words.push(Bytes::from_slice(alloc, b"cat")?)?;
     Ok(words)

@@ -1,4 +1,4 @@
-use Rattle.std.proofs.Common.{refl, ap, ◌∙◌, ◌≡◌, List, true}
+use Rattle.std.proofs.Common.{ap, List}
 use Rattle.rk_calls.specs.declared.vars.Var.{Var}
 use Rattle.rk_calls.specs.Keys.{are_variables}
 use Rattle.rk_calls.proofs.vars.VarList.cleared.Goals as goal
