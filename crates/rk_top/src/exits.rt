@@ -1,0 +1,21 @@
+// Exit statuses.
+ghost use Rattle.std.specs.Prelude.{◌≡◌};
+ghost use Rattle.rk_top.specs.Lines.{exit_code};
+
+use crate::Outcome;
+
+/// The status with which the program exits: the script's own where the build ended, else the number of the
+/// refusal.
+pub fn exit_code(outcome: &Outcome) -> u8
+    ensures { result ≡ exit_code outcome.now }
+{
+    match outcome {
+        Outcome::Ended { status, .. } => *status,
+        Outcome::Usage => 241,
+        Outcome::Special(_) => 247,
+        Outcome::Spent => 243,
+        Outcome::ReadFault => 244,
+        Outcome::WriteFault => 245,
+        Outcome::NoMemory => 246,
+    }
+}

@@ -1,0 +1,20 @@
+// How a call of `rkr` ends.
+use rk_base::Path;
+
+/// How a call of `rkr` ends.
+#[derive(Debug, Drop)]
+pub enum Outcome {
+    /// The build ran: the script's status, how many commands were launched, and how many of them ran.
+    Ended { status: u8, launched: u64, ran: u64 },
+    /// The words are no request.
+    Usage,
+    /// The first path, in listing order, at which neither a file nor a directory stands where one has to.
+    Special(Path),
+    /// The script's run doesn't end within the budget of turns.
+    Spent,
+    /// A list or a read of the folder failed.
+    ReadFault,
+    /// Another call of the folder, or a put, failed.
+    WriteFault,
+    NoMemory,
+}
