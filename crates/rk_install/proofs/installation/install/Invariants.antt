@@ -1,0 +1,17 @@
+use Rattle.std.proofs.Common.{◌≡◌, Option, drop, option_map}
+use Rattle.rk_folder.specs.Told.{Held}
+use Rattle.rk_install.specs.declared.installation.InstallErr.{InstallErr}
+use Rattle.rk_install.specs.Changes.{MayRun, Partly, after_all}
+use Rattle.rk_install.proofs.installation.install.Given as goal
+
+abbrev pub invariant-loop-op : goal.invariant-loop-op
+invariant-loop-op g l =
+    let told = g.F.Folder.told in
+    record {
+      may : MayRun (told l.folder) (drop l.op-index l.ops);
+      rest : option_map (after_all (drop l.op-index l.ops)) (told l.folder) ≡ option_map (after_all l.ops) (told l.fn.folder);
+      part : (new : Option Held) (err : InstallErr) → Partly (drop l.op-index l.ops) (told l.folder) new err → Partly l.ops (told l.fn.folder) new err;
+      writes : g.F.Folder.write_faults l.folder ≡ g.F.Folder.write_faults l.fn.folder;
+      steady : g.F.Folder.steady l.folder ≡ g.F.Folder.steady l.fn.folder;
+      reads : g.F.Folder.read_faults l.folder ≡ g.F.Folder.read_faults l.fn.folder;
+    }
