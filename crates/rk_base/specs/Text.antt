@@ -1,5 +1,5 @@
 -- Texts of paths, in the order of their bytes.
-use Rattle.std.specs.Prelude.{ℕ, ◌+◌, List, [], ◌∷◌, ◌++◌, take, drop, length, nat_eq, count_by, not, ◌&&◌, ◌||◌, Bool, ◌==◌, if◌then◌else◌}
+use Rattle.std.specs.Prelude.{ℕ, ◌+◌, List, [], ◌∷◌, ◌++◌, take, drop, length, nat_eq, count_by, not, ◌&&◌, ◌||◌, Bool, ◌==◌, if◌then◌else◌, Option, Some, None}
 use Rattle.std.specs.Ordering.{nat_cmp}
 use Rattle.std.specs.declared.cmp.Ordering.{Ordering}
 use Rattle.std.specs.Cmp.Lexicographic.{slice_cmp, pointwise}
@@ -39,6 +39,10 @@ parent path = or_root (take (last_slash 0 0 path) path)
 -- the last name of a path
 abbrev pub name_of : Text → Text
 name_of path = drop (last_slash 0 0 path + 1) path
+
+-- the last name of a path, where it isn't the root
+abbrev pub last_of : Text → Option Text
+last_of path = if is_root path then None else Some (name_of path)
 
 -- a path as what a name is put after
 abbrev pub stem : Text → Text

@@ -39,6 +39,14 @@ impl Name {
         Ok(Name { bytes })
     }
 
+    // The name that these bytes are.
+    pub(crate) fn of(bytes: Bytes) -> Name
+        requires { is_name bytes ≡ true }
+        ensures { result ≡ bytes }
+    {
+        Name { bytes }
+    }
+
     pub fn as_slice(&self) -> &[u8]
         ensures value { result.now ≡ self.now }
         ensures name { is_name self.now ≡ true }

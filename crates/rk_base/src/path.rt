@@ -4,7 +4,7 @@ ghost use Rattle.std.specs.Ordering.{nat_cmp};
 ghost use Rattle.std.specs.Hash as fed;
 ghost use Rattle.std.specs.Cmp.{po, partial_equiv_from_equiv, nat_eq_equiv, unsigned_ties, unsigned_Decides};
 ghost use Rattle.std.specs.Cmp.Lexicographic.{slice_cmp, pointwise, lists_equiv, lists_ties, nat_list_cmp_total};
-ghost use Rattle.rk_base.specs.Text.{depth, root, join, parent, stem, name_of, or_root, is_root};
+ghost use Rattle.rk_base.specs.Text.{depth, root, join, parent, stem, name_of, last_of, is_in, or_root, is_root};
 ghost use Rattle.rk_base.specs.Canonical.{is_canonical, is_name};
 ghost use Rattle.rk_base.specs.Faults.{Reads};
 ghost use Rattle.rk_base.specs.declared.path.PathFault.TheVariants as fault;
@@ -135,6 +135,25 @@ impl Path {
         } else {
             b""
         }
+    }
+
+    /// Its last name; `None` exactly for the root.
+    pub fn last(&self) -> Result<Option<Name>, NoMemory>
+        ensures { IfOk result (λ name. name ≡ last_of self.now) }
+    {
+        if self.is_root() {
+            return Ok(None);
+        }
+        let name = Bytes::from_slice(self.text.allocator(), self.name())?;
+        Ok(Some(Name::of(name)))
+    }
+
+    /// Whether it stands in this directory.
+    #[tactic(auto, unfolding(crate::specs::Text::is_in))]
+    pub fn is_in(&self, dir: &Path) -> bool
+        ensures { result ≡ is_in dir.now self.now }
+    {
+        !self.is_root() && self.parent_text() == dir.text()
     }
 
     pub fn is_root(&self) -> bool
