@@ -1,1 +1,5 @@
+pub mod CopiesLemmas
+pub mod HeldLemmas
 pub mod RowsLemmas
+pub mod TextLemmas
+pub mod WholeLemmas

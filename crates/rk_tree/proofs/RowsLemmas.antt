@@ -1,26 +1,41 @@
 -- What the map that rows make has, by the words of a `BTreeMap`.
-use Rattle.std.proofs.Common.{◌≡◌, ℕ, List, [], ◌∷◌, Option, Some, None, Bool, true, false, ◌&&◌, ◌++◌, length, refl, map, sym, ap, subst, ◌∙◌, cond}
-use Rattle.std.specs.Ordering.{eq_by_cmp, is_lt}
-use Rattle.std.specs.declared.cmp.Ordering.TheVariants.{Less}
+use Rattle.std.proofs.Common.{◌≡◌, ◌⊎◌, inl, inr, ℕ, List, [], ◌∷◌, Option, Some, None, Bool, true, false, ◌&&◌, ◌++◌, length, refl, map, sym, ap, subst, ◌∙◌, cond}
+use Rattle.std.specs.Ordering.{eq_by_cmp, is_lt, is_eq}
+use Rattle.std.specs.declared.cmp.Ordering.{Ordering}
+use Rattle.std.specs.declared.cmp.Ordering.TheVariants.{Less, Equal, Greater}
 use lib.Dec.{T}
 use Rattle.std.specs.List.{AllByRecursion}
 use Rattle.std.specs.List.Sorted.{IsStrictlySortedBy}
-use Rattle.std.specs.Cmp.{eq_by_cmp_equiv}
+use Rattle.std.specs.Cmp.{eq_by_cmp_equiv, Equal-is}
 use Rattle.std.specs.Cmp.Lexicographic.{nat_list_cmp_total}
 use Rattle.std.specs.BTreeMap.{is_at}
 use Rattle.std.specs.Map.{lookup}
 use Rattle.std.specs.FinMap.Entries.{below_all}
 use Rattle.std.specs.FinMap.{FinMap, empty, get, insert, remove, find, is_sorted, entries, from_entries, from_sorted, get-from_sorted, entries-from_sorted, get-from_entries, get-insert, get-remove, same_map, IsAntisymmetric, slice_cmp-IsAntisymmetric, nat_cmp-IsAntisymmetric, len, len-entries}
-use Rattle.rk_base.specs.Text.{Text, text_cmp}
-use Rattle.rk_tree.specs.Rows.{map_of}
-
--- texts that compare alike are one
-pub exact_texts : IsAntisymmetric text_cmp
-exact_texts = slice_cmp-IsAntisymmetric nat_cmp-IsAntisymmetric
+use Rattle.std.specs.Cmp.Lexicographic.{texts_ties}
+use Rattle.std.specs.List.{fold}
+use Rattle.std.specs.Option.{option_or}
+use Rattle.std.specs.FinMap.{get-empty, get-entries, entries_sorted}
+use Rattle.rk_base.specs.Text.{Text, text_cmp, same_text}
+use Rattle.rk_tree.specs.Rows.{map_of, first_by}
+use Rattle.rk_tree.proofs.TextLemmas.{exact_texts, told_apart, ties_itself}
 
 and_both : (a b : Bool) → T a → T b → T (a && b)
 and_both true b h k = k
 and_both false b h k = absurd h
+
+less_apart : (o : Ordering) → T (is_lt o) → is_eq o ≡ false
+less_apart Less h = refl
+less_apart Equal h = absurd h
+less_apart Greater h = absurd h
+
+pub and_first : (a b : Bool) → T (a && b) → T a
+and_first true b h = tt
+and_first false b h = absurd h
+
+pub and_second : (a b : Bool) → T (a && b) → T b
+and_second true b h = h
+and_second false b h = absurd h
 
 module _ {X : Type 0} where
   -- what rows have at a path
@@ -68,3 +83,70 @@ module _ {X : Type 0} where
 
   pub len-map_of : (rows : List (Text × X)) → IsStrictlySortedBy text_cmp (map (λ (row : Text × X). row.0) rows) → len (map_of rows) ≡ length rows
   len-map_of rows h = len-entries (map_of rows) ∙ ap length (entries-map_of rows h)
+
+  find-first_by : (rows : List (Text × X)) (path : Text) → find text_cmp path rows ≡ first_by (λ p. same_text p path) rows
+  find-first_by [] path = refl
+  find-first_by (row ∷ rows) path =
+      ap (λ b. cond b (Some row.1) (find text_cmp path rows)) ((eq_by_cmp_equiv nat_list_cmp_total).symm path row.0 ∙ sym (texts_ties row.0 path))
+      ∙ ap (cond (same_text row.0 path) (Some row.1)) (find-first_by rows path)
+
+  -- a scan finds what the map has
+  pub get-scan : (rows : List (Text × X)) (path : Text) → get (map_of rows) path ≡ first_by (λ p. same_text p path) rows
+  unfolding map_of
+  get-scan rows path = get-from_entries nat_list_cmp_total rows path ∙ find-first_by rows path
+
+  pub get-found : (rows : List (Text × X)) (path : Text) → get (map_of rows) path ≡ find text_cmp path rows
+  unfolding map_of
+  get-found rows path = get-from_entries nat_list_cmp_total rows path
+
+  -- what a map has after a row was put into it
+  pub insert_cases : (m : FinMap text_cmp X) (key : Text) (x : X) (q : Text) → ((q ≡ key) × (get (insert m key x) q ≡ Some x)) ⊎ ((q ≡ key → ⊥) × (get (insert m key x) q ≡ get m q))
+  insert_cases m key x q = elim (told_apart q key) [
+    | inl same ↦ inl (same.0, get-insert nat_list_cmp_total m key x q ∙ ap (λ (b : Bool). cond b (Some x) (get m q)) same.1)
+    | inr apart ↦ inr (apart.0, get-insert nat_list_cmp_total m key x q ∙ ap (λ (b : Bool). cond b (Some x) (get m q)) apart.1)
+  ]
+
+  -- Rows in order.
+
+  pub find_below : (q : Text) (rows : List (Text × X)) → T (below_all text_cmp q rows) → find text_cmp q rows ≡ None
+  find_below q [] h = refl
+  find_below q (row ∷ rows) h = ap (λ (b : Bool). cond b (Some row.1) (find text_cmp q rows)) (less_apart _ (and_first _ _ h)) ∙ find_below q rows (and_second _ _ h)
+
+  -- what a row at its head has
+  pub find_head : (path : Text) (row : Text × X) (rows : List (Text × X)) → path ≡ row.0 → find text_cmp path (row ∷ rows) ≡ Some row.1
+  find_head path row rows same = ap (λ (t : Text). find text_cmp t (row ∷ rows)) same ∙ ap (λ (b : Bool). cond b (Some row.1) (find text_cmp row.0 rows)) (ties_itself row.0)
+
+  none_some : (x : X) (o : Option X) → o ≡ None → o ≡ Some x → ⊥
+  none_some x o n s = cc
+
+  pub find_later : (path : Text) (row : Text × X) (rows : List (Text × X)) (x : X) → T (is_sorted text_cmp (row ∷ rows)) → find text_cmp path rows ≡ Some x → find text_cmp path (row ∷ rows) ≡ Some x
+  find_later path row rows x h at = elim (told_apart path row.0) [
+    | inl same ↦ absurd (none_some x _ (ap (λ (t : Text). find text_cmp t rows) same.0 ∙ find_below row.0 rows (and_first _ _ h)) at)
+    | inr apart ↦ ap (λ (b : Bool). cond b (Some row.1) (find text_cmp path rows)) apart.1 ∙ at
+  ]
+
+  -- each row is put in turn
+  abbrev pub puts : FinMap text_cmp X → List (Text × X) → FinMap text_cmp X
+  puts m rows = fold (λ n row. insert n row.0 row.1) m rows
+
+  or_put : (o : Option X) (b : Bool) (x : X) (rest : Option X) → (b ≡ true → o ≡ None) → option_or o (cond b (Some x) rest) ≡ option_or (cond b (Some x) o) rest
+  or_put o true x rest h = ap (λ (p : Option X). option_or p (Some x)) (h refl)
+  or_put o false x rest h = refl
+
+  get-puts : (rows : List (Text × X)) (m : FinMap text_cmp X) (q : Text) → T (is_sorted text_cmp rows) → get (puts m rows) q ≡ option_or (find text_cmp q rows) (get m q)
+  get-puts [] m q h = refl
+  get-puts (row ∷ rows) m q h =
+      get-puts rows (insert m row.0 row.1) q (and_second _ _ h)
+      ∙ ap (option_or (find text_cmp q rows)) (get-insert nat_list_cmp_total m row.0 row.1 q)
+      ∙ or_put (find text_cmp q rows) (eq_by_cmp text_cmp q row.0) row.1 (get m q) (λ e. ap (λ (t : Text). find text_cmp t rows) (exact_texts q row.0 ((Equal-is (text_cmp q row.0)).0 e)) ∙ find_below row.0 rows (and_first _ _ h))
+
+  option_or-none : (o : Option X) → option_or o None ≡ o
+  option_or-none None = refl
+  option_or-none (Some x) = refl
+
+  -- rows in order, put in turn, make their map
+  pub puts-map_of : (rows : List (Text × X)) → T (is_sorted text_cmp rows) → puts empty rows ≡ map_of rows
+  puts-map_of rows h = same_maps _ _ (λ q. get-puts rows empty q h ∙ ap (option_or (find text_cmp q rows)) (get-empty text_cmp q) ∙ option_or-none _ ∙ sym (get-found rows q))
+
+  pub ordered : (rows : List (Text × X)) → IsStrictlySortedBy text_cmp (map (λ (row : Text × X). row.0) rows) → T (is_sorted text_cmp rows)
+  ordered = sorted_rows

@@ -1,2 +1,5 @@
+pub mod Copies
 pub mod Entries
+pub mod Held
 pub mod Rows
+pub mod Whole

@@ -1,8 +1,12 @@
 //! The tree of a world, which node stands at each path, and snapshots of it.
 #![tactic(auto)]
 
+mod copies;
 mod entry;
+mod rows;
 mod snapshot;
+mod tree;
 
 pub use entry::{Entry, Kind};
 pub use snapshot::Snapshot;
+pub use tree::Tree;

@@ -1,0 +1,261 @@
+-- What keeps a tree whole.
+use Rattle.std.proofs.Common.{◌≡◌, ◌≢◌, ◌<◌, ◌≤◌, ◌+◌, ℕ, zero, suc, List, [], ◌∷◌, ◌++◌, length, Bool, true, false, cond, Option, Some, None, ◌⊎◌, inl, inr, refl, sym, ap, subst, ◌∙◌, arith}
+use Rattle.std.specs.Prelude.{slice_get, slice_set}
+use Rattle.std.specs.Option.{option_and_then}
+use Rattle.std.proofs.lemmas.Option.{slice_get_within, slice_get_past}
+use Rattle.std.specs.FinMap.{get, empty, insert, entries, get-empty}
+use Rattle.rk_base.specs.Text.{Text, text_cmp, root, parent, join, hidden, is_within}
+use Rattle.rk_base.specs.Canonical.{is_name, is_canonical}
+use Rattle.rk_tree.specs.declared.entry.Entry.{Entry}
+use Rattle.rk_tree.specs.declared.entry.Entry.TheVariants.{File, Dir, Link}
+use Rattle.rk_tree.specs.Entries.{is_dir, IsFit}
+use Rattle.rk_tree.specs.Held.{Held, Paths, top, node, number_at, path_of, child, with_node, linked, added, with_path, set_node, replaced, replaced_at, set_bytes}
+use Rattle.rk_tree.specs.Whole.{IsPlaced, IsWhole, IsFree}
+use Rattle.rk_tree.proofs.RowsLemmas.{insert_cases}
+use Rattle.rk_tree.proofs.TextLemmas.{parent-root, parent-join, within-join, hidden-back, root_seen, name_at_root}
+use Rattle.rk_base.proofs.CanonicalLemmas.{root-canonical, join-canonical}
+use Rattle.rk_tree.proofs.HeldLemmas.{path_stands}
+
+clash : (b : Bool) → b ≡ true → b ≡ false → ⊥
+clash b t f = cc
+
+none_some : {A : Type 0} {x : A} {o : Option A} → o ≡ None → o ≡ Some x → ⊥
+none_some n s = cc
+
+same_number : {o : Option ℕ} (a b : ℕ) → o ≡ Some a → o ≡ Some b → a ≡ b
+same_number a b p q = cc
+
+same_entry : {o : Option Entry} (a b : Entry) → o ≡ Some a → o ≡ Some b → a ≡ b
+same_entry a b p q = cc
+
+-- a directory is a node
+pub dir_node : (o : Option Entry) → is_dir o ≡ true → (it : Entry) × (o ≡ Some it)
+dir_node None h = cc
+dir_node (Some it) h = (it, refl)
+
+-- The root alone.
+
+abbrev none : Paths
+none = empty
+
+abbrev root_row : Paths
+root_row = insert none root 0
+
+alone : (q : Text) (n : ℕ) → get root_row q ≡ Some n → (q ≡ root) × (n ≡ 0)
+alone q n at = elim (insert_cases none root 0 q) [
+  | inl here ↦ (here.0, same_number n 0 at here.1)
+  | inr other ↦ absurd (none_some (get-empty text_cmp q) (sym other.1 ∙ at))
+]
+
+root_stands : get root_row root ≡ Some 0
+root_stands = elim (insert_cases none root 0 root) [
+  | inl here ↦ here.1
+  | inr other ↦ absurd (other.0 refl)
+]
+
+pub root-whole : IsWhole (record { paths = root_row; nodes = Dir 493 ∷ [] })
+root-whole = record {
+  root_at = root_stands;
+  root_dir = refl;
+  canonical = λ q n at. ap is_canonical (alone q n at).0 ∙ root-canonical;
+  known = λ q n at. (Dir 493, ap (slice_get (Dir 493 ∷ [])) (alone q n at).1);
+  placed = λ q n at. record {
+    up = 0;
+    stands = ap (λ (t : Text). get root_row (parent t)) (alone q n at).0 ∙ ap (get root_row) parent-root ∙ root_stands;
+    in_dir = refl;
+  };
+  once = λ a b n at bt d. (alone a n at).0 ∙ sym (alone b n bt).0;
+  unseen = λ q h. elim (insert_cases none root 0 q) [
+    | inl here ↦ absurd (clash _ h (ap (is_within (join root hidden)) here.0 ∙ root_seen))
+    | inr other ↦ other.1 ∙ get-empty text_cmp q
+  ];
+  fit = λ n it at. only n it at;
+} where
+  only : (n : ℕ) (it : Entry) → slice_get (Dir 493 ∷ []) n ≡ Some it → IsFit it
+  only zero it at = subst IsFit (same_entry (Dir 493) it refl at) (omega arith)
+  only (suc n) it at = cc
+
+-- A node more.
+
+pub get-more : (xs : List Entry) (y : Entry) (n : ℕ) (x : Entry) → slice_get xs n ≡ Some x → slice_get (xs ++ y ∷ []) n ≡ Some x
+get-more [] y n x at = cc
+get-more (z ∷ xs) y zero x at = at
+get-more (z ∷ xs) y (suc n) x at = get-more xs y n x at
+
+pub get-last : (xs : List Entry) (y : Entry) → slice_get (xs ++ y ∷ []) (length xs) ≡ Some y
+get-last [] y = refl
+get-last (x ∷ xs) y = get-last xs y
+
+more_cases : (xs : List Entry) (y : Entry) (n : ℕ) (x : Entry) → slice_get (xs ++ y ∷ []) n ≡ Some x → (slice_get xs n ≡ Some x) ⊎ (y ≡ x)
+more_cases [] y zero x at = inr (same_entry y x refl at)
+more_cases [] y (suc n) x at = cc
+more_cases (z ∷ xs) y zero x at = inl at
+more_cases (z ∷ xs) y (suc n) x at = more_cases xs y n x at
+
+-- what is known of a node stays, where a node comes
+kept_dir : (xs : List Entry) (y : Entry) (n : ℕ) → is_dir (slice_get xs n) ≡ true → is_dir (slice_get (xs ++ y ∷ []) n) ≡ true
+kept_dir xs y n h = let it = dir_node (slice_get xs n) h in ap is_dir (get-more xs y n it.0 it.1) ∙ sym (ap is_dir it.1) ∙ h
+
+pub more-whole : (held : Held) (it : Entry) → IsWhole held → IsFit it → IsWhole (with_node held it)
+more-whole held it whole fits = record {
+  root_at = whole.root_at;
+  root_dir = kept_dir held.nodes it top whole.root_dir;
+  canonical = whole.canonical;
+  known = λ q n at. let k = whole.known q n at in (k.0, get-more held.nodes it n k.0 k.1);
+  placed = λ q n at. let p = whole.placed q n at in record { up = p.up; stands = p.stands; in_dir = kept_dir held.nodes it p.up p.in_dir };
+  once = λ a b n at bt d. let k = whole.known a n at in whole.once a b n at bt (ap is_dir k.1 ∙ sym (ap is_dir (get-more held.nodes it n k.0 k.1)) ∙ d);
+  unseen = whole.unseen;
+  fit = λ n x at. elim (more_cases held.nodes it n x at) [
+    | inl old ↦ whole.fit n x old
+    | inr new ↦ subst IsFit new fits
+  ];
+}
+
+-- A path more.
+
+-- a path at which a node may stand: a name in a directory, of a node that is no directory or stands nowhere else
+pub record IsOpen (held : Held) (path : Text) (n : ℕ) : Type 0 where
+  pub is_path : is_canonical path ≡ true
+  pub absent : number_at held path ≡ None
+  pub placed : IsPlaced held path
+  pub seen : is_within (join root hidden) path ≡ true → ⊥
+  pub has_node : (it : Entry) × (node held n ≡ Some it)
+  pub nowhere : is_dir (node held n) ≡ true → (q : Text) → number_at held q ≡ Some n → ⊥
+
+stays : (held : Held) (path : Text) (n : ℕ) (q : Text) (k : ℕ) → number_at held path ≡ None → number_at held q ≡ Some k → get (insert held.paths path n) q ≡ Some k
+stays held path n q k none at = elim (insert_cases held.paths path n q) [
+  | inl here ↦ absurd (none_some none (ap (number_at held) (sym here.0) ∙ at))
+  | inr other ↦ other.1 ∙ at
+]
+
+stands_cases : (held : Held) (path : Text) (n : ℕ) (q : Text) (k : ℕ) → get (insert held.paths path n) q ≡ Some k → ((q ≡ path) × (k ≡ n)) ⊎ (number_at held q ≡ Some k)
+stands_cases held path n q k at = elim (insert_cases held.paths path n q) [
+  | inl here ↦ inl (here.0, same_number k n at here.1)
+  | inr other ↦ inr (sym other.1 ∙ at)
+]
+
+pub opened-whole : (held : Held) (path : Text) (n : ℕ) → IsWhole held → IsOpen held path n → IsWhole (record held { paths = insert held.paths path n })
+opened-whole held path n whole is = record {
+  root_at = stays held path n root top is.absent whole.root_at;
+  root_dir = whole.root_dir;
+  canonical = λ q k at. elim (stands_cases held path n q k at) [
+    | inl new ↦ ap is_canonical new.0 ∙ is.is_path
+    | inr old ↦ whole.canonical q k old
+  ];
+  known = λ q k at. elim (stands_cases held path n q k at) [
+    | inl new ↦ (is.has_node.0, ap (node held) new.1 ∙ is.has_node.1)
+    | inr old ↦ whole.known q k old
+  ];
+  placed = λ q k at. elim (stands_cases held path n q k at) [
+    | inl new ↦ record { up = is.placed.up; stands = stays held path n (parent q) is.placed.up is.absent (ap (λ (t : Text). number_at held (parent t)) new.0 ∙ is.placed.stands); in_dir = is.placed.in_dir }
+    | inr old ↦ let p = whole.placed q k old in record { up = p.up; stands = stays held path n (parent q) p.up is.absent p.stands; in_dir = p.in_dir }
+  ];
+  once = λ a b k at bt d. elim (stands_cases held path n a k at) [
+    | inl new ↦ elim (stands_cases held path n b k bt) [
+      | inl again ↦ new.0 ∙ sym again.0
+      | inr old ↦ absurd (is.nowhere (ap (λ (j : ℕ). is_dir (node held j)) (sym new.1) ∙ d) b (old ∙ ap (λ (j : ℕ). Some j) new.1))
+    ]
+    | inr old ↦ elim (stands_cases held path n b k bt) [
+      | inl new ↦ absurd (is.nowhere (ap (λ (j : ℕ). is_dir (node held j)) (sym new.1) ∙ d) a (old ∙ ap (λ (j : ℕ). Some j) new.1))
+      | inr older ↦ whole.once a b k old older d
+    ]
+  ];
+  unseen = λ q h. elim (insert_cases held.paths path n q) [
+    | inl here ↦ absurd (is.seen (ap (is_within (join root hidden)) (sym here.0) ∙ h))
+    | inr other ↦ other.1 ∙ whole.unseen q h
+  ];
+  fit = whole.fit;
+}
+
+-- A new node under a name.
+
+new_nowhere : (held : Held) → IsWhole held → (q : Text) (n : ℕ) → n ≡ length held.nodes → number_at held q ≡ Some n → ⊥
+new_nowhere held whole q n is at =
+    let k = whole.known q n at in
+    let within : n < length held.nodes = slice_get_within held.nodes n k.0 k.1 in
+    omega arith
+
+hidden_parent : parent (join root hidden) ≡ root
+unfolding parent join
+hidden_parent = refl
+
+unhidden : (held : Held) (dir : ℕ) (name path : Text) → IsWhole held → is_name name ≡ true → IsFree held dir name → number_at held path ≡ Some dir → is_within (join root hidden) (join path name) ≡ true → ⊥
+unhidden held dir name path whole named free at h = elim (within-join (join root hidden) path name hidden-back (whole.canonical path dir at) named h) [
+  | inl same ↦
+      let at_root : path ≡ root = sym (parent-join path name (whole.canonical path dir at) named) ∙ ap parent same ∙ hidden_parent in
+      free.seen (same_number dir top at (ap (number_at held) at_root ∙ whole.root_at)) (name_at_root name (ap (λ (t : Text). join t name) (sym at_root) ∙ same))
+  | inr within ↦ none_some (whole.unseen path within) at
+]
+
+-- a name in a directory may come to stand for a new node
+pub name-open : (held : Held) (dir : ℕ) (name path : Text) (it : Entry) → IsWhole held → is_name name ≡ true → IsFree held dir name → path_of held dir ≡ Some path → IsOpen (with_node held it) (join path name) (length held.nodes)
+unfolding child
+name-open held dir name path it whole named free at =
+    let stands = path_stands held dir path at in
+    let canon = whole.canonical path dir stands in
+    record {
+      is_path = join-canonical path name canon named;
+      absent = ap (option_and_then (λ p. number_at held (join p name))) (sym at) ∙ free.absent;
+      placed = record { up = dir; stands = ap (number_at held) (parent-join path name canon named) ∙ stands; in_dir = kept_dir held.nodes it dir free.in_dir };
+      seen = unhidden held dir name path whole named free stands;
+      has_node = (it, get-last held.nodes it);
+      nowhere = λ d q on. new_nowhere held whole q _ refl on;
+    }
+
+pub added-whole : (held : Held) (dir : ℕ) (name : Text) (it : Entry) → IsWhole held → is_name name ≡ true → IsFree held dir name → IsFit it → IsWhole (added held dir name it)
+added-whole held dir name it whole named free fits = elim (path_of held dir) as (λ (o : Option Text). path_of held dir ≡ o → IsWhole (record { paths = with_path o (λ path. insert held.paths (join path name) (length held.nodes)) held.paths; nodes = held.nodes ++ it ∷ [] })) [
+  | None ↦ λ at. more-whole held it whole fits
+  | Some path ↦ λ at. opened-whole (with_node held it) (join path name) (length held.nodes) (more-whole held it whole fits) (name-open held dir name path it whole named free at)
+] refl
+
+-- Other bytes.
+
+pub set_cases : (xs : List Entry) (n : ℕ) (old new : Entry) → slice_get xs n ≡ Some old → (k : ℕ) → ((k ≡ n) × (slice_get (slice_set xs n new) k ≡ Some new)) ⊎ (slice_get (slice_set xs n new) k ≡ slice_get xs k)
+set_cases [] n old new at k = cc
+set_cases (x ∷ xs) zero old new at zero = inl (refl, refl)
+set_cases (x ∷ xs) zero old new at (suc k) = inr refl
+set_cases (x ∷ xs) (suc n) old new at zero = inr refl
+set_cases (x ∷ xs) (suc n) old new at (suc k) = elim (set_cases xs n old new at k) [
+  | inl here ↦ inl (ap suc here.0, here.1)
+  | inr other ↦ inr other
+]
+
+-- a node of the same kind in the place of another
+pub set-whole : (held : Held) (n : ℕ) (old new : Entry) → IsWhole held → node held n ≡ Some old → is_dir (Some new) ≡ is_dir (Some old) → IsFit new → IsWhole (set_node held n new)
+set-whole held n old new whole at alike fits =
+    let dirs : (k : ℕ) → is_dir (node (set_node held n new) k) ≡ is_dir (node held k) = λ k. elim (set_cases held.nodes n old new at k) [
+      | inl here ↦ ap is_dir here.1 ∙ alike ∙ sym (ap is_dir (ap (node held) here.0 ∙ at))
+      | inr other ↦ ap is_dir other
+    ] in
+    record {
+      root_at = whole.root_at;
+      root_dir = dirs top ∙ whole.root_dir;
+      canonical = whole.canonical;
+      known = λ q k on. elim (set_cases held.nodes n old new at k) [
+        | inl here ↦ (new, here.1)
+        | inr other ↦ let it = whole.known q k on in (it.0, other ∙ it.1)
+      ];
+      placed = λ q k on. let p = whole.placed q k on in record { up = p.up; stands = p.stands; in_dir = dirs p.up ∙ p.in_dir };
+      once = λ a b k on too d. whole.once a b k on too (sym (dirs k) ∙ d);
+      unseen = whole.unseen;
+      fit = λ k it is. elim (set_cases held.nodes n old new at k) [
+        | inl here ↦ subst IsFit (same_entry new it here.1 is) fits
+        | inr other ↦ whole.fit k it (sym other ∙ is)
+      ];
+    }
+
+alike_replaced : (bytes : List ℕ) (it : Entry) → is_dir (Some (replaced bytes it)) ≡ is_dir (Some it)
+alike_replaced bytes (File mode old) = refl
+alike_replaced bytes (Dir mode) = refl
+alike_replaced bytes (Link text) = refl
+
+fit_replaced : (bytes : List ℕ) (it : Entry) → IsFit it → IsFit (replaced bytes it)
+fit_replaced bytes (File mode old) h = h
+fit_replaced bytes (Dir mode) h = h
+fit_replaced bytes (Link text) h = h
+
+pub bytes-whole : (held : Held) (n : ℕ) (bytes : List ℕ) → IsWhole held → IsWhole (set_bytes held n bytes)
+bytes-whole held n bytes whole = elim (node held n) as (λ (o : Option Entry). node held n ≡ o → IsWhole (record held { nodes = replaced_at held.nodes n bytes o })) [
+  | None ↦ λ at. whole
+  | Some it ↦ λ at. set-whole held n it (replaced bytes it) whole at (alike_replaced bytes it) (fit_replaced bytes it (whole.fit n it at))
+] refl
