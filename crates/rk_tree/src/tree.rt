@@ -3,7 +3,7 @@ ghost use Rattle.std.specs.Prelude.{◌≡◌, slice_get, option_copied, IfOk, O
 ghost use Rattle.std.specs.FinMap.{empty, insert};
 ghost use Rattle.rk_base.specs.Text.{root};
 ghost use Rattle.rk_tree.specs.Copies.{snapshot_of, tree_of};
-ghost use Rattle.rk_tree.specs.Entries.{IsFit, IsWholeSnapshot};
+ghost use Rattle.rk_tree.specs.Entries.{is_dir, IsFit, IsWholeSnapshot};
 ghost use Rattle.rk_tree.specs.Held as held;
 ghost use Rattle.rk_tree.specs.Whole.{IsFree, IsWhole};
 ghost use Rattle.rk_tree.specs.declared.entry.Entry.TheVariants.{Dir};
@@ -58,6 +58,37 @@ impl Tree {
         ensures whole { IsWhole self.now }
     {
         self.nodes.get(n)
+    }
+
+    /// Whether there is a node of this number and it is a directory.
+    pub fn is_dir(&self, n: usize) -> bool
+        ensures { result ≡ is_dir (held.node self.now n) }
+    {
+        matches!(self.node(n), Some(Entry::Dir(_)))
+    }
+
+    /// The mode of a node; a link's is 0777, and 0 where there is no node of this number.
+    pub fn mode(&self, n: usize) -> u16
+        ensures { result ≡ held.mode_of (held.node self.now n) }
+    {
+        match self.node(n) {
+            None => 0,
+            Some(Entry::File(mode, _)) => *mode,
+            Some(Entry::Dir(mode)) => *mode,
+            Some(Entry::Link(_)) => 0o777,
+        }
+    }
+
+    /// The bytes of a file; none for any other node.
+    pub fn bytes(&self, n: usize) -> &[u8]
+        ensures { result.now ≡ held.file_bytes (held.node self.now n) }
+    {
+        match self.node(n) {
+            None => b"",
+            Some(Entry::File(_, bytes)) => bytes.as_slice(),
+            Some(Entry::Dir(_)) => b"",
+            Some(Entry::Link(_)) => b"",
+        }
     }
 
     /// The entry of this name in a directory; `None` exactly where there is none. It takes no memory.

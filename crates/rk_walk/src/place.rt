@@ -1,0 +1,22 @@
+// Places.
+use crate::Label;
+
+/// Where a path has led so far: a node, the directory and the name under which it was found, and whether a
+/// slash stands after it. `up` is `None` for the root and after `.` and `..`.
+#[derive(Debug, Drop)]
+pub struct Here<'a> {
+    pub node: usize,
+    pub up: Option<(usize, Label<'a>)>,
+    pub slash: bool,
+}
+
+/// Where a path leads: to a node, or to a name that stands for nothing in a directory.
+#[derive(Debug, Drop)]
+pub enum Place<'a> {
+    Found(Here<'a>),
+    Absent {
+        dir: usize,
+        name: Label<'a>,
+        slash: bool,
+    },
+}

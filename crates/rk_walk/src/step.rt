@@ -1,0 +1,157 @@
+// One component.
+ghost use Rattle.std.specs.Prelude.{◌≡◌, List, ℕ, not, true, false, Some};
+ghost use Rattle.rk_base.specs.Canonical.{is_empty, is_name};
+ghost use Rattle.rk_tree.specs.Held as held;
+ghost use Rattle.rk_walk.specs.Walk.{Spot, at_child, at_part, step_means};
+ghost use Rattle.rk_walk.specs.declared.place.Here.{Here as Standing};
+ghost use Rattle.rk_walk.specs.declared.place.Place.TheVariants.{Found};
+ghost use Rattle.rk_walk.specs.declared.step.Step.TheVariants.{Ends};
+
+use crate::{Here, Label, Place};
+use rk_base::{Errno, is_name};
+use rk_tree::{Entry, Tree};
+use std::marker::Model;
+
+// A link's text.
+#[derive(Drop)]
+pub(crate) struct LinkText<'a> {
+    text: &'a [u8],
+}
+
+impl<'a> Model for LinkText<'a> {
+    ghost use Rattle.std.specs.Prelude.{List, ℕ};
+
+    ghost Value = { List ℕ };
+
+    ghost view = { λ t. t.text.now };
+}
+
+impl<'a> LinkText<'a> {
+    fn new(text: &'a [u8]) -> LinkText<'a>
+        ensures { result ≡ text.now }
+    {
+        LinkText { text }
+    }
+
+    pub(crate) fn bytes(&self) -> &'a [u8]
+        ensures { result.now ≡ self.now }
+    {
+        self.text
+    }
+}
+
+// What a component does.
+#[derive(Drop)]
+pub(crate) enum Step<'a> {
+    On(Here<'a>),
+    Follow(LinkText<'a>),
+    Ends(Place<'a>),
+    Fails(Errno),
+}
+
+fn has_x(mode: u16) -> bool
+    ensures { result ≡ held.has_x mode }
+{
+    mode / 64 % 2 == 1
+}
+
+// What a name in a directory does.
+fn at_name<'a>(
+    tree: &'a Tree,
+    follow: bool,
+    at: usize,
+    name: &'a [u8],
+    slash: bool,
+    last: bool,
+) -> Step<'a>
+    requires { is_name name.now ≡ true }
+    ensures { (again : List ℕ → List ℕ → Spot) (on : Standing → Spot) (after : List ℕ) → not (is_empty after) ≡ slash → at_child tree.now follow again on at (record { name = name.now; after = after }) last (held.child tree.now at name.now) ≡ step_means again on after result }
+{
+    let Some(n) = tree.child(at, name) else {
+        return if last {
+            Step::Ends(Place::Absent {
+                dir: at,
+                name: Label::new(name),
+                slash,
+            })
+        } else {
+            Step::Fails(Errno::NoEntry)
+        };
+    };
+    match tree.node(n) {
+        None => Step::Fails(Errno::NoEntry),
+        Some(Entry::Dir(_)) => Step::On(Here {
+            node: n,
+            up: Some((at, Label::new(name))),
+            slash,
+        }),
+        Some(Entry::File(_, _)) => {
+            if slash {
+                Step::Fails(Errno::NotDir)
+            } else {
+                found(n, at, name)
+            }
+        }
+        Some(Entry::Link(text)) => {
+            if slash || follow {
+                Step::Follow(LinkText::new(text.as_slice()))
+            } else {
+                found(n, at, name)
+            }
+        }
+    }
+}
+
+fn found<'a>(node: usize, at: usize, name: &'a [u8]) -> Step<'a>
+    requires { is_name name.now ≡ true }
+    ensures { result ≡ Ends (Found (record { node = node; up = Some (at, name.now); slash = false })) }
+{
+    Step::Ends(Place::Found(Here {
+        node,
+        up: Some((at, Label::new(name))),
+        slash: false,
+    }))
+}
+
+// What a component does in a directory.
+pub(crate) fn component<'a>(
+    tree: &'a Tree,
+    follow: bool,
+    at: usize,
+    name: &'a [u8],
+    slash: bool,
+    last: bool,
+) -> Step<'a>
+    ensures { (again : List ℕ → List ℕ → Spot) (on : Standing → Spot) (after : List ℕ) → not (is_empty after) ≡ slash → at_part tree.now follow again on at (record { name = name.now; after = after }) last ≡ step_means again on after result }
+{
+    if !tree.is_dir(at) {
+        return Step::Fails(Errno::NotDir);
+    }
+    if !has_x(tree.mode(at)) {
+        return Step::Fails(Errno::Denied);
+    }
+    if name == b".".as_slice() {
+        return Step::On(Here {
+            node: at,
+            up: None,
+            slash,
+        });
+    }
+    if name == b"..".as_slice() {
+        return match tree.parent(at) {
+            None => Step::Fails(Errno::NoEntry),
+            Some(up) => Step::On(Here {
+                node: up,
+                up: None,
+                slash,
+            }),
+        };
+    }
+    if !is_name(name) {
+        return Step::Fails(Errno::Invalid);
+    }
+    if at == 0 && name == b".rkr".as_slice() {
+        return Step::Fails(Errno::Denied);
+    }
+    at_name(tree, follow, at, name, slash, last)
+}

@@ -1,0 +1,224 @@
+// The walk along a path.
+ghost use Rattle.std.specs.Prelude.{IfOk, ◌≡◌, ◌<◌, [], ◌∷◌, Ok, Err, MatchBool, MatchOption, not, ◌||◌, ◌&&◌, ◌^◌, ◌++◌, ◌-◌, length};
+ghost use Rattle.std.specs.List.{list_all};
+ghost use Rattle.rk_base.specs.Canonical.{is_empty};
+ghost use Rattle.rk_tree.specs.Held.{top};
+ghost use Rattle.rk_walk.specs.Walk.{IsFreePlace, has_nul, leads, resolve, only_slashes, start, IsFirst};
+ghost use Rattle.rk_walk.specs.Course.{Advances, Course, IsKept, marked};
+ghost use Rattle.rk_walk.specs.declared.place.Place.TheVariants.{Found};
+ghost use Rattle.rk_base.specs.declared.errno.Errno.TheVariants.{Loops};
+
+use crate::marks::{Marks, only_slashes};
+use crate::step::{Step, component};
+use crate::text::first_part;
+use crate::{Here, Label, Place};
+use rk_base::Errno;
+use rk_tree::Tree;
+use std::marker::Model;
+
+// Where the walk stands: here, with this text ahead, then the marks.
+#[derive(Drop)]
+pub(crate) struct Walker<'a> {
+    here: Here<'a>,
+    ahead: &'a [u8],
+    marks: Marks<'a>,
+    links: usize,
+}
+
+// A text that begins with a slash starts at the root.
+fn start<'a>(at: usize, text: &[u8]) -> Here<'a>
+    ensures { result ≡ start at text.now }
+{
+    let node = match text {
+        [first, ..] => { if *first == b'/' { 0 } else { at } }
+        [] => at,
+    };
+    Here {
+        node,
+        up: None,
+        slash: true,
+    }
+}
+
+impl<'a> Model for Walker<'a> {
+    ghost use Rattle.rk_walk.specs.Course.{Course};
+
+    ghost Value = { Course };
+
+    ghost view = { λ w. record { here = w.here; ahead = w.ahead.now; marks = w.marks; links = w.links } };
+}
+
+impl<'a> Walker<'a> {
+    pub(crate) fn new(path: &'a [u8]) -> Walker<'a>
+        ensures { result ≡ record { here = start top path.now; ahead = path.now; marks = []; links = 32 } }
+    {
+        Walker {
+            here: start(0, path),
+            ahead: path,
+            marks: Marks::new(),
+            links: 32,
+        }
+    }
+
+    fn found(&self) -> Result<Place<'a>, Errno>
+        ensures { result ≡ Ok (Found self.now.here) }
+    {
+        let up = match &self.here.up {
+            None => None,
+            Some((dir, name)) => Some((*dir, Label::new(name.bytes()))),
+        };
+        Ok(Place::Found(Here {
+            node: self.here.node,
+            up,
+            slash: self.here.slash,
+        }))
+    }
+
+    // The text is used up.
+    fn pops(&mut self) -> bool
+        ensures { MatchBool result ((self.new ≡ record self.old { ahead = self.new.ahead; marks = self.new.marks }) × (self.old.marks ≡ self.new.marks ++ self.new.ahead ∷ [])) ((self.new ≡ self.old) × (self.old.marks ≡ [])) }
+    {
+        match self.marks.pop() {
+            None => false,
+            Some(text) => {
+                self.ahead = text;
+                true
+            }
+        }
+    }
+
+    fn goes_on(&mut self, next: Here<'a>, rest: &'a [u8])
+        ensures { self.new ≡ record self.old { here = next.entry; ahead = rest.now } }
+    {
+        self.here = next;
+        self.ahead = rest;
+    }
+
+    // A link's text stands in place of the component.
+    fn follows(&mut self, text: &'a [u8], rest: &'a [u8])
+        requires room { length self.old.marks < 32 }
+        requires links { 0 < self.old.links }
+        ensures { self.new ≡ record { here = start self.old.here.node text.now; ahead = text.now; marks = marked self.old.marks rest.now; links = self.old.links - 1 } }
+    {
+        if !rest.is_empty() {
+            self.marks.push(rest);
+        }
+        self.links -= 1;
+        self.ahead = text;
+        self.here = start(self.here.node, text);
+    }
+
+    fn node(&self) -> usize
+        ensures { result ≡ self.entry.now.here.node }
+    {
+        self.here.node
+    }
+
+    fn ahead(&self) -> &'a [u8]
+        ensures { result.now ≡ self.entry.now.ahead }
+    {
+        self.ahead
+    }
+
+    // Whether a slash stands after a component.
+    fn ends(&self, rest: &[u8]) -> bool
+        ensures { result ≡ (not (is_empty rest.now) || not (is_empty self.entry.now.marks)) }
+    {
+        !rest.is_empty() || !self.marks.is_empty()
+    }
+
+    // Whether no component stands after this one.
+    fn is_last(&self, rest: &[u8]) -> bool
+        ensures { result ≡ (only_slashes rest.now && list_all only_slashes self.entry.now.marks) }
+    {
+        only_slashes(rest) && self.marks.only_slashes()
+    }
+
+    // What stands here, at a component.
+    fn meets(
+        &mut self,
+        tree: &'a Tree,
+        follow: bool,
+        name: &'a [u8],
+        rest: &'a [u8],
+    ) -> Option<Result<Place<'a>, Errno>>
+        requires kept { IsKept self.old }
+        requires first { IsFirst self.old.ahead name.now rest.now }
+        ensures { Advances tree.now follow self.old self.new result }
+    {
+        let slash = self.ends(rest);
+        let last = self.is_last(rest);
+        match component(tree, follow, self.node(), name, slash, last) {
+            Step::On(next) => {
+                self.goes_on(next, rest);
+                None
+            }
+            Step::Follow(text) => self.links_to(text.bytes(), rest),
+            Step::Ends(place) => Some(Ok(place)),
+            Step::Fails(e) => Some(Err(e)),
+        }
+    }
+
+    fn links_to(&mut self, text: &'a [u8], rest: &'a [u8]) -> Option<Result<Place<'a>, Errno>>
+        requires kept { IsKept self.old }
+        ensures { MatchOption result ((0 < self.old.links) × (length text.now < 2 ^ 64) × (self.new ≡ record { here = start self.old.here.node text.now; ahead = text.now; marks = marked self.old.marks rest.now; links = self.old.links - 1 })) (λ spot. (self.old.links ≡ 0) × (spot ≡ Err Loops)) }
+    {
+        let _length = text.len();
+        if self.links == 0 {
+            return Some(Err(Errno::Loops));
+        }
+        self.follows(text, rest);
+        None
+    }
+
+    // A step of the walk.
+    fn advance(&mut self, tree: &'a Tree, follow: bool) -> Option<Result<Place<'a>, Errno>>
+        requires { IsKept self.old }
+        ensures { Advances tree.now follow self.old self.new result }
+    {
+        match first_part(self.ahead()) {
+            None => {
+                if self.pops() {
+                    None
+                } else {
+                    Some(self.found())
+                }
+            }
+            Some((name, rest)) => self.meets(tree, follow, name, rest),
+        }
+    }
+}
+
+pub(crate) fn leads<'a>(tree: &'a Tree, path: &'a [u8], follow: bool) -> Result<Place<'a>, Errno>
+    ensures { result ≡ leads 32 tree.now follow top path.now [] }
+{
+    let mut walker = Walker::new(path);
+    loop {
+        if let Some(end) = walker.advance(tree, follow) {
+            return end;
+        }
+    }
+}
+
+fn has_nul(path: &[u8]) -> bool
+    ensures { result ≡ has_nul path.now }
+{
+    path.iter().any(|b| *b == 0)
+}
+
+/// Where a path leads, with its last link followed or not.
+pub fn resolve<'a>(tree: &'a Tree, path: &'a [u8], follow: bool) -> Result<Place<'a>, Errno>
+    ensures place { result ≡ resolve tree.now path.now follow }
+    ensures free { IfOk result (IsFreePlace tree.now) }
+{
+    match path {
+        [] => Err(Errno::NoEntry),
+        [first, ..] => {
+            if *first != b'/' || has_nul(path) {
+                Err(Errno::Invalid)
+            } else {
+                leads(tree, path, follow)
+            }
+        }
+    }
+}
