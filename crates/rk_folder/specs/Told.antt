@@ -1,8 +1,8 @@
 -- What a folder holds: what stands at each path, and the directories that hold a name which is none.
-use Rattle.std.specs.Prelude.{List, Bool, true, false, not, ◌&&◌, [], ◌∷◌, ◌++◌, if◌then◌else◌, Option, Some, None}
-use Rattle.std.specs.FinMap.{FinMap, entries, get, insert, remove}
+use Rattle.std.specs.Prelude.{ℕ, max, List, Bool, true, false, not, ◌&&◌, [], ◌∷◌, ◌++◌, if◌then◌else◌, Option, Some, None}
+use Rattle.std.specs.FinMap.{FinMap, empty, entries, get, insert, remove}
 use Rattle.std.specs.List.{filter_map, list_any}
-use Rattle.rk_base.specs.Text.{Text, text_cmp, parent, is_in, is_root, name_of, same_text}
+use Rattle.rk_base.specs.Text.{Text, text_cmp, root, depth, parent, is_in, is_root, name_of, same_text}
 use Rattle.rk_base.specs.Canonical.{is_empty}
 use Rattle.rk_folder.specs.declared.folder.Item.{Item}
 use Rattle.rk_folder.specs.declared.folder.Item.TheVariants as item
@@ -41,6 +41,12 @@ is_file_or_nothing (Some (File bytes)) = true
 is_file_or_nothing (Some Dir) = false
 is_file_or_nothing (Some Special) = false
 
+abbrev pub bytes_in : Option Standing → Option Text
+bytes_in None = None
+bytes_in (Some (File bytes)) = Some bytes
+bytes_in (Some Dir) = None
+bytes_in (Some Special) = None
+
 -- What a listing tells: what stands in the directory, ascending, and whether a name there is none.
 
 abbrev pub item_of : Text → Standing → Item
@@ -60,6 +66,16 @@ odd_in odd dir = if is_odd dir odd then item.Odd ∷ [] else []
 
 abbrev pub items_of : Held → Text → List Item
 items_of held dir = filter_map (item_in dir) (entries held.places) ++ odd_in held.odd dir
+
+-- How deep it reaches.
+
+abbrev pub deepest : List (Text × Standing) → ℕ
+deepest [] = 0
+deepest (row ∷ rows) = max (depth row.0) (deepest rows)
+
+-- how many names its deepest path has
+abbrev pub reach_of : Held → ℕ
+reach_of held = deepest (entries held.places)
 
 -- Which calls a folder allows.
 
@@ -96,6 +112,10 @@ can_rename from to held = can_remove_file from held && can_write to held
 
 -- What they leave.
 
+-- a folder in which nothing stands but its root
+abbrev pub root_alone : Held
+root_alone = record { places = insert empty root Dir; odd = [] }
+
 abbrev pub with_standing : Text → Standing → Held → Held
 with_standing path it held = record held { places = insert held.places path it }
 
@@ -108,3 +128,6 @@ with_any path (Some it) held = with_standing path it held
 
 abbrev pub renamed : Text → Text → Held → Held
 renamed from to held = with_any to (standing held from) (without from held)
+
+abbrev pub with_odd : Text → Held → Held
+with_odd dir held = record held { odd = held.odd ++ dir ∷ [] }

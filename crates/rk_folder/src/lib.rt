@@ -2,6 +2,7 @@
 #![tactic(auto)]
 
 mod folder;
+mod held;
 mod sink;
 
 pub use folder::{Folder, FolderErr, Got, Item, Standing};
