@@ -1,0 +1,8 @@
+use Rattle.std.proofs.Common.{take}
+use Rattle.tr_codec.specs.Piece.{each}
+use Rattle.tr_codec.specs.Spelling.{step_piece}
+use Rattle.tr_codec.specs.Puts.{Puts}
+use Rattle.tr_codec.proofs.pieces.put_steps.Given as goal
+
+abbrev pub invariant-steps : goal.invariant-steps
+invariant-steps l = Puts (each step_piece (take l.step-index l.steps)) l.initial.w l.w

@@ -1,0 +1,87 @@
+-- The spelling of a table.
+use Rattle.std.specs.Prelude.{ℕ, List, [], ◌∷◌, ◌++◌, length}
+use Rattle.std.specs.List.{flat_map}
+use Rattle.sha2.specs.Sha256.{sha256}
+use Rattle.rk_base.specs.declared.errno.Errno.{Errno}
+use Rattle.rk_base.specs.declared.errno.Errno.TheVariants as errno
+use Rattle.rk_calls.specs.Keys.{KeyValue}
+use Rattle.rk_calls.specs.declared.vars.Var.{Var}
+use Rattle.rk_calls.specs.declared.call.How.{How}
+use Rattle.rk_calls.specs.declared.call.How.TheVariants as how
+use Rattle.rk_calls.specs.declared.call.Call.{Call}
+use Rattle.rk_calls.specs.declared.call.Call.TheVariants.{Open, Read, Write, Launch}
+use Rattle.rk_calls.specs.declared.answer.Answer.{Answer}
+use Rattle.rk_calls.specs.declared.answer.Answer.TheVariants.{Go, Done, Opened, Content, Joined, No}
+use Rattle.tr_record.specs.declared.steps.Step.{Step}
+use Rattle.tr_record.specs.declared.records.Record.{Record}
+use Rattle.tr_codec.specs.Piece.{Piece, blob, ◌⊕◌, byte, cost, number, counted, num, string, with_uses}
+
+-- a variable is its name and its value
+abbrev pub var_piece : Var → Piece
+var_piece v = blob v.name ⊕ blob v.value
+
+-- a key is its words, its working directory and its variables
+abbrev pub key_piece : KeyValue → Piece
+key_piece key = counted blob key.argv ⊕ blob key.wd ⊕ counted var_piece key.vars
+
+-- a descriptor, and the number that it stands for
+abbrev pub pair_piece : ℕ × ℕ → Piece
+pair_piece pair = byte pair.0 ⊕ number pair.1
+
+abbrev pub how_code : How → ℕ
+how_code how.Read = 0
+how_code how.Make = 1
+
+-- a call is its kind and its fields
+abbrev pub call_piece : Call → Piece
+call_piece (Open path how) = byte 1 ⊕ blob path ⊕ byte (how_code how)
+call_piece (Read r) = byte 2 ⊕ number r
+call_piece (Write r bytes) = byte 4 ⊕ number r ⊕ blob bytes
+call_piece (Launch key map) = byte 18 ⊕ key_piece key ⊕ counted pair_piece map
+
+abbrev pub errno_code : Errno → ℕ
+errno_code errno.NoEntry = 1
+errno_code errno.NotDir = 2
+errno_code errno.IsDir = 3
+errno_code errno.Exists = 4
+errno_code errno.Denied = 5
+errno_code errno.Loops = 6
+errno_code errno.NotEmpty = 7
+errno_code errno.BadRef = 8
+errno_code errno.Invalid = 9
+
+-- an answer is its kind and its fields; Go is never recorded, and no reading takes its kind
+abbrev pub answer_piece : Answer → Piece
+answer_piece Go = byte 0
+answer_piece Done = byte 1
+answer_piece Opened = byte 2
+answer_piece (Content bytes) = byte 4 ⊕ blob bytes
+answer_piece (Joined status) = byte 10 ⊕ byte status
+answer_piece (No errno) = byte 11 ⊕ byte (errno_code errno)
+
+abbrev pub step_piece : Step → Piece
+step_piece step = cost step.cost ⊕ call_piece step.call ⊕ answer_piece step.answer
+
+-- a record's ordinal follows from the order
+abbrev pub record_piece : Record → Piece
+record_piece rec = key_piece rec.key ⊕ counted step_piece rec.steps ⊕ byte rec.exit ⊕ cost rec.exit_cost
+
+abbrev pub table_piece : List Record → Piece
+table_piece table = counted record_piece table
+
+-- `RKR1`
+abbrev pub magic : List ℕ
+magic = 0x52 ∷ 0x4b ∷ 0x52 ∷ 0x31 ∷ []
+
+-- the blobs, each once, in the order of first use, and then the piece
+unfoldable pub body : Piece → List ℕ
+body piece =
+    let blobs = with_uses [] piece.uses in
+    magic ++ (num (length blobs) ++ (flat_map string blobs ++ piece.spelt blobs))
+
+-- bytes, and their digest
+abbrev pub sealed : List ℕ → List ℕ
+sealed bytes = bytes ++ sha256 bytes
+
+abbrev pub db_spelling : List Record → List ℕ
+db_spelling table = sealed (body (table_piece table))

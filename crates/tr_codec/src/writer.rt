@@ -1,0 +1,141 @@
+// A writer of pieces.
+ghost use Rattle.std.specs.Prelude.{◌≡◌, ◌++◌, ◌∷◌, [], length, IfOk, OnOk};
+ghost use Rattle.std.specs.Int.{w32, to_be_bytes};
+ghost use Rattle.std.specs.List.{flat_map};
+ghost use Rattle.tr_codec.specs.Piece.{with_use, number_of, num, string, plain, blob, byte, cost, number};
+ghost use Rattle.tr_codec.specs.Puts.{Puts};
+
+use indexmap::IndexSet;
+use rk_base::{Bytes, NoMemory, Path};
+use std::alloc::Global;
+use std::marker::Model;
+
+/// The blobs that were used so far, in the order of first use, and the bytes that were put.
+#[derive(Drop)]
+pub(crate) struct Writer {
+    blobs: IndexSet<Bytes>,
+    out: Vec<u8>,
+}
+
+impl Model for Writer {
+    ghost use Rattle.tr_codec.specs.Puts.{Written};
+
+    ghost Value = { Written };
+
+    ghost view = { λ w. record { blobs = w.blobs.keys; bytes = w.out.items } };
+}
+
+// The number of a text, which is added where it is new.
+fn number_in(blobs: &mut IndexSet<Bytes>, text: &Bytes) -> Result<usize, NoMemory>
+    ensures blobs { OnOk result (blobs.new.keys ≡ with_use blobs.old.keys text.now) }
+    ensures number { IfOk result (λ n. n ≡ number_of blobs.new.keys text.now) }
+{
+    match blobs.get_index_of(text) {
+        Some(number) => Ok(number),
+        None => {
+            let copy = text.copy()?;
+            let (number, _) = blobs.insert_full(copy)?;
+            Ok(number)
+        }
+    }
+}
+
+#[tactic(auto, unfolding(crate::specs::Piece::num))]
+fn push_number(out: &mut Vec<u8>, n: u64) -> Result<(), NoMemory>
+    ensures { OnOk result (out.new.items ≡ out.old.items ++ num n) }
+{
+    out.extend_from_slice(&n.to_be_bytes())?;
+    Ok(())
+}
+
+fn push_string(out: &mut Vec<u8>, text: &[u8]) -> Result<(), NoMemory>
+    ensures { OnOk result (out.new.items ≡ out.old.items ++ string text.now) }
+{
+    push_number(out, text.len() as u64)?;
+    out.extend_from_slice(text)?;
+    Ok(())
+}
+
+fn push_strings(out: &mut Vec<u8>, texts: &[Bytes]) -> Result<(), NoMemory>
+    ensures { OnOk result (out.new.items ≡ out.old.items ++ flat_map string texts.now) }
+{
+    'texts: for text in texts {
+        push_string(out, text.as_slice())?;
+    }
+    Ok(())
+}
+
+impl Writer {
+    /// Nothing was put.
+    pub(crate) fn new(alloc: Global) -> Writer
+        ensures { result ≡ record { blobs = []; bytes = [] } }
+    {
+        Writer {
+            blobs: IndexSet::new(alloc),
+            out: Vec::new(alloc),
+        }
+    }
+
+    /// Bytes as they stand.
+    pub(crate) fn put_plain(&mut self, bytes: &[u8]) -> Result<(), NoMemory>
+        ensures { OnOk result (Puts (plain bytes.now) self.old self.new) }
+    {
+        self.out.extend_from_slice(bytes)?;
+        Ok(())
+    }
+
+    pub(crate) fn put_byte(&mut self, b: u8) -> Result<(), NoMemory>
+        ensures { OnOk result (Puts (byte b) self.old self.new) }
+    {
+        self.put_plain(&[b])?;
+        Ok(())
+    }
+
+    /// Four bytes.
+    pub(crate) fn put_cost(&mut self, n: u32) -> Result<(), NoMemory>
+        ensures { OnOk result (Puts (cost n) self.old self.new) }
+    {
+        self.put_plain(&n.to_be_bytes())?;
+        Ok(())
+    }
+
+    /// Eight bytes.
+    #[tactic(auto, unfolding(crate::specs::Piece::num))]
+    pub(crate) fn put_number(&mut self, n: u64) -> Result<(), NoMemory>
+        ensures { OnOk result (Puts (number n) self.old self.new) }
+    {
+        self.put_plain(&n.to_be_bytes())?;
+        Ok(())
+    }
+
+    /// The number of a text's blob.
+    pub(crate) fn put_blob(&mut self, text: &Bytes) -> Result<(), NoMemory>
+        ensures { OnOk result (Puts (blob text.now) self.old self.new) }
+    {
+        let n = number_in(&mut self.blobs, text)?;
+        push_number(&mut self.out, n as u64)?;
+        Ok(())
+    }
+
+    /// The number of a path's blob.
+    pub(crate) fn put_path(&mut self, path: &Path) -> Result<(), NoMemory>
+        ensures { OnOk result (Puts (blob path.now) self.old self.new) }
+    {
+        let alloc = *self.out.allocator();
+        let text = Bytes::from_slice(alloc, path.text())?;
+        self.put_blob(&text)?;
+        Ok(())
+    }
+
+    /// The magic, the blobs and what was put.
+    pub(crate) fn body(&self, magic: &[u8]) -> Result<Vec<u8>, NoMemory>
+        ensures { IfOk result (λ out. out.items ≡ magic.now ++ (num (length self.now.blobs) ++ (flat_map string self.now.blobs ++ self.now.bytes))) }
+    {
+        let alloc = *self.out.allocator();
+        let mut out = Vec::from_slice(alloc, magic)?;
+        push_number(&mut out, self.blobs.len() as u64)?;
+        push_strings(&mut out, self.blobs.as_slice())?;
+        out.extend_from_slice(self.out.as_slice())?;
+        Ok(out)
+    }
+}
