@@ -6,3 +6,6 @@ mod writer;
 mod writing;
 
 pub use writing::write_db;
+
+#[cfg(test)]
+mod tests;
