@@ -1,8 +1,12 @@
 //! What a folder holds before and after a build, the plan that leads from one to the other, and its installation.
 #![tactic(auto)]
 
+mod holding;
 mod installation;
 mod ops;
+mod planning;
 
+pub use holding::{Holding, State};
 pub use installation::{InstallErr, install};
 pub use ops::{Op, Plan};
+pub use planning::plan;

@@ -1,0 +1,58 @@
+-- What a folder holds, by its entries, whether the hidden directory stands, and its state files.
+use Rattle.std.specs.Prelude.{◌≡◌, ◌≢◌, List, [], ◌∷◌, Bool, true, false, if◌then◌else◌, Option, Some, None, option_map}
+use Rattle.std.specs.FinMap.{get}
+use Rattle.rk_base.specs.Text.{Text, root, join, hidden, is_within}
+use Rattle.rk_folder.specs.Told.{Held, standing}
+use Rattle.rk_folder.specs.declared.folder.Standing.{Standing}
+use Rattle.rk_folder.specs.declared.folder.Standing.TheVariants.{File, Dir}
+use Rattle.rk_tree.specs.declared.entry.Entry.{Entry}
+use Rattle.rk_tree.specs.declared.entry.Entry.TheVariants as entry
+use Rattle.rk_install.specs.declared.holding.Holding.{Holding}
+
+-- the hidden directory, and its state files
+abbrev pub hidden_dir : Text
+hidden_dir = join root hidden
+
+abbrev pub db_name : Text
+db_name = 100 ∷ 98 ∷ []
+
+abbrev pub attrs_name : Text
+attrs_name = 97 ∷ 116 ∷ 116 ∷ 114 ∷ 115 ∷ []
+
+abbrev pub db_file : Text
+db_file = join hidden_dir db_name
+
+abbrev pub attrs_file : Text
+attrs_file = join hidden_dir attrs_name
+
+-- what an entry is in a folder: a link isn't there
+abbrev pub placed : Option Entry → Option Standing
+placed None = None
+placed (Some (entry.File mode bytes)) = Some (File bytes)
+placed (Some (entry.Dir mode)) = Some Dir
+placed (Some (entry.Link text)) = None
+
+abbrev pub dir_where : Bool → Option Standing
+dir_where stands = if stands then Some Dir else None
+
+-- the folder holds just this
+pub record Holds (held : Held) (holding : Holding) : Type 0 where
+  -- no entry is at the hidden directory or below it
+  pub unseen : (path : Text) → is_within hidden_dir path ≡ true → get holding.entries path ≡ None
+  -- the entries elsewhere
+  pub outside : (path : Text) → is_within hidden_dir path ≡ false → standing held path ≡ placed (get holding.entries path)
+  -- whether the hidden directory stands, and its state files
+  pub rkr : standing held hidden_dir ≡ dir_where holding.rkr
+  pub db : standing held db_file ≡ option_map File holding.state.db
+  pub attrs : standing held attrs_file ≡ option_map File holding.state.attrs
+
+-- all else that a folder holds is as before: what stands below the hidden directory, and the directories
+-- with odd names
+pub record SameElse (old new : Held) : Type 0 where
+  pub below : (path : Text) → is_within hidden_dir path ≡ true → path ≢ hidden_dir → path ≢ db_file → path ≢ attrs_file → standing new path ≡ standing old path
+  pub odd : new.odd ≡ old.odd
+
+-- the folder afterwards
+pub record IsAfter (old new : Held) (holding : Holding) : Type 0 where
+  pub holds : Holds new holding
+  pub same_else : SameElse old new
