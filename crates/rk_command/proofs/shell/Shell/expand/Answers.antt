@@ -1,0 +1,14 @@
+use Rattle.std.proofs.Common.{◌≡◌, ℕ, List, Result, IfOk, ap, sym, ◌∙◌, drop}
+use Rattle.rk_base.specs.Text.{Text}
+use Rattle.rk_command.specs.Script.{expanded}
+use Rattle.rk_command.specs.ShellTalk.{redirects}
+use Rattle.rk_command.specs.ShellStages.{Says_so}
+use Rattle.rk_command.specs.Turns.{pay_words}
+use Rattle.rk_command.proofs.Expanding.{pays-word, pays-none}
+use Rattle.rk_command.proofs.shell.Shell.expand.Goals as goal
+
+pub returns-in-Some-clause-talk : goal.returns-in-Some-clause-talk
+returns-in-Some-clause-talk c = λ p. pays-word (expanded c.args.line) c.args.at c.in-Some.cost _ p c.in-Some.ensures.cost
+
+pub returns-in-None-clause-talk : goal.returns-in-None-clause-talk
+returns-in-None-clause-talk c = rw (pays-none (expanded c.args.line) c.args.at c.in-None.ensures.cost) c.redirect.ensures.talk

@@ -1,0 +1,10 @@
+pub mod Brought
+pub mod Complaining
+pub mod Lines
+pub mod Places
+pub mod Script
+pub mod ShellStages
+pub mod ShellTalk
+pub mod Telling
+pub mod Turns
+pub mod UnknownTalk
