@@ -1,1 +1,4 @@
 pub mod HiddenLemmas
+pub mod OrderLemmas
+pub mod ReachLemmas
+pub mod AllowLemmas
