@@ -6,6 +6,8 @@ mod lines;
 mod outcome;
 mod requests;
 mod shown;
+mod stop;
+mod texts;
 mod words;
 
 pub use exits::exit_code;

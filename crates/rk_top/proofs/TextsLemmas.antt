@@ -1,0 +1,17 @@
+-- Texts that were put out.
+use Rattle.std.proofs.Common.{◌≡◌, ℕ, List, length, take, Option, Result, Ok, Err, sym, ap, ◌∙◌}
+use Rattle.std.proofs.Math.Seq.{take-length}
+use Rattle.rk_base.specs.Text.{Text}
+use Rattle.rk_folder.specs.Sinks.{with_bytes}
+use Rattle.rk_top.specs.Texts.{PutSo}
+use Rattle.rk_top.specs.declared.stop.Stop.{Stop}
+use Rattle.rk_top.specs.declared.stop.Stop.TheVariants as stop
+
+-- all of a text is a front of it, whatever a later put came to
+pub PutSo-whole : {T : Type 0} (text : Text) (old new : Option Text) (later : Text) (before now : Option Text) (r : Result T Stop) → PutSo later before now r → new ≡ with_bytes text old → PutSo text old new r
+PutSo-whole text old new later before now (Ok it) put whole = whole
+PutSo-whole text old new later before now (Err (stop.Special path)) put whole = put
+PutSo-whole text old new later before now (Err stop.Spent) put whole = put
+PutSo-whole text old new later before now (Err stop.ReadFault) put whole = put
+PutSo-whole text old new later before now (Err stop.WriteFault) put whole = (length text, whole ∙ ap (λ (t : Text). with_bytes t old) (sym (take-length text)))
+PutSo-whole text old new later before now (Err stop.NoMemory) put whole = (length text, whole ∙ ap (λ (t : Text). with_bytes t old) (sym (take-length text)))

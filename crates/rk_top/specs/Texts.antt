@@ -1,0 +1,32 @@
+-- What putting the texts leaves.
+use Rattle.std.specs.Prelude.{◌≡◌, ◌⊎◌, ℕ, List, take, Option, Result, Ok, Err}
+use Rattle.rk_base.specs.Text.{Text}
+use Rattle.rk_folder.specs.Counts.{Rose}
+use Rattle.rk_folder.specs.Sinks.{with_bytes}
+use Rattle.rk_top.specs.declared.stop.Stop.{Stop}
+use Rattle.rk_top.specs.declared.stop.Stop.TheVariants as stop
+
+-- a front of the text went out
+abbrev pub Front : Text → Option Text → Option Text → Type 0
+Front text old new = (n : ℕ) × (new ≡ with_bytes (take n text) old)
+
+-- all at Ok, else a front
+abbrev pub PutSo : {T : Type 0} → Text → Option Text → Option Text → Result T Stop → Type 0
+PutSo text old new (Ok it) = new ≡ with_bytes text old
+PutSo text old new (Err (stop.Special path)) = ⊥
+PutSo text old new (Err stop.Spent) = ⊥
+PutSo text old new (Err stop.ReadFault) = ⊥
+PutSo text old new (Err stop.WriteFault) = Front text old new
+PutSo text old new (Err stop.NoMemory) = Front text old new
+
+-- a fault only where the count rose
+abbrev pub Counted : {T : Type 0} → ℕ → ℕ → Result T Stop → Type 0
+Counted before now (Ok it) = now ≡ before
+Counted before now (Err stop.WriteFault) = Rose before now
+Counted before now (Err other) = now ≡ before
+
+-- a fault only where one of the counts rose
+abbrev pub BothCounted : {T : Type 0} → ℕ → ℕ → ℕ → ℕ → Result T Stop → Type 0
+BothCounted before now also_before also_now (Ok it) = (now ≡ before) × (also_now ≡ also_before)
+BothCounted before now also_before also_now (Err stop.WriteFault) = Rose before now ⊎ Rose also_before also_now
+BothCounted before now also_before also_now (Err other) = (now ≡ before) × (also_now ≡ also_before)

@@ -1,0 +1,36 @@
+// The output and the error text, put out.
+ghost use Rattle.std.specs.Prelude.{◌≡◌};
+ghost use Rattle.rk_top.specs.Texts.{PutSo, Counted, BothCounted};
+
+use crate::stop::Stop;
+use rk_folder::{Sink, SinkErr};
+
+// Puts a text, where there is something to put.
+fn put<S: Sink>(sink: &mut S, text: &[u8]) -> Result<(), Stop>
+    ensures put { PutSo text.now (S.so_far sink.old) (S.so_far sink.new) result }
+    ensures count { Counted (S.faults sink.old) (S.faults sink.new) result }
+{
+    if text.is_empty() {
+        return Ok(());
+    }
+    match sink.put(text) {
+        Ok(()) => Ok(()),
+        Err(SinkErr::Failed) => Err(Stop::WriteFault),
+        Err(SinkErr::NoMemory) => Err(Stop::NoMemory),
+    }
+}
+
+/// Puts the output, and then the error text.
+pub(crate) fn put_texts<O: Sink, E: Sink>(
+    out: &mut O,
+    err: &mut E,
+    output: &[u8],
+    error_text: &[u8],
+) -> Result<(), Stop>
+    ensures output { PutSo output.now (O.so_far out.old) (O.so_far out.new) result }
+    ensures errors { PutSo error_text.now (E.so_far err.old) (E.so_far err.new) result }
+    ensures counts { BothCounted (O.faults out.old) (O.faults out.new) (E.faults err.old) (E.faults err.new) result }
+{
+    put(out, output)?;
+    put(err, error_text)
+}
