@@ -148,6 +148,18 @@ impl Path {
         Ok(Some(Name::of(name)))
     }
 
+    /// How many names it has.
+    #[tactic(auto, unfolding(crate::specs::Text::depth))]
+    pub fn depth(&self) -> usize
+        ensures { result ≡ depth self.now }
+    {
+        if self.is_root() {
+            0
+        } else {
+            self.text().iter().filter(|b| **b == b'/').count()
+        }
+    }
+
     /// Whether it stands in this directory.
     #[tactic(auto, unfolding(crate::specs::Text::is_in))]
     pub fn is_in(&self, dir: &Path) -> bool

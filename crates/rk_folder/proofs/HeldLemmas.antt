@@ -9,9 +9,8 @@ use Rattle.std.specs.FinMap.{entries, find, get-entries, get-insert, get-remove,
 use Rattle.rk_base.specs.Text.{Text, text_cmp, is_in, is_root, parent, name_of, last_of, same_text, depth}
 use Rattle.rk_base.specs.Canonical.{is_empty}
 use Rattle.rk_tree.specs.Rows.{map_of}
-use Rattle.rk_tree.proofs.RowsLemmas.{get-map_of, row_at, same_maps}
-use Rattle.rk_tree.proofs.TextLemmas.{exact_texts}
-use Rattle.rk_folder.specs.Told.{Held, Places, standing, is_nothing, is_file, bytes_in, item_in, item_of, items_of, is_odd, odd_in, with_standing, without, with_any, renamed, deepest, reach_of}
+use Rattle.rk_tree.proofs.RowsLemmas.{exact_texts, get-map_of, row_at, same_maps}
+use Rattle.rk_folder.specs.Told.{Held, Places, standing, is_nothing, is_file, is_dir, can_list, bytes_in, item_in, item_of, items_of, is_odd, odd_in, with_standing, without, with_any, renamed, deepest, reach_of}
 use Rattle.rk_folder.specs.declared.folder.Item.{Item}
 use Rattle.rk_folder.specs.declared.folder.Item.TheVariants as item
 use Rattle.rk_folder.specs.declared.folder.Standing.{Standing}
@@ -152,3 +151,12 @@ deep_enough path (row ∷ rows) stands = (elim (same_path path row.0) as (λ (b 
 -- no path that stands is deeper than the reach
 pub within_reach : (path : Text) (held : Held) → is_nothing (standing held path) ≡ false → depth path ≤ reach_of held
 within_reach path held stands = deep_enough path (entries held.places) (sym (ap is_nothing (get-entries held.places path)) ∙ stands)
+
+dir_there : (o : Option Standing) → is_dir o ≡ true → is_nothing o ≡ false
+dir_there None h = cc
+dir_there (Some (File bytes)) h = cc
+dir_there (Some Dir) h = refl
+dir_there (Some Special) h = cc
+
+pub list-within_reach : (dir : Text) (held : Held) → can_list dir held ≡ true → depth dir ≤ reach_of held
+list-within_reach dir held may = within_reach dir held (dir_there (standing held dir) may)

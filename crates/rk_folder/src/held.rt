@@ -1,11 +1,12 @@
 // What a folder in memory holds: the rows of its map, and the directories that hold an odd name.
-ghost use Rattle.std.specs.Prelude.{◌≡◌, ◌≤◌, IfOk, OnOk, OnErr, option_copied, true};
+ghost use Rattle.std.specs.Prelude.{◌≡◌, ◌≤◌, IfOk, OnOk, OnErr, option_copied, Some, true};
 ghost use Rattle.std.specs.FinMap.{entries};
 ghost use Rattle.std.specs.List.{filter_map};
 ghost use Rattle.rk_base.specs.Text.{parent};
 ghost use Rattle.rk_base.specs.Canonical.{is_canonical};
 ghost use Rattle.rk_tree.specs.Rows.{map_of};
 ghost use Rattle.rk_folder.specs.Told as told;
+ghost use Rattle.rk_folder.specs.Calls.{Damages};
 ghost use Rattle.rk_folder.specs.Whole.{IsWhole};
 ghost use Rattle.rk_folder.specs.declared.folder.Standing.TheVariants.{File, Dir, Special};
 
@@ -179,6 +180,12 @@ impl HeldRows {
         is_dir(self.at(dir))
     }
 
+    pub(crate) fn can_read(&self, file: &Path) -> bool
+        ensures { result ≡ told.can_read file.now self.now }
+    {
+        can_hold(self.at(file), true)
+    }
+
     fn is_below_dir(&self, path: &Path) -> Result<bool, NoMemory>
         ensures { IfOk result (λ b. b ≡ told.is_dir (told.standing self.now (parent path.now))) }
     {
@@ -238,6 +245,28 @@ impl HeldRows {
         let bytes = Bytes::from_slice(alloc, bytes)?;
         self.put(path, Standing::File(bytes))?;
         Ok(())
+    }
+
+    /// What a write that fails leaves: these bytes, or all as it was.
+    pub(crate) fn spoil(
+        &mut self,
+        alloc: Global,
+        file: &Path,
+        left: Option<&Bytes>,
+    ) -> Result<(), NoMemory>
+        requires whole { IsWhole self.old }
+        requires allowed { told.can_write file.now self.old ≡ true }
+        ensures whole { IsWhole self.new }
+        ensures ok { OnOk result (Damages file.now true (Some self.old) (Some self.new)) }
+        ensures err { OnErr result (self.new ≡ self.old) }
+    {
+        match left {
+            None => Ok(()),
+            Some(left) => {
+                self.put_file(alloc, file, left.as_slice())?;
+                Ok(())
+            }
+        }
     }
 
     pub(crate) fn put_dir(&mut self, dir: &Path) -> Result<(), NoMemory>

@@ -3,7 +3,9 @@
 
 mod folder;
 mod held;
+mod memory;
 mod sink;
 
 pub use folder::{Folder, FolderErr, Got, Item, Standing};
+pub use memory::{Change, MemFolder};
 pub use sink::{MemSink, RealSink, Sink, SinkErr};

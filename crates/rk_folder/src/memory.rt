@@ -1,0 +1,301 @@
+// A folder in memory. Calls of given numbers fail.
+ghost use Rattle.std.specs.Prelude.{◌≡◌, IfOk, OnOk, OnErr, IsNone, [], option_copied, Some, true, false, nat_lt};
+ghost use Rattle.rk_base.specs.Canonical.{is_empty};
+ghost use Rattle.rk_folder.specs.Told as told;
+ghost use Rattle.rk_folder.specs.Whole.{IsWhole};
+ghost use Rattle.rk_folder.specs.declared.folder.Standing.TheVariants.{File, Dir, Special};
+
+use crate::held::HeldRows;
+use crate::{Folder, FolderErr, Got, Item, Standing};
+use rk_base::{Bytes, NoMemory, Path};
+use std::alloc::Global;
+
+/// A call that is to change a folder.
+#[derive(Debug, Drop)]
+pub enum Change {
+    Write(Path),
+    MakeDir(Path),
+    RemoveFile(Path),
+    RemoveDir(Path),
+    Rename(Path, Path),
+}
+
+// A call that is to fail, and what it leaves in its file if it is a write.
+#[derive(Drop)]
+struct Fault {
+    call: u64,
+    left: Option<Bytes>,
+}
+
+/// A folder in memory, with the numbers of the calls that are to fail, the changes that were called
+/// for, and its counts.
+#[derive(Drop)]
+pub struct MemFolder {
+    held: HeldRows,
+    failing: Vec<Fault>,
+    calls: u64,
+    changes: Vec<Change>,
+    read_faults: u64,
+    write_faults: u64,
+    ghost whole: { IsWhole held },
+}
+
+// Counts a call, and finds how it is to fail.
+fn counted<'a>(calls: &mut u64, failing: &'a [Fault]) -> Option<&'a Fault>
+    ensures { is_empty failing.now ≡ true → IsNone result }
+{
+    *calls = calls.saturating_add(1);
+    for fault in failing {
+        if fault.call == *calls {
+            return Some(fault);
+        }
+    }
+    None
+}
+
+impl MemFolder {
+    ghost use Rattle.rk_folder.specs.Memory.{held_by, is_steady, changes_of, Sets};
+
+    /// A folder with nothing in its root, in which no call fails that it allows.
+    pub fn new(alloc: Global) -> Result<MemFolder, NoMemory>
+        ensures held { IfOk result (λ f. held_by f ≡ told.root_alone) }
+        ensures steady { IfOk result (λ f. is_steady f ≡ true) }
+        ensures changes { IfOk result (λ f. changes_of f ≡ []) }
+    {
+        let held = HeldRows::new(alloc)?;
+        Ok(MemFolder {
+            held,
+            failing: Vec::new(alloc),
+            calls: 0,
+            changes: Vec::new(alloc),
+            read_faults: 0,
+            write_faults: 0,
+        })
+    }
+
+    /// What stands at a path.
+    pub fn at(&self, path: &Path) -> Option<&Standing>
+        ensures { option_copied result ≡ told.standing (held_by self.now) path.now }
+    {
+        self.held.at(path)
+    }
+
+    // Without a call of the folder: what is to stand there, where it may, and else nothing changes.
+
+    /// Puts a file where a file stands, or nothing in a directory; else it is false.
+    pub fn set_file(&mut self, alloc: Global, file: &Path, bytes: &[u8]) -> Result<bool, NoMemory>
+        ensures set { Sets (told.can_write file.now) (told.with_standing file.now (File bytes.now)) (held_by self.old) (held_by self.new) result }
+        ensures steady { is_steady self.new ≡ is_steady self.old }
+    {
+        if !self.held.can_write(file)? {
+            return Ok(false);
+        }
+        self.held.put_file(alloc, file, bytes)?;
+        Ok(true)
+    }
+
+    /// Makes a directory where nothing stands in a directory; else it is false.
+    pub fn set_dir(&mut self, dir: &Path) -> Result<bool, NoMemory>
+        ensures set { Sets (told.can_make_dir dir.now) (told.with_standing dir.now Dir) (held_by self.old) (held_by self.new) result }
+        ensures steady { is_steady self.new ≡ is_steady self.old }
+    {
+        if !self.held.can_make_dir(dir)? {
+            return Ok(false);
+        }
+        self.held.put_dir(dir)?;
+        Ok(true)
+    }
+
+    /// Puts what is special where a file stands, or nothing in a directory; else it is false.
+    pub fn set_special(&mut self, path: &Path) -> Result<bool, NoMemory>
+        ensures set { Sets (told.can_write path.now) (told.with_standing path.now Special) (held_by self.old) (held_by self.new) result }
+        ensures steady { is_steady self.new ≡ is_steady self.old }
+    {
+        if !self.held.can_write(path)? {
+            return Ok(false);
+        }
+        self.held.put_special(path)?;
+        Ok(true)
+    }
+
+    /// Lets a directory hold an odd name; where none stands it is false.
+    pub fn set_odd(&mut self, dir: &Path) -> Result<bool, NoMemory>
+        ensures set { Sets (told.can_list dir.now) (told.with_odd dir.now) (held_by self.old) (held_by self.new) result }
+        ensures steady { is_steady self.new ≡ is_steady self.old }
+    {
+        if !self.held.can_list(dir) {
+            return Ok(false);
+        }
+        self.held.mark_odd(dir)?;
+        Ok(true)
+    }
+
+    /// Lets the call of this number, from 1 on, be a fault that leaves all as it was.
+    pub fn fail_at(&mut self, call: u64) -> Result<(), NoMemory>
+        ensures held { held_by self.new ≡ held_by self.old }
+        ensures changes { changes_of self.new ≡ changes_of self.old }
+    {
+        self.failing.push(Fault { call, left: None })?;
+        Ok(())
+    }
+
+    /// Lets the call of this number be a fault that leaves these bytes, if it is a write.
+    pub fn fail_write_at(&mut self, call: u64, left: Bytes) -> Result<(), NoMemory>
+        ensures held { held_by self.new ≡ held_by self.old }
+        ensures changes { changes_of self.new ≡ changes_of self.old }
+    {
+        let left = Some(left);
+        self.failing.push(Fault { call, left })?;
+        Ok(())
+    }
+
+    /// How many calls there were.
+    pub fn calls(&self) -> u64
+        ensures { result ≡ self.now.calls }
+    {
+        self.calls
+    }
+
+    /// The changes that were called for, in their order, those that failed as well.
+    pub fn changes(&self) -> &[Change]
+        ensures { result.now ≡ changes_of self.now }
+    {
+        &self.changes
+    }
+
+    /// Forgets the changes that were called for.
+    pub fn clear_changes(&mut self)
+        ensures changes { changes_of self.new ≡ [] }
+        ensures held { held_by self.new ≡ held_by self.old }
+        ensures steady { is_steady self.new ≡ is_steady self.old }
+    {
+        self.changes.clear();
+    }
+
+    /// How many lists and reads were faults.
+    pub fn read_faults(&self) -> u64
+        ensures { result ≡ self.now.read_faults }
+    {
+        self.read_faults
+    }
+
+    /// How many of the other calls were faults.
+    pub fn write_faults(&self) -> u64
+        ensures { result ≡ self.now.write_faults }
+    {
+        self.write_faults
+    }
+}
+
+impl Folder for MemFolder {
+    ghost use Rattle.rk_folder.specs.Memory.{told_by, is_steady};
+
+    ghost told = { told_by };
+
+    ghost read_faults = { λ m. m.read_faults };
+
+    ghost write_faults = { λ m. m.write_faults };
+
+    ghost reach = { λ m. told.reach_of m.held };
+
+    ghost steady = { is_steady };
+
+    ghost whole = { λ m. m.whole };
+
+    fn list(&mut self, alloc: Global, dir: &Path) -> Result<Vec<Item>, FolderErr> {
+        let fault = counted(&mut self.calls, &self.failing);
+        if !self.held.can_list(dir) {
+            return Err(FolderErr::Failed);
+        }
+        if fault.is_some() {
+            self.read_faults = self.read_faults.saturating_add(1);
+            return Err(FolderErr::Failed);
+        }
+        Ok(self.held.items(alloc, dir)?)
+    }
+
+    fn read(&mut self, alloc: Global, file: &Path) -> Result<Got, FolderErr> {
+        let fault = counted(&mut self.calls, &self.failing);
+        if !self.held.can_read(file) {
+            return Err(FolderErr::Failed);
+        }
+        if fault.is_some() {
+            self.read_faults = self.read_faults.saturating_add(1);
+            return Err(FolderErr::Failed);
+        }
+        match self.held.bytes_at(file)? {
+            Some(bytes) => Ok(Got::Content(bytes)),
+            None => Ok(Got::Absent),
+        }
+    }
+
+    fn write(&mut self, alloc: Global, file: &Path, bytes: &[u8]) -> Result<(), FolderErr> {
+        self.changes.push(Change::Write(file.copy()?))?;
+        let fault = counted(&mut self.calls, &self.failing);
+        if !self.held.can_write(file)? {
+            return Err(FolderErr::Failed);
+        }
+        match fault {
+            None => Ok(self.held.put_file(alloc, file, bytes)?),
+            Some(fault) => {
+                self.held.spoil(alloc, file, fault.left.as_ref())?;
+                self.write_faults = self.write_faults.saturating_add(1);
+                Err(FolderErr::Failed)
+            }
+        }
+    }
+
+    fn make_dir(&mut self, alloc: Global, dir: &Path) -> Result<(), FolderErr> {
+        self.changes.push(Change::MakeDir(dir.copy()?))?;
+        let fault = counted(&mut self.calls, &self.failing);
+        if !self.held.can_make_dir(dir)? {
+            return Err(FolderErr::Failed);
+        }
+        if fault.is_some() {
+            self.write_faults = self.write_faults.saturating_add(1);
+            return Err(FolderErr::Failed);
+        }
+        Ok(self.held.put_dir(dir)?)
+    }
+
+    fn remove_file(&mut self, alloc: Global, file: &Path) -> Result<(), FolderErr> {
+        self.changes.push(Change::RemoveFile(file.copy()?))?;
+        let fault = counted(&mut self.calls, &self.failing);
+        if !self.held.can_remove_file(file) {
+            return Err(FolderErr::Failed);
+        }
+        if fault.is_some() {
+            self.write_faults = self.write_faults.saturating_add(1);
+            return Err(FolderErr::Failed);
+        }
+        self.held.take_file(file);
+        Ok(())
+    }
+
+    fn remove_dir(&mut self, alloc: Global, dir: &Path) -> Result<(), FolderErr> {
+        self.changes.push(Change::RemoveDir(dir.copy()?))?;
+        let fault = counted(&mut self.calls, &self.failing);
+        if !self.held.can_remove_dir(alloc, dir)? {
+            return Err(FolderErr::Failed);
+        }
+        if fault.is_some() {
+            self.write_faults = self.write_faults.saturating_add(1);
+            return Err(FolderErr::Failed);
+        }
+        self.held.take_dir(dir);
+        Ok(())
+    }
+
+    fn rename(&mut self, alloc: Global, from: &Path, to: &Path) -> Result<(), FolderErr> {
+        self.changes.push(Change::Rename(from.copy()?, to.copy()?))?;
+        let fault = counted(&mut self.calls, &self.failing);
+        if !self.held.can_rename(from, to)? {
+            return Err(FolderErr::Failed);
+        }
+        if fault.is_some() {
+            self.write_faults = self.write_faults.saturating_add(1);
+            return Err(FolderErr::Failed);
+        }
+        Ok(self.held.move_file(alloc, from, to)?)
+    }
+}
