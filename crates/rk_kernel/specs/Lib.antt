@@ -1,0 +1,5 @@
+pub mod Do
+pub mod Fitting
+pub mod Rows
+pub mod Spot
+pub mod World

@@ -1,0 +1,96 @@
+-- The world: a tree, the open descriptions, the pipes, the output and the error text.
+use Rattle.std.specs.Prelude.{ℕ, ◌+◌, ◌-◌, List, [], ◌∷◌, ◌++◌, length, take, drop, replicate, true, false, if◌then◌else◌, Option, Some, None, slice_get, slice_set, refl}
+use Rattle.std.specs.Coded.{Coded, code_by, coded×, coded_ℕ, coded_list}
+use Rattle.rk_base.specs.Text.{Text}
+use Rattle.rk_tree.specs.Entries.{Entries}
+use Rattle.rk_tree.specs.Held.{Held, node, file_bytes, set_bytes}
+use Rattle.rk_tree.specs.Copies.{tree_of}
+use Rattle.rk_kernel.specs.declared.description.Description.{Description}
+use Rattle.rk_kernel.specs.declared.description.Source.{Source}
+use Rattle.rk_kernel.specs.declared.description.Source.TheVariants as source
+
+pub record World : Type 0 where
+  pub tree : Held
+  pub opens : List Description
+  pub pipes : List Text
+  pub out : Text
+  pub err : Text
+
+-- by which a proof tells two of them apart
+abbrev pub world_code : Coded Held → Coded Description → Coded World
+world_code tree d =
+    code_by (Held × (List Description × (List Text × (Text × Text)))) (coded× tree (coded× (coded_list d) (coded× (coded_list (coded_list coded_ℕ)) (coded× (coded_list coded_ℕ) (coded_list coded_ℕ)))))
+    (λ w. (w.tree, (w.opens, (w.pipes, (w.out, w.err))))) (λ p. record { tree = p.0; opens = p.1.0; pipes = p.1.1.0; out = p.1.1.1.0; err = p.1.1.1.1 }) (λ _. refl)
+
+-- The world in which nothing has run.
+
+abbrev pub empty_input : Description
+empty_input = record { source = source.Nothing; offset = 0; read = true; write = false; append = false }
+
+abbrev pub output : Description
+output = record { source = source.Output; offset = 0; read = false; write = true; append = false }
+
+abbrev pub error_text : Description
+error_text = record { source = source.ErrorText; offset = 0; read = false; write = true; append = false }
+
+-- of a tree
+abbrev pub fresh : Held → World
+fresh tree = record { tree = tree; opens = empty_input ∷ output ∷ error_text ∷ []; pipes = []; out = []; err = [] }
+
+-- of a snapshot's tree
+abbrev pub fresh_world : Entries → World
+fresh_world snapshot = fresh (tree_of snapshot)
+
+-- Reading and writing.
+
+abbrev pub text_of : Option Text → Text
+text_of None = []
+text_of (Some text) = text
+
+-- bytes written over a text from a place on; a gap before it becomes zero bytes
+unfoldable pub written : Text → ℕ → Text → Text
+written old at bytes = take at (old ++ replicate (at - length old) 0) ++ bytes ++ drop (at + length bytes) old
+
+-- what there is to read
+abbrev pub rest_of : World → ℕ → Source → Text
+rest_of world offset (source.Node n) = drop offset (file_bytes (node world.tree n))
+rest_of world offset (source.Pipe p) = text_of (slice_get world.pipes p)
+rest_of world offset source.Output = []
+rest_of world offset source.ErrorText = []
+rest_of world offset source.Nothing = []
+
+abbrev pub with_offset : World → ℕ → Description → ℕ → World
+with_offset world k d offset = record world { opens = slice_set world.opens k (record d { offset = offset }) }
+
+-- the world after the description of this number has read all there is
+abbrev pub after_read : World → ℕ → Description → Source → World
+after_read world k d (source.Node n) = with_offset world k d (length (file_bytes (node world.tree n)))
+after_read world k d (source.Pipe p) = record world { pipes = slice_set world.pipes p [] }
+after_read world k d source.Output = world
+after_read world k d source.ErrorText = world
+after_read world k d source.Nothing = world
+
+-- where a write begins
+abbrev pub place_in : Description → Text → ℕ
+place_in d old = if d.append then length old else d.offset
+
+abbrev pub after_file_write : World → ℕ → Description → Text → ℕ → Text → ℕ → World
+after_file_write world k d bytes n old at =
+    record (with_offset world k d (at + length bytes)) { tree = set_bytes world.tree n (written old at bytes) }
+
+-- the world after bytes were written by the description of this number
+abbrev pub after_write : World → ℕ → Description → Text → Source → World
+after_write world k d bytes (source.Node n) = let old = file_bytes (node world.tree n) in after_file_write world k d bytes n old (place_in d old)
+after_write world k d bytes (source.Pipe p) = record world { pipes = slice_set world.pipes p (text_of (slice_get world.pipes p) ++ bytes) }
+after_write world k d bytes source.Output = record world { out = world.out ++ bytes }
+after_write world k d bytes source.ErrorText = record world { err = world.err ++ bytes }
+after_write world k d bytes source.Nothing = world
+
+-- Changes of a part.
+
+abbrev pub with_tree : World → Held → World
+with_tree world tree = record world { tree = tree }
+
+-- a description more
+abbrev pub with_open : World → Description → World
+with_open world d = record world { opens = world.opens ++ d ∷ [] }

@@ -1,0 +1,57 @@
+// Where a path led, with a name of its own: a place borrows the tree, which a call then changes.
+ghost use Rattle.std.specs.Prelude.{◌≡◌, IfOk, Ok};
+ghost use Rattle.rk_walk.specs.Walk.{resolve};
+ghost use Rattle.rk_walk.specs.declared.place.Place.TheVariants.{Found};
+ghost use Rattle.rk_kernel.specs.Spot.{spot_means, IsFreeSpot};
+
+use rk_base::{Errno, Name, NoMemory};
+use rk_tree::Tree;
+use rk_walk::{Here, Place};
+use std::alloc::Global;
+
+#[derive(Drop)]
+pub(crate) enum Spot {
+    // The node, the directory and the name under which it was found, and whether a slash stands after it.
+    Found(usize, Option<(usize, Name)>, bool),
+    // The directory, the name, and whether a slash stands after it.
+    Absent(usize, Name, bool),
+    Fails(Errno),
+}
+
+fn found(alloc: Global, here: &Here<'_>) -> Result<Spot, NoMemory>
+    ensures means { IfOk result (λ s. spot_means s ≡ Ok (Found here.entry.now)) }
+    ensures free { IfOk result (λ s. (tree : _) → IsFreeSpot tree s) }
+{
+    match &here.up {
+        None => Ok(Spot::Found(here.node, None, here.slash)),
+        Some((dir, name)) => {
+            let name = name.to_name(alloc)?;
+            Ok(Spot::Found(here.node, Some((*dir, name)), here.slash))
+        }
+    }
+}
+
+// Where a path leads, with its last link followed or not.
+pub(crate) fn spot_at(
+    alloc: Global,
+    tree: &Tree,
+    path: &[u8],
+    follow: bool,
+) -> Result<Spot, NoMemory>
+    ensures means { IfOk result (λ s. spot_means s ≡ resolve tree.now path.now follow) }
+    ensures free { IfOk result (IsFreeSpot tree.now) }
+{
+    match rk_walk::resolve(tree, path, follow) {
+        Err(e) => Ok(Spot::Fails(e)),
+        Ok(place) => match place {
+            Place::Found(here) => {
+                let spot = found(alloc, &here)?;
+                Ok(spot)
+            }
+            Place::Absent { dir, name, slash } => {
+                let name = name.to_name(alloc)?;
+                Ok(Spot::Absent(dir, name, slash))
+            }
+        },
+    }
+}

@@ -1,0 +1,121 @@
+// The world.
+ghost use Rattle.std.specs.Prelude.{◌≡◌, IfOk, slice_get, slice_set};
+ghost use Rattle.rk_tree.specs.Copies.{snapshot_of};
+ghost use Rattle.rk_tree.specs.Entries.{IsWholeSnapshot};
+ghost use Rattle.rk_tree.specs.Whole.{IsWhole};
+ghost use Rattle.rk_kernel.specs.World.{fresh, with_offset};
+
+mod answering;
+mod opening;
+mod reading;
+mod writing;
+
+use crate::Description;
+use rk_base::{Bytes, NoMemory};
+use rk_tree::{Snapshot, Tree};
+use std::alloc::Global;
+use std::marker::Model;
+
+/// A tree, the open descriptions, the pipes, and what was written to the output and to the error text. It
+/// answers every call but a launch.
+#[derive(Drop)]
+pub struct World {
+    tree: Tree,
+    opens: Vec<Description>,
+    pipes: Vec<Bytes>,
+    out: Vec<u8>,
+    err: Vec<u8>,
+}
+
+impl Model for World {
+    ghost use Rattle.rk_kernel.specs.World.{World, world_code};
+
+    ghost Value = { World };
+
+    ghost use Rattle.rk_tree.specs.contracts.entry.Entry as entry;
+    ghost use Rattle.rk_kernel.specs.contracts.description.Description as description;
+    ghost use Rattle.rk_tree.specs.Held.{held_code};
+
+    ghost coded = { world_code (held_code entry.the_row.coded) description.the_row.coded };
+
+    ghost view = { λ w. record { tree = w.tree; opens = w.opens.items; pipes = w.pipes.items; out = w.out.items; err = w.err.items } };
+}
+
+impl World {
+    /// The world of a tree in which nothing has run: description 0 is the empty input, 1 the output and 2 the
+    /// error text.
+    pub fn new(alloc: Global, tree: Tree) -> Result<World, NoMemory>
+        ensures { IfOk result (λ w. w ≡ fresh tree) }
+    {
+        let opens = vec![in alloc;
+            Description::empty_input(),
+            Description::output(),
+            Description::error_text(),
+        ]?;
+        Ok(World {
+            tree,
+            opens,
+            pipes: Vec::new(alloc),
+            out: Vec::new(alloc),
+            err: Vec::new(alloc),
+        })
+    }
+
+    /// The tree. It is whole, whatever was asked.
+    pub fn tree(&self) -> &Tree
+        ensures tree { result.now ≡ self.now.tree }
+        ensures whole { IsWhole self.now.tree }
+    {
+        let _root = self.tree.node(0);
+        &self.tree
+    }
+
+    /// What was written to the output.
+    pub fn out(&self) -> &[u8]
+        ensures { result.now ≡ self.now.out }
+    {
+        self.out.as_slice()
+    }
+
+    /// What was written to the error text.
+    pub fn err(&self) -> &[u8]
+        ensures { result.now ≡ self.now.err }
+    {
+        self.err.as_slice()
+    }
+
+    /// Each path of the tree with what stands there. It is whole.
+    pub fn snapshot(&self) -> Result<Snapshot, NoMemory>
+        ensures snapshot { IfOk result (λ s. s ≡ snapshot_of self.now.tree) }
+        ensures whole { IfOk result IsWholeSnapshot }
+    {
+        let snapshot = self.tree.snapshot()?;
+        Ok(snapshot)
+    }
+
+    fn allocator(&self) -> Global {
+        *self.opens.allocator()
+    }
+
+    fn description(&self, k: usize) -> Option<Description>
+        ensures { result ≡ slice_get self.now.opens k }
+    {
+        self.opens.get(k).copied()
+    }
+
+    fn set_offset(&mut self, k: usize, d: Description, offset: usize)
+        ensures { self.new ≡ with_offset self.old k d offset }
+    {
+        if let Some(slot) = self.opens.get_mut(k) {
+            *slot = Description { offset, ..d };
+        }
+    }
+
+    fn set_pipe(&mut self, p: usize, bytes: Bytes)
+        ensures { self.new ≡ record self.old { pipes = slice_set self.old.pipes p bytes } }
+    {
+        if let Some(slot) = self.pipes.get_mut(p) {
+            *slot = bytes;
+        }
+    }
+}

@@ -1,0 +1,85 @@
+// Read.
+ghost use Rattle.std.specs.Prelude.{◌≡◌, IfOk, drop, option_copied};
+ghost use Rattle.rk_calls.specs.declared.call.Call.TheVariants.{Read};
+ghost use Rattle.rk_kernel.specs.World.{after_read, rest_of, text_of};
+ghost use Rattle.rk_kernel.specs.Do as all;
+
+use crate::{Description, Source, World};
+use rk_base::{Bytes, Errno, NoMemory};
+use rk_calls::{Answer, Refs};
+use std::alloc::Global;
+
+/// What stands after so many bytes.
+pub(super) fn after(text: &[u8], n: usize) -> &[u8]
+    ensures { result.now ≡ drop n text.now }
+{
+    if n <= text.len() {
+        text.split_at(n).1
+    } else {
+        b""
+    }
+}
+
+/// The bytes of a pipe; none where there is no pipe.
+pub(super) fn bytes_of(pipe: Option<&Bytes>) -> &[u8]
+    ensures { result.now ≡ text_of (option_copied pipe.entry) }
+{
+    match pipe {
+        Some(bytes) => bytes.as_slice(),
+        None => b"",
+    }
+}
+
+impl World {
+    // What there is to read.
+    fn rest_of(&self, alloc: Global, offset: usize, source: Source) -> Result<Bytes, NoMemory>
+        ensures { IfOk result (λ b. b ≡ rest_of self.now offset source) }
+    {
+        match source {
+            Source::Node(n) => Bytes::from_slice(alloc, after(self.tree.bytes(n), offset)),
+            Source::Pipe(p) => Bytes::from_slice(alloc, bytes_of(self.pipes.get(p))),
+            Source::Output => Bytes::from_slice(alloc, b""),
+            Source::ErrorText => Bytes::from_slice(alloc, b""),
+            Source::Nothing => Bytes::from_slice(alloc, b""),
+        }
+    }
+
+    // The offset goes to the end, and a pipe is emptied.
+    fn after_read(&mut self, k: usize, d: Description)
+        ensures { self.new ≡ after_read self.old k d d.source }
+    {
+        match d.source {
+            Source::Node(n) => {
+                let end = self.tree.bytes(n).len();
+                self.set_offset(k, d, end)
+            }
+            Source::Pipe(p) => {
+                let none = Bytes::new(Vec::new(self.allocator()));
+                self.set_pipe(p, none)
+            }
+            Source::Output => {}
+            Source::ErrorText => {}
+            Source::Nothing => {}
+        }
+    }
+
+    /// Reads all that is left.
+    pub(super) fn read(&mut self, refs: &Refs, r: u64) -> Result<Answer, NoMemory>
+        ensures { IfOk result (λ a. record { answer = a; refs = refs.now; world = self.new } ≡ all.answered self.old refs.now (Read r)) }
+    {
+        match refs.at(r) {
+            None => Ok(Answer::No(Errno::BadRef)),
+            Some(k) => match self.description(k) {
+                None => Ok(Answer::No(Errno::BadRef)),
+                Some(d) => {
+                    if !d.read {
+                        return Ok(Answer::No(Errno::BadRef));
+                    }
+                    let bytes = self.rest_of(self.allocator(), d.offset, d.source)?;
+                    self.after_read(k, d);
+                    Ok(Answer::Content(bytes))
+                }
+            },
+        }
+    }
+}
