@@ -4,8 +4,10 @@
 mod folder;
 mod held;
 mod memory;
+mod real;
 mod sink;
 
 pub use folder::{Folder, FolderErr, Got, Item, Standing};
 pub use memory::{Change, MemFolder};
+pub use real::RealFolder;
 pub use sink::{MemSink, RealSink, Sink, SinkErr};

@@ -1,0 +1,253 @@
+// A real directory as a folder. It tells nothing of what it holds, and counts its faults.
+ghost use Rattle.std.specs.Prelude.{◌≡◌, ◌≤◌, None, OnOk, IsOk, true, false};
+ghost use Rattle.rk_base.specs.Text.{depth};
+ghost use Rattle.rk_folder.specs.Calls.{Caused};
+
+use crate::{Folder, FolderErr, Got, Item};
+use rk_base::{Bytes, Name, Path, PathFault};
+use std::alloc::Global;
+use std::fs::{File, Files};
+use std::io::{ErrorKind, Read, Write};
+use std::{fs, io, str};
+
+/// A path has at most so many names.
+const DEEPEST: usize = 4096;
+
+/// A directory has at most so many names.
+const MOST_NAMES: usize = 1 << 20;
+
+/// A file has at most so many bytes.
+const LONGEST: usize = 1 << 32;
+
+/// The folder below one directory. Links, devices and the like are special, and a file name that
+/// is no name is odd.
+#[derive(Drop)]
+pub struct RealFolder<R: Files + AllocGlobal + Drop> {
+    rt: R,
+    top: String,
+    read_faults: u64,
+    write_faults: u64,
+}
+
+// The path of the real file: what the folder's top is, and then the path's text.
+fn place_of(alloc: Global, top: &str, path: &Path) -> io::Result<String> {
+    let Ok(text) = str::from_utf8(path.text()) else {
+        return Err(io::Error::from(ErrorKind::InvalidFilename));
+    };
+    let mut place = String::from_str(alloc, top)?;
+    place.push_str(text)?;
+    Ok(place)
+}
+
+// All bytes of a reader, of which there are not too many.
+fn all_bytes(alloc: Global, reader: &mut impl Read) -> io::Result<Vec<u8>> {
+    let mut bytes = Vec::new(alloc);
+    let mut piece = [0u8; 4096];
+    for _ in 0..u64::MAX {
+        let n = reader.read(&mut piece)?;
+        if n == 0 {
+            return Ok(bytes);
+        }
+        bytes.extend_from_slice(&piece[..n])?;
+        if bytes.len() > LONGEST {
+            break;
+        }
+    }
+    Err(io::Error::from(ErrorKind::FileTooLarge))
+}
+
+fn content(rt: &impl Files, alloc: Global, place: &str) -> io::Result<Got> {
+    match fs::symlink_metadata(rt, place) {
+        Ok(it) if it.is_file() => {
+            let mut file = File::open(rt, place)?;
+            Ok(Got::Content(Bytes::new(all_bytes(alloc, &mut file)?)))
+        }
+        Ok(_) => Err(io::Error::from(ErrorKind::InvalidInput)),
+        Err(e) if e.kind() == ErrorKind::NotFound => Ok(Got::Absent),
+        Err(e) => Err(e),
+    }
+}
+
+fn put_content(rt: &impl Files, place: &str, bytes: &[u8]) -> io::Result<()> {
+    let mut file = File::create(rt, place)?;
+    file.write_all(bytes)
+}
+
+// The name of a real file, where it is one.
+fn name_of(alloc: Global, bytes: &[u8]) -> io::Result<Option<Name>> {
+    match Name::new(alloc, bytes) {
+        Ok(name) => Ok(Some(name)),
+        Err(PathFault::Invalid) => Ok(None),
+        Err(PathFault::NoMemory) => Err(io::Error::from(ErrorKind::OutOfMemory)),
+    }
+}
+
+// What stands at a name in the directory at this place, which ends in a slash.
+fn item_at(rt: &impl Files, alloc: Global, place: &str, bytes: &[u8]) -> io::Result<Item> {
+    let (Some(name), Ok(text)) = (name_of(alloc, bytes)?, str::from_utf8(bytes)) else {
+        return Ok(Item::Odd);
+    };
+    let mut below = String::from_str(alloc, place)?;
+    below.push_str(text)?;
+    let it = fs::symlink_metadata(rt, below.as_str())?;
+    Ok(if it.is_file() {
+        Item::File(name)
+    } else if it.is_dir() {
+        Item::Dir(name)
+    } else {
+        Item::Special(name)
+    })
+}
+
+// The names in a listing, each ended by a NUL, ascending and without `.` and `..`.
+fn sorted_names(alloc: Global, listing: &[u8]) -> io::Result<Vec<&[u8]>> {
+    let mut names = Vec::new(alloc);
+    for name in listing.split(|b| *b == 0) {
+        if !name.is_empty() && name != b".".as_slice() && name != b"..".as_slice() {
+            names.push(name)?;
+        }
+        if names.len() > MOST_NAMES {
+            return Err(io::Error::from(ErrorKind::FileTooLarge));
+        }
+    }
+    names.sort()?;
+    Ok(names)
+}
+
+fn items_at(rt: &impl Files, alloc: Global, place: &str) -> io::Result<Vec<Item>> {
+    let mut dir = rt.open_dir(place)?;
+    let listing = all_bytes(alloc, &mut dir)?;
+    let mut items = Vec::new(alloc);
+    let mut odd = false;
+    for name in &sorted_names(alloc, &listing)? {
+        match item_at(rt, alloc, place, name)? {
+            Item::Odd => odd = true,
+            item => items.push(item)?,
+        }
+    }
+    if odd {
+        items.push(Item::Odd)?;
+    }
+    Ok(items)
+}
+
+fn items_of(rt: &impl Files, alloc: Global, top: &str, dir: &Path) -> io::Result<Vec<Item>>
+    ensures { OnOk result (depth dir.now ≤ 4096) }
+{
+    if dir.depth() > DEEPEST {
+        return Err(io::Error::from(ErrorKind::FilesystemLoop));
+    }
+    let mut place = place_of(alloc, top, dir)?;
+    if !dir.is_root() {
+        place.push_str("/")?;
+    }
+    let items = items_at(rt, alloc, place.as_str())?;
+    Ok(items)
+}
+
+// The answer of a call. Each error but want of memory is a fault.
+fn answer<T: Drop>(done: io::Result<T>, faults: &mut u64) -> Result<T, FolderErr>
+    ensures cause { Caused faults.old faults.new true result }
+    ensures ok { OnOk result (IsOk done) }
+{
+    match done {
+        Ok(it) => Ok(it),
+        Err(e) if e.kind() == ErrorKind::OutOfMemory => Err(FolderErr::NoMemory),
+        Err(_) => {
+            *faults = faults.saturating_add(1);
+            Err(FolderErr::Failed)
+        }
+    }
+}
+
+impl<R: Files + AllocGlobal + Drop> RealFolder<R> {
+    /// The folder whose root is this directory.
+    pub fn new(rt: R, top: String) -> RealFolder<R> {
+        RealFolder {
+            rt,
+            top,
+            read_faults: 0,
+            write_faults: 0,
+        }
+    }
+
+    fn read_at(&self, alloc: Global, file: &Path) -> io::Result<Got> {
+        let place = place_of(alloc, self.top.as_str(), file)?;
+        content(&self.rt, alloc, place.as_str())
+    }
+
+    fn write_at(&self, alloc: Global, file: &Path, bytes: &[u8]) -> io::Result<()> {
+        let place = place_of(alloc, self.top.as_str(), file)?;
+        put_content(&self.rt, place.as_str(), bytes)
+    }
+
+    fn make_dir_at(&self, alloc: Global, dir: &Path) -> io::Result<()> {
+        let place = place_of(alloc, self.top.as_str(), dir)?;
+        fs::create_dir(&self.rt, place.as_str())
+    }
+
+    fn remove_file_at(&self, alloc: Global, file: &Path) -> io::Result<()> {
+        let place = place_of(alloc, self.top.as_str(), file)?;
+        fs::remove_file(&self.rt, place.as_str())
+    }
+
+    fn remove_dir_at(&self, alloc: Global, dir: &Path) -> io::Result<()> {
+        let place = place_of(alloc, self.top.as_str(), dir)?;
+        fs::remove_dir(&self.rt, place.as_str())
+    }
+
+    fn rename_at(&self, alloc: Global, from: &Path, to: &Path) -> io::Result<()> {
+        let old = place_of(alloc, self.top.as_str(), from)?;
+        let new = place_of(alloc, self.top.as_str(), to)?;
+        fs::rename(&self.rt, old.as_str(), new.as_str())
+    }
+}
+
+impl<R: Files + AllocGlobal + Drop> Folder for RealFolder<R> {
+    ghost told = { λ _. None };
+
+    ghost read_faults = { λ f. f.read_faults };
+
+    ghost write_faults = { λ f. f.write_faults };
+
+    ghost reach = { λ _. 4096 };
+
+    ghost steady = { λ _. false };
+
+    ghost whole = { λ _. tt };
+
+    fn list(&mut self, alloc: Global, dir: &Path) -> Result<Vec<Item>, FolderErr> {
+        let items = items_of(&self.rt, alloc, self.top.as_str(), dir);
+        answer(items, &mut self.read_faults)
+    }
+
+    fn read(&mut self, alloc: Global, file: &Path) -> Result<Got, FolderErr> {
+        let got = self.read_at(alloc, file);
+        answer(got, &mut self.read_faults)
+    }
+
+    fn write(&mut self, alloc: Global, file: &Path, bytes: &[u8]) -> Result<(), FolderErr> {
+        let done = self.write_at(alloc, file, bytes);
+        answer(done, &mut self.write_faults)
+    }
+
+    fn make_dir(&mut self, alloc: Global, dir: &Path) -> Result<(), FolderErr> {
+        let done = self.make_dir_at(alloc, dir);
+        answer(done, &mut self.write_faults)
+    }
+
+    fn remove_file(&mut self, alloc: Global, file: &Path) -> Result<(), FolderErr> {
+        let done = self.remove_file_at(alloc, file);
+        answer(done, &mut self.write_faults)
+    }
+
+    fn remove_dir(&mut self, alloc: Global, dir: &Path) -> Result<(), FolderErr> {
+        let done = self.remove_dir_at(alloc, dir);
+        answer(done, &mut self.write_faults)
+    }
+
+    fn rename(&mut self, alloc: Global, from: &Path, to: &Path) -> Result<(), FolderErr> {
+        let done = self.rename_at(alloc, from, to);
+        answer(done, &mut self.write_faults)
+    }
+}
