@@ -1,5 +1,5 @@
 // The budget of a run.
-ghost use Rattle.std.specs.Prelude.{◌≡◌, ◌↔◌, ◌+◌, ◌-◌, ◌≤◌, IsTrue, IfSome, IsNone, true, false};
+ghost use Rattle.std.specs.Prelude.{◌≡◌, ◌↔◌, ◌+◌, ◌-◌, ◌<◌, ◌≤◌, ◌^◌, IsTrue, IfSome, IsNone, true, false};
 
 use std::marker::Model;
 
@@ -59,6 +59,7 @@ impl Budget {
     /// The turns that are left.
     pub fn left(&self) -> u64
         ensures left { result ≡ self.now.limit - self.now.used }
+        ensures small { result < 2 ^ 32 }
         ensures within { self.now.used ≤ self.now.limit }
     {
         u64::from(self.limit) - self.used

@@ -1,0 +1,77 @@
+use Rattle.std.proofs.Common.{◌≡◌, length, arith, refl}
+use Rattle.rk_runs.proofs.Freshing.{Freshing-start, Freshing-ask, Freshing-launch, Freshing-short, Freshing-end, Freshing-place, Freshing-join}
+use Rattle.rk_runs.specs.Run.{game}
+use Rattle.rk_runs.proofs.Spoken.{fresh-spoken, fresh-paid}
+use Rattle.rk_runs.proofs.run.run_recorded.Goals as goal
+
+pub turns-init : goal.turns-init
+turns-init g c = record {
+  goes = Freshing-start _ _ _ _ _ _ _ _ _ _ _ c.new-table.ensures c.in_ok-top.ensures.place c.in_ok-top.ensures.refs c.in_ok-refs.ensures c.in_ok-top.ensures.table c.in_ok-top.ensures.says c.new-stack.ensures.items;
+  limit = refl;
+  grows = omega arith;
+  few = omega arith;
+  live = refl;
+}
+
+pub turns-preserved-in-Launch : goal.turns-preserved-in-Launch
+turns-preserved-in-Launch g c = record {
+  goes =
+      rw c.replace-waiting.ensures.after
+      (Freshing-launch _ _ _ _ _ _ _ _ _ c.turns.invariant.goes _ _ (rw c.left.ensures.left at c.in_ok-call.ensures.spoke) c.in_ok-call.ensures.goes
+      _ _ _ _ _ _ _ _ _ _ c.in-Call.is c.pay-cost.ensures.cost (omega arith) c.in-Launch.is
+      c.in_ok-refs-in-Launch.ensures c.in_ok-child-in-Launch.ensures.refs c.in_ok-child-in-Launch.ensures.says c.in_ok-child-in-Launch.ensures.place c.in_ok-child-in-Launch.ensures.table
+      (rw c.replace-waiting.ensures.value at c.in_ok-push-in-Launch.ensures.items));
+  limit = omega arith;
+  grows = omega arith;
+  few = omega arith;
+  live = omega arith;
+}
+
+pub turns-preserved-in_default : goal.turns-preserved-in_default
+turns-preserved-in_default g c = record {
+  goes =
+      Freshing-ask _ _ _ _ _ _ _ _ _ c.turns.invariant.goes _ _ (rw c.left.ensures.left at c.in_ok-call.ensures.spoke) c.in_ok-call.ensures.goes
+      _ _ _ _ _ _ _ _ c.in-Call.is c.pay-cost.ensures.cost (omega arith)
+      c.in_default.not-Launch
+      c.in_ok-answer-in_default.ensures.given c.in_ok-answer-in_default.ensures.table;
+  limit = omega arith;
+  grows = omega arith;
+  few = omega arith;
+  live = omega arith;
+}
+
+pub returns-in-None-clause-done : goal.returns-in-None-clause-done
+returns-in-None-clause-done g c =
+    let z : length c.turns.stack.items ≡ 0 = omega (arith, c.in-None.ensures.cases.0, c.turns.stack.ok.0) in
+    Freshing-end _ _ _ _ _ _ _ _ _ c.turns.invariant.goes _ _ (rw c.left.ensures.left at c.in_ok-call.ensures.spoke) c.in_ok-call.ensures.goes
+    _ _ _ _ _ c.in-Exit.is c.pay-cost-in-Exit.ensures.cost (omega arith) c.end.ensures z
+
+pub returns-in-None-clause-spoken : goal.returns-in-None-clause-spoken
+returns-in-None-clause-spoken g c =
+    fresh-spoken (game g.K.Maker.first g.W.Answerer.given) g.met.K.Maker.lasts g.met.W.Answerer.fitting _ _ _ _ _ _ _ _ (returns-in-None-clause-done g c)
+
+pub returns-in-None-clause-paid : goal.returns-in-None-clause-paid
+returns-in-None-clause-paid g c =
+    let e = fresh-paid (game g.K.Maker.first g.W.Answerer.given) g.met.K.Maker.lasts g.met.W.Answerer.fitting _ _ _ _ _ _ _ _ (returns-in-None-clause-done g c) in
+    omega arith
+
+pub join-requires : goal.join-requires
+join-requires g c =
+    Freshing-place _ _ _ _ _ _ _ _ _ c.turns.invariant.goes _ _ (rw c.left.ensures.left at c.in_ok-call.ensures.spoke) c.in_ok-call.ensures.goes
+    _ _ _ _ _ c.end.ensures c.in-Some.ensures.items
+
+pub turns-preserved : goal.turns-preserved
+turns-preserved g c = record {
+  goes =
+      Freshing-join _ _ _ _ _ _ _ _ _ c.turns.invariant.goes _ _ (rw c.left.ensures.left at c.in_ok-call.ensures.spoke) c.in_ok-call.ensures.goes
+      _ _ _ _ _ _ _ _ _ c.in-Exit.is c.pay-cost-in-Exit.ensures.cost (omega arith) c.end.ensures c.in-Some.ensures.items
+      c.in_ok-top-in-Some.ensures.waited c.in_ok-top-in-Some.ensures.table;
+  limit = omega arith;
+  grows = omega arith;
+  few = omega arith;
+  live = omega arith;
+}
+
+pub returns-in-Short-clause-spent : goal.returns-in-Short-clause-spent
+returns-in-Short-clause-spent g c =
+    λ _. Freshing-short _ _ _ _ _ _ _ _ _ c.turns.invariant.goes _ _ (rw c.left.ensures.left at c.in_ok-call.ensures.spoke) c.in_ok-call.ensures.goes c.in-Short.is

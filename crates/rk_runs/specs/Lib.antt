@@ -1,0 +1,4 @@
+pub mod Own
+pub mod Purse
+pub mod Run
+pub mod Spoken

@@ -1,0 +1,101 @@
+// Commands that run, and those that wait for one that they launched.
+ghost use Rattle.std.specs.Prelude.{◌≡◌, ◌<◌, length, IfOk, OnOk};
+ghost use Rattle.rk_calls.specs.Given.{Given};
+ghost use Rattle.tr_record.specs.Rec.{begun, stepped};
+ghost use Rattle.rk_runs.specs.Run.{step};
+
+use rk_base::NoMemory;
+use rk_calls::{Answer, Answerer, Call, Key, Machine, Maker, RefMap, Refs};
+use tr_record::{Step, Table};
+
+/// A command that runs: the number of its record, its descriptors and its machine.
+#[derive(Drop)]
+pub struct Active<M> {
+    pub place: usize,
+    pub refs: Refs,
+    pub machine: M,
+}
+
+/// A command that waits for one that it launched with this key and map, at this cost.
+#[derive(Drop)]
+pub struct Frame<M> {
+    pub waiting: Active<M>,
+    pub key: Key,
+    pub map: RefMap,
+    pub cost: u32,
+}
+
+/// Starts the command of a key with these descriptors, and begins its record.
+pub fn begin<K: Maker>(
+    maker: &mut K,
+    table: &mut Table,
+    key: &Key,
+    refs: Refs,
+) -> Result<Active<K::Made>, NoMemory>
+    ensures says { IfOk result (λ a. K.Made.talk a.machine Answer.Go ≡ K.first key.now) }
+    ensures refs { IfOk result (λ a. a.refs ≡ refs) }
+    ensures place { IfOk result (λ a. a.place ≡ length table.old) }
+    ensures table { OnOk result (table.new ≡ begun key.now table.old) }
+{
+    let machine = maker.start(key)?;
+    let key = key.copy()?;
+    let place = table.begin(key)?;
+    Ok(Active {
+        place,
+        refs,
+        machine,
+    })
+}
+
+/// Asks the world a call, and records the step.
+pub fn ask<W: Answerer>(
+    world: &mut W,
+    table: &mut Table,
+    place: usize,
+    refs: &mut Refs,
+    call: Call,
+    cost: u32,
+) -> Result<Answer, NoMemory>
+    requires { place < length table.old }
+    ensures given { IfOk result (λ a. record { answer = a; refs = refs.new; world = world.new } ≡ W.given world.old refs.old call) }
+    ensures table { IfOk result (λ a. table.new ≡ stepped place (step cost call a) table.old) }
+{
+    let answer = world.answer(refs, &call)?;
+    let seen = answer.copy()?;
+    table.add_step(
+        place,
+        Step {
+            cost,
+            call,
+            answer: seen,
+        },
+    )?;
+    Ok(answer)
+}
+
+/// The command that waited, after the launched one has ended with this status.
+pub fn join<M: Machine>(
+    table: &mut Table,
+    frame: Frame<M>,
+    status: u8,
+) -> Result<Active<M>, NoMemory>
+    requires { frame.waiting.place < length table.old }
+    ensures waited { IfOk result (λ a. a ≡ frame.waiting) }
+    ensures table { OnOk result (table.new ≡ stepped frame.waiting.place (step frame.cost (Call.Launch frame.key frame.map) (Answer.Joined status)) table.old) }
+{
+    let Frame {
+        waiting,
+        key,
+        map,
+        cost,
+    } = frame;
+    table.add_step(
+        waiting.place,
+        Step {
+            cost,
+            call: Call::Launch(key, map),
+            answer: Answer::Joined(status),
+        },
+    )?;
+    Ok(waiting)
+}

@@ -1,0 +1,8 @@
+//! Runs of commands that launch commands, over any maker of machines and any world.
+#![tactic(auto)]
+
+mod active;
+mod purse;
+mod run;
+
+pub use run::{Halt, Ran, run_recorded};
