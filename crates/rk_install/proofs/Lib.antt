@@ -2,3 +2,4 @@ pub mod HiddenLemmas
 pub mod OrderLemmas
 pub mod ReachLemmas
 pub mod AllowLemmas
+pub mod EffectLemmas

@@ -10,7 +10,7 @@ use Rattle.std.specs.Cmp.{Equal-is, nat_cmp_total}
 use Rattle.std.specs.Cmp.Lexicographic.{nat_list_cmp_total, texts_ties}
 use Rattle.std.specs.FinMap.{find, is_sorted}
 use Rattle.std.specs.FinMap.Entries.{below_all}
-use Rattle.rk_tree.proofs.RowsLemmas.{exact_texts}
+use Rattle.rk_tree.proofs.TextLemmas.{exact_texts, same_is, ties_itself, told_apart}
 use Rattle.rk_base.specs.Text.{Text, text_cmp, is_root, root, stem, join, parent, name_of}
 use Rattle.rk_base.specs.Canonical.{is_empty, is_name, is_canonical}
 use Rattle.rk_base.proofs.CanonicalLemmas.{both, denied}
@@ -18,16 +18,6 @@ use Rattle.rk_base.proofs.PathLemmas.{path-is_cut}
 
 pub clash : (b : Bool) → b ≡ true → b ≡ false → ⊥
 clash b t f = cc
-
-pub ties_itself : (a : Text) → eq_by_cmp text_cmp a a ≡ true
-ties_itself a = ap is_eq (tied_itself nat_list_cmp_total a)
-
--- two texts are one, or they don't tie
-pub told_apart : (a b : Text) → ((a ≡ b) × (eq_by_cmp text_cmp a b ≡ true)) ⊎ ((a ≡ b → ⊥) × (eq_by_cmp text_cmp a b ≡ false))
-told_apart a b = elim (eq_by_cmp text_cmp a b) as (λ (t : Bool). eq_by_cmp text_cmp a b ≡ t → ((a ≡ b) × (eq_by_cmp text_cmp a b ≡ true)) ⊎ ((a ≡ b → ⊥) × (eq_by_cmp text_cmp a b ≡ false))) [
-  | true ↦ λ e. inl (exact_texts a b ((Equal-is (text_cmp a b)).0 e), e)
-  | false ↦ λ e. inr ((λ same. clash _ (subst (λ (t : Text). eq_by_cmp text_cmp a t ≡ true) same (ties_itself a)) e), e)
-] refl
 
 -- a text comes before one that goes on
 less_front : (xs ys : Text) (y : ℕ) → text_cmp xs (xs ++ y ∷ ys) ≡ Less
@@ -42,13 +32,10 @@ less_name : (name : Text) → is_empty name ≡ false → text_cmp root (47 ∷ 
 less_name [] h = cc
 less_name (n ∷ ns) h = less_front root ns n
 
-root_is : (path : Text) → is_root path ≡ true → path ≡ root
-root_is path h = exact_texts path root ((Equal-is (text_cmp path root)).0 (sym (texts_ties path root) ∙ h))
-
 less_join : (dir name : Text) → is_name name ≡ true → text_cmp dir (join dir name) ≡ Less
 unfolding join
 less_join dir name n = elim (is_root dir) as (λ (b : Bool). is_root dir ≡ b → text_cmp dir (cond b [] dir ++ 47 ∷ name) ≡ Less) [
-  | true ↦ λ e. ap (λ (d : Text). text_cmp d (47 ∷ name)) (root_is dir e) ∙ less_name name (name_filled name n)
+  | true ↦ λ e. ap (λ (d : Text). text_cmp d (47 ∷ name)) (same_is dir root e) ∙ less_name name (name_filled name n)
   | false ↦ λ e. less_front dir name 47
 ] refl
 

@@ -14,7 +14,8 @@ use Rattle.rk_tree.specs.declared.entry.Entry.{Entry}
 use Rattle.rk_install.specs.declared.ops.Op.{Op}
 use Rattle.rk_install.specs.declared.ops.Op.TheVariants.{RemoveFile, RemoveDir, MakeDir, Write}
 use Rattle.rk_install.specs.Changes.{allowed, step, after_all, AllowsAll}
-use Rattle.rk_install.proofs.OrderLemmas.{told_apart, clash, Below, InOrder, below_first, below_rest, in_order_first, in_order_rest, find_below, find_first, find_other, below_cons, less-not_tied, less_clash, ties_itself}
+use Rattle.rk_install.proofs.OrderLemmas.{clash, Below, InOrder, below_first, below_rest, in_order_first, in_order_rest, find_below, find_first, find_other, below_cons, less-not_tied, less_clash}
+use Rattle.rk_tree.proofs.TextLemmas.{told_apart, ties_itself}
 
 -- the path of a call, and what it leaves there
 abbrev pub path_of : Op → Text

@@ -1,10 +1,13 @@
 -- What a folder holds, by its entries, whether the hidden directory stands, and its state files.
-use Rattle.std.specs.Prelude.{◌≡◌, ◌≢◌, List, [], ◌∷◌, Bool, true, false, if◌then◌else◌, Option, Some, None, option_map}
+use Rattle.std.specs.Prelude.{◌≡◌, ◌≢◌, List, [], ◌∷◌, Bool, true, false, if◌then◌else◌, Option, Some, None, option_map, is_some}
 use Rattle.std.specs.FinMap.{get}
+use Rattle.std.specs.List.{list_all}
 use Rattle.rk_base.specs.Text.{Text, root, join, hidden, is_within}
 use Rattle.rk_folder.specs.Told.{Held, standing}
 use Rattle.rk_folder.specs.declared.folder.Standing.{Standing}
 use Rattle.rk_folder.specs.declared.folder.Standing.TheVariants.{File, Dir}
+use Rattle.rk_folder.specs.Whole.{IsWhole}
+use Rattle.rk_tree.specs.Entries.{IsWholeSnapshot}
 use Rattle.rk_tree.specs.declared.entry.Entry.{Entry}
 use Rattle.rk_tree.specs.declared.entry.Entry.TheVariants as entry
 use Rattle.rk_install.specs.declared.holding.Holding.{Holding}
@@ -56,3 +59,24 @@ pub record SameElse (old new : Held) : Type 0 where
 pub record IsAfter (old new : Held) (holding : Holding) : Type 0 where
   pub holds : Holds new holding
   pub same_else : SameElse old new
+
+-- what a build leaves: a whole snapshot, the hidden directory and a database
+pub record IsBuilt (holding : Holding) : Type 0 where
+  pub entries : IsWholeSnapshot holding.entries
+  pub rkr : holding.rkr ≡ true
+  pub db : is_some holding.state.db ≡ true
+
+-- a folder that may become what a build leaves
+pub record MayBecome (held : Held) (before after : Holding) : Type 0 where
+  pub whole : IsWhole held
+  pub holds : Holds held before
+  -- odd names are hidden
+  pub odd : list_all (λ dir. is_within hidden_dir dir) held.odd ≡ true
+  pub built : IsBuilt after
+
+-- both hold the same
+pub record Agree (before after : Holding) : Type 0 where
+  pub entries : (path : Text) → placed (get before.entries path) ≡ placed (get after.entries path)
+  pub rkr : before.rkr ≡ after.rkr
+  pub db : before.state.db ≡ after.state.db
+  pub attrs : before.state.attrs ≡ after.state.attrs
