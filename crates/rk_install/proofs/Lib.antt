@@ -3,3 +3,4 @@ pub mod OrderLemmas
 pub mod ReachLemmas
 pub mod AllowLemmas
 pub mod EffectLemmas
+pub mod PhaseLemmas
