@@ -4,3 +4,4 @@ pub mod ReachLemmas
 pub mod AllowLemmas
 pub mod EffectLemmas
 pub mod PhaseLemmas
+pub mod StateLemmas

@@ -92,7 +92,7 @@ module _ (held : Held) (before after : Holding) (ready : MayBecome held before a
 
   -- Removals.
 
-  pub removals : List Op
+  unfoldable pub removals : List Op
   removals = reverse (filter_map (removal_of after.entries) (entries before.entries))
 
   -- what stands in a directory that isn't to stand goes before it
@@ -171,7 +171,7 @@ module _ (held : Held) (before after : Holding) (ready : MayBecome held before a
 
   -- Directories made.
 
-  pub makings : List Op
+  unfoldable pub makings : List Op
   makings = filter_map (making_of before.entries) (entries after.entries)
 
   -- what stands at a path outside the hidden directory, once directories were made
@@ -225,7 +225,7 @@ module _ (held : Held) (before after : Holding) (ready : MayBecome held before a
 
   -- Files written.
 
-  pub writings : List Op
+  unfoldable pub writings : List Op
   writings = filter_map (writing_of before.entries) (entries after.entries)
 
   written_outside : (q : Text) → is_within hidden_dir q ≡ false → made (writing_of before.entries) q (find text_cmp q (entries after.entries)) (standing held_made q) ≡ written q (get after.entries q) (placed (get before.entries q)) (with_dirs q)
