@@ -24,6 +24,6 @@ stage_talk wd file (Over status) a = exits status 0
 abbrev pub shell_talk : Shell → Answer → Says
 shell_talk s = stage_talk s.wd s.file s.stage
 
--- it says this by a turn and by what comes after it
-abbrev pub Says_so : Text → Text → Says → Move → Type 0
-Says_so wd file x move = (p : ℕ) → x p ≡ after move.turn (stage_talk wd file move.stage) p
+-- this is said by a turn and by what comes after it
+abbrev pub IsSaidBy : Text → Text → Says → Move → Type 0
+IsSaidBy wd file x move = (p : ℕ) → x p ≡ after move.turn (stage_talk wd file move.stage) p

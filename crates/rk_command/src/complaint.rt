@@ -1,6 +1,7 @@
 // Commands that only complain.
 ghost use Rattle.std.specs.Prelude.{◌≡◌, IfOk, Some, codes};
 ghost use Rattle.rk_calls.specs.Keys.{shell};
+ghost use Rattle.rk_command.specs.CatTalk.{usage};
 ghost use Rattle.rk_command.specs.Lines.{error_line};
 
 use crate::lines::{error_line, turns};
@@ -25,6 +26,19 @@ impl Complaint {
         Ok(Complaint {
             text: Some(text),
             status: 127,
+        })
+    }
+
+    /// That of `cat` with a letter that is no option: `cat: -X: usage`, and status 1.
+    pub(crate) fn usage(alloc: Global, letter: u8) -> Result<Complaint, NoMemory>
+        ensures text { IfOk result (λ c. c.text ≡ Some (usage letter)) }
+        ensures status { IfOk result (λ c. c.status ≡ 1) }
+    {
+        let option = [b'-', letter];
+        let text = error_line(alloc, b"cat", &option, b"usage")?;
+        Ok(Complaint {
+            text: Some(text),
+            status: 1,
         })
     }
 }

@@ -2,9 +2,17 @@
 #![tactic(auto)]
 
 mod answers;
+mod cat;
+mod command;
+mod commands;
 mod complaint;
+mod gathered;
 mod line;
 mod lines;
+mod options;
 mod places;
 mod script;
 mod shell;
+
+pub use command::Command;
+pub use commands::Commands;

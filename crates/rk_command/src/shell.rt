@@ -5,7 +5,7 @@ ghost use Rattle.rk_calls.specs.Costly.{IsCostly};
 ghost use Rattle.rk_command.specs.Brought.{brought};
 ghost use Rattle.rk_command.specs.Script.{expanded};
 ghost use Rattle.rk_command.specs.ShellTalk.{refusal, syntax_error, launches, redirected, redirects, runs_line, script_read, script_opened, runs_script};
-ghost use Rattle.rk_command.specs.ShellStages.{Says_so, stage_talk};
+ghost use Rattle.rk_command.specs.ShellStages.{IsSaidBy, stage_talk};
 ghost use Rattle.rk_command.specs.Telling.{complains};
 ghost use Rattle.rk_command.specs.Turns.{pay_words};
 
@@ -55,7 +55,7 @@ pub(crate) struct Shell {
 
 // Writes the text to 2, and exits with the status.
 fn complain(text: Bytes, status: u8) -> Move
-    ensures talk { (wd file : Text) → Says_so wd file (complains text status) result }
+    ensures talk { (wd file : Text) → IsSaidBy wd file (complains text status) result }
     ensures costly { IsCostly result.turn }
 {
     let cost = 1 + turns(text.as_slice());
@@ -67,7 +67,7 @@ fn complain(text: Bytes, status: u8) -> Move
 
 // A refused operand.
 fn refuse(alloc: Global, operand: &[u8], errno: Errno, status: u8) -> Result<Move, NoMemory>
-    ensures talk { IfOk result (λ move. (wd file : Text) → Says_so wd file (complains (refusal operand.now errno) status) move) }
+    ensures talk { IfOk result (λ move. (wd file : Text) → IsSaidBy wd file (complains (refusal operand.now errno) status) move) }
     ensures costly { IfOk result (λ move. IsCostly move.turn) }
 {
     let text = error_line(alloc, b"sh", operand, errno.word().as_bytes())?;
@@ -91,7 +91,7 @@ impl Shell {
     }
 
     fn open_script(&self) -> Result<Move, NoMemory>
-        ensures talk { IfOk result (Says_so self.now.wd self.now.file (runs_script self.now.wd self.now.file)) }
+        ensures talk { IfOk result (IsSaidBy self.now.wd self.now.file (runs_script self.now.wd self.now.file)) }
         ensures costly { IfOk result (λ move. IsCostly move.turn) }
     {
         let path = absolute(self.alloc, &self.wd, self.file.as_slice())?;
@@ -102,7 +102,7 @@ impl Shell {
     }
 
     fn read_script(&self, answer: Answer) -> Result<Move, NoMemory>
-        ensures talk { IfOk result (Says_so self.now.wd self.now.file (script_opened self.now.wd self.now.file (brought answer))) }
+        ensures talk { IfOk result (IsSaidBy self.now.wd self.now.file (script_opened self.now.wd self.now.file (brought answer))) }
         ensures costly { IfOk result (λ move. IsCostly move.turn) }
     {
         match brought(self.alloc, answer) {
@@ -115,7 +115,7 @@ impl Shell {
     }
 
     fn refuse_syntax(&self) -> Result<Move, NoMemory>
-        ensures talk { IfOk result (Says_so self.now.wd self.now.file (complains (syntax_error self.now.file) 2)) }
+        ensures talk { IfOk result (IsSaidBy self.now.wd self.now.file (complains (syntax_error self.now.file) 2)) }
         ensures costly { IfOk result (λ move. IsCostly move.turn) }
     {
         let word = b"line 1: syntax error";
@@ -124,7 +124,7 @@ impl Shell {
     }
 
     fn run_line(&self, line: Option<Line>) -> Result<Move, NoMemory>
-        ensures talk { IfOk result (Says_so self.now.wd self.now.file (runs_line self.now.wd self.now.file line)) }
+        ensures talk { IfOk result (IsSaidBy self.now.wd self.now.file (runs_line self.now.wd self.now.file line)) }
         ensures costly { IfOk result (λ move. IsCostly move.turn) }
     {
         match line {
@@ -137,7 +137,7 @@ impl Shell {
     }
 
     fn run_script(&self, answer: Answer) -> Result<Move, NoMemory>
-        ensures talk { IfOk result (Says_so self.now.wd self.now.file (script_read self.now.wd self.now.file (brought answer))) }
+        ensures talk { IfOk result (IsSaidBy self.now.wd self.now.file (script_read self.now.wd self.now.file (brought answer))) }
         ensures costly { IfOk result (λ move. IsCostly move.turn) }
     {
         match brought(self.alloc, answer) {
@@ -151,7 +151,7 @@ impl Shell {
 
     // Launches the command with its output on this number.
     fn launch(&self, line: Line, output: u64) -> Result<Move, NoMemory>
-        ensures talk { IfOk result (Says_so self.now.wd self.now.file (launches self.now.wd line.words output)) }
+        ensures talk { IfOk result (IsSaidBy self.now.wd self.now.file (launches self.now.wd line.words output)) }
         ensures costly { IfOk result (λ move. IsCostly move.turn) }
     {
         let wd = self.wd.copy()?;
@@ -164,7 +164,7 @@ impl Shell {
     }
 
     fn redirect(&self, line: Line) -> Result<Move, NoMemory>
-        ensures talk { IfOk result (Says_so self.now.wd self.now.file (redirects self.now.wd line.words line.output)) }
+        ensures talk { IfOk result (IsSaidBy self.now.wd self.now.file (redirects self.now.wd line.words line.output)) }
         ensures costly { IfOk result (λ move. IsCostly move.turn) }
     {
         match line.copy_output()? {
@@ -181,7 +181,7 @@ impl Shell {
 
     // Pays for the word at a place, or goes on after the last one.
     fn expand(&self, line: Line, at: usize) -> Result<Move, NoMemory>
-        ensures talk { IfOk result (Says_so self.now.wd self.now.file (pay_words (drop at (expanded line)) (redirects self.now.wd line.words line.output))) }
+        ensures talk { IfOk result (IsSaidBy self.now.wd self.now.file (pay_words (drop at (expanded line)) (redirects self.now.wd line.words line.output))) }
         ensures costly { IfOk result (λ move. IsCostly move.turn) }
     {
         match line.cost_at(at) {
@@ -199,7 +199,7 @@ impl Shell {
         operand: Bytes,
         answer: Answer,
     ) -> Result<Move, NoMemory>
-        ensures talk { IfOk result (Says_so self.now.wd self.now.file (redirected self.now.wd line.words operand (brought answer))) }
+        ensures talk { IfOk result (IsSaidBy self.now.wd self.now.file (redirected self.now.wd line.words operand (brought answer))) }
         ensures costly { IfOk result (λ move. IsCostly move.turn) }
     {
         match brought(self.alloc, answer) {
@@ -209,7 +209,7 @@ impl Shell {
     }
 
     fn go_on(&self, stage: Stage, answer: Answer) -> Result<Move, NoMemory>
-        ensures talk { IfOk result (Says_so self.now.wd self.now.file (stage_talk self.now.wd self.now.file stage answer)) }
+        ensures talk { IfOk result (IsSaidBy self.now.wd self.now.file (stage_talk self.now.wd self.now.file stage answer)) }
         ensures costly { IfOk result (λ move. IsCostly move.turn) }
     {
         match stage {

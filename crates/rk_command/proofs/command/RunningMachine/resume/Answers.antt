@@ -1,0 +1,11 @@
+use Rattle.std.proofs.Common.{◌≡◌, ℕ, IfOk, sym, subst}
+use Rattle.rk_calls.specs.Talk.{after}
+use Rattle.rk_command.specs.declared.command.Running.{Running}
+use Rattle.rk_command.specs.declared.command.Running.TheVariants.{Complains}
+use Rattle.rk_command.specs.Running.{running_talk}
+use Rattle.rk_command.proofs.command.RunningMachine.resume.Goals as goal
+
+pub returns-in-Complains-clause-talk : goal.returns-in-Complains-clause-talk
+returns-in-Complains-clause-talk c =
+    let P : Running → Type 0 = λ r. IfOk c.resume.result (λ t. (p : ℕ) → running_talk r c.args.answer p ≡ after t (running_talk (Complains c.resume.new.self)) p) in
+    subst P (sym c.in-Complains.is) c.resume.ensures.talk

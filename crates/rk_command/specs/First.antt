@@ -1,0 +1,23 @@
+-- What the command of a key says.
+use Rattle.std.specs.Prelude.{List, [], ◌∷◌, if◌then◌else◌}
+use Rattle.rk_base.specs.Text.{Text, same_text}
+use Rattle.rk_calls.specs.Keys.{KeyValue, shell}
+use Rattle.rk_calls.specs.Talk.{Says, pay}
+use Rattle.rk_command.specs.CatTalk.{cat, cats}
+use Rattle.rk_command.specs.ShellTalk.{runs_script}
+use Rattle.rk_command.specs.UnknownTalk.{is_unknown}
+
+-- `sh` runs the script that its one word names; with other words it is unknown
+abbrev pub shells : Text → List Text → Says
+shells wd [] = is_unknown shell
+shells wd (file ∷ []) = runs_script wd file
+shells wd (file ∷ word ∷ words) = is_unknown shell
+
+-- by the first word
+abbrev pub says_of : Text → List Text → Says
+says_of wd [] = is_unknown []
+says_of wd (name ∷ words) = if same_text name shell then shells wd words else (if same_text name cat then cats wd words else is_unknown name)
+
+-- it pays for its start
+unfoldable pub first_talk : KeyValue → Says
+first_talk key = pay 1 (says_of key.wd key.argv)

@@ -1,0 +1,24 @@
+-- What a command says once it is given an answer.
+use Rattle.std.specs.Prelude.{Bool, true, false}
+use Rattle.rk_calls.specs.declared.answer.Answer.{Answer}
+use Rattle.rk_calls.specs.declared.answer.Answer.TheVariants.{Go}
+use Rattle.rk_calls.specs.Talk.{Says, pay}
+use Rattle.rk_command.specs.declared.command.Running.{Running}
+use Rattle.rk_command.specs.declared.command.Running.TheVariants.{Complains, Shells, Cats}
+use Rattle.rk_command.specs.declared.command.Command.{Command}
+use Rattle.rk_command.specs.Complaining.{complaint_talk}
+use Rattle.rk_command.specs.ShellStages.{shell_talk}
+use Rattle.rk_command.specs.CatStages.{cat_talk}
+
+abbrev pub running_talk : Running → Answer → Says
+running_talk (Complains m) a = complaint_talk m a
+running_talk (Shells m) a = shell_talk m a
+running_talk (Cats m) a = cat_talk m a
+
+-- before it has paid for its start, and afterwards
+abbrev pub paid_talk : Bool → (Answer → Says) → Answer → Says
+paid_talk false talk a = pay 1 (talk Go)
+paid_talk true talk a = talk a
+
+abbrev pub command_talk : Command → Answer → Says
+command_talk c = paid_talk c.paid (running_talk c.running)
