@@ -5,3 +5,4 @@ pub mod AllowLemmas
 pub mod EffectLemmas
 pub mod PhaseLemmas
 pub mod StateLemmas
+pub mod PlannedLemmas
