@@ -1,0 +1,34 @@
+-- What the words ask for.
+use Rattle.std.specs.Prelude.{ℕ, List, [], ◌∷◌, Option, Some, None, codes, if◌then◌else◌, option_and_then, option_map}
+use Rattle.std.specs.Str.{bytes_eq}
+use Rattle.clap.specs.Words.{Kinds, Row, Text, fault_of, first_of, subcommand_of}
+use Rattle.rk_words.specs.CommandLine.{command_line}
+use Rattle.rk_words.specs.Decimal.{number_of}
+use Rattle.rk_words.specs.declared.requests.Request.{Request}
+use Rattle.rk_words.specs.declared.requests.Request.TheVariants as request
+
+-- the budget of turns: 1,000,000 where none is named, else a number of at most ten digits from 1 to 4,294,967,295
+abbrev pub steps_of : Option Text → Option ℕ
+steps_of None = Some 1000000
+steps_of (Some text) = number_of 10 1 4294967295 text
+
+-- `build [--steps N]`
+abbrev pub build_request : List Row → Option Request
+build_request rows = option_map request.Build (steps_of (first_of (codes "steps") rows))
+
+-- the request of a subcommand with what its words name
+abbrev pub request_by : Text → List Row → Option Request
+request_by name rows =
+    if bytes_eq name (codes "build") then build_request rows
+    else None
+
+-- what was found, where the words have no fault
+abbrev pub if_no_fault : Kinds → Option Request → Option Request
+if_no_fault [] found = found
+if_no_fault (k ∷ ks) found = None
+
+-- the request that the words are, of which the first is the program's name: they are one exactly where the
+-- command line takes them and their numbers are in range
+unfoldable pub request_of : List Text → Option Request
+request_of words =
+    if_no_fault (fault_of command_line words) (option_and_then (λ p. request_by p.0 p.1) (subcommand_of command_line words))

@@ -1,0 +1,29 @@
+// Requests.
+ghost use Rattle.std.specs.Prelude.{◌≡◌};
+ghost use Rattle.rk_words.specs.declared.requests.RequestErr.TheVariants.{NoMemory};
+
+use std::alloc::AllocError;
+
+/// What the words ask for.
+#[derive(Clone, Copy, Debug, PartialEq, Eq)]
+pub enum Request {
+    /// A build within so many turns, at least one.
+    Build { steps: u32 },
+}
+
+/// Why there is no request.
+#[derive(Clone, Copy, Debug, PartialEq, Eq)]
+pub enum RequestErr {
+    /// The words are none.
+    Usage,
+    /// There was no memory to read them.
+    NoMemory,
+}
+
+impl From<AllocError> for RequestErr {
+    ghost from_gives = { λ _ e. e ≡ NoMemory };
+
+    fn from(_: AllocError) -> RequestErr {
+        RequestErr::NoMemory
+    }
+}
