@@ -9,7 +9,8 @@ use Rattle.std.specs.FinMap.{entries, find, get-entries, get-insert, get-remove,
 use Rattle.rk_base.specs.Text.{Text, text_cmp, is_in, is_root, parent, name_of, last_of, same_text, depth}
 use Rattle.rk_base.specs.Canonical.{is_empty}
 use Rattle.rk_tree.specs.Rows.{map_of}
-use Rattle.rk_tree.proofs.RowsLemmas.{exact_texts, get-map_of, row_at, same_maps}
+use Rattle.rk_tree.proofs.TextLemmas.{exact_texts}
+use Rattle.rk_tree.proofs.RowsLemmas.{get-map_of, row_at, same_maps}
 use Rattle.rk_folder.specs.Told.{Held, Places, standing, is_nothing, is_file, is_dir, can_list, bytes_in, item_in, item_of, items_of, is_odd, odd_in, with_standing, without, with_any, renamed, deepest, reach_of}
 use Rattle.rk_folder.specs.declared.folder.Item.{Item}
 use Rattle.rk_folder.specs.declared.folder.Item.TheVariants as item
