@@ -3,7 +3,7 @@ use Rattle.std.specs.Prelude.{List, [], ◌∷◌, ◌++◌, reverse, Bool, true
 use Rattle.std.specs.List.{filter_map}
 use Rattle.std.specs.FinMap.{entries, get}
 use Rattle.rk_base.specs.Text.{Text, same_text}
-use Rattle.rk_folder.specs.Told.{is_file, is_dir}
+use Rattle.rk_folder.specs.Told.{Held, is_file, is_dir}
 use Rattle.rk_folder.specs.declared.folder.Standing.{Standing}
 use Rattle.rk_folder.specs.declared.folder.Standing.TheVariants.{File, Dir, Special}
 use Rattle.rk_tree.specs.Entries.{Entries}
@@ -12,7 +12,8 @@ use Rattle.rk_tree.specs.declared.entry.Entry.TheVariants as entry
 use Rattle.rk_install.specs.declared.ops.Op.{Op}
 use Rattle.rk_install.specs.declared.ops.Op.TheVariants.{RemoveFile, RemoveDir, MakeDir, Write}
 use Rattle.rk_install.specs.declared.holding.Holding.{Holding}
-use Rattle.rk_install.specs.Holdings.{placed, hidden_dir, attrs_file, db_file}
+use Rattle.rk_install.specs.Changes.{after_all, AllowsAll}
+use Rattle.rk_install.specs.Holdings.{placed, hidden_dir, attrs_file, db_file, MayBecome, IsAfter}
 
 -- what stood is taken away where nothing of its kind stands there afterwards
 abbrev pub removal : Text → Entry → Option Standing → Option Op
@@ -78,3 +79,11 @@ planned before after =
     ++ hidden_making before.rkr after.rkr
     ++ attrs_calls before.state.attrs after.state.attrs
     ++ db_calls before.state.db after.state.db
+
+-- each folder that may become the one from the other allows the calls, one after another
+abbrev pub AreAllowed : List Op → Holding → Holding → Type 0
+AreAllowed ops before after = (held : Held) → MayBecome held before after → AllowsAll ops held
+
+-- and they lead to the folder afterwards
+abbrev pub LeadTo : List Op → Holding → Holding → Type 0
+LeadTo ops before after = (held : Held) → MayBecome held before after → IsAfter held (after_all ops held) after

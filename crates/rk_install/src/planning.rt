@@ -1,11 +1,11 @@
 // The plan that leads from what a folder holds to what it is to hold.
-ghost use Rattle.std.specs.Prelude.{◌≡◌, true, ◌++◌, IfOk, OnOk, reverse, option_copied};
+ghost use Rattle.std.specs.Prelude.{◌≡◌, [], true, ◌++◌, IfOk, OnOk, reverse, option_copied};
 ghost use Rattle.std.specs.List.{filter_map};
 ghost use Rattle.std.specs.FinMap.{entries};
 ghost use Rattle.rk_base.specs.Canonical.{is_canonical};
 ghost use Rattle.rk_folder.specs.Told.{is_file, is_dir};
-ghost use Rattle.rk_install.specs.Holdings.{placed, hidden_dir, attrs_file, db_file};
-ghost use Rattle.rk_install.specs.Planned.{removal, making, writing, removal_of, making_of, writing_of, hidden_making, attrs_calls, db_calls, planned, is_file_of, is_bytes, state_writing};
+ghost use Rattle.rk_install.specs.Holdings.{placed, hidden_dir, attrs_file, db_file, Agree};
+ghost use Rattle.rk_install.specs.Planned.{removal, making, writing, removal_of, making_of, writing_of, hidden_making, attrs_calls, db_calls, planned, is_file_of, is_bytes, state_writing, AreAllowed, LeadTo};
 
 use crate::{Holding, Op, Plan};
 use rk_base::{Bytes, NoMemory, Path, PathFault};
@@ -193,11 +193,8 @@ fn add_db_calls(alloc: Global, ops: &mut Vec<Op>, before: &Option<Bytes>, after:
     Ok(())
 }
 
-/// The calls that lead from what a folder holds to what it is to hold: only what differs, removals first,
-/// descending by path, then directories made and files written, ascending, the directory `.rkr`, attrs written
-/// or removed, and db written.
-pub fn plan(alloc: Global, before: &Holding, after: &Holding) -> Result<Plan, NoMemory>
-    ensures planned { IfOk result (λ plan. plan ≡ planned before.now after.now) }
+fn planned(alloc: Global, before: &Holding, after: &Holding) -> Result<Vec<Op>, NoMemory>
+    ensures { IfOk result (λ ops. ops.items ≡ planned before.now after.now) }
 {
     let mut ops = removals(alloc, &before.entries, &after.entries)?;
     add_makings(&mut ops, &before.entries, &after.entries)?;
@@ -205,5 +202,18 @@ pub fn plan(alloc: Global, before: &Holding, after: &Holding) -> Result<Plan, No
     add_hidden_making(alloc, &mut ops, before.rkr, after.rkr)?;
     add_attrs_calls(alloc, &mut ops, &before.state.attrs, &after.state.attrs)?;
     add_db_calls(alloc, &mut ops, &before.state.db, &after.state.db)?;
+    Ok(ops)
+}
+
+/// The calls that lead from what a folder holds to what it is to hold: only what differs, removals first,
+/// descending by path, then directories made and files written, ascending, the directory `.rkr`, attrs written
+/// or removed, and db written.
+pub fn plan(alloc: Global, before: &Holding, after: &Holding) -> Result<Plan, NoMemory>
+    ensures planned { IfOk result (λ plan. plan ≡ planned before.now after.now) }
+    ensures allowed { IfOk result (λ plan. AreAllowed plan before.now after.now) }
+    ensures leads { IfOk result (λ plan. LeadTo plan before.now after.now) }
+    ensures nothing { Agree before.now after.now → IfOk result (λ plan. plan ≡ []) }
+{
+    let ops = planned(alloc, before, after)?;
     Ok(Plan::new(ops))
 }
