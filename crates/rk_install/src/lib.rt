@@ -10,3 +10,6 @@ pub use holding::{Holding, State};
 pub use installation::{InstallErr, install};
 pub use ops::{Op, Plan};
 pub use planning::plan;
+
+#[cfg(test)]
+mod tests;
