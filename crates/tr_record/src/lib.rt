@@ -1,6 +1,7 @@
 //! The trace of a build: the records of its commands, in launch order.
 #![tactic(auto)]
 
+mod index;
 mod records;
 mod steps;
 mod table;
@@ -8,3 +9,6 @@ mod table;
 pub use records::Record;
 pub use steps::{Step, StepList};
 pub use table::Table;
+
+#[cfg(test)]
+mod tests;

@@ -1,7 +1,4 @@
 // Records of commands.
-ghost use Rattle.std.specs.Prelude.{◌≡◌};
-ghost use Rattle.rk_calls.specs.Keys.{same_key};
-
 use crate::StepList;
 use rk_calls::Key;
 
@@ -15,11 +12,4 @@ pub struct Record {
     pub steps: StepList,
     pub exit: u8,
     pub exit_cost: u32,
-}
-
-/// Whether the record is one of a command of this key.
-pub(crate) fn is_of(rec: &Record, key: &Key) -> bool
-    ensures { result ≡ same_key rec.now.key key.now }
-{
-    rec.key.same(key)
 }

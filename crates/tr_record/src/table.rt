@@ -1,9 +1,10 @@
 // The table of records.
 ghost use Rattle.std.specs.Prelude.{◌≡◌, ◌≢◌, ℕ, ◌<◌, [], length, option_copied, slice_get, IfOk, OnOk, OnErr, IfSome, IfNone};
-ghost use Rattle.tr_record.specs.Rec.{rec_at, begun, stepped, ended, count_of};
+ghost use Rattle.tr_record.specs.Rec.{rec_at, begun, stepped, ended, count_of, AreNumbered};
 
-use crate::records::is_of;
+use crate::index::{PlaceList, note, nth, places};
 use crate::{Record, Step, StepList};
+use indexmap::IndexMap;
 use rk_base::NoMemory;
 use rk_calls::Key;
 use std::alloc::Global;
@@ -13,6 +14,7 @@ use std::marker::Model;
 #[derive(Debug, Drop)]
 pub struct Table {
     records: Vec<Record>,
+    index: IndexMap<Key, PlaceList>,
 }
 
 impl Model for Table {
@@ -22,6 +24,10 @@ impl Model for Table {
     ghost Value = { List Record };
 
     ghost view = { λ t. t.records.items };
+
+    ghost use Rattle.tr_record.specs.Places.{IsIndexed};
+
+    ghost invariant = { λ t. IsIndexed t.index.entries t.records.items };
 }
 
 impl Table {
@@ -31,6 +37,7 @@ impl Table {
     {
         Table {
             records: Vec::new(alloc),
+            index: IndexMap::new(alloc),
         }
     }
 
@@ -48,7 +55,10 @@ impl Table {
     {
         let alloc = *self.records.allocator();
         let i = self.records.len();
-        let ordinal = self.count(&key) as u64;
+        let ordinal = places(&self.index, &key).len() as u64;
+        // Room is made first, so that nothing fails once the index has the number.
+        self.records.reserve(1)?;
+        note(alloc, &mut self.index, &key, i)?;
         let steps = StepList::new(alloc);
         self.records.push(Record {
             key,
@@ -80,6 +90,15 @@ impl Table {
         rec.exit_cost = exit_cost;
     }
 
+    /// All records, each with the number of earlier ones of its key as its ordinal.
+    pub fn as_slice(&self) -> &[Record]
+        ensures value { result.now ≡ self.now }
+        ensures numbered { AreNumbered self.now }
+    {
+        let _ = &self.index;
+        self.records.as_slice()
+    }
+
     /// The record of this number; `None` exactly where there is none.
     pub fn get(&self, i: usize) -> Option<&Record>
         ensures { option_copied result ≡ slice_get self.now i }
@@ -99,7 +118,7 @@ impl Table {
     pub fn count(&self, key: &Key) -> usize
         ensures { result ≡ count_of key.now self.now }
     {
-        self.records.iter().filter(|rec| is_of(rec, key)).count()
+        places(&self.index, key).len()
     }
 
     /// The number of the record of this key and ordinal; `None` exactly where there is none.
@@ -107,13 +126,7 @@ impl Table {
         ensures some { IfSome result (λ i. (i < length self.now) × ((rec_at i self.now).key ≡ key.now) × ((rec_at i self.now).ordinal ≡ ordinal)) }
         ensures none { IfNone result ((i : ℕ) → i < length self.now → (rec_at i self.now).key ≡ key.now → (rec_at i self.now).ordinal ≢ ordinal) }
     {
-        'records: for i in 0..self.records.len() {
-            let rec = &self.records[i];
-            if rec.ordinal == ordinal && rec.key.same(key) {
-                return Some(i);
-            }
-        }
-        None
+        nth(places(&self.index, key), ordinal)
     }
 
     /// The record of this key and ordinal; `None` exactly where there is none.
