@@ -1,10 +1,12 @@
 -- What is said after recorded steps.
-use Rattle.std.proofs.Common.{◌≡◌, ℕ, zero, suc, ◌+◌, ◌<◌, List, [], ◌∷◌, ◌++◌, length, take, refl, ◌∙◌, ap, arith}
+use Rattle.std.proofs.Common.{◌≡◌, ℕ, zero, suc, ◌+◌, ◌<◌, List, [], ◌∷◌, ◌++◌, length, take, refl, ◌∙◌, ap, arith, inl, inr}
 use Rattle.std.proofs.lemmas.List.{take_more}
+use Rattle.rk_calls.specs.Keys.{KeyValue}
+use Rattle.tr_record.specs.declared.records.Record.{Record}
 use Rattle.tr_record.specs.declared.steps.Step.{Step}
 use Rattle.rk_calls.specs.Talk.{Says}
 use Rattle.rk_calls.specs.Saying.{goes_on}
-use Rattle.rk_runs.specs.Spoken.{follow, IsStep, Follows, step_at, no_step}
+use Rattle.rk_runs.specs.Spoken.{follow, IsStep, Follows, step_at, no_step, IsSpoken, IsWrongStep}
 
 pub follow-snoc : (x : Says) (xs : List Step) (st : Step) → follow x (xs ++ st ∷ []) ≡ goes_on st.cost (follow x xs) st.answer
 follow-snoc x [] st = refl
@@ -35,3 +37,11 @@ next-take steps i h = take_more steps i no_step h
 
 pub follow-next : (x : Says) (steps : List Step) (i : ℕ) → i < length steps → follow x (take (i + 1) steps) ≡ goes_on (step_at i steps).cost (follow x (take i steps)) (step_at i steps).answer
 follow-next x steps i h = ap (follow x) (next-take steps i h) ∙ follow-snoc x (take i steps) (step_at i steps)
+
+-- no spoken record has a wrong step
+pub never-wrong : (first : KeyValue → Says) (rec : Record) (n : ℕ) → IsSpoken first rec → IsWrongStep first rec n → ⊥
+never-wrong first rec n h w =
+    elim w.wrong [
+      | inl x ↦ x.1 (Follows-at (first rec.key) rec.steps w.place h.follows x.0)
+      | inr x ↦ x.1 h.ends
+    ]

@@ -5,7 +5,7 @@ ghost use Rattle.tr_record.specs.Rec.{begun, stepped};
 ghost use Rattle.rk_runs.specs.Run.{step};
 
 use rk_base::NoMemory;
-use rk_calls::{Answer, Answerer, Call, Key, Machine, Maker, RefMap, Refs};
+use rk_calls::{Answer, Answerer, Call, Key, Maker, RefMap, Refs};
 use tr_record::{Step, Table};
 
 /// A command that runs: the number of its record, its descriptors and its machine.
@@ -74,7 +74,7 @@ pub fn ask<W: Answerer>(
 }
 
 /// The command that waited, after the launched one has ended with this status.
-pub fn join<M: Machine>(
+pub fn join<M: Drop>(
     table: &mut Table,
     frame: Frame<M>,
     status: u8,

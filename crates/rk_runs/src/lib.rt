@@ -5,4 +5,6 @@ mod active;
 mod purse;
 mod run;
 
+pub use active::{Active, Frame, ask, join};
+pub use purse::pay;
 pub use run::{Halt, Ran, run_recorded};

@@ -83,7 +83,8 @@ pub fn run_recorded<K: Maker, W: Answerer, L: Ledger>(
     'turns: loop {
         match advance(&mut top.machine, answer, budget.left())? {
             Spoke::Call(call, cost) => {
-                let cost = pay(budget, live, cost);
+                let cost = pay(budget, cost);
+                live.tick(u64::from(cost));
                 match call {
                     Call::Launch(key, map) => {
                         let refs = top.refs.pass(&map)?;
@@ -103,7 +104,8 @@ pub fn run_recorded<K: Maker, W: Answerer, L: Ledger>(
                 }
             }
             Spoke::Exit(status, cost) => {
-                let cost = pay(budget, live, cost);
+                let cost = pay(budget, cost);
+                live.tick(u64::from(cost));
                 table.end(top.place, status, cost);
                 match stack.pop() {
                     None => return Ok(Ran { status, table }),

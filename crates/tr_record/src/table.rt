@@ -121,9 +121,10 @@ impl Table {
         places(&self.index, key).len()
     }
 
-    /// The number of the record of this key and ordinal; `None` exactly where there is none.
+    /// The number of the first record of this key and ordinal; `None` exactly where there is none.
     pub fn place(&self, key: &Key, ordinal: u64) -> Option<usize>
         ensures some { IfSome result (λ i. (i < length self.now) × ((rec_at i self.now).key ≡ key.now) × ((rec_at i self.now).ordinal ≡ ordinal)) }
+        ensures first { IfSome result (λ i. (k : ℕ) → k < i → (rec_at k self.now).key ≡ key.now → (rec_at k self.now).ordinal ≢ ordinal) }
         ensures none { IfNone result ((i : ℕ) → i < length self.now → (rec_at i self.now).key ≡ key.now → (rec_at i self.now).ordinal ≢ ordinal) }
     {
         nth(places(&self.index, key), ordinal)

@@ -9,7 +9,7 @@ abbrev pub invariant-turns : goal.invariant-turns
 invariant-turns g l =
     let a = game g.K.Maker.first g.W.Answerer.given in
     record {
-      goes : Freshing g.K.Made.Machine.talk a (fresh a (left l.fn.budget) l.fn.key top_refs l.fn.world) (left l.budget) l.top l.answer l.world l.table l.stack.items;
+      goes : Freshing (Unit {0}) g.K.Made.Machine.talk g.K.Made.Machine.talk a (fresh a (left l.fn.budget) l.fn.key top_refs l.fn.world) (left l.budget) l.top l.answer l.world l.table l.stack.items;
       limit : l.budget.limit ≡ l.fn.budget.limit;
       grows : l.fn.budget.used ≤ l.budget.used;
       few : l.budget.used ≤ l.fn.budget.used + left l.fn.budget;
