@@ -1,5 +1,5 @@
 -- Snapshots of trees, and trees of snapshots.
-use Rattle.std.proofs.Common.{◌≡◌, ◌+◌, ◌<◌, ◌≤◌, ◌++◌, ℕ, zero, suc, List, [], ◌∷◌, map, length, Bool, true, false, ◌&&◌, cond, Option, Some, None, ◌⊎◌, inl, inr, refl, sym, ap, subst, ◌∙◌, arith, append_assoc}
+use Rattle.std.proofs.Common.{◌≡◌, get_or, drop, drop-cons, append-nil, ◌+◌, ◌<◌, ◌≤◌, ◌++◌, ℕ, zero, suc, List, [], ◌∷◌, map, length, Bool, true, false, ◌&&◌, cond, Option, Some, None, ◌⊎◌, inl, inr, refl, sym, ap, subst, ◌∙◌, arith, append_assoc}
 use lib.Dec.{T}
 use Rattle.std.specs.Prelude.{slice_get}
 use Rattle.std.proofs.lemmas.Bool.{eqb-true}
@@ -18,10 +18,13 @@ use Rattle.rk_tree.specs.declared.entry.Entry.TheVariants.{File, Dir, Link}
 use Rattle.rk_tree.specs.Entries.{Entries, is_dir, IsFit, IsWholeSnapshot}
 use Rattle.rk_tree.specs.Held.{Held, Paths, top, node, number_at}
 use Rattle.rk_tree.specs.Whole.{IsPlaced, IsWhole}
+use Rattle.rk_tree.specs.declared.node.Node.{Node}
+use Rattle.rk_tree.specs.Nodes.{entries_of, held_by, home_of, placed, placed_rows, IsHome, HaveHomes}
 use Rattle.rk_tree.specs.Rows.{map_of}
 use Rattle.rk_tree.specs.Copies.{entry_row, put_found, snapshot_of, numbered, tree_of}
 use Rattle.rk_tree.proofs.RowsLemmas.{same_maps, get-found, puts, puts-map_of, and_first, and_second, find_below, find_head, find_later}
-use Rattle.rk_tree.proofs.TextLemmas.{told_apart, both as all_true}
+use Rattle.rk_tree.proofs.SearchLemmas.{is_yes}
+use Rattle.rk_tree.proofs.TextLemmas.{told_apart, ties_itself, both as all_true}
 
 both : (a b : Bool) → T a → T b → T (a && b)
 both true b h k = k
@@ -97,15 +100,6 @@ get-snapshot_of held q =
 
 -- The tree of a snapshot.
 
--- rows, put in turn under numbers that count up
-abbrev pub counts_up : Paths → ℕ → List (Text × Entry) → Paths
-counts_up m k [] = m
-counts_up m k (row ∷ rows) = counts_up (insert m row.0 k) (k + 1) rows
-
-counts_up-puts : (m : Paths) (k : ℕ) (rows : List (Text × Entry)) → counts_up m k rows ≡ puts m (numbered k rows)
-counts_up-puts m k [] = refl
-counts_up-puts m k (row ∷ rows) = counts_up-puts (insert m row.0 k) (k + 1) rows
-
 below_numbered : (path : Text) (k : ℕ) (rows : List (Text × Entry)) → T (below_all text_cmp path rows) → T (below_all text_cmp path (numbered k rows))
 below_numbered path k [] h = tt
 below_numbered path k (row ∷ rows) h = both _ _ (and_first _ _ h) (below_numbered path (k + 1) rows (and_second _ _ h))
@@ -113,9 +107,6 @@ below_numbered path k (row ∷ rows) h = both _ _ (and_first _ _ h) (below_numbe
 sorted_numbered : (k : ℕ) (rows : List (Text × Entry)) → T (is_sorted text_cmp rows) → T (is_sorted text_cmp (numbered k rows))
 sorted_numbered k [] h = tt
 sorted_numbered k (row ∷ rows) h = both _ _ (below_numbered row.0 (k + 1) rows (and_first _ _ h)) (sorted_numbered (k + 1) rows (and_second _ _ h))
-
-pub counts_up-map_of : (rows : List (Text × Entry)) → T (is_sorted text_cmp rows) → counts_up empty 0 rows ≡ map_of (numbered 0 rows)
-counts_up-map_of rows h = counts_up-puts empty 0 rows ∙ puts-map_of (numbered 0 rows) (sorted_numbered 0 rows h)
 
 get_seam : (front : List Entry) (it : Entry) (back : List Entry) → slice_get (front ++ it ∷ back) (length front) ≡ Some it
 get_seam [] it back = refl
@@ -278,18 +269,106 @@ tree_of-whole snapshot whole = record {
 
 -- What the code makes.
 
-pub made_tree : (rows : List (Text × ℕ)) (nodes : List Entry) (all : List (Text × Entry)) (snapshot : Entries) → all ≡ entries snapshot → map_of rows ≡ map_of (numbered 0 all) → nodes ≡ values_of all → record { paths = map_of rows; nodes = nodes } ≡ tree_of snapshot
+-- a row more, and a node more
+pub rows_step : (rows more : List (Text × ℕ)) (n m : ℕ) (left rest all : List (Text × Entry)) (path : Text) (it : Entry) → rows ++ numbered n left ≡ numbered 0 all → left ≡ (path, it) ∷ rest → more ≡ rows ++ (path, n) ∷ [] → m ≡ n + 1 → more ++ numbered m rest ≡ numbered 0 all
+rows_step rows more n m left rest all path it so_far next pushed counted =
+    ap (λ (r : List (Text × ℕ)). r ++ numbered m rest) pushed ∙ append_assoc rows ((path, n) ∷ []) (numbered m rest) ∙ ap (λ (k : ℕ). rows ++ (path, n) ∷ numbered k rest) counted
+    ∙ sym (ap (λ (r : List (Text × Entry)). rows ++ numbered n r) next) ∙ so_far
+
+pub nodes_step : (nodes more : List Node) (left rest all : List (Text × Entry)) (path : Text) (it : Entry) → nodes ++ placed_rows left ≡ placed_rows all → left ≡ (path, it) ∷ rest → more ≡ nodes ++ placed path it ∷ [] → more ++ placed_rows rest ≡ placed_rows all
+nodes_step nodes more left rest all path it so_far next pushed =
+    ap (λ (ns : List Node). ns ++ placed_rows rest) pushed ∙ append_assoc nodes (placed path it ∷ []) (placed_rows rest) ∙ sym (ap (λ (r : List (Text × Entry)). nodes ++ placed_rows r) next) ∙ so_far
+
+pub all_rows : (rows : List (Text × ℕ)) (n : ℕ) (left all : List (Text × Entry)) → rows ++ numbered n left ≡ numbered 0 all → left ≡ [] → rows ≡ numbered 0 all
+all_rows rows n left all so_far done = sym (append-nil rows) ∙ sym (ap (λ (r : List (Text × Entry)). rows ++ numbered n r) done) ∙ so_far
+
+pub all_nodes : (nodes : List Node) (left all : List (Text × Entry)) → nodes ++ placed_rows left ≡ placed_rows all → left ≡ [] → nodes ≡ placed_rows all
+all_nodes nodes left all so_far done = sym (append-nil nodes) ∙ sym (ap (λ (r : List (Text × Entry)). nodes ++ placed_rows r) done) ∙ so_far
+
+pub numbered-sorted : (snapshot : Entries) → is_sorted text_cmp (numbered 0 (entries snapshot)) ≡ true
+numbered-sorted snapshot = is_yes _ (sorted_numbered 0 (entries snapshot) (entries_sorted snapshot))
+
+entries-placed : (rows : List (Text × Entry)) → entries_of (placed_rows rows) ≡ values_of rows
+entries-placed [] = refl
+entries-placed (row ∷ rows) = ap (λ (es : List Entry). row.1 ∷ es) (entries-placed rows)
+
+pub made_tree : (paths : Paths) (nodes : List Node) (snapshot : Entries) → paths ≡ map_of (numbered 0 (entries snapshot)) → nodes ≡ placed_rows (entries snapshot) → held_by paths nodes ≡ tree_of snapshot
 unfolding tree_of
-made_tree rows nodes all snapshot are numbers given =
-    ap (λ (m : Paths). record { paths = m; nodes = nodes }) numbers ∙ ap (λ (ns : List Entry). record { paths = map_of (numbered 0 all); nodes = ns }) given
-    ∙ ap (λ (r : List (Text × Entry)). record { paths = map_of (numbered 0 r); nodes = values_of r }) are
+made_tree paths nodes snapshot numbers given =
+    ap (λ (m : Paths). held_by m nodes) numbers ∙ ap (λ (ns : List Entry). record { paths = map_of (numbered 0 (entries snapshot)); nodes = ns }) (ap entries_of given ∙ entries-placed (entries snapshot))
 
--- a row more under the count of nodes, and a node more
-pub count_step : (before after : Paths) (nodes more : List Entry) (left rest all : List (Text × Entry)) (path : Text) (it : Entry) → counts_up before (length nodes) left ≡ counts_up empty 0 all → left ≡ (path, it) ∷ rest → after ≡ insert before path (length nodes) → more ≡ nodes ++ it ∷ [] → counts_up after (length more) rest ≡ counts_up empty 0 all
-count_step before after nodes more left rest all path it so_far next put pushed =
-    ap (λ (m : Paths). counts_up m (length more) rest) put ∙ ap (λ (n : ℕ). counts_up (insert before path (length nodes)) n rest) (ap length pushed ∙ length_push nodes it)
-    ∙ sym (ap (counts_up before (length nodes)) next) ∙ so_far
+-- the number of a row is its place
+number_found : (rows : List (Text × Entry)) (k n : ℕ) (row : Text × Entry) → T (is_sorted text_cmp rows) → slice_get rows n ≡ Some row → find text_cmp row.0 (numbered k rows) ≡ Some (k + n)
+number_found [] k n row h at = cc
+number_found (r ∷ rows) k zero row h at =
+    ap (λ (q : Text × Entry). find text_cmp q.0 ((r.0, k) ∷ numbered (k + 1) rows)) (sym (same_pair r row refl at)) ∙ ap (λ (b : Bool). cond b (Some k) (find text_cmp r.0 (numbered (k + 1) rows))) (ties_itself r.0) ∙ ap (λ (m : ℕ). Some m) (plus k) where
+      plus : (k : ℕ) → k ≡ k + 0
+      plus k = omega arith
 
-pub values_step : (nodes more : List Entry) (left rest all : List (Text × Entry)) (path : Text) (it : Entry) → nodes ++ values_of left ≡ values_of all → left ≡ (path, it) ∷ rest → more ≡ nodes ++ it ∷ [] → more ++ values_of rest ≡ values_of all
-values_step nodes more left rest all path it so_far next pushed =
-    ap (λ (ns : List Entry). ns ++ values_of rest) pushed ∙ append_assoc nodes (it ∷ []) (values_of rest) ∙ sym (ap (λ (r : List (Text × Entry)). nodes ++ values_of r) next) ∙ so_far
+      same_pair : {o : Option (Text × Entry)} (a b : Text × Entry) → o ≡ Some a → o ≡ Some b → a ≡ b
+      same_pair a b p q = cc
+number_found (r ∷ rows) k (suc n) row h at =
+    find_later row.0 (r.0, k) (numbered (k + 1) rows) (k + suc n) (both _ _ (below_numbered r.0 (k + 1) rows (and_first _ _ h)) (sorted_numbered (k + 1) rows (and_second _ _ h)))
+    (number_found rows (k + 1) n row (and_second _ _ h) at ∙ ap (λ (m : ℕ). Some m) (plus k n)) where
+      plus : (k n : ℕ) → (k + 1) + n ≡ k + suc n
+      plus k n = omega arith
+
+placed_row : (rows : List (Text × Entry)) (n : ℕ) (it : Node) → slice_get (placed_rows rows) n ≡ Some it → (row : Text × Entry) × (slice_get rows n ≡ Some row) × (placed row.0 row.1 ≡ it)
+placed_row [] n it at = cc
+placed_row (row ∷ rows) zero it at = (row, refl, same (placed row.0 row.1) it refl at) where
+  same : {o : Option Node} (a b : Node) → o ≡ Some a → o ≡ Some b → a ≡ b
+  same a b p q = cc
+placed_row (row ∷ rows) (suc n) it at = placed_row rows n it at
+
+-- a directory at a path has it for its home
+placed_home : (held : Held) (path : Text) (it : Entry) (n : ℕ) → number_at held path ≡ Some n → is_dir (Some it) ≡ true → IsHome held n (home_of it path)
+placed_home held path (File mode bytes) n at d = cc
+placed_home held path (Dir mode) n at d = at
+placed_home held path (Link text) n at d = cc
+
+row_number : (snapshot : Entries) (n : ℕ) (row : Text × Entry) → slice_get (entries snapshot) n ≡ Some row → number_at (tree_of snapshot) row.0 ≡ Some n
+unfolding tree_of
+row_number snapshot n row at = get-found (numbered 0 (entries snapshot)) row.0 ∙ number_found (entries snapshot) 0 n row (entries_sorted snapshot) at ∙ ap (λ (k : ℕ). Some k) (none_more n) where
+  none_more : (n : ℕ) → 0 + n ≡ n
+  none_more n = omega arith
+
+pub made_homes : (snapshot : Entries) → HaveHomes (tree_of snapshot) (placed_rows (entries snapshot))
+made_homes snapshot n it at d =
+    let row = placed_row (entries snapshot) n it at in
+    let stands : number_at (tree_of snapshot) row.0.0 ≡ Some n = row_number snapshot n row.0 row.1 in
+    subst (λ (home : Option Text). IsHome (tree_of snapshot) n home) (ap (λ (node : Node). node.home) row.2)
+    (placed_home (tree_of snapshot) row.0.0 row.0.1 n stands (ap (λ (node : Node). is_dir (Some node.entry)) row.2 ∙ d))
+
+pub found_step : (nodes : List Entry) (before after : Entries) (items : List (Text × ℕ)) (i : ℕ) (row : Text × ℕ) → puts_found nodes before (drop i items) ≡ puts_found nodes empty items → i < length items → row ≡ get_or items i row → after ≡ put_found before row.0 (slice_get nodes row.1) → puts_found nodes after (drop (i + 1) items) ≡ puts_found nodes empty items
+found_step nodes before after items i row so_far lt is put =
+    ap (λ (m : Entries). puts_found nodes m (drop (i + 1) items)) put
+    ∙ sym (ap (puts_found nodes before) (drop-cons items i row lt ∙ ap (λ (r : Text × ℕ). r ∷ drop (suc i) items) (sym is) ∙ ap (λ (k : ℕ). row ∷ drop k items) (one_up i))) ∙ so_far where
+      one_up : (i : ℕ) → suc i ≡ i + 1
+      one_up i = omega arith
+
+drop_past : (items : List (Text × ℕ)) (i : ℕ) → length items ≤ i → drop i items ≡ []
+drop_past [] zero h = refl
+drop_past [] (suc i) h = refl
+drop_past (x ∷ items) zero h = absurd (omega arith)
+drop_past (x ∷ items) (suc i) h = drop_past items i (omega arith)
+
+-- all rows were put
+pub found_all : (nodes : List Entry) (made : Entries) (items : List (Text × ℕ)) (paths : Paths) (i : ℕ) → puts_found nodes made (drop i items) ≡ puts_found nodes empty items → length items ≤ i → items ≡ entries paths → made ≡ snapshot_of (record { paths = paths; nodes = nodes })
+unfolding snapshot_of
+found_all nodes made items paths i so_far past is =
+    sym (ap (puts_found nodes made) (drop_past items i past)) ∙ so_far ∙ ap (puts_found nodes empty) is ∙ puts_found-map_of nodes (entries paths) (entries_sorted paths)
+
+pub made_kept : (paths : Paths) (nodes : List Node) (snapshot : Entries) → paths ≡ map_of (numbered 0 (entries snapshot)) → nodes ≡ placed_rows (entries snapshot) → IsWholeSnapshot snapshot → IsWhole (held_by paths nodes) × HaveHomes (held_by paths nodes) nodes
+made_kept paths nodes snapshot numbers given whole =
+    let is = made_tree paths nodes snapshot numbers given in
+    (subst IsWhole (sym is) (tree_of-whole snapshot whole), subst (λ (h : Held). HaveHomes h nodes) (sym is) (subst (λ (ns : List Node). HaveHomes (tree_of snapshot) ns) (sym given) (made_homes snapshot)))
+
+pub begun_rows : (rows : List (Text × ℕ)) (nodes : List Node) (left all : List (Text × Entry)) → rows ≡ [] → nodes ≡ [] → left ≡ all → (rows ++ numbered (length nodes) left ≡ numbered 0 all) × (nodes ++ placed_rows left ≡ placed_rows all)
+begun_rows rows nodes left all none nothing is =
+    (ap (λ (r : List (Text × ℕ)). r ++ numbered (length nodes) left) none ∙ ap (λ (ns : List Node). numbered (length ns) left) nothing ∙ ap (numbered 0) is, ap (λ (ns : List Node). ns ++ placed_rows left) nothing ∙ ap placed_rows is)
+
+pub one_more : (nodes more : List Node) (new : Node) → more ≡ nodes ++ new ∷ [] → length more ≡ length nodes + 1
+one_more nodes more new is = ap length is ∙ grows nodes where
+  grows : (nodes : List Node) → length (nodes ++ new ∷ []) ≡ length nodes + 1
+  grows [] = omega arith
+  grows (x ∷ nodes) = ap suc (grows nodes) ∙ omega arith

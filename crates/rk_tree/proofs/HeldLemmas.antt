@@ -1,20 +1,20 @@
 -- A tree by its rows.
-use Rattle.std.proofs.Common.{◌≡◌, ℕ, List, [], ◌∷◌, ◌++◌, length, Bool, true, false, cond, ◌&&◌, Option, Some, None, refl, sym, ap, subst, ◌∙◌}
+use Rattle.std.proofs.Common.{◌≡◌, ℕ, List, [], ◌∷◌, ◌++◌, length, Bool, true, false, cond, ◌&&◌, ◌⊎◌, inl, inr, Option, Some, None, refl, sym, ap, subst, ◌∙◌}
 use lib.Dec.{T}
-use Rattle.std.proofs.lemmas.Bool.{eqb-true}
+use Rattle.std.proofs.lemmas.Bool.{eqb-true, eq-eqb}
 use Rattle.std.specs.Prelude.{◌==◌, slice_get}
 use Rattle.std.specs.Option.{option_and_then}
 use Rattle.std.specs.Ordering.{is_lt}
 use Rattle.std.specs.FinMap.{get, empty, insert, entries, find, is_sorted, get-entries, entries_sorted}
 use Rattle.std.specs.FinMap.Entries.{below_all}
 use Rattle.rk_base.specs.Text.{Text, text_cmp, root, join, parent, same_text}
-use Rattle.rk_tree.specs.Held.{Held, Paths, linked, added, set_node, replaced_at, set_bytes, with_path, number_at, first_path, path_of, child, parent_of}
-use Rattle.rk_tree.specs.Rows.{map_of, first_by}
+use Rattle.rk_tree.specs.Held.{Held, node, number_at, first_path, path_of, child, parent_of}
+use Rattle.rk_tree.specs.Entries.{is_dir}
+use Rattle.rk_tree.specs.Nodes.{IsHome}
+use Rattle.rk_tree.specs.Whole.{IsWhole}
 use Rattle.rk_tree.specs.declared.entry.Entry.{Entry}
-use Rattle.rk_tree.proofs.RowsLemmas.{get-scan, empty_rows, find_head, find_later, and_second}
-
-abbrev pub of_rows : List (Text × ℕ) → List Entry → Held
-of_rows rows nodes = record { paths = map_of rows; nodes = nodes }
+use Rattle.rk_tree.proofs.RowsLemmas.{find_head, find_later, and_second}
+use Rattle.rk_tree.proofs.TextLemmas.{told_apart}
 
 -- the first path of a node is a path of it
 first_stands : (n : ℕ) (rows : List (Text × ℕ)) (path : Text) → T (is_sorted text_cmp rows) → first_path n rows ≡ Some path → find text_cmp path rows ≡ Some n
@@ -30,49 +30,32 @@ pub path_stands : (held : Held) (n : ℕ) (path : Text) → path_of held n ≡ S
 unfolding path_of
 path_stands held n path at = get-entries held.paths path ∙ first_stands n (entries held.paths) path (entries_sorted held.paths) at
 
-pub path_of-rows : (rows : List (Text × ℕ)) (nodes : List Entry) (n : ℕ) → entries (map_of rows) ≡ rows → path_of (of_rows rows nodes) n ≡ first_path n rows
+-- a node that stands somewhere has a first path
+first_some : (n : ℕ) (rows : List (Text × ℕ)) (path : Text) → find text_cmp path rows ≡ Some n → (first : Text) × (first_path n rows ≡ Some first)
+first_some n [] path at = cc
+first_some n (row ∷ rows) path at = (elim (row.1 == n) as (λ (b : Bool). (row.1 == n) ≡ b → (first : Text) × (cond b (Some row.0) (first_path n rows) ≡ Some first)) [
+  | true ↦ λ e. (row.0, refl)
+  | false ↦ λ e. elim (told_apart path row.0) [
+    | inl same ↦ absurd (clash _ (eq-eqb row.1 n (same_number row.1 n (sym (ap (λ (b : Bool). cond b (Some row.1) (find text_cmp path rows)) same.1) ∙ at))) e)
+    | inr apart ↦ first_some n rows path (sym (ap (λ (b : Bool). cond b (Some row.1) (find text_cmp path rows)) apart.1) ∙ at)
+  ]
+]) refl where
+  clash : (b : Bool) → b ≡ true → b ≡ false → ⊥
+  clash b t f = cc
+
+  same_number : (a b : ℕ) → Some a ≡ Some b → a ≡ b
+  same_number a b e = cc
+
+some_path : (held : Held) (n : ℕ) (path : Text) → number_at held path ≡ Some n → (first : Text) × (path_of held n ≡ Some first)
 unfolding path_of
-path_of-rows rows nodes n sorted = ap (first_path n) sorted
+some_path held n path at = first_some n (entries held.paths) path (sym (get-entries held.paths path) ∙ at)
 
-scanned : (rows : List (Text × ℕ)) (f : Text → Text) (o : Option Text) → option_and_then (λ path. first_by (λ p. same_text p (f path)) rows) o ≡ option_and_then (λ path. get (map_of rows) (f path)) o
-scanned rows f None = refl
-scanned rows f (Some path) = sym (get-scan rows (f path))
-
-pub child-rows : (rows : List (Text × ℕ)) (nodes : List Entry) (held : Held) (dir : ℕ) (name : Text) (o : Option Text) (r : Option ℕ) → of_rows rows nodes ≡ held → entries (map_of rows) ≡ rows → o ≡ first_path dir rows → r ≡ option_and_then (λ path. first_by (λ p. same_text p (join path name)) rows) o → r ≡ child held dir name
-unfolding child
-child-rows rows nodes held dir name o r is sorted found got =
-    got ∙ scanned rows (λ path. join path name) o ∙ ap (λ (q : Option Text). option_and_then (λ path. get (map_of rows) (join path name)) q) (found ∙ sym (path_of-rows rows nodes dir sorted)) ∙ ap (λ (h : Held). child h dir name) is
-
-pub parent-rows : (rows : List (Text × ℕ)) (nodes : List Entry) (held : Held) (dir : ℕ) (o : Option Text) (r : Option ℕ) → of_rows rows nodes ≡ held → entries (map_of rows) ≡ rows → o ≡ first_path dir rows → r ≡ option_and_then (λ path. first_by (λ p. same_text p (parent path)) rows) o → r ≡ parent_of held dir
-unfolding parent_of
-parent-rows rows nodes held dir o r is sorted found got =
-    got ∙ scanned rows parent o ∙ ap (λ (q : Option Text). option_and_then (λ path. get (map_of rows) (parent path)) q) (found ∙ sym (path_of-rows rows nodes dir sorted)) ∙ ap (λ (h : Held). parent_of h dir) is
-
--- Changes.
-
-pub path_is : (rows : List (Text × ℕ)) (nodes : List Entry) (held : Held) (n : ℕ) (o : Option Text) → of_rows rows nodes ≡ held → entries (map_of rows) ≡ rows → o ≡ first_path n rows → path_of held n ≡ o
-path_is rows nodes held n o is sorted found = sym (ap (λ (h : Held). path_of h n) is) ∙ path_of-rows rows nodes n sorted ∙ sym found
-
--- a new node at a name of a directory that has a path
-pub add-placed : (rows more : List (Text × ℕ)) (before after : List Entry) (held : Held) (dir : ℕ) (path joined name : Text) (it : Entry) → of_rows rows before ≡ held → path_of held dir ≡ Some path → joined ≡ join path name → map_of more ≡ insert (map_of rows) joined (length before) → after ≡ before ++ it ∷ [] → of_rows more after ≡ added held dir name it
-add-placed rows more before after held dir path joined name it is at named put pushed =
-    ap (λ (m : Paths). record { paths = m; nodes = after }) (put ∙ ap (λ (t : Text). insert (map_of rows) t (length before)) named)
-    ∙ ap (λ (ns : List Entry). record { paths = insert (map_of rows) (join path name) (length before); nodes = ns }) pushed
-    ∙ ap (λ (h : Held). record { paths = insert h.paths (join path name) (length h.nodes); nodes = h.nodes ++ it ∷ [] }) is
-    ∙ sym (ap (λ (o : Option Text). record { paths = with_path o (λ p. insert held.paths (join p name) (length held.nodes)) held.paths; nodes = held.nodes ++ it ∷ [] }) at)
-
--- and of one that has none
-pub add-lost : (rows : List (Text × ℕ)) (before after : List Entry) (held : Held) (dir : ℕ) (name : Text) (it : Entry) → of_rows rows before ≡ held → path_of held dir ≡ None → after ≡ before ++ it ∷ [] → of_rows rows after ≡ added held dir name it
-add-lost rows before after held dir name it is at pushed =
-    ap (λ (ns : List Entry). record { paths = map_of rows; nodes = ns }) pushed
-    ∙ ap (λ (h : Held). record { paths = h.paths; nodes = h.nodes ++ it ∷ [] }) is
-    ∙ sym (ap (λ (o : Option Text). record { paths = with_path o (λ p. insert held.paths (join p name) (length held.nodes)) held.paths; nodes = held.nodes ++ it ∷ [] }) at)
-
-pub root_alone : (rows more : List (Text × ℕ)) (before nodes : List Entry) (path : Text) (it : Entry) → rows ≡ [] → before ≡ [] → path ≡ root → map_of more ≡ insert (map_of rows) path (length before) → nodes ≡ before ++ it ∷ [] → of_rows more nodes ≡ record { paths = insert empty root 0; nodes = it ∷ [] }
-root_alone rows more before nodes path it none nothing at put pushed =
-    ap (λ (m : Paths). record { paths = m; nodes = nodes }) (put ∙ ap (λ (m : Paths). insert m path (length before)) (empty_rows rows none) ∙ ap (λ (t : Text). insert empty t (length before)) at ∙ ap (λ (ns : List Entry). insert empty root (length ns)) nothing)
-    ∙ ap (λ (ns : List Entry). record { paths = insert empty root 0; nodes = ns }) (pushed ∙ ap (λ (ns : List Entry). ns ++ it ∷ []) nothing)
-
-pub other_bytes : (rows : List (Text × ℕ)) (before after : List Entry) (held : Held) (n : ℕ) (bytes : List ℕ) → of_rows rows before ≡ held → after ≡ replaced_at before n bytes (slice_get before n) → of_rows rows after ≡ set_bytes held n bytes
-other_bytes rows before after held n bytes is put =
-    ap (λ (ns : List Entry). record { paths = map_of rows; nodes = ns }) put ∙ ap (λ (h : Held). set_bytes h n bytes) is
+-- the path that is kept with a directory is its path
+pub home-path : (held : Held) (n : ℕ) (home : Option Text) → IsWhole held → is_dir (node held n) ≡ true → IsHome held n home → home ≡ path_of held n
+home-path held n None whole dir h = sym (nothing (path_of held n) (λ path at. h path (path_stands held n path at))) where
+  nothing : (o : Option Text) → ((path : Text) → o ≡ Some path → ⊥) → o ≡ None
+  nothing None h = refl
+  nothing (Some path) h = absurd (h path refl)
+home-path held n (Some path) whole dir h =
+    let first = some_path held n path h in
+    ap (λ (t : Text). Some t) (whole.once path first.0 n h (path_stands held n first.0 first.1) dir) ∙ sym first.1

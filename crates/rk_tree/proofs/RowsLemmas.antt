@@ -17,7 +17,7 @@ use Rattle.std.specs.List.{fold}
 use Rattle.std.specs.Option.{option_or}
 use Rattle.std.specs.FinMap.{get-empty, get-entries, entries_sorted}
 use Rattle.rk_base.specs.Text.{Text, text_cmp, same_text}
-use Rattle.rk_tree.specs.Rows.{map_of, first_by}
+use Rattle.rk_tree.specs.Rows.{map_of}
 use Rattle.rk_tree.proofs.TextLemmas.{exact_texts, told_apart, ties_itself}
 
 and_both : (a b : Bool) → T a → T b → T (a && b)
@@ -69,12 +69,15 @@ module _ {X : Type 0} where
   sorted_rows [] h = tt
   sorted_rows (row ∷ rows) h = and_both _ _ (below_rest row.0 rows h.0) (sorted_rows rows h.1)
 
+  -- the same by the test of the order
+  pub entries-sorted_map : (rows : List (Text × X)) → T (is_sorted text_cmp rows) → entries (map_of rows) ≡ rows
+  entries-sorted_map rows h =
+      ap entries (same_maps (map_of rows) (from_sorted rows) (λ q. get-map_of rows q ∙ sym (get-from_sorted text_cmp rows q h ∙ find_row rows q)))
+      ∙ entries-from_sorted text_cmp rows h
+
   -- rows in order are what the map lists
   pub entries-map_of : (rows : List (Text × X)) → IsStrictlySortedBy text_cmp (map (λ (row : Text × X). row.0) rows) → entries (map_of rows) ≡ rows
-  entries-map_of rows h =
-      ap entries (same_maps (map_of rows) (from_sorted rows) (λ q.
-      get-map_of rows q ∙ sym (get-from_sorted text_cmp rows q (sorted_rows rows h) ∙ find_row rows q)))
-      ∙ entries-from_sorted text_cmp rows (sorted_rows rows h)
+  entries-map_of rows h = entries-sorted_map rows (sorted_rows rows h)
 
   -- rows with none in them
   pub empty_rows : (rows : List (Text × X)) → rows ≡ [] → map_of rows ≡ empty
@@ -83,17 +86,6 @@ module _ {X : Type 0} where
 
   pub len-map_of : (rows : List (Text × X)) → IsStrictlySortedBy text_cmp (map (λ (row : Text × X). row.0) rows) → len (map_of rows) ≡ length rows
   len-map_of rows h = len-entries (map_of rows) ∙ ap length (entries-map_of rows h)
-
-  find-first_by : (rows : List (Text × X)) (path : Text) → find text_cmp path rows ≡ first_by (λ p. same_text p path) rows
-  find-first_by [] path = refl
-  find-first_by (row ∷ rows) path =
-      ap (λ b. cond b (Some row.1) (find text_cmp path rows)) ((eq_by_cmp_equiv nat_list_cmp_total).symm path row.0 ∙ sym (texts_ties row.0 path))
-      ∙ ap (cond (same_text row.0 path) (Some row.1)) (find-first_by rows path)
-
-  -- a scan finds what the map has
-  pub get-scan : (rows : List (Text × X)) (path : Text) → get (map_of rows) path ≡ first_by (λ p. same_text p path) rows
-  unfolding map_of
-  get-scan rows path = get-from_entries nat_list_cmp_total rows path ∙ find-first_by rows path
 
   pub get-found : (rows : List (Text × X)) (path : Text) → get (map_of rows) path ≡ find text_cmp path rows
   unfolding map_of

@@ -35,10 +35,10 @@ dir_node (Some it) h = (it, refl)
 
 -- The root alone.
 
-abbrev none : Paths
+abbrev pub none : Paths
 none = empty
 
-abbrev root_row : Paths
+abbrev pub root_row : Paths
 root_row = insert none root 0
 
 alone : (q : Text) (n : ℕ) → get root_row q ≡ Some n → (q ≡ root) × (n ≡ 0)
@@ -47,7 +47,7 @@ alone q n at = elim (insert_cases none root 0 q) [
   | inr other ↦ absurd (none_some (get-empty text_cmp q) (sym other.1 ∙ at))
 ]
 
-root_stands : get root_row root ≡ Some 0
+pub root_stands : get root_row root ≡ Some 0
 root_stands = elim (insert_cases none root 0 root) [
   | inl here ↦ here.1
   | inr other ↦ absurd (other.0 refl)
@@ -122,13 +122,13 @@ pub record IsOpen (held : Held) (path : Text) (n : ℕ) : Type 0 where
   pub has_node : (it : Entry) × (node held n ≡ Some it)
   pub nowhere : is_dir (node held n) ≡ true → (q : Text) → number_at held q ≡ Some n → ⊥
 
-stays : (held : Held) (path : Text) (n : ℕ) (q : Text) (k : ℕ) → number_at held path ≡ None → number_at held q ≡ Some k → get (insert held.paths path n) q ≡ Some k
+pub stays : (held : Held) (path : Text) (n : ℕ) (q : Text) (k : ℕ) → number_at held path ≡ None → number_at held q ≡ Some k → get (insert held.paths path n) q ≡ Some k
 stays held path n q k none at = elim (insert_cases held.paths path n q) [
   | inl here ↦ absurd (none_some none (ap (number_at held) (sym here.0) ∙ at))
   | inr other ↦ other.1 ∙ at
 ]
 
-stands_cases : (held : Held) (path : Text) (n : ℕ) (q : Text) (k : ℕ) → get (insert held.paths path n) q ≡ Some k → ((q ≡ path) × (k ≡ n)) ⊎ (number_at held q ≡ Some k)
+pub stands_cases : (held : Held) (path : Text) (n : ℕ) (q : Text) (k : ℕ) → get (insert held.paths path n) q ≡ Some k → ((q ≡ path) × (k ≡ n)) ⊎ (number_at held q ≡ Some k)
 stands_cases held path n q k at = elim (insert_cases held.paths path n q) [
   | inl here ↦ inl (here.0, same_number k n at here.1)
   | inr other ↦ inr (sym other.1 ∙ at)
@@ -169,7 +169,7 @@ opened-whole held path n whole is = record {
 
 -- A new node under a name.
 
-new_nowhere : (held : Held) → IsWhole held → (q : Text) (n : ℕ) → n ≡ length held.nodes → number_at held q ≡ Some n → ⊥
+pub new_nowhere : (held : Held) → IsWhole held → (q : Text) (n : ℕ) → n ≡ length held.nodes → number_at held q ≡ Some n → ⊥
 new_nowhere held whole q n is at =
     let k = whole.known q n at in
     let within : n < length held.nodes = slice_get_within held.nodes n k.0 k.1 in

@@ -1,13 +1,15 @@
 // Snapshots of rows and nodes, and back.
 ghost use Rattle.std.specs.Prelude.{◌≡◌, IfOk, OnOk, option_copied};
-ghost use Rattle.std.specs.Map.{values_of};
+ghost use Rattle.std.specs.FinMap.{entries};
 ghost use Rattle.rk_tree.specs.Copies.{numbered, put_found, snapshot_of};
+ghost use Rattle.rk_tree.specs.Nodes.{held_by, placed_rows};
 ghost use Rattle.rk_tree.specs.Rows.{map_of};
 
+use crate::node::{Node, entry_at};
+use crate::rows::Rows;
 use crate::{Entry, Snapshot};
 use rk_base::{NoMemory, Path};
 use std::alloc::Global;
-use std::collections::BTreeMap;
 
 fn put_found(snapshot: &mut Snapshot, path: &Path, found: Option<&Entry>) -> Result<(), NoMemory>
     ensures { OnOk result (snapshot.new ≡ put_found snapshot.old path.now (option_copied found.entry)) }
@@ -22,33 +24,27 @@ fn put_found(snapshot: &mut Snapshot, path: &Path, found: Option<&Entry>) -> Res
 }
 
 /// Each path with its node.
-pub(crate) fn snapshot_of(
-    alloc: Global,
-    rows: &BTreeMap<Path, usize>,
-    nodes: &Vec<Entry>,
-) -> Result<Snapshot, NoMemory>
-    ensures { IfOk result (λ s. s ≡ snapshot_of (record { paths = map_of rows.now.entries; nodes = nodes.now.items })) }
+pub(crate) fn snapshot_of(alloc: Global, rows: &Rows, nodes: &[Node]) -> Result<Snapshot, NoMemory>
+    ensures { IfOk result (λ s. s ≡ snapshot_of (held_by rows.now nodes.now)) }
 {
     let mut snapshot = Snapshot::new(alloc);
-    for (path, n) in rows {
-        put_found(&mut snapshot, path, nodes.get(*n))?;
+    let items = rows.as_slice();
+    for (path, n) in items {
+        put_found(&mut snapshot, path, entry_at(nodes, *n))?;
     }
     Ok(snapshot)
 }
 
 /// A node for each path, in the order of the paths.
-pub(crate) fn rows_of(
-    alloc: Global,
-    snapshot: &BTreeMap<Path, Entry>,
-) -> Result<(BTreeMap<Path, usize>, Vec<Entry>), NoMemory>
-    ensures rows { IfOk result (λ made. map_of made.0.entries ≡ map_of (numbered 0 snapshot.now.entries)) }
-    ensures nodes { IfOk result (λ made. made.1.items ≡ values_of snapshot.now.entries) }
+pub(crate) fn rows_of(alloc: Global, snapshot: &Snapshot) -> Result<(Rows, Vec<Node>), NoMemory>
+    ensures rows { IfOk result (λ made. made.0 ≡ map_of (numbered 0 (entries snapshot.now))) }
+    ensures nodes { IfOk result (λ made. made.1.items ≡ placed_rows (entries snapshot.now)) }
 {
-    let mut rows = BTreeMap::new(alloc);
+    let mut rows = Vec::new(alloc);
     let mut nodes = Vec::new(alloc);
-    for (path, it) in snapshot {
-        rows.insert(path.copy()?, nodes.len())?;
-        nodes.push(it.copy()?)?;
+    for (path, it) in snapshot.rows() {
+        rows.push((path.copy()?, nodes.len()))?;
+        nodes.push(Node::placed(it.copy()?, path)?)?;
     }
-    Ok((rows, nodes))
+    Ok((Rows::new(rows), nodes))
 }

@@ -1,8 +1,10 @@
 //! The tree of a world, which node stands at each path, and snapshots of it.
 #![tactic(auto)]
 
+mod compare;
 mod copies;
 mod entry;
+mod node;
 mod rows;
 mod snapshot;
 mod tree;

@@ -1,25 +1,81 @@
-// Rows of path and node, as the finite map that they make.
-ghost use Rattle.std.specs.Prelude.{◌≡◌, IfOk, OnErr, option_copied, ◌∷◌, ◌++◌, [], ℕ, length};
-ghost use Rattle.std.specs.FinMap.{entries, insert};
-ghost use Rattle.rk_base.specs.Text.{join, same_text, stem};
-ghost use Rattle.rk_tree.specs.Held.{first_path};
-ghost use Rattle.rk_tree.specs.Rows.{first_by, map_of};
+// Rows of path and node number, ascending by path.
+ghost use Rattle.std.specs.Prelude.{◌≡◌, ◌++◌, IsTrue, OnOk, OnErr, None, slice_get};
+ghost use Rattle.std.specs.Option.{option_map};
+ghost use Rattle.std.specs.FinMap.{entries, get, insert, is_sorted};
+ghost use Rattle.rk_base.specs.Text.{join, stem, text_cmp};
+ghost use Rattle.rk_tree.specs.Rows.{map_of, IsPlace};
 
-use crate::Entry;
+use crate::compare::compare;
 use rk_base::{NoMemory, Path};
-use std::collections::BTreeMap;
+use std::cmp::Ordering;
+use std::marker::Model;
 
-/// The first path of a node.
-pub(crate) fn path_of(rows: &BTreeMap<Path, usize>, node: usize) -> Option<&Path>
-    ensures path { option_copied result ≡ first_path node rows.now.entries }
-    ensures sorted { entries (map_of rows.now.entries) ≡ rows.now.entries }
+/// Which number stands at each path. A look-up takes no memory and as many comparisons as a binary search.
+#[derive(Drop)]
+pub(crate) struct Rows {
+    rows: Vec<(Path, usize)>,
+}
+
+impl Model for Rows {
+    ghost use Rattle.std.specs.FinMap as map;
+    ghost use Rattle.std.specs.Coded.{coded_list, coded_ℕ};
+    ghost use Rattle.rk_tree.specs.Held.{Paths};
+
+    ghost Value = { Paths };
+
+    ghost coded = { map.code (coded_list coded_ℕ) coded_ℕ };
+
+    ghost use Rattle.std.specs.Prelude.{IsTrue};
+    ghost use Rattle.rk_base.specs.Text.{text_cmp};
+    ghost use Rattle.rk_tree.specs.Rows.{map_of};
+
+    ghost view = { λ r. map_of r.rows.items };
+
+    ghost invariant = { λ r. IsTrue (map.is_sorted text_cmp r.rows.items) };
+}
+
+// How the path of a row compares to a text in pieces.
+fn compare_at(
+    rows: &[(Path, usize)],
+    at: usize,
+    front: &[u8],
+    middle: &[u8],
+    back: &[u8],
+) -> Option<Ordering>
+    ensures { result ≡ option_map (λ row. text_cmp row.0 (front.now ++ (middle.now ++ back.now))) (slice_get rows.now at) }
 {
-    for (path, n) in rows {
-        if *n == node {
-            return Some(path);
+    match rows.get(at) {
+        None => None,
+        Some(row) => Some(compare(row.0.text(), front, middle, back)),
+    }
+}
+
+fn number_at(rows: &[(Path, usize)], at: usize) -> Option<usize>
+    ensures { result ≡ option_map (λ row. row.1) (slice_get rows.now at) }
+{
+    match rows.get(at) {
+        None => None,
+        Some((_, number)) => Some(*number),
+    }
+}
+
+// The row of a text in pieces, or the place where it would stand.
+fn search(rows: &[(Path, usize)], front: &[u8], middle: &[u8], back: &[u8]) -> Result<usize, usize>
+    requires { IsTrue (is_sorted text_cmp rows.now) }
+    ensures { IsPlace rows.now (front.now ++ (middle.now ++ back.now)) result }
+{
+    let mut low = 0;
+    let mut high = rows.len();
+    'halves: while low < high {
+        let at = low + (high - low) / 2;
+        match compare_at(rows, at, front, middle, back) {
+            None => unreachable!(),
+            Some(Ordering::Equal) => return Ok(at),
+            Some(Ordering::Less) => low = at + 1,
+            Some(Ordering::Greater) => high = at,
         }
     }
-    None
+    Err(low)
 }
 
 // A path as what a name is put after.
@@ -29,69 +85,58 @@ fn stem(dir: &[u8]) -> &[u8]
     if dir == b"/".as_slice() { b"" } else { dir }
 }
 
-fn is_named(rest: &[u8], name: &[u8]) -> bool
-    ensures { result ≡ same_text rest.now (47 ∷ name.now) }
-{
-    match rest {
-        [first, more @ ..] => *first == b'/' && more == name,
-        [] => false,
+impl Rows {
+    /// These rows, which ascend.
+    pub(crate) fn new(rows: Vec<(Path, usize)>) -> Rows
+        requires { IsTrue (is_sorted text_cmp rows.items) }
+        ensures { result ≡ map_of rows.items }
+    {
+        Rows { rows }
     }
-}
 
-// Whether a text is that of a name in a directory.
-fn is_joined(text: &[u8], dir: &[u8], name: &[u8]) -> bool
-    ensures { result ≡ same_text text.now (join dir.now name.now) }
-{
-    match text.strip_prefix(stem(dir)) {
-        Some(rest) => is_named(rest, name),
-        None => false,
+    /// The rows, ascending.
+    pub(crate) fn as_slice(&self) -> &[(Path, usize)]
+        ensures { result.now ≡ entries self.now }
+    {
+        self.rows.as_slice()
     }
-}
 
-/// What stands at a path.
-pub(crate) fn at(rows: &BTreeMap<Path, usize>, path: &[u8]) -> Option<usize>
-    ensures { result ≡ first_by (λ p. same_text p path.now) rows.now.entries }
-{
-    for (p, n) in rows {
-        if p.text() == path {
-            return Some(*n);
+    fn at_pieces(&self, front: &[u8], middle: &[u8], back: &[u8]) -> Option<usize>
+        ensures { result ≡ get self.now (front.now ++ (middle.now ++ back.now)) }
+    {
+        match search(self.rows.as_slice(), front, middle, back) {
+            Err(_) => None,
+            Ok(at) => number_at(self.rows.as_slice(), at),
         }
     }
-    None
-}
 
-/// What stands under a name in a directory.
-pub(crate) fn at_joined(rows: &BTreeMap<Path, usize>, dir: &[u8], name: &[u8]) -> Option<usize>
-    ensures { result ≡ first_by (λ p. same_text p (join dir.now name.now)) rows.now.entries }
-{
-    for (p, n) in rows {
-        if is_joined(p.text(), dir, name) {
-            return Some(*n);
-        }
+    /// What stands at a path.
+    pub(crate) fn at(&self, path: &[u8]) -> Option<usize>
+        ensures { result ≡ get self.now path.now }
+    {
+        self.at_pieces(path, b"", b"")
     }
-    None
-}
 
-/// A new node at a path, by its number.
-pub(crate) fn put_new(
-    rows: &mut BTreeMap<Path, usize>,
-    nodes: &mut Vec<Entry>,
-    path: Path,
-    it: Entry,
-) -> Result<usize, NoMemory>
-    ensures number { IfOk result (λ n. n ≡ length nodes.old.items) }
-    ensures row { IfOk result (λ n. map_of rows.new.entries ≡ insert (map_of rows.old.entries) path (length nodes.old.items)) }
-    ensures node { IfOk result (λ n. nodes.new.items ≡ nodes.old.items ++ it ∷ []) }
-    ensures same_rows { OnErr result (rows.new.entries ≡ rows.old.entries) }
-    ensures same_nodes { OnErr result (nodes.new.items ≡ nodes.old.items) }
-{
-    let n = nodes.len();
-    nodes.push(it)?;
-    match rows.insert(path, n) {
-        Ok(_) => Ok(n),
-        Err(_) => {
-            let _ = nodes.pop();
-            Err(NoMemory)
+    /// What stands under a name in a directory.
+    #[tactic(auto, unfolding(rk_base::specs::Text::join))]
+    pub(crate) fn at_joined(&self, dir: &[u8], name: &[u8]) -> Option<usize>
+        ensures { result ≡ get self.now (join dir.now name.now) }
+    {
+        self.at_pieces(stem(dir), b"/", name)
+    }
+
+    /// A number at a path at which none stands.
+    pub(crate) fn add(&mut self, path: Path, number: usize) -> Result<(), NoMemory>
+        requires { get self.old path ≡ None }
+        ensures ok { OnOk result (self.new ≡ insert self.old path number) }
+        ensures err { OnErr result (self.new ≡ self.old) }
+    {
+        match search(self.rows.as_slice(), path.text(), b"", b"") {
+            Ok(_) => unreachable!(),
+            Err(at) => {
+                self.rows.insert(at, (path, number))?;
+                Ok(())
+            }
         }
     }
 }

@@ -1,5 +1,5 @@
 // The tree of a world.
-ghost use Rattle.std.specs.Prelude.{◌≡◌, slice_get, option_copied, IfOk, OnOk, OnErr, length, [], ◌∷◌};
+ghost use Rattle.std.specs.Prelude.{◌≡◌, slice_get, option_copied, IfOk, OnOk, OnErr, length, true, [], ◌∷◌};
 ghost use Rattle.std.specs.FinMap.{empty, insert};
 ghost use Rattle.rk_base.specs.Text.{root};
 ghost use Rattle.rk_tree.specs.Copies.{snapshot_of, tree_of};
@@ -8,19 +8,19 @@ ghost use Rattle.rk_tree.specs.Held as held;
 ghost use Rattle.rk_tree.specs.Whole.{IsFree, IsWhole};
 ghost use Rattle.rk_tree.specs.declared.entry.Entry.TheVariants.{Dir};
 
-use crate::rows::{at, at_joined, path_of, put_new};
+use crate::node::{Node, add_at, entry_at, home_at, replace_bytes};
+use crate::rows::Rows;
 use crate::{Entry, Snapshot, copies};
 use rk_base::{Bytes, Name, NoMemory, Path};
 use std::alloc::Global;
-use std::collections::BTreeMap;
 use std::marker::Model;
 
 /// Which node stands at each path. The root, node 0, stands in every tree. Nodes are spoken of by
 /// their numbers; a new node's number is the count of nodes so far.
 #[derive(Drop)]
 pub struct Tree {
-    rows: BTreeMap<Path, usize>,
-    nodes: Vec<Entry>,
+    rows: Rows,
+    nodes: Vec<Node>,
 }
 
 impl Model for Tree {
@@ -32,12 +32,12 @@ impl Model for Tree {
 
     ghost coded = { held_code it.the_row.coded };
 
-    ghost use Rattle.rk_tree.specs.Rows.{map_of};
+    ghost use Rattle.rk_tree.specs.Nodes.{held_by, HaveHomes};
     ghost use Rattle.rk_tree.specs.Whole.{IsWhole};
 
-    ghost view = { λ t. record { paths = map_of t.rows.entries; nodes = t.nodes.items } };
+    ghost view = { λ t. held_by t.rows t.nodes.items };
 
-    ghost invariant = { λ t. IsWhole (record { paths = map_of t.rows.entries; nodes = t.nodes.items }) };
+    ghost invariant = { λ t. IsWhole (held_by t.rows t.nodes.items) × HaveHomes (held_by t.rows t.nodes.items) t.nodes.items };
 }
 
 impl Tree {
@@ -45,11 +45,18 @@ impl Tree {
     pub fn new(alloc: Global) -> Result<Tree, NoMemory>
         ensures { IfOk result (λ t. t ≡ record { paths = insert empty root 0; nodes = Dir 493 ∷ [] }) }
     {
-        let mut rows = BTreeMap::new(alloc);
-        let mut nodes = Vec::new(alloc);
+        let home = Path::root(alloc)?;
         let path = Path::root(alloc)?;
-        let _ = put_new(&mut rows, &mut nodes, path, Entry::Dir(0o755))?;
-        Ok(Tree { rows, nodes })
+        let rows = vec![in alloc; (path, 0)]?;
+        let node = Node {
+            entry: Entry::Dir(0o755),
+            home: Some(home),
+        };
+        let nodes = vec![in alloc; node]?;
+        Ok(Tree {
+            rows: Rows::new(rows),
+            nodes,
+        })
     }
 
     /// The node of this number.
@@ -57,7 +64,7 @@ impl Tree {
         ensures node { option_copied result ≡ held.node self.now n }
         ensures whole { IsWhole self.now }
     {
-        self.nodes.get(n)
+        entry_at(self.nodes.as_slice(), n)
     }
 
     /// Whether there is a node of this number and it is a directory.
@@ -91,25 +98,59 @@ impl Tree {
         }
     }
 
+    // The path of a directory.
+    fn home(&self, dir: usize) -> Option<&Path>
+        requires { is_dir (held.node self.now dir) ≡ true }
+        ensures { option_copied result ≡ held.path_of self.now dir }
+    {
+        home_at(self.nodes.as_slice(), dir)
+    }
+
     /// The entry of this name in a directory; `None` exactly where there is none. It takes no memory.
     pub fn child(&self, dir: usize, name: &[u8]) -> Option<usize>
+        requires { is_dir (held.node self.now dir) ≡ true }
         ensures { result ≡ held.child self.now dir name.now }
     {
-        match path_of(&self.rows, dir) {
-            Some(path) => at_joined(&self.rows, path.text(), name),
+        match self.home(dir) {
             None => None,
+            Some(path) => self.rows.at_joined(path.text(), name),
         }
     }
 
     /// The directory that a directory stands in: the root for the root, and `None` for a directory
     /// that was removed. It takes no memory.
     pub fn parent(&self, dir: usize) -> Option<usize>
+        requires { is_dir (held.node self.now dir) ≡ true }
         ensures { result ≡ held.parent_of self.now dir }
     {
-        match path_of(&self.rows, dir) {
-            Some(path) => at(&self.rows, path.parent_text()),
+        match self.home(dir) {
             None => None,
+            Some(path) => self.rows.at(path.parent_text()),
         }
+    }
+
+    /// Each path with what stands there. It is whole.
+    pub fn snapshot(&self) -> Result<Snapshot, NoMemory>
+        ensures snapshot { IfOk result (λ s. s ≡ snapshot_of self.now) }
+        ensures whole { IfOk result IsWholeSnapshot }
+    {
+        let snapshot = copies::snapshot_of(
+            *self.nodes.allocator(),
+            &self.rows,
+            self.nodes.as_slice(),
+        )?;
+        Ok(snapshot)
+    }
+
+    /// The tree of a snapshot: a node for each path, numbered in the order of the paths. Its snapshot
+    /// is the same again.
+    pub fn of_snapshot(alloc: Global, snapshot: &Snapshot) -> Result<Tree, NoMemory>
+        requires { IsWholeSnapshot snapshot.now }
+        ensures tree { IfOk result (λ t. t ≡ tree_of snapshot.now) }
+        ensures again { IfOk result (λ t. snapshot_of t ≡ snapshot.now) }
+    {
+        let (rows, nodes) = copies::rows_of(alloc, snapshot)?;
+        Ok(Tree { rows, nodes })
     }
 
     /// A new node under a name in a directory, by its number.
@@ -121,38 +162,18 @@ impl Tree {
         ensures err { OnErr result (self.new ≡ self.old) }
     {
         let _name = name.as_slice();
-        match path_of(&self.rows, dir) {
+        match self.home(dir) {
             Some(path) => {
                 let path = path.join(*self.nodes.allocator(), name)?;
-                let n = put_new(&mut self.rows, &mut self.nodes, path, it)?;
+                let n = add_at(&mut self.rows, &mut self.nodes, path, it)?;
                 Ok(n)
             }
             None => {
                 let n = self.nodes.len();
-                self.nodes.push(it)?;
+                self.nodes.push(Node::lost(it))?;
                 Ok(n)
             }
         }
-    }
-
-    /// Each path with what stands there. It is whole.
-    pub fn snapshot(&self) -> Result<Snapshot, NoMemory>
-        ensures snapshot { IfOk result (λ s. s ≡ snapshot_of self.now) }
-        ensures whole { IfOk result IsWholeSnapshot }
-    {
-        let snapshot = copies::snapshot_of(*self.nodes.allocator(), &self.rows, &self.nodes)?;
-        Ok(snapshot)
-    }
-
-    /// The tree of a snapshot: a node for each path, numbered in the order of the paths. Its snapshot
-    /// is the same again.
-    pub fn of_snapshot(alloc: Global, snapshot: &Snapshot) -> Result<Tree, NoMemory>
-        requires { IsWholeSnapshot snapshot.now }
-        ensures tree { IfOk result (λ t. t ≡ tree_of snapshot.now) }
-        ensures again { IfOk result (λ t. snapshot_of t ≡ snapshot.now) }
-    {
-        let (rows, nodes) = copies::rows_of(alloc, snapshot.rows())?;
-        Ok(Tree { rows, nodes })
     }
 
     /// A file's bytes are replaced; any other node stays as it is.
@@ -160,22 +181,5 @@ impl Tree {
         ensures { self.new ≡ held.set_bytes self.old n bytes }
     {
         replace_bytes(&mut self.nodes, n, bytes);
-    }
-}
-
-fn replace_bytes(nodes: &mut Vec<Entry>, n: usize, bytes: Bytes)
-    ensures { nodes.new.items ≡ held.replaced_at nodes.old.items n bytes (slice_get nodes.old.items n) }
-{
-    match nodes.get_mut(n) {
-        None => {}
-        Some(it) => put_bytes(it, bytes),
-    }
-}
-
-fn put_bytes(it: &mut Entry, bytes: Bytes)
-    ensures { it.new ≡ held.replaced bytes it.old }
-{
-    if let Entry::File(_, old) = it {
-        *old = bytes;
     }
 }

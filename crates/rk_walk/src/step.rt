@@ -1,6 +1,7 @@
 // One component.
 ghost use Rattle.std.specs.Prelude.{◌≡◌, List, ℕ, not, true, false, Some};
 ghost use Rattle.rk_base.specs.Canonical.{is_empty, is_name};
+ghost use Rattle.rk_tree.specs.Entries.{is_dir};
 ghost use Rattle.rk_tree.specs.Held as held;
 ghost use Rattle.rk_walk.specs.Walk.{Spot, at_child, at_part, step_means};
 ghost use Rattle.rk_walk.specs.declared.place.Here.{Here as Standing};
@@ -64,7 +65,8 @@ fn at_name<'a>(
     slash: bool,
     last: bool,
 ) -> Step<'a>
-    requires { is_name name.now ≡ true }
+    requires dir { is_dir (held.node tree.now at) ≡ true }
+    requires name { is_name name.now ≡ true }
     ensures { (again : List ℕ → List ℕ → Spot) (on : Standing → Spot) (after : List ℕ) → not (is_empty after) ≡ slash → at_child tree.now follow again on at (record { name = name.now; after = after }) last (held.child tree.now at name.now) ≡ step_means again on after result }
 {
     let Some(n) = tree.child(at, name) else {

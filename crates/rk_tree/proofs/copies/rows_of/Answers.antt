@@ -1,35 +1,35 @@
-use Rattle.std.proofs.Common.{◌≡◌, ◌∙◌, ◌+◌, ◌++◌, ◌∷◌, [], sym, ap, ℕ, List, length, rules}
-use Rattle.std.specs.FinMap.{empty, insert}
-use Rattle.std.specs.Map.{values_of}
-use Rattle.rk_base.specs.Text.{Text}
+use Rattle.std.proofs.Common.{◌≡◌, ◌∙◌, ◌+◌, ◌++◌, ◌∷◌, [], sym, ap, ℕ, List, length, rules, arith, length-append}
+use Rattle.std.specs.FinMap.{entries, is_sorted}
+use Rattle.rk_base.specs.Text.{Text, text_cmp}
 use Rattle.rk_tree.specs.declared.entry.Entry.{Entry}
-use Rattle.rk_tree.specs.Held.{Paths}
+use Rattle.rk_tree.specs.declared.node.Node.{Node}
+use Rattle.rk_tree.specs.Copies.{numbered}
+use Rattle.rk_tree.specs.Nodes.{placed, placed_rows}
 use Rattle.rk_tree.specs.Rows.{map_of}
-use Rattle.rk_tree.proofs.RowsLemmas.{empty_rows, ordered, map_of-put}
-use Rattle.rk_tree.proofs.CopiesLemmas.{counts_up, counts_up-map_of, count_step, values_step}
+use Rattle.rk_tree.proofs.CopiesLemmas.{rows_step, nodes_step, all_rows, all_nodes, numbered-sorted, begun_rows, one_more}
 use Rattle.rk_tree.proofs.copies.rows_of.Goals as goal
 
 pub loop-path-init : goal.loop-path-init
-loop-path-init c = record {
-  rows = ap (λ (m : Paths). counts_up m (length c.new-nodes.result.items) c.into_iter-path-iterator.result) (empty_rows c.new-rows.result.entries c.new-rows.ensures.empty)
-      ∙ ap (λ (ns : List Entry). counts_up empty (length ns) c.into_iter-path-iterator.result) c.new-nodes.ensures.items
-      ∙ ap (counts_up empty 0) c.into_iter-path-iterator.ensures.into_iter_gives.0;
-  nodes = ap (λ (ns : List Entry). ns ++ values_of c.into_iter-path-iterator.result) c.new-nodes.ensures.items ∙ ap values_of c.into_iter-path-iterator.ensures.into_iter_gives.0;
-}
+loop-path-init c =
+    let b = begun_rows c.new-rows.result.items c.new-nodes.result.items c.into_iter-path-iterator.result (entries c.args.snapshot.now) c.new-rows.ensures.items c.new-nodes.ensures.items (c.into_iter-path-iterator.ensures.into_iter_gives.0 ∙ c.rows-path-items.ensures) in
+    record { rows = b.0; nodes = b.1 }
 
 pub loop-path-preserved : goal.loop-path-preserved
 loop-path-preserved c =
     let counted : c.len.result ≡ length c.loop-path.nodes.items = search rules in
     record {
-      rows = count_step (map_of c.loop-path.rows.entries) (map_of c.insert.new.self.entries) c.loop-path.nodes.items c.push.new.self.items c.loop-path.path-iterator c.next.new.self c.args.snapshot.now.entries c.in-Some.path.now c.in-Some.it.now c.loop-path.invariant.rows c.in-Some.ensures.steps
-          (map_of-put c.loop-path.rows.entries c.insert.new.self.entries c.in_ok-copy.field-0 c.len.result c.in_ok-insert.ensures.updates.0
-          ∙ ap (λ (t : Text). insert (map_of c.loop-path.rows.entries) t c.len.result) c.in_ok-copy.ensures ∙ ap (insert (map_of c.loop-path.rows.entries) c.in-Some.path.now) counted)
-          (c.in_ok-push.ensures.items ∙ ap (λ (it : Entry). c.loop-path.nodes.items ++ it ∷ []) c.in_ok-copy-2.ensures);
-      nodes = values_step c.loop-path.nodes.items c.push.new.self.items c.loop-path.path-iterator c.next.new.self c.args.snapshot.now.entries c.in-Some.path.now c.in-Some.it.now c.loop-path.invariant.nodes c.in-Some.ensures.steps
-          (c.in_ok-push.ensures.items ∙ ap (λ (it : Entry). c.loop-path.nodes.items ++ it ∷ []) c.in_ok-copy-2.ensures);
+      rows = rows_step c.loop-path.rows.items c.push.new.self.items (length c.loop-path.nodes.items) (length c.push-in-loop-path.new.self.items) c.loop-path.path-iterator c.next.new.self (entries c.args.snapshot.now) c.in-Some.path.now c.in-Some.it.now c.loop-path.invariant.rows c.in-Some.ensures.steps
+          (c.in_ok-push.ensures.items ∙ ap (λ (t : Text). c.loop-path.rows.items ++ (t, c.len.result) ∷ []) c.in_ok-copy.ensures ∙ ap (λ (n : ℕ). c.loop-path.rows.items ++ (c.in-Some.path.now, n) ∷ []) counted)
+          (one_more c.loop-path.nodes.items c.push-in-loop-path.new.self.items c.in_ok-placed.field-0 c.in_ok-push-2.ensures.items);
+      nodes = nodes_step c.loop-path.nodes.items c.push-in-loop-path.new.self.items c.loop-path.path-iterator c.next.new.self (entries c.args.snapshot.now) c.in-Some.path.now c.in-Some.it.now c.loop-path.invariant.nodes c.in-Some.ensures.steps
+          (c.in_ok-push-2.ensures.items ∙ ap (λ (m : Node). c.loop-path.nodes.items ++ m ∷ []) (c.in_ok-placed.ensures ∙ ap (placed c.in-Some.path.now) c.in_ok-copy-2.ensures));
     }
 
-pub returns-clause-rows : goal.returns-clause-rows
-returns-clause-rows c =
-    sym (ap (λ (rows : List (Text × Entry)). counts_up (map_of c.loop-path.rows.entries) (length c.loop-path.nodes.items) rows) c.in-None.ensures.steps.0) ∙ c.loop-path.invariant.rows
-    ∙ counts_up-map_of c.args.snapshot.now.entries (ordered c.args.snapshot.now.entries c.into_iter-path-iterator.ensures.into_iter_gives.5)
+pub new-requires : goal.new-requires
+new-requires c = ap (is_sorted text_cmp) (all_rows c.loop-path.rows.items (length c.loop-path.nodes.items) c.loop-path.path-iterator (entries c.args.snapshot.now) c.loop-path.invariant.rows c.in-None.ensures.steps.0) ∙ numbered-sorted c.args.snapshot.now
+
+pub returns : goal.returns
+returns c = record {
+  rows = c.new.ensures ∙ ap map_of (all_rows c.loop-path.rows.items (length c.loop-path.nodes.items) c.loop-path.path-iterator (entries c.args.snapshot.now) c.loop-path.invariant.rows c.in-None.ensures.steps.0);
+  nodes = all_nodes c.loop-path.nodes.items c.loop-path.path-iterator (entries c.args.snapshot.now) c.loop-path.invariant.nodes c.in-None.ensures.steps.0;
+}

@@ -1,16 +1,16 @@
-use Rattle.std.proofs.Common.{◌≡◌, ◌∙◌, sym, ap, ℕ, List}
+use Rattle.std.proofs.Common.{◌≡◌, ◌∙◌, ◌≤◌, sym, ap, ℕ, List, drop, length}
 use Rattle.std.specs.List.{filter_map}
-use Rattle.std.specs.FinMap.{empty}
-use Rattle.rk_base.specs.Text.{Text}
+use Rattle.std.specs.FinMap.{empty, entries, is_sorted, entries_sorted}
+use Rattle.rk_base.specs.Text.{Text, text_cmp}
 use Rattle.rk_tree.specs.Rows.{map_of}
-use Rattle.rk_tree.specs.Copies.{entry_row, snapshot_of}
-use Rattle.rk_tree.proofs.RowsLemmas.{entries-map_of, ordered}
-use Rattle.rk_tree.proofs.CopiesLemmas.{puts_found, puts_found-map_of}
+use Rattle.rk_tree.specs.Copies.{entry_row, put_found, snapshot_of}
+use Rattle.rk_tree.specs.Nodes.{entries_of}
+use Rattle.rk_tree.proofs.CopiesLemmas.{found_step, found_all}
 use Rattle.rk_tree.proofs.copies.snapshot_of.Goals as goal
 
+pub loop-path-preserved : goal.loop-path-preserved
+loop-path-preserved c = found_step (entries_of c.args.nodes.now) c.loop-path.snapshot c.put_found.new.snapshot c.as_slice-items.result.now c.loop-path.path-index c.loop-path-item.result c.loop-path.invariant c.loop-path-test.true c.loop-path-item.is
+    (c.in_ok-put_found.ensures ∙ ap (put_found c.loop-path.snapshot c.loop-path-item.result.0) c.entry_at.ensures)
+
 pub returns : goal.returns
-unfolding snapshot_of
-returns c =
-    sym (ap (λ (rows : List (Text × ℕ)). puts_found c.args.nodes.now.items c.loop-path.snapshot rows) c.in-None.ensures.steps.0) ∙ c.loop-path.invariant
-    ∙ puts_found-map_of c.args.nodes.now.items c.args.rows.now.entries (ordered c.args.rows.now.entries c.into_iter-path-iterator.ensures.into_iter_gives.5)
-    ∙ ap (λ (rows : List (Text × ℕ)). map_of (filter_map (entry_row c.args.nodes.now.items) rows)) (sym (entries-map_of c.args.rows.now.entries c.into_iter-path-iterator.ensures.into_iter_gives.5))
+returns c = found_all (entries_of c.args.nodes.now) c.loop-path.snapshot c.as_slice-items.result.now c.args.rows.now c.loop-path.path-index c.loop-path.invariant c.loop-path-test.false c.as_slice-items.ensures

@@ -1,14 +1,14 @@
 use Rattle.std.proofs.Common.{◌∙◌, sym, ap, subst}
 use Rattle.rk_tree.specs.Whole.{IsWhole}
 use Rattle.rk_tree.specs.Copies.{snapshot_of}
-use Rattle.rk_tree.proofs.CopiesLemmas.{made_tree, tree_of-whole, snapshot_of-tree_of}
+use Rattle.rk_tree.proofs.CopiesLemmas.{made_tree, made_kept, snapshot_of-tree_of}
 use Rattle.rk_tree.proofs.tree.Tree.of_snapshot.Goals as goal
 
 pub invariant_of-result : goal.invariant_of-result
-invariant_of-result c = subst IsWhole (sym (made_tree c.in_ok-rows.rows.entries c.in_ok-rows.nodes.items c.rows.result.now.entries c.args.snapshot.now c.rows.ensures c.in_ok-rows.ensures.rows c.in_ok-rows.ensures.nodes)) (tree_of-whole c.args.snapshot.now c.requires)
+invariant_of-result c = made_kept c.in_ok-rows.rows c.in_ok-rows.nodes.items c.args.snapshot.now c.in_ok-rows.ensures.rows c.in_ok-rows.ensures.nodes c.requires
 
 pub returns-clause-tree : goal.returns-clause-tree
-returns-clause-tree c = made_tree c.in_ok-rows.rows.entries c.in_ok-rows.nodes.items c.rows.result.now.entries c.args.snapshot.now c.rows.ensures c.in_ok-rows.ensures.rows c.in_ok-rows.ensures.nodes
+returns-clause-tree c = made_tree c.in_ok-rows.rows c.in_ok-rows.nodes.items c.args.snapshot.now c.in_ok-rows.ensures.rows c.in_ok-rows.ensures.nodes
 
 pub returns-clause-again : goal.returns-clause-again
-returns-clause-again c = ap snapshot_of (made_tree c.in_ok-rows.rows.entries c.in_ok-rows.nodes.items c.rows.result.now.entries c.args.snapshot.now c.rows.ensures c.in_ok-rows.ensures.rows c.in_ok-rows.ensures.nodes) ∙ snapshot_of-tree_of c.args.snapshot.now
+returns-clause-again c = ap snapshot_of (made_tree c.in_ok-rows.rows c.in_ok-rows.nodes.items c.args.snapshot.now c.in_ok-rows.ensures.rows c.in_ok-rows.ensures.nodes) ∙ snapshot_of-tree_of c.args.snapshot.now
