@@ -1,1 +1,4 @@
+pub mod BuildLemmas
+pub mod PrepareLemmas
+pub mod RunLemmas
 pub mod TextsLemmas

@@ -1,4 +1,9 @@
 pub mod Lines
+pub mod Outcomes
+pub mod Run
 pub mod Shown
+pub mod Stages
+pub mod Telling
 pub mod Texts
+pub mod Verdict
 pub mod Words

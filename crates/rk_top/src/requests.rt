@@ -12,5 +12,4 @@ pub enum Request {
 pub enum RequestErr {
     /// The words are none.
     Usage,
-    NoMemory,
 }
