@@ -1,5 +1,5 @@
 // Keys of commands.
-ghost use Rattle.std.specs.Prelude.{◌≡◌, ◌↔◌, ◌<◌, IsTrue, IfOk, length, true};
+ghost use Rattle.std.specs.Prelude.{◌≡◌, ◌↔◌, ◌<◌, IsTrue, IfOk, Some, None, length, true, if◌then◌else◌};
 ghost use Rattle.std.specs.List.{list_any};
 ghost use Rattle.rk_base.specs.Text.{is_slash};
 ghost use Rattle.rk_calls.specs.Keys.{key_of, takes_variables, is_key};
@@ -45,6 +45,12 @@ fn takes_variables(argv: &[Bytes]) -> bool
     }
 }
 
+fn is_key(argv: &WordList, vars: &VarList) -> bool
+    ensures { result ≡ is_key argv.now vars.now }
+{
+    argv.len() != 0 && (takes_variables(argv.as_slice()) || vars.is_empty())
+}
+
 impl Key {
     /// The key of a command of at least one word. The variables are dropped where the first word is neither
     /// `sh` nor has a slash.
@@ -58,6 +64,17 @@ impl Key {
             exported.cleared()
         };
         Key { argv, wd, vars }
+    }
+
+    /// The key of just these; `None` exactly where there is no word, or there are variables that don't count.
+    pub fn from_parts(argv: WordList, wd: Path, vars: VarList) -> Option<Key>
+        ensures { result ≡ (if is_key argv vars then Some (record { argv = argv; wd = wd; vars = vars }) else None) }
+    {
+        if is_key(&argv, &vars) {
+            Some(Key { argv, wd, vars })
+        } else {
+            None
+        }
     }
 
     pub fn argv(&self) -> &WordList

@@ -8,6 +8,7 @@ mod drive;
 mod fitting;
 mod key;
 mod machine;
+mod named;
 mod refmap;
 mod refs;
 mod same;

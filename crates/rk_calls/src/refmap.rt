@@ -1,6 +1,6 @@
 // What a launched command's descriptors stand for.
-ghost use Rattle.std.specs.Prelude.{◌≡◌, ◌↔◌, IsTrue, IfOk, IfSome, length, true};
-ghost use Rattle.rk_calls.specs.RefMaps.{is_refmap, number_of, with_output};
+ghost use Rattle.std.specs.Prelude.{◌≡◌, ◌↔◌, IsTrue, IfOk, Some, None, true, if◌then◌else◌};
+ghost use Rattle.rk_calls.specs.RefMaps.{is_refmap, rise_from, number_of, with_output};
 
 use rk_base::NoMemory;
 use std::alloc::Global;
@@ -24,7 +24,41 @@ impl Model for RefMap {
     ghost invariant = { λ m. is_refmap m.pairs.items ≡ true };
 }
 
+fn rises_from(first: u8, pairs: &[(u8, u64)]) -> bool
+    ensures { result ≡ rise_from first pairs.now }
+{
+    let mut last = first;
+    'pairs: for (d, _) in pairs {
+        if !(last < *d && *d < 10) {
+            return false;
+        }
+        last = *d;
+    }
+    true
+}
+
+#[tactic(auto, unfolding(crate::specs::RefMaps::is_refmap))]
+fn is_refmap(pairs: &[(u8, u64)]) -> bool
+    ensures { result ≡ is_refmap pairs.now }
+{
+    match pairs {
+        [] => true,
+        [(d, _), rest @ ..] => *d < 10 && rises_from(*d, rest),
+    }
+}
+
 impl RefMap {
+    /// The map of these pairs; `None` exactly where a descriptor isn't 0 to 9, or they don't ascend strictly.
+    pub fn from_vec(pairs: Vec<(u8, u64)>) -> Option<RefMap>
+        ensures { result ≡ (if is_refmap pairs.items then Some pairs.items else None) }
+    {
+        if is_refmap(&pairs) {
+            Some(RefMap { pairs })
+        } else {
+            None
+        }
+    }
+
     /// Each descriptor from 0 to 9 stands for the same number, but 1 for this one.
     #[tactic(auto, unfolding(crate::specs::RefMaps::is_refmap))]
     pub fn with_output(alloc: Global, output: u64) -> Result<RefMap, NoMemory>

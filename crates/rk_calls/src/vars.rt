@@ -1,7 +1,8 @@
 // Lists of variables.
-ghost use Rattle.std.specs.Prelude.{◌≡◌, ◌↔◌, IsTrue, [], IfOk, IfSome, IfNone, true, false};
-ghost use Rattle.rk_calls.specs.Keys.{are_variables, is_variable, is_start, is_more};
+ghost use Rattle.std.specs.Prelude.{◌≡◌, ◌↔◌, IsTrue, [], IfOk, Some, None, true, if◌then◌else◌};
+ghost use Rattle.rk_calls.specs.Keys.{are_variables};
 
+use crate::named::are_variables;
 use rk_base::{Bytes, NoMemory};
 use std::alloc::Global;
 use std::hash::{Hash, Hasher};
@@ -39,6 +40,17 @@ impl VarList {
     {
         VarList {
             vars: Vec::new(alloc),
+        }
+    }
+
+    /// The list of these; `None` exactly where they aren't variables, ascending by name.
+    pub fn from_vec(vars: Vec<Var>) -> Option<VarList>
+        ensures { result ≡ (if are_variables vars.items then Some vars.items else None) }
+    {
+        if are_variables(&vars) {
+            Some(VarList { vars })
+        } else {
+            None
         }
     }
 
