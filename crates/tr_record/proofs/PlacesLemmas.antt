@@ -215,6 +215,17 @@ place_none None q t o h e = λ i lt key ordinal.
     let found : slice_get (places_of q t) o ≡ Some i = ap (slice_get (places_of q t)) (sym before) ∙ found_place q t i lt key in
     cc
 
+-- and no record before it has them
+pub place_first : (r : Option ℕ) (q : KeyValue) (t : List Record) (o : ℕ) → AreNumbered t → r ≡ slice_get (places_of q t) o → IfSome r (λ i. (k : ℕ) → k < i → (rec_at k t).key ≡ q → (rec_at k t).ordinal ≢ o)
+place_first None q t o h e = tt
+place_first (Some i) q t o h e = λ k lt key ordinal.
+    let there = some_place q t o i (sym e) in
+    let inside : k < length t = (let w = there.within in omega arith) in
+    let before : count_of q (take k t) ≡ o = ap (λ (k' : KeyValue). count_of k' (take k t)) (sym key) ∙ sym (h k inside) ∙ ordinal in
+    let found : slice_get (places_of q t) o ≡ Some k = ap (slice_get (places_of q t)) (sym before) ∙ found_place q t k inside key in
+    let same : k ≡ i = cc in
+    absurd (omega arith)
+
 pub same_at : (t : List Record) (i : ℕ) (d e : Record) → i < length t → get_or t i d ≡ get_or t i e
 same_at [] i d e lt = absurd (omega arith)
 same_at (r ∷ t) zero d e lt = refl
