@@ -104,7 +104,7 @@ left q path held stands = (elim (same_path q path) as (λ (b : Bool). is_nothing
 not_root_path : (path : Text) → not (is_root path) ≡ true → root ≡ path → ⊥
 not_root_path path h e = let r : is_root path ≡ true = (bytes_decides path root).1 (sym e) in let n : is_root path ≡ false = denied _ h in cc
 
-is_below : (dir q : Text) → is_root q ≡ false → parent q ≡ dir → is_in dir q ≡ true
+pub is_below : (dir q : Text) → is_root q ≡ false → parent q ≡ dir → is_in dir q ≡ true
 unfolding is_in
 is_below dir q n e = ap (λ (b : Bool). not b && same_text (parent q) dir) n ∙ (bytes_decides (parent q) dir).1 e
 

@@ -1,6 +1,10 @@
 pub mod Calls
 pub mod Counts
+pub mod Hidden
+pub mod Import
 pub mod Memory
 pub mod Sinks
+pub mod Specials
+pub mod Steps
 pub mod Told
 pub mod Whole

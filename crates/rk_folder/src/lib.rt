@@ -3,11 +3,17 @@
 
 mod folder;
 mod held;
+mod hidden_files;
+mod importing;
 mod memory;
 mod real;
 mod sink;
+mod state_files;
 
 pub use folder::{Folder, FolderErr, Got, Item, Standing};
+pub use hidden_files::{Hidden, State};
+pub use importing::{ImportErr, import};
 pub use memory::{Change, MemFolder};
 pub use real::RealFolder;
 pub use sink::{MemSink, RealSink, Sink, SinkErr};
+pub use state_files::state;

@@ -1,0 +1,57 @@
+-- What a folder is to a build: its files and directories outside `.rkr`, and its state files.
+use Rattle.std.specs.Prelude.{◌≡◌, ◌≤◌, ℕ, Option, Some, None, IfSome, option_map, Result, Ok, Err, if◌then◌else◌}
+use Rattle.std.specs.List.{filter_map}
+use Rattle.std.specs.FinMap.{entries}
+use Rattle.rk_base.specs.Text.{Text, is_within}
+use Rattle.rk_tree.specs.Entries.{Entries}
+use Rattle.rk_tree.specs.Rows.{map_of}
+use Rattle.rk_tree.specs.declared.entry.Entry.{Entry}
+use Rattle.rk_tree.specs.declared.entry.Entry.TheVariants as entry
+use Rattle.rk_folder.specs.Counts.{Rose}
+use Rattle.rk_folder.specs.Told.{Held, standing, is_dir, bytes_in}
+use Rattle.rk_folder.specs.Hidden.{hidden_dir, attrs_file, db_file}
+use Rattle.rk_folder.specs.Specials.{first_special}
+use Rattle.rk_folder.specs.declared.folder.Standing.{Standing}
+use Rattle.rk_folder.specs.declared.folder.Standing.TheVariants.{File, Dir, Special}
+use Rattle.rk_folder.specs.declared.importing.ImportErr.{ImportErr}
+use Rattle.rk_folder.specs.declared.importing.ImportErr.TheVariants as err
+use Rattle.rk_folder.specs.declared.hidden_files.Hidden.{Hidden}
+
+-- a file's mode is 0644, a directory's 0755
+abbrev pub entry_of : Standing → Option Entry
+entry_of (File bytes) = Some (entry.File 420 bytes)
+entry_of Dir = Some (entry.Dir 493)
+entry_of Special = None
+
+abbrev pub imported : Text × Standing → Option (Text × Entry)
+imported row = if is_within hidden_dir row.0 then None else option_map (λ it. (row.0, it)) (entry_of row.1)
+
+-- the files and directories outside `.rkr`
+abbrev pub snapshot_of : Held → Entries
+snapshot_of held = map_of (filter_map imported (entries held.places))
+
+-- whether `.rkr` stands, and the bytes of the state files that stand
+abbrev pub state_of : Held → Hidden
+state_of held = record {
+  rkr = is_dir (standing held hidden_dir);
+  state = record { db = bytes_in (standing held db_file); attrs = bytes_in (standing held attrs_file) };
+}
+
+-- Where the folder tells what it holds: Ok only where nothing is special, with what is true of it then,
+-- and Special only with the first that is.
+abbrev pub Tells : {T : Type 0} → Option Held → (Held → Option Text) → (Held → T → Type 0) → Result T ImportErr → Type 0
+Tells told special P (Ok it) = IfSome told (λ held. (special held ≡ None) × P held it)
+Tells told special P (Err (err.Special path)) = IfSome told (λ held. special held ≡ Some path)
+Tells told special P (Err err.ReadFault) = Unit {0}
+Tells told special P (Err err.NoMemory) = Unit {0}
+
+-- a read fault comes only where the count of them rose, and it rises at nothing else
+abbrev pub ReadCaused : {T : Type 0} → ℕ → ℕ → Result T ImportErr → Type 0
+ReadCaused before now (Ok it) = now ≡ before
+ReadCaused before now (Err (err.Special path)) = now ≡ before
+ReadCaused before now (Err err.ReadFault) = (before ≤ now) × Rose before now
+ReadCaused before now (Err err.NoMemory) = now ≡ before
+
+-- nothing is special
+abbrev pub IsPlain : Held → Type 0
+IsPlain held = first_special held ≡ None
