@@ -14,7 +14,7 @@ use Rattle.rk_install.specs.declared.ops.Op.{Op}
 use Rattle.rk_install.specs.Changes.{allowed, step, after_all, AllowsAll}
 use Rattle.rk_install.proofs.OrderLemmas.{clash, Below, InOrder, below_first, below_rest, in_order_first, in_order_rest, find_below, find_first, find_other, below_cons, less-not_tied, less_clash}
 use Rattle.rk_tree.proofs.TextLemmas.{told_apart, ties_itself}
-use Rattle.rk_install.proofs.ReachLemmas.{path_of, standing-step, at_maybe, at_own, at_other, own_row, Makes, KeepsPath, made, made_at, odd-after, standing-after, at_end-rows_back, AllowsAll-append, cons_end, reverse_cons_option}
+use Rattle.rk_install.proofs.ReachLemmas.{standing-step, at_maybe, at_own, at_other, own_row, Makes, KeepsPath, made, made_at, odd-after, standing-after, at_end-rows_back, AllowsAll-append, cons_end, reverse_cons_option}
 
 abbrev pub Rows : Type 0
 Rows = List (Text × Entry)

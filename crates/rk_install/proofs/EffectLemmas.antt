@@ -12,9 +12,10 @@ use Rattle.rk_tree.specs.declared.entry.Entry.TheVariants.{File, Dir, Link}
 use Rattle.rk_tree.proofs.TextLemmas.{same_is}
 use Rattle.rk_install.specs.declared.ops.Op.{Op}
 use Rattle.rk_install.specs.declared.ops.Op.TheVariants.{RemoveFile, RemoveDir, MakeDir, Write}
+use Rattle.rk_install.specs.Changes.{path_of, left_by}
 use Rattle.rk_install.specs.Holdings.{placed}
 use Rattle.rk_install.specs.Planned.{removal, making, writing, removal_of, making_of, writing_of, is_file_of}
-use Rattle.rk_install.proofs.ReachLemmas.{path_of, left_by, KeepsPath, made, made_at}
+use Rattle.rk_install.proofs.ReachLemmas.{KeepsPath, made, made_at}
 
 pub chosen : (b : Bool) (it op : Op) → cond b None (Some it) ≡ Some op → it ≡ op
 chosen true it op e = cc

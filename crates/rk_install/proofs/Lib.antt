@@ -6,3 +6,4 @@ pub mod EffectLemmas
 pub mod PhaseLemmas
 pub mod StateLemmas
 pub mod PlannedLemmas
+pub mod NeededLemmas

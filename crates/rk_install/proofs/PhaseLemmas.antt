@@ -56,13 +56,13 @@ no_items held dir none plain =
 
 module _ (held : Held) (before after : Holding) (ready : MayBecome held before after) where
   -- an entry isn't hidden
-  old_outside : (path : Text) (entry : Entry) → get before.entries path ≡ Some entry → is_within hidden_dir path ≡ false
+  pub old_outside : (path : Text) (entry : Entry) → get before.entries path ≡ Some entry → is_within hidden_dir path ≡ false
   old_outside path entry h = elim (is_within hidden_dir path) as (λ (b : Bool). is_within hidden_dir path ≡ b → b ≡ false) [
     | true ↦ λ e. absurd (absent entry (sym (ready.holds.unseen path e) ∙ h))
     | false ↦ λ e. refl
   ] refl
 
-  new_outside : (path : Text) (entry : Entry) → get after.entries path ≡ Some entry → is_within hidden_dir path ≡ false
+  pub new_outside : (path : Text) (entry : Entry) → get after.entries path ≡ Some entry → is_within hidden_dir path ≡ false
   new_outside path entry h = elim (is_within hidden_dir path) as (λ (b : Bool). is_within hidden_dir path ≡ b → b ≡ false) [
     | true ↦ λ e. absurd (absent entry (sym (ready.built.entries.unseen path e) ∙ h))
     | false ↦ λ e. refl

@@ -13,22 +13,9 @@ use Rattle.rk_folder.specs.declared.folder.Standing.TheVariants.{File, Dir}
 use Rattle.rk_tree.specs.declared.entry.Entry.{Entry}
 use Rattle.rk_install.specs.declared.ops.Op.{Op}
 use Rattle.rk_install.specs.declared.ops.Op.TheVariants.{RemoveFile, RemoveDir, MakeDir, Write}
-use Rattle.rk_install.specs.Changes.{allowed, step, after_all, AllowsAll}
+use Rattle.rk_install.specs.Changes.{allowed, step, after_all, AllowsAll, path_of, left_by}
 use Rattle.rk_install.proofs.OrderLemmas.{clash, Below, InOrder, below_first, below_rest, in_order_first, in_order_rest, find_below, find_first, find_other, below_cons, less-not_tied, less_clash}
 use Rattle.rk_tree.proofs.TextLemmas.{told_apart, ties_itself}
-
--- the path of a call, and what it leaves there
-abbrev pub path_of : Op → Text
-path_of (RemoveFile path) = path
-path_of (RemoveDir path) = path
-path_of (MakeDir path) = path
-path_of (Write path bytes) = path
-
-abbrev pub left_by : Op → Option Standing
-left_by (RemoveFile path) = None
-left_by (RemoveDir path) = None
-left_by (MakeDir path) = Some Dir
-left_by (Write path bytes) = Some (File bytes)
 
 abbrev pub at_step : Op → Text → Option Standing → Option Standing
 at_step op q it = cond (eq_by_cmp text_cmp q (path_of op)) (left_by op) it

@@ -8,11 +8,11 @@ use Rattle.rk_folder.specs.declared.folder.Standing.TheVariants.{File, Dir}
 use Rattle.rk_tree.proofs.TextLemmas.{same_is, same_itself, ties_itself}
 use Rattle.rk_install.specs.declared.ops.Op.{Op}
 use Rattle.rk_install.specs.declared.ops.Op.TheVariants.{RemoveFile, RemoveDir, MakeDir, Write}
-use Rattle.rk_install.specs.Changes.{after_all, AllowsAll}
+use Rattle.rk_install.specs.Changes.{after_all, AllowsAll, path_of}
 use Rattle.rk_install.specs.Holdings.{hidden_dir, attrs_file, db_file, dir_where}
 use Rattle.rk_install.specs.Planned.{is_bytes, hidden_making, state_writing, attrs_calls, db_calls}
 use Rattle.rk_install.proofs.HiddenLemmas.{hidden_parent}
-use Rattle.rk_install.proofs.ReachLemmas.{path_of, at_end}
+use Rattle.rk_install.proofs.ReachLemmas.{at_end}
 
 -- all calls are at this path
 abbrev pub AllAt : Text → List Op → Type 0

@@ -1,8 +1,10 @@
 -- Calls that change a folder, one after another.
-use Rattle.std.specs.Prelude.{◌≡◌, ◌⊎◌, option_map, ℕ, List, [], ◌∷◌, Bool, true, Option, IfSome, Result, Ok, Err}
-use Rattle.rk_folder.specs.Told.{Held, can_write, can_make_dir, can_remove_file, can_remove_dir, with_standing, without}
+use Rattle.std.specs.Prelude.{◌≡◌, ◌≢◌, ◌⊎◌, option_map, ℕ, List, [], ◌∷◌, Bool, true, Option, Some, None, IfSome, Result, Ok, Err}
+use Rattle.rk_base.specs.Text.{Text}
+use Rattle.rk_folder.specs.Told.{Held, standing, can_write, can_make_dir, can_remove_file, can_remove_dir, with_standing, without}
 use Rattle.rk_folder.specs.Calls.{Damages}
 use Rattle.rk_folder.specs.Counts.{Rose}
+use Rattle.rk_folder.specs.declared.folder.Standing.{Standing}
 use Rattle.rk_folder.specs.declared.folder.Standing.TheVariants.{File, Dir}
 use Rattle.rk_install.specs.declared.ops.Op.{Op}
 use Rattle.rk_install.specs.declared.ops.Op.TheVariants.{RemoveFile, RemoveDir, MakeDir, Write}
@@ -31,6 +33,23 @@ after_all (op ∷ ops) held = after_all ops (step op held)
 abbrev pub AllowsAll : List Op → Held → Type 0
 AllowsAll [] held = Unit {0}
 AllowsAll (op ∷ ops) held = (allowed op held ≡ true) × AllowsAll ops (step op held)
+
+-- the path of a call, and what it leaves there
+abbrev pub path_of : Op → Text
+path_of (RemoveFile path) = path
+path_of (RemoveDir path) = path
+path_of (MakeDir path) = path
+path_of (Write path bytes) = path
+
+abbrev pub left_by : Op → Option Standing
+left_by (RemoveFile path) = None
+left_by (RemoveDir path) = None
+left_by (MakeDir path) = Some Dir
+left_by (Write path bytes) = Some (File bytes)
+
+-- a call leaves something else at its path than the folder holds there
+abbrev pub IsNeeded : Held → Op → Type 0
+IsNeeded held op = left_by op ≢ standing held (path_of op)
 
 -- a folder that tells what it holds allows them
 abbrev pub MayRun : Option Held → List Op → Type 0

@@ -1,5 +1,5 @@
 -- The calls that lead from what a folder holds to what it is to hold.
-use Rattle.std.specs.Prelude.{List, [], ◌∷◌, ◌++◌, reverse, Bool, true, false, not, ◌&&◌, if◌then◌else◌, Option, Some, None}
+use Rattle.std.specs.Prelude.{List, [], ◌∷◌, ◌++◌, reverse, Bool, true, false, not, ◌&&◌, if◌then◌else◌, Option, Some, None, All}
 use Rattle.std.specs.List.{filter_map}
 use Rattle.std.specs.FinMap.{entries, get}
 use Rattle.rk_base.specs.Text.{Text, same_text}
@@ -12,7 +12,7 @@ use Rattle.rk_tree.specs.declared.entry.Entry.TheVariants as entry
 use Rattle.rk_install.specs.declared.ops.Op.{Op}
 use Rattle.rk_install.specs.declared.ops.Op.TheVariants.{RemoveFile, RemoveDir, MakeDir, Write}
 use Rattle.rk_install.specs.declared.holding.Holding.{Holding}
-use Rattle.rk_install.specs.Changes.{after_all, AllowsAll}
+use Rattle.rk_install.specs.Changes.{after_all, AllowsAll, IsNeeded}
 use Rattle.rk_install.specs.Holdings.{placed, hidden_dir, attrs_file, db_file, MayBecome, IsAfter}
 
 -- what stood is taken away where nothing of its kind stands there afterwards
@@ -87,3 +87,7 @@ AreAllowed ops before after = (held : Held) → MayBecome held before after → 
 -- and they lead to the folder afterwards
 abbrev pub LeadTo : List Op → Holding → Holding → Type 0
 LeadTo ops before after = (held : Held) → MayBecome held before after → IsAfter held (after_all ops held) after
+
+-- each of them changes what stands at its path
+abbrev pub AreNeeded : List Op → Holding → Holding → Type 0
+AreNeeded ops before after = (held : Held) → MayBecome held before after → All (IsNeeded held) ops

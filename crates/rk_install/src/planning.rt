@@ -5,7 +5,7 @@ ghost use Rattle.std.specs.FinMap.{entries};
 ghost use Rattle.rk_base.specs.Canonical.{is_canonical};
 ghost use Rattle.rk_folder.specs.Told.{is_file, is_dir};
 ghost use Rattle.rk_install.specs.Holdings.{placed, hidden_dir, attrs_file, db_file, Agree};
-ghost use Rattle.rk_install.specs.Planned.{removal, making, writing, removal_of, making_of, writing_of, hidden_making, attrs_calls, db_calls, planned, is_file_of, is_bytes, state_writing, AreAllowed, LeadTo};
+ghost use Rattle.rk_install.specs.Planned.{removal, making, writing, removal_of, making_of, writing_of, hidden_making, attrs_calls, db_calls, planned, is_file_of, is_bytes, state_writing, AreAllowed, LeadTo, AreNeeded};
 
 use crate::{Holding, Op, Plan};
 use rk_base::{Bytes, NoMemory, Path, PathFault};
@@ -212,6 +212,7 @@ pub fn plan(alloc: Global, before: &Holding, after: &Holding) -> Result<Plan, No
     ensures planned { IfOk result (λ plan. plan ≡ planned before.now after.now) }
     ensures allowed { IfOk result (λ plan. AreAllowed plan before.now after.now) }
     ensures leads { IfOk result (λ plan. LeadTo plan before.now after.now) }
+    ensures needed { IfOk result (λ plan. AreNeeded plan before.now after.now) }
     ensures nothing { Agree before.now after.now → IfOk result (λ plan. plan ≡ []) }
 {
     let ops = planned(alloc, before, after)?;

@@ -1,7 +1,9 @@
 use Rattle.std.proofs.Common.{◌≡◌, List, sym, subst, ◌∙◌}
 use Rattle.rk_install.specs.declared.ops.Op.{Op}
-use Rattle.rk_install.specs.Changes.{after_all, AllowsAll}
+use Rattle.std.specs.List.{All}
+use Rattle.rk_install.specs.Changes.{after_all, AllowsAll, IsNeeded}
 use Rattle.rk_install.specs.Holdings.{IsAfter}
+use Rattle.rk_install.proofs.NeededLemmas.{all_needed}
 use Rattle.rk_install.proofs.PlannedLemmas.{planned_allowed, planned_after, nothing_planned}
 use Rattle.rk_install.proofs.planning.plan.Goals as goal
 
@@ -13,3 +15,6 @@ returns-clause-leads c = λ held ready. subst (λ (ops : List Op). IsAfter held 
 
 pub returns-clause-nothing : goal.returns-clause-nothing
 returns-clause-nothing c = λ same. c.new.ensures ∙ c.in_ok-ops.ensures ∙ nothing_planned c.args.before.now c.args.after.now same
+
+pub returns-clause-needed : goal.returns-clause-needed
+returns-clause-needed c = λ held ready. subst (λ (ops : List Op). All (IsNeeded held) ops) (sym (c.new.ensures ∙ c.in_ok-ops.ensures)) (all_needed held c.args.before.now c.args.after.now ready)
