@@ -42,7 +42,8 @@ between_more make keeps all stood held row rows o h q = elim (told_apart q row.0
     | inl now ↦ inr (
       subst (λ (p : Text). Below p rows) (sym same.0) (in_order_first row rows o),
       standing-maybe (make row) held q ∙ at_own (make row) row.0 q _ (keeps row) same.1 ∙ ap (made_at (make row)) now.1 ∙ own_row make row q (stood q) same.0
-      ∙ sym (ap (λ (found : Option Entry). made make q found (stood q)) (now.0 ∙ ap (λ (b : Bool). cond b (Some row.1) (find text_cmp q rows)) same.1)))
+          ∙ sym (ap (λ (found : Option Entry). made make q found (stood q)) (now.0 ∙ ap (λ (b : Bool). cond b (Some row.1) (find text_cmp q rows)) same.1)),
+    )
     | inr past ↦ absurd (tied_below q row rows past.0 same.1)
   ]
   | inr other ↦
@@ -136,5 +137,6 @@ module _ (make : Makes) (keeps : KeepsPath make) (all : Rows) (old : Held) where
         | None ↦ λ e. later
         | Some op ↦ λ e. AllowsAll-append (reverse (filter_map make rows)) (op ∷ []) old later (
           good row op (after_all (reverse (filter_map make rows)) old) (found_here row rows h) e (odd-after (reverse (filter_map make rows)) old) own (reached_above row rows o h) (reached_any row rows o h),
-          tt)
+          tt,
+        )
       ] refl)

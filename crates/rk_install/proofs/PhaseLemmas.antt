@@ -97,9 +97,9 @@ module _ (held : Held) (before after : Holding) (ready : MayBecome held before a
 
   -- what stands in a directory that isn't to stand goes before it
   no_child : (path : Text) (entry : Entry) (now : Held) (child : Text) (it : Standing) → get before.entries path ≡ Some entry → is_dir (placed (get after.entries path)) ≡ false
-    → ((q : Text) → text_cmp path q ≡ Less → standing now q ≡ made (removal_of after.entries) q (find text_cmp q (entries before.entries)) (standing held q))
-    → ((q : Text) → (standing now q ≡ standing held q) ⊎ (standing now q ≡ made (removal_of after.entries) q (find text_cmp q (entries before.entries)) (standing held q)))
-    → standing now child ≡ Some it → is_in path child ≡ true → ⊥
+      → ((q : Text) → text_cmp path q ≡ Less → standing now q ≡ made (removal_of after.entries) q (find text_cmp q (entries before.entries)) (standing held q))
+      → ((q : Text) → (standing now q ≡ standing held q) ⊎ (standing now q ≡ made (removal_of after.entries) q (find text_cmp q (entries before.entries)) (standing held q)))
+      → standing now child ≡ Some it → is_in path child ≡ true → ⊥
   no_child path entry now child it old gone upper any here inside =
       let in_dir = is_in-is path child inside in
       let stood : is_nothing (standing held child) ≡ false = elim (any child) [
@@ -123,18 +123,18 @@ module _ (held : Held) (before after : Holding) (ready : MayBecome held before a
         | Some found ↦ λ e. absurd (clash _ (placed_dir _ (ready.built.entries.placed child found e)) (ap (λ (p : Text). is_dir (placed (get after.entries p))) in_dir.1 ∙ gone))
       ] refl in
       let left : standing now child ≡ None =
-          upper child less
-          ∙ ap (λ (found : Option Entry). made (removal_of after.entries) child found (standing held child)) (sym (get-entries before.entries child))
-          ∙ as_removed after.entries child (get before.entries child) (standing held child)
-          ∙ ap (λ (found : Option Entry). removed child (get before.entries child) (placed found) (standing held child)) new_none
-          ∙ ap (removed child (get before.entries child) None) (ready.holds.outside child outside)
-          ∙ removed_all child (get before.entries child) in
+      upper child less
+      ∙ ap (λ (found : Option Entry). made (removal_of after.entries) child found (standing held child)) (sym (get-entries before.entries child))
+      ∙ as_removed after.entries child (get before.entries child) (standing held child)
+      ∙ ap (λ (found : Option Entry). removed child (get before.entries child) (placed found) (standing held child)) new_none
+      ∙ ap (removed child (get before.entries child) None) (ready.holds.outside child outside)
+      ∙ removed_all child (get before.entries child) in
       absent it (sym left ∙ here)
 
   allows_removal : (path : Text) (entry : Entry) (op : Op) (now : Held) → get before.entries path ≡ Some entry → removal path entry (placed (get after.entries path)) ≡ Some op → now.odd ≡ held.odd → standing now path ≡ standing held path
-    → ((q : Text) → text_cmp path q ≡ Less → standing now q ≡ made (removal_of after.entries) q (find text_cmp q (entries before.entries)) (standing held q))
-    → ((q : Text) → (standing now q ≡ standing held q) ⊎ (standing now q ≡ made (removal_of after.entries) q (find text_cmp q (entries before.entries)) (standing held q)))
-    → allowed op now ≡ true
+      → ((q : Text) → text_cmp path q ≡ Less → standing now q ≡ made (removal_of after.entries) q (find text_cmp q (entries before.entries)) (standing held q))
+      → ((q : Text) → (standing now q ≡ standing held q) ⊎ (standing now q ≡ made (removal_of after.entries) q (find text_cmp q (entries before.entries)) (standing held q)))
+      → allowed op now ≡ true
   allows_removal path (File mode bytes) op now old e odd own upper any =
       let stands : standing now path ≡ Some (standing.File bytes) = own ∙ ready.holds.outside path (old_outside path (File mode bytes) old) ∙ ap placed old in
       subst (λ (o : Op). allowed o now ≡ true) (chosen (is_file (placed (get after.entries path))) (RemoveFile path) op e) (ap is_file stands)
@@ -143,10 +143,10 @@ module _ (held : Held) (before after : Holding) (ready : MayBecome held before a
       let stands : standing now path ≡ Some standing.Dir = own ∙ ready.holds.outside path outside ∙ ap placed old in
       let gone = not_spared (is_dir (placed (get after.entries path))) (RemoveDir path) op e in
       let none : filter_map (item_in path) (entries now.places) ≡ [] = none_made (item_in path) (entries now.places) (entries_sorted now.places) (λ row found.
-          elim (is_in path row.0) as (λ (b : Bool). is_in path row.0 ≡ b → cond b (Some (item_of (name_of row.0) row.1)) None ≡ None) [
-            | true ↦ λ inside. absurd (no_child path (Dir mode) now row.0 row.1 old gone upper any (get-entries now.places row.0 ∙ found) inside)
-            | false ↦ λ inside. refl
-          ] refl) in
+      elim (is_in path row.0) as (λ (b : Bool). is_in path row.0 ≡ b → cond b (Some (item_of (name_of row.0) row.1)) None ≡ None) [
+        | true ↦ λ inside. absurd (no_child path (Dir mode) now row.0 row.1 old gone upper any (get-entries now.places row.0 ∙ found) inside)
+        | false ↦ λ inside. refl
+      ] refl) in
       subst (λ (o : Op). allowed o now ≡ true) (chosen (is_dir (placed (get after.entries path))) (RemoveDir path) op e) (
       three _ _ _ (ap is_dir stands) (not_root (placed (get after.entries path)) path (new_at_root path) gone)
       (no_items now path none (ap (is_odd path) odd ∙ not_odd path held.odd outside ready.odd)))
@@ -188,8 +188,8 @@ module _ (held : Held) (before after : Holding) (ready : MayBecome held before a
       ∙ ap (dir_made q (get after.entries q) (placed (get before.entries q))) (removed_outside q out)
 
   allows_making : (path : Text) (entry : Entry) (op : Op) (now : Held) → get after.entries path ≡ Some entry → making path entry (placed (get before.entries path)) ≡ Some op → standing now path ≡ standing held_removed path
-    → ((q : Text) → text_cmp q path ≡ Less → standing now q ≡ made (making_of before.entries) q (find text_cmp q (entries after.entries)) (standing held_removed q))
-    → allowed op now ≡ true
+      → ((q : Text) → text_cmp q path ≡ Less → standing now q ≡ made (making_of before.entries) q (find text_cmp q (entries after.entries)) (standing held_removed q))
+      → allowed op now ≡ true
   allows_making path (File mode bytes) op now new e own lower = absurd (none_of op e)
   allows_making path (Dir mode) op now new e own lower =
       let new_dir = not_spared (is_dir (placed (get before.entries path))) (MakeDir path) op e in
@@ -200,11 +200,11 @@ module _ (held : Held) (before after : Holding) (ready : MayBecome held before a
       let less = parent-less path (ready.built.entries.canonical path (Dir mode) new) at_root in
       let in_dir = ready.built.entries.placed path (Dir mode) new in
       let free : is_nothing (standing now path) ≡ true =
-          ap is_nothing (own ∙ removed_outside path (new_outside path (Dir mode) new) ∙ ap (λ (found : Option Entry). removed path (get before.entries path) (placed found) (placed (get before.entries path))) new)
-          ∙ room_for_dir path (get before.entries path) new_dir in
+      ap is_nothing (own ∙ removed_outside path (new_outside path (Dir mode) new) ∙ ap (λ (found : Option Entry). removed path (get before.entries path) (placed found) (placed (get before.entries path))) new)
+      ∙ room_for_dir path (get before.entries path) new_dir in
       let within : is_dir (standing now (parent path)) ≡ true =
-          ap is_dir (lower (parent path) less ∙ made_outside (parent path) (dir_outside (parent path) in_dir))
-          ∙ dirs_stand (parent path) (get before.entries (parent path)) (get after.entries (parent path)) in_dir in
+      ap is_dir (lower (parent path) less ∙ made_outside (parent path) (dir_outside (parent path) in_dir))
+      ∙ dirs_stand (parent path) (get before.entries (parent path)) (get after.entries (parent path)) in_dir in
       subst (λ (o : Op). allowed o now ≡ true) (chosen (is_dir (placed (get before.entries path))) (MakeDir path) op e) (two _ _ free within)
   allows_making path (Link text) op now new e own lower = absurd (none_of op e)
 
@@ -235,19 +235,19 @@ module _ (held : Held) (before after : Holding) (ready : MayBecome held before a
       ∙ ap (written q (get after.entries q) (placed (get before.entries q))) (standing-made q ∙ made_outside q out)
 
   allows_writing : (path : Text) (entry : Entry) (op : Op) (now : Held) → get after.entries path ≡ Some entry → writing path entry (placed (get before.entries path)) ≡ Some op → standing now path ≡ standing held_made path
-    → ((q : Text) → text_cmp q path ≡ Less → standing now q ≡ made (writing_of before.entries) q (find text_cmp q (entries after.entries)) (standing held_made q))
-    → allowed op now ≡ true
+      → ((q : Text) → text_cmp q path ≡ Less → standing now q ≡ made (writing_of before.entries) q (find text_cmp q (entries after.entries)) (standing held_made q))
+      → allowed op now ≡ true
   allows_writing path (File mode bytes) op now new e own lower =
       let at_root : is_root path ≡ false = not_root (placed (get after.entries path)) path (new_at_root path) (ap (λ (found : Option Entry). is_dir (placed found)) new) in
       let less = parent-less path (ready.built.entries.canonical path (File mode bytes) new) at_root in
       let in_dir = ready.built.entries.placed path (File mode bytes) new in
       let out = dir_outside (parent path) in_dir in
       let within : is_dir (standing now (parent path)) ≡ true =
-          ap is_dir (lower (parent path) less ∙ written_outside (parent path) out ∙ dirs_stay (parent path) (get after.entries (parent path)) (placed (get before.entries (parent path))) (with_dirs (parent path)) in_dir)
-          ∙ dirs_stand (parent path) (get before.entries (parent path)) (get after.entries (parent path)) in_dir in
+      ap is_dir (lower (parent path) less ∙ written_outside (parent path) out ∙ dirs_stay (parent path) (get after.entries (parent path)) (placed (get before.entries (parent path))) (with_dirs (parent path)) in_dir)
+      ∙ dirs_stand (parent path) (get before.entries (parent path)) (get after.entries (parent path)) in_dir in
       let left : standing now path ≡ removed path (get before.entries path) (Some (standing.File bytes)) (placed (get before.entries path)) =
-          own ∙ standing-made path ∙ made_outside path (new_outside path (File mode bytes) new)
-          ∙ ap (λ (found : Option Entry). dir_made path found (placed (get before.entries path)) (removed path (get before.entries path) (placed found) (placed (get before.entries path)))) new in
+      own ∙ standing-made path ∙ made_outside path (new_outside path (File mode bytes) new)
+      ∙ ap (λ (found : Option Entry). dir_made path found (placed (get before.entries path)) (removed path (get before.entries path) (placed found) (placed (get before.entries path)))) new in
       subst (λ (o : Op). allowed o now ≡ true) (chosen (is_file_of bytes (placed (get before.entries path))) (Write path bytes) op e) (
       ap (can_hold (standing now path)) within ∙ ap (λ (it : Option Standing). can_hold it true) left ∙ room_for_file path (get before.entries path) bytes)
   allows_writing path (Dir mode) op now new e own lower = absurd (none_of op e)

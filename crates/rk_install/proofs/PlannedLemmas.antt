@@ -75,9 +75,9 @@ module _ (held : Held) (before after : Holding) (ready : MayBecome held before a
   unfolding hidden_calls with_hidden entries_held
   hidden_leads = record {
     allowed = subst (λ (b : Bool). AllowsAll (hidden_making before.rkr b) (held_written held before after ready)) (sym ready.built.rkr) (
-    hidden_making_allowed before.rkr (held_written held before after ready)
-    (hidden_stays held before after ready hidden_dir dir_hidden ∙ ready.holds.rkr)
-    (ap is_dir (entries_stand held before after ready root root_seen) ∙ placed_dir _ ready.built.entries.root_dir));
+        hidden_making_allowed before.rkr (held_written held before after ready)
+        (hidden_stays held before after ready hidden_dir dir_hidden ∙ ready.holds.rkr)
+        (ap is_dir (entries_stand held before after ready root root_seen) ∙ placed_dir _ ready.built.entries.root_dir));
     reached = refl;
   }
 

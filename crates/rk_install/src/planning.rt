@@ -148,7 +148,12 @@ fn is_bytes(bytes: &Bytes, before: &Option<Bytes>) -> bool
 }
 
 // The directory `.rkr`, where it doesn't stand.
-fn add_hidden_making(alloc: Global, ops: &mut Vec<Op>, before: bool, after: bool) -> Result<(), NoMemory>
+fn add_hidden_making(
+    alloc: Global,
+    ops: &mut Vec<Op>,
+    before: bool,
+    after: bool,
+) -> Result<(), NoMemory>
     ensures { OnOk result (ops.new.items ≡ ops.old.items ++ hidden_making before after) }
 {
     if after && !before {
@@ -158,7 +163,12 @@ fn add_hidden_making(alloc: Global, ops: &mut Vec<Op>, before: bool, after: bool
 }
 
 // A state file, where it had other bytes.
-fn add_state_writing(ops: &mut Vec<Op>, path: Path, before: &Option<Bytes>, bytes: &Bytes) -> Result<(), NoMemory>
+fn add_state_writing(
+    ops: &mut Vec<Op>,
+    path: Path,
+    before: &Option<Bytes>,
+    bytes: &Bytes,
+) -> Result<(), NoMemory>
     ensures { OnOk result (ops.new.items ≡ ops.old.items ++ state_writing path before.now bytes.now) }
 {
     if !is_bytes(bytes, before) {
@@ -168,7 +178,12 @@ fn add_state_writing(ops: &mut Vec<Op>, path: Path, before: &Option<Bytes>, byte
 }
 
 // attrs written or removed.
-fn add_attrs_calls(alloc: Global, ops: &mut Vec<Op>, before: &Option<Bytes>, after: &Option<Bytes>) -> Result<(), NoMemory>
+fn add_attrs_calls(
+    alloc: Global,
+    ops: &mut Vec<Op>,
+    before: &Option<Bytes>,
+    after: &Option<Bytes>,
+) -> Result<(), NoMemory>
     ensures { OnOk result (ops.new.items ≡ ops.old.items ++ attrs_calls before.now after.now) }
 {
     let path = attrs_file(alloc)?;
@@ -183,7 +198,12 @@ fn add_attrs_calls(alloc: Global, ops: &mut Vec<Op>, before: &Option<Bytes>, aft
 }
 
 // db written.
-fn add_db_calls(alloc: Global, ops: &mut Vec<Op>, before: &Option<Bytes>, after: &Option<Bytes>) -> Result<(), NoMemory>
+fn add_db_calls(
+    alloc: Global,
+    ops: &mut Vec<Op>,
+    before: &Option<Bytes>,
+    after: &Option<Bytes>,
+) -> Result<(), NoMemory>
     ensures { OnOk result (ops.new.items ≡ ops.old.items ++ db_calls before.now after.now) }
 {
     if let Some(bytes) = after {

@@ -4,105 +4,180 @@ use rk_base::{Bytes, NoMemory, Path, PathFault};
 use rk_folder::{Folder, Got, RealFolder};
 use rk_tree::{Entry, Snapshot};
 use std::alloc::{AllocError, Global};
+use std::str;
 use std::test::Fail;
 
-fn path(alloc: Global, text: &[u8]) -> Result<Path, NoMemory> {
-    match Path::parse(alloc, text) {
+fn path(alloc: Global, text: &str) -> Result<Path, NoMemory> {
+    match Path::parse(alloc, text.as_bytes()) {
         Ok(path) => Ok(path),
         Err(PathFault::NoMemory) => Err(NoMemory),
         Err(PathFault::Invalid) => Path::root(alloc),
     }
 }
 
-fn file(alloc: Global, bytes: &[u8]) -> Result<Entry, NoMemory> {
-    Ok(Entry::File(0o644, Bytes::from_slice(alloc, bytes)?))
+// A file of these bytes, or a directory.
+fn entry(alloc: Global, text: Option<&str>) -> Result<Entry, NoMemory> {
+    match text {
+        Some(text) => Ok(Entry::File(0o644, Bytes::from_slice(alloc, text.as_bytes())?)),
+        None => Ok(Entry::Dir(0o755)),
+    }
 }
 
-fn holding(alloc: Global, rkr: bool, attrs: Option<Bytes>, db: Option<Bytes>) -> Result<Holding, NoMemory> {
+fn snapshot(alloc: Global, rows: &[(&str, Option<&str>)]) -> Result<Snapshot, NoMemory> {
     let mut entries = Snapshot::new(alloc);
-    entries.put(Path::root(alloc)?, Entry::Dir(0o755))?;
+    for (at, text) in rows {
+        let it = entry(alloc, *text)?;
+        entries.put(path(alloc, at)?, it)?;
+    }
+    Ok(entries)
+}
+
+fn state_file(alloc: Global, text: Option<&str>) -> Result<Option<Bytes>, NoMemory> {
+    match text {
+        Some(text) => Ok(Some(Bytes::from_slice(alloc, text.as_bytes())?)),
+        None => Ok(None),
+    }
+}
+
+fn holding(
+    alloc: Global,
+    rows: &[(&str, Option<&str>)],
+    attrs: Option<&str>,
+    db: Option<&str>,
+) -> Result<Holding, NoMemory> {
+    let entries = snapshot(alloc, rows)?;
+    let attrs = state_file(alloc, attrs)?;
+    let db = state_file(alloc, db)?;
     Ok(Holding {
         entries,
-        rkr,
+        rkr: db.is_some(),
         state: State { db, attrs },
     })
 }
 
-fn text_of(alloc: Global, op: &Op) -> Result<String, AllocError> {
-    let (word, path, bytes) = match op {
-        Op::RemoveFile(path) => ("remove_file ", path, None),
-        Op::RemoveDir(path) => ("remove_dir ", path, None),
-        Op::MakeDir(path) => ("make_dir ", path, None),
-        Op::Write(path, bytes) => ("write ", path, Some(bytes)),
-    };
-    let mut text = String::from_str(alloc, word)?;
-    text.push_str(String::from_utf8_lossy(alloc, path.text())?.as_str())?;
-    if let Some(bytes) = bytes {
-        text.push_str(" ")?;
-        text.push_str(String::from_utf8_lossy(alloc, bytes.as_slice())?.as_str())?;
+fn shown(bytes: &[u8]) -> &str {
+    str::from_utf8(bytes).unwrap_or("?")
+}
+
+fn line(alloc: Global, op: &Op) -> Result<String, AllocError> {
+    match op {
+        Op::RemoveFile(path) => format!(in alloc; "remove_file {};", shown(path.text())),
+        Op::RemoveDir(path) => format!(in alloc; "remove_dir {};", shown(path.text())),
+        Op::MakeDir(path) => format!(in alloc; "make_dir {};", shown(path.text())),
+        Op::Write(path, bytes) => format!(in alloc;
+            "write {} {};",
+            shown(path.text()),
+            shown(bytes.as_slice())
+        ),
+    }
+}
+
+fn lines(alloc: Global, plan: &Plan) -> Result<String, AllocError> {
+    let mut text = String::new(alloc);
+    for op in plan.as_slice() {
+        text.push_str(line(alloc, op)?.as_str())?;
     }
     Ok(text)
 }
 
-// One line for each call.
-fn lines_of(alloc: Global, plan: &Plan) -> Result<String, AllocError> {
-    let mut lines = String::new(alloc);
-    for op in plan.as_slice() {
-        lines.push_str(text_of(alloc, op)?.as_str())?;
-        lines.push_str("\n")?;
-    }
-    Ok(lines)
-}
-
 // `cat a b > out`, built for the first time.
-fn first_build(alloc: Global) -> Result<Plan, NoMemory> {
-    let mut before = holding(alloc, false, None, None)?;
-    let mut after = holding(alloc, true, None, Some(Bytes::from_slice(alloc, b"DB")?))?;
-    for entries in [&mut before.entries, &mut after.entries] {
-        entries.put(path(alloc, b"/a")?, file(alloc, b"1\n")?)?;
-        entries.put(path(alloc, b"/b")?, file(alloc, b"2\n")?)?;
-        entries.put(path(alloc, b"/Rikerfile")?, file(alloc, b"cat a b > out\n")?)?;
-    }
-    after.entries.put(path(alloc, b"/out")?, file(alloc, b"1\n2\n")?)?;
-    plan(alloc, &before, &after)
+fn first_build(alloc: Global) -> Result<String, NoMemory> {
+    let before = holding(
+        alloc,
+        &[
+            ("/", None),
+            ("/Rikerfile", Some("cat a b > out")),
+            ("/a", Some("1")),
+            ("/b", Some("2")),
+        ],
+        None,
+        None,
+    )?;
+    let after = holding(
+        alloc,
+        &[
+            ("/", None),
+            ("/Rikerfile", Some("cat a b > out")),
+            ("/a", Some("1")),
+            ("/b", Some("2")),
+            ("/out", Some("12")),
+        ],
+        None,
+        Some("DB"),
+    )?;
+    let text = lines(alloc, &plan(alloc, &before, &after)?)?;
+    Ok(text)
 }
 
 // Files and directories change their kinds, attrs goes, and db stays.
-fn changed_kinds(alloc: Global) -> Result<Plan, NoMemory> {
-    let mut before = holding(alloc, true, Some(Bytes::from_slice(alloc, b"A")?), Some(Bytes::from_slice(alloc, b"DB")?))?;
-    before.entries.put(path(alloc, b"/d")?, Entry::Dir(0o755))?;
-    before.entries.put(path(alloc, b"/d/f")?, file(alloc, b"1\n")?)?;
-    before.entries.put(path(alloc, b"/e")?, file(alloc, b"2\n")?)?;
-    let mut after = holding(alloc, true, None, Some(Bytes::from_slice(alloc, b"DB")?))?;
-    after.entries.put(path(alloc, b"/d")?, file(alloc, b"3\n")?)?;
-    after.entries.put(path(alloc, b"/e")?, Entry::Dir(0o700))?;
-    after.entries.put(path(alloc, b"/e/g")?, file(alloc, b"")?)?;
-    after.entries.put(path(alloc, b"/l")?, Entry::Link(Bytes::from_slice(alloc, b"e")?))?;
-    plan(alloc, &before, &after)
+fn changed_kinds(alloc: Global) -> Result<String, NoMemory> {
+    let before = holding(
+        alloc,
+        &[
+            ("/", None),
+            ("/d", None),
+            ("/d/f", Some("1")),
+            ("/e", Some("2")),
+        ],
+        Some("A"),
+        Some("DB"),
+    )?;
+    let after = holding(
+        alloc,
+        &[
+            ("/", None),
+            ("/d", Some("3")),
+            ("/e", None),
+            ("/e/g", Some("4")),
+        ],
+        None,
+        Some("DB"),
+    )?;
+    let text = lines(alloc, &plan(alloc, &before, &after)?)?;
+    Ok(text)
 }
 
 #[test]
 fn plans_what_differs(rt: HostRuntime) -> Result<(), Fail> {
-    let alloc = rt.alloc();
-    let first = first_build(alloc)?;
-    assert_eq!(rt; lines_of(alloc, &first)?.as_str(), "write /out 1\n2\n\nmake_dir /.rkr\nwrite /.rkr/db DB\n");
-    assert!(rt; first.len() == 3 && !first.is_empty());
-    let changed = changed_kinds(alloc)?;
-    assert_eq!(rt; lines_of(alloc, &changed)?.as_str(), "remove_file /e\nremove_file /d/f\nremove_dir /d\nmake_dir /e\nwrite /d 3\n\nwrite /e/g \nremove_file /.rkr/attrs\n");
+    let first = first_build(rt.alloc())?;
+    assert_eq!(rt;
+        first.as_str(),
+        "write /out 12;make_dir /.rkr;write /.rkr/db DB;"
+    );
+    let changed = changed_kinds(rt.alloc())?;
+    assert_eq!(rt;
+        changed.as_str(),
+        "remove_file /e;remove_file /d/f;remove_dir /d;make_dir /e;write /d 3;write /e/g 4;remove_file /.rkr/attrs;"
+    );
     Ok(())
+}
+
+fn first_calls(alloc: Global) -> Result<Plan, NoMemory> {
+    let dir = Op::MakeDir(path(alloc, "/d")?);
+    let file = Op::Write(path(alloc, "/d/f")?, Bytes::from_slice(alloc, b"x")?);
+    Ok(Plan::new(vec![in alloc; dir, file]?))
+}
+
+// The third fails, and so the fourth isn't made.
+fn later_calls(alloc: Global) -> Result<Plan, NoMemory> {
+    let file = Op::RemoveFile(path(alloc, "/d/f")?);
+    let dir = Op::RemoveDir(path(alloc, "/d")?);
+    let again = Op::RemoveDir(path(alloc, "/d")?);
+    let last = Op::MakeDir(path(alloc, "/d")?);
+    Ok(Plan::new(vec![in alloc; file, dir, again, last]?))
 }
 
 #[test]
 fn makes_the_calls(rt: HostRuntime) -> Result<(), Fail> {
     let alloc = rt.alloc();
     let mut folder = RealFolder::new(rt, String::from_str(alloc, ".")?);
-    let made = vec![in alloc; Op::MakeDir(path(alloc, b"/d")?), Op::Write(path(alloc, b"/d/f")?, Bytes::from_slice(alloc, b"x")?)]?;
-    assert!(rt; install(alloc, &mut folder, &Plan::new(made)) == Ok(()));
-    let kept = path(alloc, b"/d/f")?;
-    assert!(rt; matches!(folder.read(alloc, &kept), Ok(Got::Content(_))));
-    let gone = vec![in alloc; Op::RemoveFile(path(alloc, b"/d/f")?), Op::RemoveDir(path(alloc, b"/d")?), Op::RemoveFile(path(alloc, b"/d")?), Op::MakeDir(path(alloc, b"/d")?)]?;
-    assert!(rt; install(alloc, &mut folder, &Plan::new(gone)) == Err(InstallErr::WriteFault));
-    let dir = path(alloc, b"/d")?;
+    let first = first_calls(alloc)?;
+    assert!(rt; first.len() == 2 && !first.is_empty());
+    assert!(rt; install(alloc, &mut folder, &first) == Ok(()));
+    let file = path(alloc, "/d/f")?;
+    assert!(rt; matches!(folder.read(alloc, &file), Ok(Got::Content(_))));
+    assert!(rt; install(alloc, &mut folder, &later_calls(alloc)?) == Err(InstallErr::WriteFault));
+    let dir = path(alloc, "/d")?;
     assert!(rt; matches!(folder.read(alloc, &dir), Ok(Got::Absent)));
     Ok(())
 }
