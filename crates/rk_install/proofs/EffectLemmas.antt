@@ -1,5 +1,5 @@
 -- What the three kinds of calls that entries bring make of what stands at a path.
-use Rattle.std.proofs.Common.{◌≡◌, ℕ, Bool, true, false, cond, Option, Some, None, refl, sym, ap, subst, ◌∙◌, unwrap_or}
+use Rattle.std.proofs.Common.{◌≡◌, ℕ, Bool, true, false, cond, Option, Some, None, refl, sym, ap, ◌∙◌, unwrap_or}
 use Rattle.std.specs.FinMap.{get}
 use Rattle.rk_base.specs.Text.{Text, same_text}
 use Rattle.rk_folder.specs.Told.{is_file, is_dir, is_nothing, can_hold}

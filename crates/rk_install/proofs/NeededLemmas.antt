@@ -1,10 +1,10 @@
 -- Each planned call changes what stands at its path.
-use Rattle.std.proofs.Common.{◌≡◌, List, [], ◌∷◌, ◌++◌, reverse, Bool, true, false, cond, ◌&&◌, ◌⊎◌, Option, Some, None, option_map, refl, sym, ap, subst, ◌∙◌}
+use Rattle.std.proofs.Common.{◌≡◌, List, [], ◌∷◌, reverse, Bool, true, false, cond, Option, Some, None, option_map, refl, sym, ap, subst, ◌∙◌}
 use Rattle.std.specs.List.{All, filter_map, cons_option}
 use Rattle.std.proofs.lemmas.List.{reverse-append}
 use Rattle.std.proofs.lemmas.List.Elements.{All-nil, All-cons, All-head, All-tail, All-append, All-same}
 use Rattle.std.specs.FinMap.{find, get, entries, get-entries, entries_sorted}
-use Rattle.rk_base.specs.Text.{Text, text_cmp, same_text}
+use Rattle.rk_base.specs.Text.{Text, text_cmp}
 use Rattle.rk_folder.specs.Told.{Held, standing, is_file, is_dir, is_nothing}
 use Rattle.rk_folder.specs.declared.folder.Standing.{Standing}
 use Rattle.rk_folder.specs.declared.folder.Standing.TheVariants as standing
@@ -14,7 +14,7 @@ use Rattle.rk_tree.proofs.TextLemmas.{same_itself}
 use Rattle.rk_install.specs.declared.ops.Op.{Op}
 use Rattle.rk_install.specs.declared.ops.Op.TheVariants.{RemoveFile, RemoveDir, MakeDir, Write}
 use Rattle.rk_install.specs.declared.holding.Holding.{Holding}
-use Rattle.rk_install.specs.Changes.{IsNeeded, path_of, left_by}
+use Rattle.rk_install.specs.Changes.{IsNeeded}
 use Rattle.rk_install.specs.Holdings.{placed, hidden_dir, attrs_file, db_file, dir_where, MayBecome}
 use Rattle.rk_install.specs.Planned.{planned, removal, making, writing, removal_of, making_of, writing_of, is_file_of, is_bytes, hidden_making, state_writing, attrs_calls, db_calls}
 use Rattle.rk_install.proofs.OrderLemmas.{clash, InOrder, in_order_first, in_order_rest, find_first, find_later}

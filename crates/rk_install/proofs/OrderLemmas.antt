@@ -1,17 +1,17 @@
 -- The order of paths, and finding in rows that are in order.
-use Rattle.std.proofs.Common.{◌≡◌, ℕ, List, [], ◌∷◌, ◌++◌, Bool, true, false, cond, not, ◌&&◌, ◌⊎◌, inl, inr, Option, Some, None, refl, sym, ap, subst, ◌∙◌}
+use Rattle.std.proofs.Common.{◌≡◌, ℕ, List, [], ◌∷◌, ◌++◌, Bool, true, false, cond, ◌&&◌, inl, inr, Option, Some, None, refl, sym, ap, subst, ◌∙◌}
 use lib.Dec.{T}
 use Rattle.std.proofs.lemmas.Cmp.{tied_itself}
 use Rattle.std.specs.List.{filter_map, cons_option}
-use Rattle.std.specs.Ordering.{eq_by_cmp, is_eq, is_lt, nat_cmp, ordering_reverse, ordering_then}
+use Rattle.std.specs.Ordering.{eq_by_cmp, is_eq, is_lt, ordering_reverse, ordering_then}
 use Rattle.std.specs.declared.cmp.Ordering.{Ordering}
 use Rattle.std.specs.declared.cmp.Ordering.TheVariants.{Less, Equal, Greater}
-use Rattle.std.specs.Cmp.{Equal-is, nat_cmp_total}
-use Rattle.std.specs.Cmp.Lexicographic.{nat_list_cmp_total, texts_ties}
+use Rattle.std.specs.Cmp.{nat_cmp_total}
+use Rattle.std.specs.Cmp.Lexicographic.{nat_list_cmp_total}
 use Rattle.std.specs.FinMap.{find, is_sorted}
 use Rattle.std.specs.FinMap.Entries.{below_all}
-use Rattle.rk_tree.proofs.TextLemmas.{exact_texts, same_is, ties_itself, told_apart}
-use Rattle.rk_base.specs.Text.{Text, text_cmp, is_root, root, stem, join, parent, name_of}
+use Rattle.rk_tree.proofs.TextLemmas.{same_is, ties_itself, told_apart}
+use Rattle.rk_base.specs.Text.{Text, text_cmp, is_root, root, join, parent, name_of}
 use Rattle.rk_base.specs.Canonical.{is_empty, is_name, is_canonical}
 use Rattle.rk_base.proofs.CanonicalLemmas.{both, denied}
 use Rattle.rk_base.proofs.PathLemmas.{path-is_cut}

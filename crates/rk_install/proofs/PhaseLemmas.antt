@@ -1,13 +1,13 @@
 -- The calls that the entries bring: removals, then directories, then files.
-use Rattle.std.proofs.Common.{◌≡◌, ℕ, List, [], ◌∷◌, ◌++◌, reverse, Bool, true, false, cond, not, ◌&&◌, ◌||◌, ◌⊎◌, inl, inr, Option, Some, None, refl, sym, ap, subst, ◌∙◌}
-use Rattle.std.specs.List.{filter_map, list_all, list_any}
+use Rattle.std.proofs.Common.{◌≡◌, List, [], ◌∷◌, ◌++◌, reverse, Bool, true, false, cond, not, ◌&&◌, ◌||◌, ◌⊎◌, inl, inr, Option, Some, None, refl, sym, ap, subst, ◌∙◌}
+use Rattle.std.specs.List.{filter_map, list_all}
 use Rattle.std.specs.declared.cmp.Ordering.TheVariants.{Less}
 use Rattle.std.specs.FinMap.{find, get, entries, get-entries, entries_sorted}
-use Rattle.rk_base.specs.Text.{Text, text_cmp, root, is_root, parent, name_of, join, is_in, is_within, same_text}
-use Rattle.rk_base.specs.Canonical.{is_empty, is_canonical}
+use Rattle.rk_base.specs.Text.{Text, text_cmp, root, is_root, parent, name_of, is_in, is_within, same_text}
+use Rattle.rk_base.specs.Canonical.{is_empty}
 use Rattle.rk_base.proofs.PathLemmas.{path-is_cut, is_in-is}
 use Rattle.rk_base.proofs.CanonicalLemmas.{both}
-use Rattle.rk_folder.specs.Told.{Held, standing, is_file, is_dir, is_nothing, can_hold, items_of, item_in, item_of, is_odd, odd_in, can_make_dir, can_write}
+use Rattle.rk_folder.specs.Told.{Held, standing, is_file, is_dir, is_nothing, can_hold, items_of, item_in, item_of, is_odd, odd_in}
 use Rattle.rk_folder.specs.declared.folder.Item.{Item}
 use Rattle.rk_folder.specs.declared.folder.Item.TheVariants as item
 use Rattle.rk_folder.specs.declared.folder.Standing.{Standing}
@@ -26,7 +26,7 @@ use Rattle.rk_install.specs.Planned.{removal, making, writing, removal_of, makin
 use Rattle.rk_install.proofs.HiddenLemmas.{hidden_parent}
 use Rattle.rk_install.proofs.OrderLemmas.{clash, parent-less, none_made}
 use Rattle.rk_install.proofs.ReachLemmas.{made, standing-after, at_end-rows, at_end-rows_back}
-use Rattle.rk_install.proofs.AllowLemmas.{Allowing, AllowingBack, allows-rows, allows-rows_back}
+use Rattle.rk_install.proofs.AllowLemmas.{allows-rows, allows-rows_back}
 use Rattle.rk_install.proofs.EffectLemmas.{chosen, not_spared, removals_keep, makings_keep, writings_keep, stood_before, removed, dir_made, written, as_removed, as_made, as_written, removed_all, room_for_dir, room_for_file, dirs_stand, dirs_stay, all_stand, placed_dir}
 
 absent : {X : Type 0} (it : X) → None ≡ Some it → ⊥

@@ -1,10 +1,10 @@
 -- The planned calls, one after another, lead to what is to stand.
-use Rattle.std.proofs.Common.{◌≡◌, List, [], ◌∷◌, ◌++◌, Bool, true, false, cond, ◌⊎◌, inl, inr, Option, Some, None, option_map, refl, sym, ap, subst, ◌∙◌}
+use Rattle.std.proofs.Common.{◌≡◌, List, [], ◌++◌, Bool, true, false, cond, inl, inr, Option, Some, None, option_map, refl, sym, ap, subst, ◌∙◌}
 use Rattle.std.specs.List.{filter_map}
 use Rattle.std.specs.Ordering.{eq_by_cmp}
-use Rattle.std.specs.FinMap.{find, get, entries, get-entries, entries_sorted}
-use Rattle.rk_base.specs.Text.{Text, text_cmp, root, parent, is_within, same_text}
-use Rattle.rk_folder.specs.Told.{Held, standing, is_file, is_dir}
+use Rattle.std.specs.FinMap.{entries, get-entries, entries_sorted}
+use Rattle.rk_base.specs.Text.{Text, text_cmp, root, is_within}
+use Rattle.rk_folder.specs.Told.{Held, standing, is_dir}
 use Rattle.rk_folder.specs.declared.folder.Standing.{Standing}
 use Rattle.rk_folder.specs.declared.folder.Standing.TheVariants as standing
 use Rattle.rk_tree.specs.declared.entry.Entry.{Entry}
@@ -14,8 +14,8 @@ use Rattle.rk_install.specs.declared.ops.Op.{Op}
 use Rattle.rk_install.specs.declared.ops.Op.TheVariants.{Write}
 use Rattle.rk_install.specs.declared.holding.Holding.{Holding}
 use Rattle.rk_install.specs.Changes.{after_all, AllowsAll}
-use Rattle.rk_install.specs.Holdings.{placed, hidden_dir, attrs_file, db_file, dir_where, MayBecome, Holds, SameElse, IsAfter, Agree}
-use Rattle.rk_install.specs.Planned.{planned, removal, making, writing, removal_of, making_of, writing_of, is_file_of, hidden_making, attrs_calls, db_calls}
+use Rattle.rk_install.specs.Holdings.{placed, hidden_dir, attrs_file, db_file, dir_where, MayBecome, Holds, IsAfter, Agree}
+use Rattle.rk_install.specs.Planned.{planned, removal, making, writing, removal_of, making_of, writing_of, hidden_making, attrs_calls, db_calls}
 use Rattle.rk_install.proofs.HiddenLemmas.{attrs_parent, db_parent, dir_not_attrs, dir_not_db, attrs_not_dir, attrs_not_db, db_not_dir, db_not_attrs, dir_hidden, attrs_hidden, db_hidden}
 use Rattle.rk_install.proofs.OrderLemmas.{clash, none_made}
 use Rattle.rk_install.proofs.ReachLemmas.{at_end, standing-after, odd-after, after_all-append, AllowsAll-append}

@@ -1,9 +1,8 @@
 -- What stands at a path after calls that were made one after another.
-use Rattle.std.proofs.Common.{◌≡◌, ℕ, List, [], ◌∷◌, ◌++◌, reverse, Bool, true, false, cond, ◌⊎◌, inl, inr, Option, Some, None, refl, sym, ap, subst, ◌∙◌}
+use Rattle.std.proofs.Common.{◌≡◌, List, [], ◌∷◌, ◌++◌, reverse, Bool, true, false, cond, inl, inr, Option, Some, None, refl, sym, ap, ◌∙◌}
 use Rattle.std.proofs.lemmas.List.{reverse-append}
 use Rattle.std.specs.List.{filter_map, cons_option}
 use Rattle.std.specs.Ordering.{eq_by_cmp}
-use Rattle.std.specs.declared.cmp.Ordering.TheVariants.{Less}
 use Rattle.std.specs.Cmp.Lexicographic.{nat_list_cmp_total}
 use Rattle.std.specs.FinMap.{find, get-insert, get-remove}
 use Rattle.rk_base.specs.Text.{Text, text_cmp}
@@ -13,9 +12,9 @@ use Rattle.rk_folder.specs.declared.folder.Standing.TheVariants.{File, Dir}
 use Rattle.rk_tree.specs.declared.entry.Entry.{Entry}
 use Rattle.rk_install.specs.declared.ops.Op.{Op}
 use Rattle.rk_install.specs.declared.ops.Op.TheVariants.{RemoveFile, RemoveDir, MakeDir, Write}
-use Rattle.rk_install.specs.Changes.{allowed, step, after_all, AllowsAll, path_of, left_by}
-use Rattle.rk_install.proofs.OrderLemmas.{clash, Below, InOrder, below_first, below_rest, in_order_first, in_order_rest, find_below, find_first, find_other, below_cons, less-not_tied, less_clash}
-use Rattle.rk_tree.proofs.TextLemmas.{told_apart, ties_itself}
+use Rattle.rk_install.specs.Changes.{step, after_all, AllowsAll, path_of, left_by}
+use Rattle.rk_install.proofs.OrderLemmas.{InOrder, in_order_first, in_order_rest, find_below, find_other}
+use Rattle.rk_tree.proofs.TextLemmas.{told_apart}
 
 abbrev pub at_step : Op → Text → Option Standing → Option Standing
 at_step op q it = cond (eq_by_cmp text_cmp q (path_of op)) (left_by op) it

@@ -1,5 +1,5 @@
 -- The calls for the hidden directory and its state files.
-use Rattle.std.proofs.Common.{◌≡◌, List, [], ◌∷◌, ◌++◌, Bool, true, false, cond, ◌&&◌, ◌⊎◌, inl, inr, Option, Some, None, option_map, is_some, refl, sym, ap, subst, ◌∙◌}
+use Rattle.std.proofs.Common.{◌≡◌, List, [], ◌∷◌, Bool, true, false, cond, ◌&&◌, Option, Some, None, option_map, is_some, refl, ap, ◌∙◌}
 use Rattle.std.specs.Ordering.{eq_by_cmp}
 use Rattle.rk_base.specs.Text.{Text, text_cmp, root, parent, same_text}
 use Rattle.rk_folder.specs.Told.{Held, standing, is_file, is_dir, is_nothing, can_hold}
@@ -8,7 +8,7 @@ use Rattle.rk_folder.specs.declared.folder.Standing.TheVariants.{File, Dir}
 use Rattle.rk_tree.proofs.TextLemmas.{same_is, same_itself, ties_itself}
 use Rattle.rk_install.specs.declared.ops.Op.{Op}
 use Rattle.rk_install.specs.declared.ops.Op.TheVariants.{RemoveFile, RemoveDir, MakeDir, Write}
-use Rattle.rk_install.specs.Changes.{after_all, AllowsAll, path_of}
+use Rattle.rk_install.specs.Changes.{AllowsAll, path_of}
 use Rattle.rk_install.specs.Holdings.{hidden_dir, attrs_file, db_file, dir_where}
 use Rattle.rk_install.specs.Planned.{is_bytes, hidden_making, state_writing, attrs_calls, db_calls}
 use Rattle.rk_install.proofs.HiddenLemmas.{hidden_parent}

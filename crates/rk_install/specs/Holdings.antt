@@ -1,5 +1,5 @@
 -- What a folder holds, by its entries, whether the hidden directory stands, and its state files.
-use Rattle.std.specs.Prelude.{◌≡◌, ◌≢◌, List, [], ◌∷◌, Bool, true, false, if◌then◌else◌, Option, Some, None, option_map, is_some}
+use Rattle.std.specs.Prelude.{◌≡◌, ◌≢◌, [], ◌∷◌, Bool, true, false, if◌then◌else◌, Option, Some, None, option_map, is_some}
 use Rattle.std.specs.FinMap.{get}
 use Rattle.std.specs.List.{list_all}
 use Rattle.rk_base.specs.Text.{Text, root, join, hidden, is_within}

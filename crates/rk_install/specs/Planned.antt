@@ -1,5 +1,5 @@
 -- The calls that lead from what a folder holds to what it is to hold.
-use Rattle.std.specs.Prelude.{List, [], ◌∷◌, ◌++◌, reverse, Bool, true, false, not, ◌&&◌, if◌then◌else◌, Option, Some, None, All}
+use Rattle.std.specs.Prelude.{List, [], ◌∷◌, ◌++◌, reverse, Bool, false, not, ◌&&◌, if◌then◌else◌, Option, Some, None, All}
 use Rattle.std.specs.List.{filter_map}
 use Rattle.std.specs.FinMap.{entries, get}
 use Rattle.rk_base.specs.Text.{Text, same_text}

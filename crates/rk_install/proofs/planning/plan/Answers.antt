@@ -1,4 +1,4 @@
-use Rattle.std.proofs.Common.{◌≡◌, List, sym, subst, ◌∙◌}
+use Rattle.std.proofs.Common.{List, sym, subst, ◌∙◌}
 use Rattle.rk_install.specs.declared.ops.Op.{Op}
 use Rattle.std.specs.List.{All}
 use Rattle.rk_install.specs.Changes.{after_all, AllowsAll, IsNeeded}
