@@ -1,5 +1,7 @@
 pub mod HiddenLemmas
 pub mod OrderLemmas
+pub mod SeenLemmas
+pub mod ImportedLemmas
 pub mod ReachLemmas
 pub mod AllowLemmas
 pub mod EffectLemmas

@@ -2,11 +2,13 @@
 #![tactic(auto)]
 
 mod holding;
+mod imported;
 mod installation;
 mod ops;
 mod planning;
 
-pub use holding::{Holding, State};
+pub use holding::Holding;
+pub use imported::imported_holds;
 pub use installation::{InstallErr, install};
 pub use ops::{Op, Plan};
 pub use planning::plan;

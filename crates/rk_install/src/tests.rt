@@ -1,7 +1,7 @@
 // Plans of small folders, and calls made in a real one.
-use crate::{Holding, InstallErr, Op, Plan, State, install, plan};
+use crate::{Holding, InstallErr, Op, Plan, install, plan};
 use rk_base::{Bytes, NoMemory, Path, PathFault};
-use rk_folder::{Folder, Got, RealFolder};
+use rk_folder::{Folder, Got, RealFolder, State};
 use rk_tree::{Entry, Snapshot};
 use std::alloc::{AllocError, Global};
 use std::str;
