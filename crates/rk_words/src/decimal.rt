@@ -23,8 +23,8 @@ pub(crate) fn number(most: usize, low: u64, high: u64, text: &str) -> Option<u64
     if !is_decimal(most, text) {
         return None;
     }
-    match text.parse::<u64>() {
-        Ok(n) => { if low <= n && n <= high { Some(n) } else { None } }
-        Err(_) => None,
-    }
+    let Ok(n) = text.parse::<u64>() else {
+        return None;
+    };
+    if low <= n && n <= high { Some(n) } else { None }
 }

@@ -4,6 +4,7 @@ ghost use Rattle.clap.specs.Words.{kind_of, fault_of, subcommand_of, subcommand_
 ghost use Rattle.rk_words.specs.declared.requests.RequestErr.TheVariants.{Usage};
 ghost use Rattle.rk_words.specs.CommandLine.{command_line};
 ghost use Rattle.rk_words.specs.Asked.{request_by, request_of, steps_of};
+ghost use Rattle.rk_words.specs.Forms.{ReadsForms};
 
 use crate::command_line::command_line;
 use crate::decimal::number;
@@ -77,6 +78,7 @@ fn read_request(matches: &ArgMatches<'_>) -> Option<Request>
 pub fn request(alloc: Global, words: &[String]) -> Result<Request, RequestErr>
     ensures asked { IfOk result (λ r. request_of (map string_bytes words.now) ≡ Some r) }
     ensures usage { IfErr result (λ e. e ≡ Usage → request_of (map string_bytes words.now) ≡ None) }
+    ensures forms { ReadsForms (map string_bytes words.now) result }
 {
     match matches_of(alloc, words) {
         Ok(matches) => read_request(&matches).ok_or(RequestErr::Usage),

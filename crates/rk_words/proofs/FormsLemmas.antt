@@ -1,0 +1,85 @@
+-- What the definition gives for words that are written out.
+use Rattle.std.proofs.Common.{◌≡◌, List, [], ◌∷◌, ◌++◌, Option, Some, None, Result, Ok, Err, false, refl, codes, ap, ◌∙◌, subst, IfOk, IfErr}
+use Rattle.std.specs.Str.{bytes_eq}
+use Rattle.clap.specs.Words.{Text}
+use Rattle.clap.proofs.OnLiterals.{clap_on_literals}
+use Rattle.rk_words.specs.CommandLine.{build_app, command_line}
+use Rattle.rk_words.specs.Asked.{request_of}
+use Rattle.rk_words.specs.Forms.{Answers, IsPlainWord, ReadsForms, build_within}
+use Rattle.rk_words.specs.declared.requests.Request.{Request}
+use Rattle.rk_words.specs.declared.requests.Request.TheVariants.{Build}
+use Rattle.rk_words.specs.declared.requests.RequestErr.{RequestErr}
+use Rattle.rk_words.specs.declared.requests.RequestErr.TheVariants.{Usage, NoMemory}
+
+empty : request_of [] ≡ None
+unfolding clap_on_literals command_line build_app request_of
+empty = refl
+
+unnamed : (name : Text) → request_of (name ∷ []) ≡ None
+unfolding clap_on_literals command_line build_app request_of
+unnamed name = refl
+
+alone : (name : Text) → request_of (name ∷ codes "build" ∷ []) ≡ Some (Build 1000000)
+unfolding clap_on_literals command_line build_app request_of
+alone name = refl
+
+steps : (name n : Text) → IsPlainWord n → request_of (name ∷ codes "build" ∷ codes "--steps" ∷ n ∷ []) ≡ build_within n
+unfolding clap_on_literals command_line build_app request_of
+steps name [] plain = refl
+steps name (d ∷ ds) plain = simp plain refl
+
+joined : (name n : Text) → request_of (name ∷ codes "build" ∷ (codes "--steps=" ++ n) ∷ []) ≡ build_within n
+unfolding clap_on_literals command_line build_app request_of
+joined name n = refl
+
+no_number : (name : Text) → request_of (name ∷ codes "build" ∷ codes "--steps" ∷ []) ≡ None
+unfolding clap_on_literals command_line build_app request_of
+no_number name = refl
+
+twice : (name m n : Text) → IsPlainWord m → IsPlainWord n
+    → request_of (name ∷ codes "build" ∷ codes "--steps" ∷ m ∷ codes "--steps" ∷ n ∷ []) ≡ None
+unfolding clap_on_literals command_line build_app request_of
+twice name [] [] plain too = refl
+twice name [] (e ∷ es) plain too = simp too refl
+twice name (d ∷ ds) [] plain too = simp plain refl
+twice name (d ∷ ds) (e ∷ es) plain too = simp (plain, too) refl
+
+stray : (name word : Text) → IsPlainWord word → request_of (name ∷ codes "build" ∷ word ∷ []) ≡ None
+unfolding clap_on_literals command_line build_app request_of
+stray name [] plain = refl
+stray name (d ∷ ds) plain = simp plain refl
+
+unknown : (name word : Text) (more : List Text) → IsPlainWord word → bytes_eq (codes "build") word ≡ false
+    → request_of (name ∷ word ∷ more) ≡ None
+unfolding clap_on_literals command_line build_app request_of
+unknown name [] more plain other = refl
+unknown name (d ∷ ds) more plain other = simp (plain, other) refl
+
+help : (name : Text) (more : List Text) → request_of (name ∷ codes "--help" ∷ more) ≡ None
+unfolding clap_on_literals command_line build_app request_of
+help name more = refl
+
+-- the two clauses as one
+answers : (words : List Text) (answer : Result Request RequestErr) → IfOk answer (λ r. request_of words ≡ Some r)
+    → IfErr answer (λ e. e ≡ Usage → request_of words ≡ None) → Answers (request_of words) answer
+answers words (Ok r) asked usage = asked
+answers words (Err Usage) asked usage = usage refl
+answers words (Err NoMemory) asked usage = tt
+
+pub forms : (words : List Text) (answer : Result Request RequestErr) → IfOk answer (λ r. request_of words ≡ Some r)
+    → IfErr answer (λ e. e ≡ Usage → request_of words ≡ None) → ReadsForms words answer
+forms words answer asked usage =
+    let at = λ (form : List Text) (want : Option Request) (is : words ≡ form) (gives : request_of form ≡ want).
+    subst (λ (x : Option Request). Answers x answer) (ap request_of is ∙ gives) (answers words answer asked usage) in
+    record {
+      empty = λ is. at _ _ is empty;
+      unnamed = λ name is. at _ _ is (unnamed name);
+      alone = λ name is. at _ _ is (alone name);
+      steps = λ name n plain is. at _ _ is (steps name n plain);
+      joined = λ name n is. at _ _ is (joined name n);
+      no_number = λ name is. at _ _ is (no_number name);
+      twice = λ name m n plain too is. at _ _ is (twice name m n plain too);
+      stray = λ name word plain is. at _ _ is (stray name word plain);
+      unknown = λ name word more plain other is. at _ _ is (unknown name word more plain other);
+      help = λ name more is. at _ _ is (help name more);
+    }
