@@ -1,5 +1,5 @@
 // The request that words are.
-ghost use Rattle.std.specs.Prelude.{◌≡◌, ◌↔◌, ◌≢◌, [], map, string_bytes, IfErr, IfOk, IsTrue, codes, option_and_then, option_map};
+ghost use Rattle.std.specs.Prelude.{◌≡◌, ◌↔◌, ◌≢◌, [], map, string_bytes, IfErr, IfOk, OnOk, IsTrue, codes, option_and_then, option_map};
 ghost use Rattle.clap.specs.Words.{kind_of, fault_of, subcommand_of, subcommand_rows_of, first_of, rows_of, found_of};
 ghost use Rattle.rk_words.specs.declared.requests.RequestErr.TheVariants.{Usage};
 ghost use Rattle.rk_words.specs.CommandLine.{command_line};
@@ -50,9 +50,11 @@ fn is_memory(e: &Error) -> bool
 
 // What the words name, where the command line takes them.
 fn matches_of<'a>(alloc: Global, words: &'a [String]) -> Result<ArgMatches<'a>, RequestErr>
-    ensures taken { IfOk result (λ m. fault_of command_line (map string_bytes words.now) ≡ []) }
-    ensures named { IfOk result (λ m. subcommand_rows_of m ≡ subcommand_of command_line (map string_bytes words.now)) }
-    ensures usage { IfErr result (λ e. e ≡ Usage → fault_of command_line (map string_bytes words.now) ≢ []) }
+    ensures taken { OnOk result (fault_of command_line (map string_bytes words.now) ≡ []) }
+    ensures named { IfOk result
+        (λ m. subcommand_rows_of m ≡ subcommand_of command_line (map string_bytes words.now)) }
+    ensures usage { IfErr result
+        (λ e. e ≡ Usage → fault_of command_line (map string_bytes words.now) ≢ []) }
 {
     let command = command_line(alloc)?;
     match command.try_get_matches_from(words) {
@@ -73,7 +75,7 @@ fn read_request(matches: &ArgMatches<'_>) -> Option<Request>
 
 /// The request that the words are, of which the first is the program's name.
 ///
-/// `Usage` comes exactly where they are none.
+/// `NoMemory`: there was no memory to read them. Else `Usage` comes exactly where they are none.
 #[tactic(auto, unfolding(crate::specs::Asked::request_of))]
 pub fn request(alloc: Global, words: &[String]) -> Result<Request, RequestErr>
     ensures asked { IfOk result (λ r. request_of (map string_bytes words.now) ≡ Some r) }
