@@ -1,5 +1,5 @@
 -- Words are paid one after another.
-use Rattle.std.proofs.Common.{◌≡◌, ◌+◌, ℕ, zero, suc, List, [], ◌∷◌, drop, Option, Some, None, option_map, slice_get, refl, sym, ap, ◌∙◌, add-one}
+use Rattle.std.proofs.Common.{◌≡◌, ◌+◌, ℕ, zero, suc, List, [], ◌∷◌, drop, Some, None, option_map, slice_get, refl, sym, ap, ◌∙◌, add-one}
 use Rattle.rk_base.specs.Text.{Text}
 use Rattle.rk_calls.specs.Talk.{Says, pay}
 use Rattle.rk_command.specs.Turns.{turns, pay_words}

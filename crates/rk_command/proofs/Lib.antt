@@ -2,3 +2,4 @@ pub mod Expanding
 pub mod LineLemmas
 pub mod PartLemmas
 pub mod ScriptLemmas
+pub mod Spelling

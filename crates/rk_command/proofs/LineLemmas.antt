@@ -1,15 +1,12 @@
 -- What the words of a line cost, and that there are some.
-use Rattle.std.proofs.Common.{◌≡◌, ◌≤◌, ◌<◌, ◌/◌, ◌%◌, ◌+◌, ℕ, zero, suc, Bool, true, false, ◌&&◌, List, [], ◌∷◌, ◌++◌, length, get_or, Option, Some, None, option_map, option_to_list, slice_get, nat_le, refl, sym, ap, ◌∙◌, arith, inl, inr}
+use Rattle.std.proofs.Common.{◌≡◌, ◌≤◌, ◌<◌, ℕ, zero, suc, true, List, [], ◌∷◌, ◌++◌, length, get_or, Option, Some, None, option_to_list, slice_get, nat_le, refl, sym, ap, ◌∙◌, arith, inl, inr}
 use Rattle.std.specs.List.{list_all}
 use Rattle.std.specs.Int.{div_ceil}
+use Rattle.std.proofs.lemmas.Bool.{and_parts}
 use Rattle.std.proofs.lemmas.Bool.Decides.{leb_tells}
 use Rattle.rk_base.specs.Text.{Text}
 use Rattle.rk_command.specs.Script.{LineValue, is_word, is_cat, is_line, expanded}
 use Rattle.rk_command.specs.Turns.{turns}
-
-pub both : (a b : Bool) → (a && b) ≡ true → (a ≡ true) × (b ≡ true)
-both true b h = (refl, h)
-both false b h = cc
 
 some-words : (ws : List Text) → is_cat ws ≡ true → 0 < length ws
 some-words [] h = cc
@@ -18,7 +15,7 @@ some-words (w ∷ ws) h = omega arith
 -- a line has a word
 pub line-words : (line : LineValue) → is_line line ≡ true → 0 < length line.words
 unfolding is_line
-line-words line h = some-words line.words (both _ _ h).0
+line-words line h = some-words line.words (and_parts _ _ h).0
 
 some-bytes : (n : ℕ) → 1 ≤ n → 1 ≤ div_ceil n 64
 some-bytes n h = omega arith
@@ -29,18 +26,18 @@ unfolding is_word turns
 word-costs w h =
     elim (leb_tells 1 (length w)) [
       | inl e ↦ some-bytes (length w) e.1
-      | inr e ↦ let b : nat_le 1 (length w) ≡ true = (both _ _ (both _ _ h).0).0 in cc (e.0, b)
+      | inr e ↦ let b : nat_le 1 (length w) ≡ true = (and_parts _ _ (and_parts _ _ h).0).0 in cc (e.0, b)
     ]
 
 all-at : (ws : List Text) (i : ℕ) (w : Text) → list_all is_word ws ≡ true → slice_get ws i ≡ Some w → is_word w ≡ true
 all-at [] i w h e = cc
-all-at (v ∷ vs) zero w h e = let same : v ≡ w = cc in ap is_word (sym same) ∙ (both _ _ h).0
-all-at (v ∷ vs) (suc i) w h e = all-at vs i w (both _ _ h).1 e
+all-at (v ∷ vs) zero w h e = let same : v ≡ w = cc in ap is_word (sym same) ∙ (and_parts _ _ h).0
+all-at (v ∷ vs) (suc i) w h e = all-at vs i w (and_parts _ _ h).1 e
 
 -- each word of a line costs a turn
 pub line-costs : (line : LineValue) (i : ℕ) (w : Text) → is_line line ≡ true → slice_get (expanded line) i ≡ Some w → 1 ≤ turns w
 unfolding is_line
-line-costs line i w h e = word-costs w (all-at (expanded line) i w (both _ _ h).1 e)
+line-costs line i w h e = word-costs w (all-at (expanded line) i w (and_parts _ _ h).1 e)
 
 -- The words that are expanded, by their place.
 

@@ -1,15 +1,14 @@
 -- What is read is a line.
-use Rattle.std.proofs.Common.{◌≡◌, ℕ, ◌+◌, zero, suc, arith, Bool, true, false, cond, ◌&&◌, List, [], ◌∷◌, ◌++◌, take, codes, Option, Some, None, option_to_list, refl, sym, ap, ◌∙◌}
+use Rattle.std.proofs.Common.{◌≡◌, ℕ, ◌+◌, suc, arith, Bool, true, false, cond, ◌&&◌, List, [], ◌∷◌, ◌++◌, take, codes, Option, Some, None, option_to_list, refl, sym, ap, ◌∙◌}
 use Rattle.std.specs.List.{list_all, prefix_len}
 use Rattle.std.proofs.lemmas.List.Folds.{list_all-append}
 use Rattle.rk_base.specs.Text.{Text, same_text}
-use Rattle.rk_command.specs.Script.{LineValue, is_word, is_cat, is_line, output_of}
-use Rattle.rk_command.proofs.LineLemmas.{both}
+use Rattle.rk_command.specs.Script.{is_word, is_cat, is_line, output_of}
 
 one-add : (n : ℕ) → 1 + n ≡ suc n
 one-add n = omega arith
 
-leading-words : (ps : List Text) → list_all is_word (take (prefix_len is_word ps) ps) ≡ true
+pub leading-words : (ps : List Text) → list_all is_word (take (prefix_len is_word ps) ps) ≡ true
 leading-words [] = refl
 leading-words (p ∷ ps) = (elim (is_word p) as (λ (b : Bool). is_word p ≡ b → list_all is_word (take (cond b (1 + prefix_len is_word ps) 0) (p ∷ ps)) ≡ true) [
   | true ↦ λ e. ap (λ (n : ℕ). list_all is_word (take n (p ∷ ps))) (one-add (prefix_len is_word ps)) ∙ ap (λ (c : Bool). c && list_all is_word (take (prefix_len is_word ps) ps)) e ∙ leading-words ps
@@ -26,7 +25,7 @@ chosen true p x h = (elim (is_word p) as (λ (b : Bool). is_word p ≡ b → ◌
   | false ↦ λ e k. cc
 ]) refl h
 
-output-word : (ps : List Text) (o : Option Text) → output_of ps ≡ Some o → list_all is_word (option_to_list o) ≡ true
+pub output-word : (ps : List Text) (o : Option Text) → output_of ps ≡ Some o → list_all is_word (option_to_list o) ≡ true
 output-word ps None h = refl
 output-word [] (Some x) h = cc
 output-word (mark ∷ []) (Some x) h = cc

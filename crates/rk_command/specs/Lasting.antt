@@ -1,5 +1,5 @@
 -- Fewer turns only cut what a command says.
-use Rattle.std.specs.Prelude.{ℕ, ◌+◌, List, [], ◌∷◌, Option, Some, None, Result, Ok, Err, Bool, true, false, if◌then◌else◌, codes}
+use Rattle.std.specs.Prelude.{ℕ, ◌+◌, List, [], ◌∷◌, Option, Some, None, Result, Ok, Err, Bool, true, false, if◌then◌else◌}
 use Rattle.rk_base.specs.Text.{Text, same_text}
 use Rattle.rk_base.specs.Canonical.{is_empty}
 use Rattle.rk_base.specs.declared.errno.Errno.{Errno}
@@ -10,7 +10,7 @@ use Rattle.rk_calls.specs.RefMaps.{with_output}
 use Rattle.rk_calls.specs.Talk.{Says, Lasts}
 use Rattle.rk_calls.specs.Laws.{Lasts-exits, Lasts-ask, Lasts-pay}
 use Rattle.rk_command.specs.Brought.{brought, joined}
-use Rattle.rk_command.specs.CatTalk.{GatheredValue, refused, added, tells, written, writes, opened, reads, reads_all, inputs, nothing, dash, cat, begins, cats}
+use Rattle.rk_command.specs.CatTalk.{GatheredValue, refused, added, tells, written, writes, opened, reads, reads_all, inputs, nothing, dash, cat, begins}
 use Rattle.rk_command.specs.First.{shells, says_of, first_talk}
 use Rattle.rk_command.specs.Options.{operands}
 use Rattle.rk_command.specs.Places.{absolute}

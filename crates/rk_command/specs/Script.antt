@@ -1,6 +1,6 @@
 -- Scripts of one line.
-use Rattle.std.specs.Prelude.{ℕ, List, [], ◌∷◌, ◌++◌, length, drop, codes, Option, Some, None, option_to_list, option_and_then, Bool, true, false, ◌&&◌, ◌==◌, nat_le, if◌then◌else◌}
-use Rattle.std.specs.List.{list_all, slice_split, prefix_len, take_while}
+use Rattle.std.specs.Prelude.{◌≡◌, ◌≤◌, ℕ, List, [], ◌∷◌, ◌++◌, length, drop, codes, Option, Some, None, option_to_list, option_and_then, Bool, true, false, ◌&&◌, ◌==◌, nat_le, if◌then◌else◌}
+use Rattle.std.specs.List.{list_all, slice_split, join_with_byte, prefix_len, take_while}
 use Rattle.rk_base.specs.Text.{Text, same_text}
 use Rattle.rk_calls.specs.Keys.{is_more}
 
@@ -25,6 +25,22 @@ is_cat (name ∷ word ∷ words) = same_text name (codes "cat")
 
 unfoldable pub is_line : LineValue → Bool
 is_line line = is_cat line.words && list_all is_word (expanded line)
+
+-- Spelling.
+
+abbrev pub redirection : Option Text → List Text
+redirection None = []
+redirection (Some operand) = codes ">" ∷ operand ∷ []
+
+-- the words and the redirection, with single blanks between, and one newline at the end
+abbrev pub spelling : LineValue → Text
+spelling line = join_with_byte 32 (line.words ++ redirection line.output) ++ 10 ∷ []
+
+-- a script of at most 1,048,576 bytes that is just this line
+pub record Spells (line : LineValue) (text : Text) : Type 0 where
+  pub whole : is_line line ≡ true
+  pub short : length text ≤ 1048576
+  pub spelled : text ≡ spelling line
 
 -- Reading.
 

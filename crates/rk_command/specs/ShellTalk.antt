@@ -1,5 +1,5 @@
 -- What the shell says that runs a script of one line.
-use Rattle.std.specs.Prelude.{ℕ, List, [], ◌++◌, codes, Option, Some, None, Result, Ok, Err}
+use Rattle.std.specs.Prelude.{ℕ, List, [], codes, Option, Some, None, Result, Ok, Err}
 use Rattle.rk_base.specs.Text.{Text}
 use Rattle.rk_base.specs.Errno.{word}
 use Rattle.rk_base.specs.declared.errno.Errno.{Errno}

@@ -16,3 +16,6 @@ mod shell;
 
 pub use command::Command;
 pub use commands::Commands;
+
+#[cfg(test)]
+mod tests;

@@ -1,7 +1,7 @@
 // Scripts of one line.
-ghost use Rattle.std.specs.Prelude.{◌≡◌, ◌≤◌, ◌<◌, ◌∷◌, ◌==◌, [], IfOk, IfSome, IfNone, length, option_copied, position};
+ghost use Rattle.std.specs.Prelude.{◌≡◌, ◌≤◌, ◌<◌, ◌∷◌, ◌==◌, [], IfOk, Some, IfSome, IfNone, length, option_copied, position};
 ghost use Rattle.std.specs.List.{prefix_len};
-ghost use Rattle.rk_command.specs.Script.{is_word, parts, only_line, output_of, line_of_parts, script_of};
+ghost use Rattle.rk_command.specs.Script.{is_word, parts, only_line, output_of, line_of_parts, script_of, Spells, LineValue};
 
 use crate::line::{Line, is_cat, is_word};
 use rk_base::{Bytes, NoMemory};
@@ -102,10 +102,8 @@ fn line_of_parts(mut parts: Vec<Bytes>) -> Result<Option<Line>, NoMemory>
     }
 }
 
-/// The line of a script of at most 1,048,576 bytes: `cat`, one or more words, then nothing or `>` and one word,
-/// with single blanks between and one newline at the end. `None` exactly for any other text.
 #[tactic(auto, unfolding(crate::specs::Script::script_of))]
-pub(crate) fn read_line(alloc: Global, text: &[u8]) -> Result<Option<Line>, NoMemory>
+fn script_of(alloc: Global, text: &[u8]) -> Result<Option<Line>, NoMemory>
     ensures { IfOk result (λ line. line ≡ script_of text.now) }
 {
     if text.len() > 1_048_576 {
@@ -119,4 +117,15 @@ pub(crate) fn read_line(alloc: Global, text: &[u8]) -> Result<Option<Line>, NoMe
             Ok(line)
         }
     }
+}
+
+/// The line of a script of at most 1,048,576 bytes: `cat`, one or more words, then nothing or `>` and one word,
+/// with single blanks between and one newline at the end. `None` exactly for any other text.
+pub(crate) fn read_line(alloc: Global, text: &[u8]) -> Result<Option<Line>, NoMemory>
+    ensures line { IfOk result (λ line. line ≡ script_of text.now) }
+    ensures spelled { IfOk result (λ line. IfSome line (λ it. Spells it text.now)) }
+    ensures only { (it : LineValue) → Spells it text.now → IfOk result (λ line. line ≡ Some it) }
+{
+    let line = script_of(alloc, text)?;
+    Ok(line)
 }

@@ -1,4 +1,4 @@
-use Rattle.std.proofs.Common.{◌≡◌, ℕ, take, ap, sym, ◌∙◌}
+use Rattle.std.proofs.Common.{ℕ, take, ap, sym, ◌∙◌}
 use Rattle.std.specs.List.{prefix_len}
 use Rattle.rk_command.specs.Script.{is_word, is_cat}
 use Rattle.rk_command.proofs.ScriptLemmas.{line-read}

@@ -1,4 +1,4 @@
-use Rattle.std.proofs.Common.{◌≡◌, ◌∙◌, sym, ap}
+use Rattle.std.proofs.Common.{◌∙◌, sym, ap}
 use Rattle.rk_command.specs.Script.{only_line}
 use Rattle.rk_command.proofs.PartLemmas.{only_line-more}
 use Rattle.rk_command.proofs.script.only_line.Goals as goal

@@ -1,9 +1,4 @@
-use Rattle.std.proofs.Common.{◌≡◌, ℕ, List, Result, IfOk, ap, sym, ◌∙◌, drop}
-use Rattle.rk_base.specs.Text.{Text}
 use Rattle.rk_command.specs.Script.{expanded}
-use Rattle.rk_command.specs.ShellTalk.{redirects}
-use Rattle.rk_command.specs.ShellStages.{IsSaidBy}
-use Rattle.rk_command.specs.Turns.{pay_words}
 use Rattle.rk_command.proofs.Expanding.{pays-word, pays-none}
 use Rattle.rk_command.proofs.shell.Shell.expand.Goals as goal
 

@@ -1,4 +1,4 @@
-use Rattle.std.proofs.Common.{◌≡◌, ap, sym, ◌∙◌}
+use Rattle.std.proofs.Common.{ap, sym, ◌∙◌}
 use Rattle.rk_base.specs.Text.{Text}
 use Rattle.rk_command.specs.ShellTalk.{syntax_error}
 use Rattle.rk_command.specs.Telling.{complains}
