@@ -3,6 +3,8 @@
 
 mod description;
 mod spot;
+#[cfg(test)]
+mod tests;
 mod world;
 
 pub use description::{Description, Source};

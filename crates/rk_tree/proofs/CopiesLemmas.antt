@@ -24,7 +24,8 @@ use Rattle.rk_tree.specs.Rows.{map_of}
 use Rattle.rk_tree.specs.Copies.{entry_row, put_found, snapshot_of, numbered, tree_of}
 use Rattle.rk_tree.proofs.RowsLemmas.{same_maps, get-found, puts, puts-map_of, and_first, and_second, find_below, find_head, find_later}
 use Rattle.rk_tree.proofs.SearchLemmas.{is_yes}
-use Rattle.rk_tree.proofs.TextLemmas.{told_apart, ties_itself, both as all_true}
+use Rattle.rk_tree.proofs.TextLemmas.{told_apart, ties_itself}
+use Rattle.rk_base.proofs.CanonicalLemmas.{both as all_true}
 
 both : (a b : Bool) → T a → T b → T (a && b)
 both true b h k = k

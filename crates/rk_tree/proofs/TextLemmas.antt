@@ -10,14 +10,7 @@ use Rattle.std.specs.Cmp.Lexicographic.{nat_list_cmp_total, texts_ties}
 use Rattle.std.specs.FinMap.{IsAntisymmetric, slice_cmp-IsAntisymmetric, nat_cmp-IsAntisymmetric}
 use Rattle.rk_base.specs.Text.{Text, text_cmp, same_text, is_slash, is_root, root, or_root, stem, parent, join, hidden, begins_with, is_within, last_slash}
 use Rattle.rk_base.specs.Canonical.{is_barred, is_name, is_canonical}
-
-pub both : (a b : Bool) → (a && b) ≡ true → (a ≡ true) × (b ≡ true)
-both true b h = (refl, h)
-both false b h = cc
-
-pub neither : (a b : Bool) → (a || b) ≡ false → (a ≡ false) × (b ≡ false)
-neither false b h = (refl, h)
-neither true b h = cc
+use Rattle.rk_base.proofs.CanonicalLemmas.{both, either, name-unbarred}
 
 pub one_of : (a b : Bool) → (a || b) ≡ true → (a ≡ true) ⊎ (b ≡ true)
 one_of true b h = inl refl
@@ -26,10 +19,6 @@ one_of false b h = inr h
 pub or_right : (a b : Bool) → b ≡ true → (a || b) ≡ true
 or_right true b h = refl
 or_right false b h = h
-
-denied : (b : Bool) → not b ≡ true → b ≡ false
-denied true h = cc
-denied false h = refl
 
 -- texts that compare alike are one
 pub exact_texts : IsAntisymmetric text_cmp
@@ -58,24 +47,11 @@ told_apart a b = elim (eq_by_cmp text_cmp a b) as (λ (t : Bool). eq_by_cmp text
 unbarred : (name : Text) → list_any is_barred name ≡ false → list_any is_slash name ≡ false
 unbarred [] h = refl
 unbarred (b ∷ bs) h =
-    let e = neither (is_barred b) (list_any is_barred bs) h in
-    ap (λ (s : Bool). s || list_any is_slash bs) (neither (is_slash b) _ e.0).0 ∙ unbarred bs e.1
+    let e = either (is_barred b) (list_any is_barred bs) h in
+    ap (λ (s : Bool). s || list_any is_slash bs) (either (is_slash b) _ e.0).0 ∙ unbarred bs e.1
 
-pub name-unslashed : (name : Text) → is_name name ≡ true → list_any is_slash name ≡ false
-unfolding is_name
-name-unslashed name h = unbarred name (denied _ (both _ _ (both _ _ (both _ _ h).0).0).1)
-
--- The directory of a joined path.
-
-no_last : (last i : ℕ) (name : Text) → list_any is_slash name ≡ false → last_slash last i name ≡ last
-no_last last i [] h = refl
-no_last last i (b ∷ bs) h =
-    let e = neither (is_slash b) (list_any is_slash bs) h in
-    ap (λ (s : Bool). last_slash (cond s i last) (i + 1) bs) e.0 ∙ no_last last (i + 1) bs e.1
-
-last-join : (last i : ℕ) (front name : Text) → list_any is_slash name ≡ false → last_slash last i (front ++ 47 ∷ name) ≡ i + length front
-last-join last i [] name h = no_last i (i + 1) name h ∙ omega arith
-last-join last i (b ∷ bs) name h = last-join (cond (is_slash b) i last) (i + 1) bs name h ∙ omega arith
+name-unslashed : (name : Text) → is_name name ≡ true → list_any is_slash name ≡ false
+name-unslashed name h = unbarred name (name-unbarred name h)
 
 -- what a name is put after gives the directory back
 pub stem-back : (dir : Text) → is_canonical dir ≡ true → or_root (stem dir) ≡ dir
@@ -85,12 +61,6 @@ stem-back (b ∷ bs) h = elim (is_root (b ∷ bs)) as (λ (r : Bool). is_root (b
   | true ↦ λ e. sym (same_is (b ∷ bs) root e)
   | false ↦ λ e. refl
 ] refl
-
-pub parent-join : (dir name : Text) → is_canonical dir ≡ true → is_name name ≡ true → parent (join dir name) ≡ dir
-unfolding parent join
-parent-join dir name d n =
-    ap (λ (k : ℕ). or_root (take k (stem dir ++ 47 ∷ name))) (last-join 0 0 (stem dir) name (name-unslashed name n) ∙ omega arith)
-    ∙ ap or_root (take-append_seam (stem dir) (47 ∷ name)) ∙ stem-back dir d
 
 pub parent-root : parent root ≡ root
 unfolding parent
@@ -150,14 +120,3 @@ name_at_root name h = cc
 pub hidden-back : or_root (stem (join root hidden)) ≡ join root hidden
 unfolding join
 hidden-back = refl
-
--- a text against two joined ones
-
-and_assoc : (a b c : Bool) → ((a && b) && c) ≡ (a && (b && c))
-and_assoc true b c = refl
-and_assoc false b c = refl
-
-pub same_text-append : (front text back : Text) → same_text text (front ++ back) ≡ (same_text (take (length front) text) front && same_text (drop (length front) text) back)
-same_text-append [] text back = refl
-same_text-append (f ∷ fs) [] back = refl
-same_text-append (f ∷ fs) (t ∷ ts) back = ap (λ (b : Bool). eqb t f && b) (same_text-append fs ts back) ∙ sym (and_assoc (eqb t f) _ _)

@@ -12,8 +12,9 @@ use Rattle.rk_tree.specs.Entries.{is_dir, IsFit}
 use Rattle.rk_tree.specs.Held.{Held, Paths, top, node, number_at, path_of, child, with_node, linked, added, with_path, set_node, replaced, replaced_at, set_bytes}
 use Rattle.rk_tree.specs.Whole.{IsPlaced, IsWhole, IsFree}
 use Rattle.rk_tree.proofs.RowsLemmas.{insert_cases}
-use Rattle.rk_tree.proofs.TextLemmas.{parent-root, parent-join, within-join, hidden-back, root_seen, name_at_root}
+use Rattle.rk_tree.proofs.TextLemmas.{parent-root, within-join, hidden-back, root_seen, name_at_root}
 use Rattle.rk_base.proofs.CanonicalLemmas.{root-canonical, join-canonical}
+use Rattle.rk_base.proofs.PathLemmas.{parent-join}
 use Rattle.rk_tree.proofs.HeldLemmas.{path_stands}
 
 clash : (b : Bool) → b ≡ true → b ≡ false → ⊥

@@ -7,6 +7,8 @@ mod entry;
 mod node;
 mod rows;
 mod snapshot;
+#[cfg(test)]
+mod tests;
 mod tree;
 
 pub use entry::{Entry, Kind};
