@@ -1,5 +1,5 @@
 -- The lines that tell outcomes, and the numbers with which the program exits.
-use Rattle.std.specs.Prelude.{ℕ, List, [], ◌++◌, codes}
+use Rattle.std.specs.Prelude.{ℕ, [], ◌++◌, codes}
 use Rattle.rk_base.specs.Text.{Text}
 use Rattle.rk_top.specs.Shown.{shown}
 use Rattle.rk_top.specs.declared.outcome.Outcome.{Outcome}

@@ -25,7 +25,8 @@ fn fixed_line(outcome: &Outcome) -> &'static [u8]
 {
     match outcome {
         Outcome::Ended { .. } => b"",
-        Outcome::Usage => b"usage: rkr build [--steps N] [--explain] [--fresh] [--check] | check | trace [--json] | forget | gen SEED\n",
+        Outcome::Usage =>
+            b"usage: rkr build [--steps N] [--explain] [--fresh] [--check] | check | trace [--json] | forget | gen SEED\n",
         Outcome::Special(_) => b"",
         Outcome::Spent => b"rkr: budget spent\n",
         Outcome::ReadFault => b"rkr: read fault\n",
@@ -59,9 +60,34 @@ pub(crate) fn tell<E: Sink>(alloc: Global, err: &mut E, outcome: Outcome) -> Out
                 Outcome::NoMemory
             }
         },
-        other => {
-            put_line(err, fixed_line(&other));
-            other
+        Outcome::Ended {
+            status,
+            launched,
+            ran,
+        } => Outcome::Ended {
+            status,
+            launched,
+            ran,
+        },
+        Outcome::Usage => {
+            put_line(err, fixed_line(&Outcome::Usage));
+            Outcome::Usage
+        }
+        Outcome::Spent => {
+            put_line(err, fixed_line(&Outcome::Spent));
+            Outcome::Spent
+        }
+        Outcome::ReadFault => {
+            put_line(err, fixed_line(&Outcome::ReadFault));
+            Outcome::ReadFault
+        }
+        Outcome::WriteFault => {
+            put_line(err, fixed_line(&Outcome::WriteFault));
+            Outcome::WriteFault
+        }
+        Outcome::NoMemory => {
+            put_line(err, fixed_line(&Outcome::NoMemory));
+            Outcome::NoMemory
         }
     }
 }

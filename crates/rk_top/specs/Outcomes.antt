@@ -1,0 +1,132 @@
+-- What each outcome says of the folder, the sinks, the counts of faults and the count of turns.
+use Rattle.std.specs.Prelude.{◌≡◌, ◌⊎◌, ◌≤◌, ◌+◌, ◌-◌, ℕ, length, Option, Some, IfSome, Result, Ok, Err}
+use Rattle.rk_base.specs.Text.{Text}
+use Rattle.rk_folder.specs.Told.{Held}
+use Rattle.rk_folder.specs.Counts.{Rose}
+use Rattle.rk_folder.specs.Sinks.{with_bytes}
+use Rattle.rk_install.specs.Changes.{Partly}
+use Rattle.rk_install.specs.Holdings.{IsAfter}
+use Rattle.rk_install.specs.Imported.{holding_of}
+use Rattle.rk_install.specs.Planned.{planned}
+use Rattle.rk_install.specs.declared.installation.InstallErr.{InstallErr}
+use Rattle.rk_install.specs.declared.installation.InstallErr.TheVariants as install
+use Rattle.rk_top.specs.Lines.{line_of}
+use Rattle.rk_top.specs.Texts.{Front}
+use Rattle.rk_top.specs.Verdict.{Verdict, Refused, Ends, Overspent, verdict, error_text_of, held_after}
+use Rattle.rk_top.specs.declared.build.Ended.{Ended}
+use Rattle.rk_top.specs.declared.stop.Stop.{Stop}
+use Rattle.rk_top.specs.declared.stop.Stop.TheVariants as stop
+use Rattle.rk_top.specs.declared.outcome.Outcome.{Outcome}
+use Rattle.rk_top.specs.declared.outcome.Outcome.TheVariants as out
+
+abbrev pub outcome_of_stop : Stop → Outcome
+outcome_of_stop (stop.Special path) = out.Special path
+outcome_of_stop stop.Spent = out.Spent
+outcome_of_stop stop.ReadFault = out.ReadFault
+outcome_of_stop stop.WriteFault = out.WriteFault
+outcome_of_stop stop.NoMemory = out.NoMemory
+
+abbrev pub outcome_of : Result Ended Stop → Outcome
+outcome_of (Ok e) = out.Ended e.status e.launched e.ran
+outcome_of (Err e) = outcome_of_stop e
+
+-- The folder.
+
+-- it holds what the fresh run leaves, its trace included, and all else as before
+abbrev pub Installed : Verdict → Held → Option Held → Type 0
+Installed (Refused path) held new = ⊥
+Installed (Ends world status left table) held new = (after : Held) × (new ≡ Some after) × IsAfter held after (held_after world table)
+Installed Overspent held new = ⊥
+
+-- some of the planned calls were made, and the next one failed and left its damage
+abbrev pub PartlyInstalled : Verdict → Held → Option Held → InstallErr → Type 0
+PartlyInstalled (Refused path) held new e = ⊥
+PartlyInstalled (Ends world status left table) held new e = Partly (planned (holding_of held) (held_after world table)) (Some held) new e
+PartlyInstalled Overspent held new e = ⊥
+
+-- it is as before, or partly installed
+abbrev pub StoppedAt : ℕ → Option Held → Option Held → InstallErr → Type 0
+StoppedAt steps told new e = IfSome told (λ held. (new ≡ told) ⊎ PartlyInstalled (verdict steps held) held new e)
+
+-- the status, and how many commands were launched and ran: all
+abbrev pub EndsSo : Verdict → ℕ → ℕ → ℕ → Type 0
+EndsSo (Refused path) status launched ran = ⊥
+EndsSo (Ends world exit left table) status launched ran = (status ≡ exit) × (launched ≡ length table) × (ran ≡ length table)
+EndsSo Overspent status launched ran = ⊥
+
+abbrev pub Leaves : ℕ → Option Held → Option Held → Outcome → Type 0
+Leaves steps told new (out.Ended status launched ran) = IfSome told (λ held. EndsSo (verdict steps held) status launched ran × Installed (verdict steps held) held new)
+Leaves steps told new out.Usage = new ≡ told
+Leaves steps told new (out.Special path) = (new ≡ told) × IfSome told (λ held. verdict steps held ≡ Refused path)
+Leaves steps told new out.Spent = (new ≡ told) × IfSome told (λ held. verdict steps held ≡ Overspent)
+Leaves steps told new out.ReadFault = new ≡ told
+Leaves steps told new out.WriteFault = StoppedAt steps told new install.WriteFault
+Leaves steps told new out.NoMemory = StoppedAt steps told new install.NoMemory
+
+-- The sinks: a text of the run by what the folder held, all over an end, a front over a stop that came late, and
+-- nothing over the others.
+
+abbrev pub Gains : ℕ → (Verdict → Text) → Option Held → Option Text → Option Text → Outcome → Type 0
+Gains steps text told old new (out.Ended status launched ran) = IfSome told (λ held. new ≡ with_bytes (text (verdict steps held)) old)
+Gains steps text told old new out.Usage = new ≡ old
+Gains steps text told old new (out.Special path) = new ≡ old
+Gains steps text told old new out.Spent = new ≡ old
+Gains steps text told old new out.ReadFault = new ≡ old
+Gains steps text told old new out.WriteFault = IfSome told (λ held. Front (text (verdict steps held)) old new)
+Gains steps text told old new out.NoMemory = IfSome told (λ held. Front (text (verdict steps held)) old new)
+
+-- and then the outcome's own line, or a front of it
+abbrev pub GainsLine : ℕ → Option Held → Option Text → Option Text → Outcome → Type 0
+GainsLine steps told old new outcome = (before : Option Text) × Gains steps error_text_of told old before outcome × Front (line_of outcome) before new
+
+-- The counts of faults.
+
+pub record Counts : Type 0 where
+  pub reads : ℕ
+  pub writes : ℕ
+  pub puts : ℕ
+  pub error_puts : ℕ
+
+abbrev pub Counted : Counts → Counts → Outcome → Type 0
+Counted before now out.ReadFault = Rose before.reads now.reads × (now.writes ≡ before.writes) × (now.puts ≡ before.puts) × (now.error_puts ≡ before.error_puts)
+Counted before now out.WriteFault = (now.reads ≡ before.reads) × (Rose before.writes now.writes ⊎ Rose before.puts now.puts ⊎ Rose before.error_puts now.error_puts)
+Counted before now other = now ≡ before
+
+-- The count of turns.
+
+-- what the run paid
+abbrev pub Ticks : ℕ → Verdict → ℕ → ℕ → Type 0
+Ticks steps (Refused path) before now = ⊥
+Ticks steps (Ends world status left table) before now = now ≡ before + (steps - left)
+Ticks steps Overspent before now = ⊥
+
+abbrev pub Ticked : ℕ → Option Held → ℕ → ℕ → Outcome → Type 0
+Ticked steps told before now (out.Ended status launched ran) = IfSome told (λ held. Ticks steps (verdict steps held) before now) × (now ≤ before + steps)
+Ticked steps told before now out.Usage = now ≡ before
+Ticked steps told before now (out.Special path) = now ≡ before
+Ticked steps told before now other = now ≤ before + steps
+
+-- The outcome's own line, which is put last.
+
+-- nothing is put over an end; elsewhere a put of the line may be one more fault of the error text's sink
+abbrev pub AfterLine : Counts → Counts → Outcome → Type 0
+AfterLine before now (out.Ended status launched ran) = now ≡ before
+AfterLine before now other = (now.reads ≡ before.reads) × (now.writes ≡ before.writes) × (now.puts ≡ before.puts) × (before.error_puts ≤ now.error_puts)
+
+-- the faults of the work, and then of the line
+abbrev pub Faults : Counts → Counts → Outcome → Type 0
+Faults before now outcome = (worked : Counts) × Counted before worked outcome × AfterLine worked now outcome
+
+-- For one outcome.
+
+abbrev pub IfSpecial : Outcome → (Text → Type 0) → Type 0
+IfSpecial (out.Special path) P = P path
+IfSpecial other P = Unit {0}
+
+-- the outcome that a verdict calls for, or want of memory
+abbrev pub Settles : Verdict → Outcome → Type 0
+Settles v out.NoMemory = Unit {0}
+Settles (Refused path) (out.Special p) = p ≡ path
+Settles (Ends world exit left table) (out.Ended status launched ran) = status ≡ exit
+Settles Overspent out.Spent = Unit {0}
+Settles v other = ⊥

@@ -1,0 +1,68 @@
+-- What each stage of a build tells.
+use Rattle.std.specs.Prelude.{◌≡◌, ◌≤◌, ◌+◌, ◌-◌, ℕ, List, Option, Some, None, IfSome, option_map, Result, Ok, Err}
+use Rattle.rk_folder.specs.Told.{Held}
+use Rattle.rk_folder.specs.Counts.{Rose}
+use Rattle.rk_folder.specs.Specials.{first_special}
+use Rattle.rk_folder.specs.declared.importing.ImportErr.{ImportErr}
+use Rattle.rk_folder.specs.declared.importing.ImportErr.TheVariants as import
+use Rattle.rk_install.specs.Changes.{AllowsAll, Partly, after_all}
+use Rattle.rk_install.specs.Holdings.{IsAfter}
+use Rattle.rk_install.specs.Imported.{holding_of}
+use Rattle.rk_install.specs.Planned.{planned}
+use Rattle.rk_install.specs.declared.holding.Holding.{Holding}
+use Rattle.rk_install.specs.declared.ops.Op.{Op}
+use Rattle.rk_install.specs.declared.installation.InstallErr.TheVariants as install
+use Rattle.rk_top.specs.Verdict.{Refused, Ends, Overspent, verdict, held_after}
+use Rattle.rk_top.specs.declared.prepare.Prepared.{Prepared}
+use Rattle.rk_top.specs.declared.stop.Stop.{Stop}
+use Rattle.rk_top.specs.declared.stop.Stop.TheVariants as stop
+
+abbrev pub stop_of : ImportErr → Stop
+stop_of (import.Special path) = stop.Special path
+stop_of import.ReadFault = stop.ReadFault
+stop_of import.NoMemory = stop.NoMemory
+
+-- nothing is special and this is what the folder holds, or this is the first special path
+abbrev pub LooksSo : Option Held → Result Holding Stop → Type 0
+LooksSo told (Ok holding) = IfSome told (λ held. (first_special held ≡ None) × (holding ≡ holding_of held))
+LooksSo told (Err (stop.Special path)) = IfSome told (λ held. first_special held ≡ Some path)
+LooksSo told (Err stop.ReadFault) = Unit {0}
+LooksSo told (Err stop.NoMemory) = Unit {0}
+LooksSo told (Err stop.Spent) = ⊥
+LooksSo told (Err stop.WriteFault) = ⊥
+
+-- a read fault only where the count rose
+abbrev pub ReadsCounted : {T : Type 0} → ℕ → ℕ → Result T Stop → Type 0
+ReadsCounted before now (Err stop.ReadFault) = Rose before now
+ReadsCounted before now other = now ≡ before
+
+-- the planned calls lead on, or some were made and the next one failed
+abbrev pub InstallsSo : {T : Type 0} → List Op → Option Held → Option Held → Result T Stop → Type 0
+InstallsSo ops old new (Ok it) = new ≡ option_map (after_all ops) old
+InstallsSo ops old new (Err stop.WriteFault) = Partly ops old new install.WriteFault
+InstallsSo ops old new (Err stop.NoMemory) = Partly ops old new install.NoMemory
+InstallsSo ops old new (Err (stop.Special path)) = ⊥
+InstallsSo ops old new (Err stop.Spent) = ⊥
+InstallsSo ops old new (Err stop.ReadFault) = ⊥
+
+-- a write fault only where the count rose
+abbrev pub WritesCounted : {T : Type 0} → ℕ → ℕ → Result T Stop → Type 0
+WritesCounted before now (Err stop.WriteFault) = Rose before now
+WritesCounted before now other = now ≡ before
+
+-- the fresh run of what the folder holds has ended so, and the plan leads to what it leaves
+pub record IsPrepared (steps : ℕ) (held : Held) (before now : ℕ) (p : Prepared) : Type 0 where
+  pub left : ℕ
+  pub ends : verdict steps held ≡ Ends p.finished.world p.finished.status left p.finished.table
+  pub ticked : now ≡ before + (steps - left)
+  pub plan : p.plan ≡ planned (holding_of held) (held_after p.finished.world p.finished.table)
+  pub allowed : AllowsAll p.plan held
+  pub leads : IsAfter held (after_all p.plan held) (held_after p.finished.world p.finished.table)
+
+abbrev pub PreparesSo : ℕ → Option Held → ℕ → ℕ → Result Prepared Stop → Type 0
+PreparesSo steps told before now (Ok p) = IfSome told (λ held. IsPrepared steps held before now p) × (now ≤ before + steps)
+PreparesSo steps told before now (Err (stop.Special path)) = IfSome told (λ held. verdict steps held ≡ Refused path) × (now ≡ before)
+PreparesSo steps told before now (Err stop.Spent) = IfSome told (λ held. verdict steps held ≡ Overspent) × (now ≤ before + steps)
+PreparesSo steps told before now (Err stop.ReadFault) = now ≤ before + steps
+PreparesSo steps told before now (Err stop.NoMemory) = now ≤ before + steps
+PreparesSo steps told before now (Err stop.WriteFault) = ⊥

@@ -1,0 +1,41 @@
+// What the folder holds.
+ghost use Rattle.std.specs.Prelude.{◌≡◌, IfOk, IfErr};
+ghost use Rattle.rk_tree.specs.Entries.{IsWholeSnapshot};
+ghost use Rattle.rk_top.specs.Stages.{LooksSo, ReadsCounted, stop_of};
+
+use crate::stop::Stop;
+use rk_folder::{Folder, Hidden, ImportErr, import, state};
+use rk_install::Holding;
+use std::alloc::Global;
+
+fn stop_of(e: ImportErr) -> Stop
+    ensures { result ≡ stop_of e }
+{
+    match e {
+        ImportErr::Special(path) => Stop::Special(path),
+        ImportErr::ReadFault => Stop::ReadFault,
+        ImportErr::NoMemory => Stop::NoMemory,
+    }
+}
+
+/// Lists and reads the folder.
+pub(crate) fn look<F: Folder>(alloc: Global, folder: &mut F) -> Result<Holding, Stop>
+    ensures held { F.told folder.new ≡ F.told folder.old }
+    ensures writes { F.write_faults folder.new ≡ F.write_faults folder.old }
+    ensures reads { ReadsCounted (F.read_faults folder.old) (F.read_faults folder.new) result }
+    ensures look { LooksSo (F.told folder.old) result }
+    ensures whole { IfOk result (λ holding. IsWholeSnapshot holding.entries) }
+{
+    let entries = match import(alloc, folder) {
+        Ok(entries) => entries,
+        Err(e) => return Err(stop_of(e)),
+    };
+    match state(alloc, folder) {
+        Ok(Hidden { rkr, state }) => Ok(Holding {
+            entries,
+            rkr,
+            state,
+        }),
+        Err(e) => Err(stop_of(e)),
+    }
+}

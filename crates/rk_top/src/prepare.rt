@@ -1,0 +1,59 @@
+// What is to be done once the script has run.
+ghost use Rattle.std.specs.Prelude.{◌≡◌, ◌<◌, IfOk};
+ghost use Rattle.rk_install.specs.Holdings.{IsBuilt};
+ghost use Rattle.rk_top.specs.Stages.{PreparesSo, ReadsCounted};
+ghost use Rattle.rk_top.specs.Verdict.{held_after};
+
+use crate::look::look;
+use crate::run::{Finished, run};
+use crate::stop::Stop;
+use rk_base::{NoMemory, Steps};
+use rk_folder::{Folder, State};
+use rk_install::{Holding, Plan, plan};
+use std::alloc::Global;
+use std::sync::ledger::Ledger;
+use tr_codec::write_db;
+
+/// A run that ended, and the calls that lead the folder to what it leaves.
+#[derive(Drop)]
+pub(crate) struct Prepared {
+    pub finished: Finished,
+    pub plan: Plan,
+}
+
+// What the folder is to hold after the run.
+fn held_after(alloc: Global, finished: &Finished) -> Result<Holding, NoMemory>
+    ensures holding { IfOk result (λ holding. holding ≡ held_after finished.now.world finished.now.table) }
+    ensures built { IfOk result IsBuilt }
+{
+    let entries = finished.world.snapshot()?;
+    let db = write_db(alloc, &finished.table)?;
+    Ok(Holding {
+        entries,
+        rkr: true,
+        state: State {
+            db: Some(db),
+            attrs: None,
+        },
+    })
+}
+
+/// Looks at the folder, runs the script on what it holds, and plans what leads to what the run leaves.
+pub(crate) fn prepare<F: Folder, L: Ledger>(
+    alloc: Global,
+    folder: &mut F,
+    steps: u32,
+    live: &mut Steps<L>,
+) -> Result<Prepared, Stop>
+    requires { 0 < steps }
+    ensures held { F.told folder.new ≡ F.told folder.old }
+    ensures writes { F.write_faults folder.new ≡ F.write_faults folder.old }
+    ensures reads { ReadsCounted (F.read_faults folder.old) (F.read_faults folder.new) result }
+    ensures prepares { PreparesSo steps (F.told folder.old) live.old live.new result }
+{
+    let before = look(alloc, folder)?;
+    let finished = run(alloc, &before.entries, steps, live)?;
+    let after = held_after(alloc, &finished)?;
+    let plan = plan(alloc, &before, &after)?;
+    Ok(Prepared { finished, plan })
+}

@@ -1,0 +1,116 @@
+// The top call.
+ghost use Rattle.std.specs.Prelude.{◌≡◌, ◌⊎◌, ◌↔◌, map, string_bytes, is_some, IfSome, Some, None, true};
+ghost use Rattle.rk_folder.specs.Counts.{Rose, Still};
+ghost use Rattle.rk_folder.specs.Told.{Held};
+ghost use Rattle.rk_folder.specs.Specials.{first_special};
+ghost use Rattle.rk_top.specs.Outcomes.{outcome_of, outcome_of_stop, Leaves, Gains, GainsLine, Counted, Ticked, Faults, IfSpecial, Settles};
+ghost use Rattle.rk_top.specs.Verdict.{verdict, output_of, error_text_of, Overspent};
+ghost use Rattle.rk_top.specs.Words.{request_of, steps_of};
+
+use crate::Outcome;
+use crate::build::{Ended, build};
+use crate::lines::tell;
+use crate::requests::{Request, RequestErr};
+use crate::stop::Stop;
+use crate::words::request;
+use rk_base::Steps;
+use rk_folder::{Folder, Sink};
+use std::alloc::Global;
+use std::sync::ledger::Ledger;
+
+fn outcome_of_stop(stop: Stop) -> Outcome
+    ensures { result ≡ outcome_of_stop stop }
+{
+    match stop {
+        Stop::Special(path) => Outcome::Special(path),
+        Stop::Spent => Outcome::Spent,
+        Stop::ReadFault => Outcome::ReadFault,
+        Stop::WriteFault => Outcome::WriteFault,
+        Stop::NoMemory => Outcome::NoMemory,
+    }
+}
+
+fn outcome_of(built: Result<Ended, Stop>) -> Outcome
+    ensures { result ≡ outcome_of built }
+{
+    match built {
+        Ok(
+            Ended {
+                status,
+                launched,
+                ran,
+            },
+        ) => Outcome::Ended {
+            status,
+            launched,
+            ran,
+        },
+        Err(stop) => outcome_of_stop(stop),
+    }
+}
+
+// Does what the words ask for.
+fn work<F: Folder, O: Sink, E: Sink, L: Ledger>(
+    alloc: Global,
+    words: &[String],
+    folder: &mut F,
+    out: &mut O,
+    err: &mut E,
+    live: &mut Steps<L>,
+) -> Outcome
+    ensures usage { (result ≡ Outcome.Usage) ↔ (request_of (map string_bytes words.now) ≡ None) }
+    ensures folder { Leaves (steps_of (map string_bytes words.now)) (F.told folder.old) (F.told folder.new) result }
+    ensures output { Gains (steps_of (map string_bytes words.now)) output_of (F.told folder.old) (O.so_far out.old) (O.so_far out.new) result }
+    ensures errors { Gains (steps_of (map string_bytes words.now)) error_text_of (F.told folder.old) (E.so_far err.old) (E.so_far err.new) result }
+    ensures counts { Counted (record { reads = F.read_faults folder.old; writes = F.write_faults folder.old; puts = O.faults out.old; error_puts = E.faults err.old })
+        (record { reads = F.read_faults folder.new; writes = F.write_faults folder.new; puts = O.faults out.new; error_puts = E.faults err.new }) result }
+    ensures live { Ticked (steps_of (map string_bytes words.now)) (F.told folder.old) live.old live.new result }
+{
+    match request(words) {
+        Ok(Request::Build { steps }) => outcome_of(build(alloc, folder, out, err, steps, live)),
+        Err(RequestErr::Usage) => Outcome::Usage,
+    }
+}
+
+/// The whole program as one call: reads the words, of which the first is the program's name, and does what they
+/// ask for, over a folder and the two sinks for output and error text. `live` counts the turns that commands
+/// which ran have paid.
+pub fn rkr<F: Folder, O: Sink, E: Sink, L: Ledger>(
+    alloc: Global,
+    words: &[String],
+    folder: &mut F,
+    out: &mut O,
+    err: &mut E,
+    live: &mut Steps<L>,
+) -> Outcome
+    // Usage exactly where the words are no request.
+    ensures usage { (result ≡ Outcome.Usage) ↔ (request_of (map string_bytes words.now) ≡ None) }
+
+    // What the folder holds afterwards: over an end what the fresh run on the present tree leaves, with its status.
+    ensures folder { Leaves (steps_of (map string_bytes words.now)) (F.told folder.old) (F.told folder.new) result }
+
+    // What was put: the run's output and error text, and then the outcome's own line.
+    ensures output { Gains (steps_of (map string_bytes words.now)) output_of (F.told folder.old) (O.so_far out.old) (O.so_far out.new) result }
+    ensures errors { GainsLine (steps_of (map string_bytes words.now)) (F.told folder.old) (E.so_far err.old) (E.so_far err.new) result }
+
+    // Special exactly with the first special path, and spent exactly where the fresh run is.
+    ensures special { IfSpecial result (λ path. IfSome (F.told folder.old) (λ held. first_special held ≡ Some path)) }
+    ensures spent { result ≡ Outcome.Spent → IfSome (F.told folder.old) (λ held. verdict (steps_of (map string_bytes words.now)) held ≡ Overspent) }
+
+    // A fault is told only where a count for it rose in this call.
+    ensures read_fault { result ≡ Outcome.ReadFault → Rose (F.read_faults folder.old) (F.read_faults folder.new) }
+    ensures write_fault { result ≡ Outcome.WriteFault → Rose (F.write_faults folder.old) (F.write_faults folder.new) ⊎ Rose (O.faults out.old) (O.faults out.new) ⊎ Rose (E.faults err.old) (E.faults err.new) }
+    ensures faults { Faults (record { reads = F.read_faults folder.old; writes = F.write_faults folder.old; puts = O.faults out.old; error_puts = E.faults err.old })
+        (record { reads = F.read_faults folder.new; writes = F.write_faults folder.new; puts = O.faults out.new; error_puts = E.faults err.new }) result }
+
+    // The turns of the commands that ran, which over an end are all that the fresh run paid.
+    ensures live { Ticked (steps_of (map string_bytes words.now)) (F.told folder.old) live.old live.new result }
+
+    // With a request and no count that rose, the outcome is the one that what the folder holds calls for.
+    ensures complete { (held : Held) → F.told folder.old ≡ Some held → is_some (request_of (map string_bytes words.now)) ≡ true
+        → Still (F.read_faults folder.old) (F.read_faults folder.new) → Still (F.write_faults folder.old) (F.write_faults folder.new) → Still (O.faults out.old) (O.faults out.new) → Still (E.faults err.old) (E.faults err.new)
+        → Settles (verdict (steps_of (map string_bytes words.now)) held) result }
+{
+    let outcome = work(alloc, words, folder, out, err, live);
+    tell(alloc, err, outcome)
+}
