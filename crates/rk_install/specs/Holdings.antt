@@ -1,8 +1,9 @@
 -- What a folder holds, by its entries, whether the hidden directory stands, and its state files.
-use Rattle.std.specs.Prelude.{◌≡◌, ◌≢◌, [], ◌∷◌, Bool, true, false, if◌then◌else◌, Option, Some, None, option_map, is_some}
+use Rattle.std.specs.Prelude.{◌≡◌, ◌≢◌, Bool, true, false, if◌then◌else◌, Option, Some, None, option_map, is_some}
 use Rattle.std.specs.FinMap.{get}
 use Rattle.std.specs.List.{list_all}
-use Rattle.rk_base.specs.Text.{Text, root, join, hidden, is_within}
+use Rattle.rk_base.specs.Text.{Text, is_within}
+pub use Rattle.rk_folder.specs.Hidden.{hidden_dir, attrs_file, db_file}
 use Rattle.rk_folder.specs.Told.{Held, standing}
 use Rattle.rk_folder.specs.declared.folder.Standing.{Standing}
 use Rattle.rk_folder.specs.declared.folder.Standing.TheVariants.{File, Dir}
@@ -11,22 +12,6 @@ use Rattle.rk_tree.specs.Entries.{IsWholeSnapshot}
 use Rattle.rk_tree.specs.declared.entry.Entry.{Entry}
 use Rattle.rk_tree.specs.declared.entry.Entry.TheVariants as entry
 use Rattle.rk_install.specs.declared.holding.Holding.{Holding}
-
--- the hidden directory, and its state files
-abbrev pub hidden_dir : Text
-hidden_dir = join root hidden
-
-abbrev pub db_name : Text
-db_name = 100 ∷ 98 ∷ []
-
-abbrev pub attrs_name : Text
-attrs_name = 97 ∷ 116 ∷ 116 ∷ 114 ∷ 115 ∷ []
-
-abbrev pub db_file : Text
-db_file = join hidden_dir db_name
-
-abbrev pub attrs_file : Text
-attrs_file = join hidden_dir attrs_name
 
 -- what an entry is in a folder: a link isn't there
 abbrev pub placed : Option Entry → Option Standing
