@@ -1,6 +1,5 @@
 -- What each call does at the places that its paths lead to: first its refusals, in order, then its effect.
 use Rattle.std.specs.Prelude.{ℕ, List, [], ◌∷◌, length, Bool, true, false, not, ◌||◌, if◌then◌else◌, Ok, Err}
-use Rattle.rk_base.specs.Text.{Text}
 use Rattle.rk_base.specs.declared.errno.Errno.{Errno}
 use Rattle.rk_base.specs.declared.errno.Errno.TheVariants.{NoEntry, IsDir, Denied}
 use Rattle.rk_calls.specs.declared.call.How.{How}

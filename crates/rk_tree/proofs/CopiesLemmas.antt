@@ -1,5 +1,5 @@
 -- Snapshots of trees, and trees of snapshots.
-use Rattle.std.proofs.Common.{◌≡◌, get_or, drop, drop-cons, append-nil, ◌+◌, ◌<◌, ◌≤◌, ◌++◌, ℕ, zero, suc, List, [], ◌∷◌, map, length, Bool, true, false, ◌&&◌, cond, Option, Some, None, ◌⊎◌, inl, inr, refl, sym, ap, subst, ◌∙◌, arith, append_assoc}
+use Rattle.std.proofs.Common.{◌≡◌, get_or, drop, drop-cons, append-nil, ◌+◌, ◌<◌, ◌≤◌, ◌++◌, ℕ, zero, suc, List, [], ◌∷◌, length, Bool, true, false, ◌&&◌, cond, Option, Some, None, inl, inr, refl, sym, ap, subst, ◌∙◌, arith, append_assoc}
 use lib.Dec.{T}
 use Rattle.std.specs.Prelude.{slice_get}
 use Rattle.std.proofs.lemmas.Bool.{eqb-true}
@@ -7,11 +7,9 @@ use Rattle.std.specs.List.{fold, filter_map}
 use Rattle.std.specs.Map.{values_of, keys_of}
 use Rattle.std.specs.Option.{option_map, option_and_then}
 use Rattle.std.specs.Ordering.{eq_by_cmp, is_lt}
-use Rattle.std.specs.declared.cmp.Ordering.{Ordering}
-use Rattle.std.specs.declared.cmp.Ordering.TheVariants.{Less, Equal, Greater}
 use Rattle.std.specs.FinMap.Entries.{below_all}
-use Rattle.std.specs.FinMap.{FinMap, empty, entries, get, insert, find, is_sorted, values, get-entries, entries_sorted}
-use Rattle.rk_base.specs.Text.{Text, text_cmp, root, parent, join, hidden, is_within}
+use Rattle.std.specs.FinMap.{empty, entries, get, insert, find, is_sorted, values, get-entries, entries_sorted}
+use Rattle.rk_base.specs.Text.{Text, text_cmp, root, parent}
 use Rattle.rk_base.specs.Canonical.{is_canonical}
 use Rattle.rk_tree.specs.declared.entry.Entry.{Entry}
 use Rattle.rk_tree.specs.declared.entry.Entry.TheVariants.{File, Dir, Link}

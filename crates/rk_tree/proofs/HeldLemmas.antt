@@ -1,18 +1,14 @@
 -- A tree by its rows.
-use Rattle.std.proofs.Common.{◌≡◌, ℕ, List, [], ◌∷◌, ◌++◌, length, Bool, true, false, cond, ◌&&◌, ◌⊎◌, inl, inr, Option, Some, None, refl, sym, ap, subst, ◌∙◌}
+use Rattle.std.proofs.Common.{◌≡◌, ℕ, List, [], ◌∷◌, Bool, true, false, cond, inl, inr, Option, Some, None, refl, sym, ap, ◌∙◌}
 use lib.Dec.{T}
 use Rattle.std.proofs.lemmas.Bool.{eqb-true, eq-eqb}
-use Rattle.std.specs.Prelude.{◌==◌, slice_get}
-use Rattle.std.specs.Option.{option_and_then}
-use Rattle.std.specs.Ordering.{is_lt}
-use Rattle.std.specs.FinMap.{get, empty, insert, entries, find, is_sorted, get-entries, entries_sorted}
-use Rattle.std.specs.FinMap.Entries.{below_all}
-use Rattle.rk_base.specs.Text.{Text, text_cmp, root, join, parent, same_text}
-use Rattle.rk_tree.specs.Held.{Held, node, number_at, first_path, path_of, child, parent_of}
+use Rattle.std.specs.Prelude.{◌==◌}
+use Rattle.std.specs.FinMap.{entries, find, is_sorted, get-entries, entries_sorted}
+use Rattle.rk_base.specs.Text.{Text, text_cmp}
+use Rattle.rk_tree.specs.Held.{Held, node, number_at, first_path, path_of}
 use Rattle.rk_tree.specs.Entries.{is_dir}
 use Rattle.rk_tree.specs.Nodes.{IsHome}
 use Rattle.rk_tree.specs.Whole.{IsWhole}
-use Rattle.rk_tree.specs.declared.entry.Entry.{Entry}
 use Rattle.rk_tree.proofs.RowsLemmas.{find_head, find_later, and_second}
 use Rattle.rk_tree.proofs.TextLemmas.{told_apart}
 

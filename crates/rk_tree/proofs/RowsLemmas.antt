@@ -1,5 +1,5 @@
 -- What the map that rows make has, by the words of a `BTreeMap`.
-use Rattle.std.proofs.Common.{◌≡◌, ◌⊎◌, inl, inr, ℕ, List, [], ◌∷◌, Option, Some, None, Bool, true, false, ◌&&◌, ◌++◌, length, refl, map, sym, ap, subst, ◌∙◌, cond}
+use Rattle.std.proofs.Common.{◌≡◌, ◌⊎◌, inl, inr, List, [], ◌∷◌, Option, Some, None, Bool, true, false, ◌&&◌, length, refl, map, sym, ap, subst, ◌∙◌, cond}
 use Rattle.std.specs.Ordering.{eq_by_cmp, is_lt, is_eq}
 use Rattle.std.specs.declared.cmp.Ordering.{Ordering}
 use Rattle.std.specs.declared.cmp.Ordering.TheVariants.{Less, Equal, Greater}
@@ -11,12 +11,11 @@ use Rattle.std.specs.Cmp.Lexicographic.{nat_list_cmp_total}
 use Rattle.std.specs.BTreeMap.{is_at}
 use Rattle.std.specs.Map.{lookup}
 use Rattle.std.specs.FinMap.Entries.{below_all}
-use Rattle.std.specs.FinMap.{FinMap, empty, get, insert, remove, find, is_sorted, entries, from_entries, from_sorted, get-from_sorted, entries-from_sorted, get-from_entries, get-insert, get-remove, same_map, IsAntisymmetric, slice_cmp-IsAntisymmetric, nat_cmp-IsAntisymmetric, len, len-entries}
-use Rattle.std.specs.Cmp.Lexicographic.{texts_ties}
+use Rattle.std.specs.FinMap.{FinMap, empty, get, insert, find, is_sorted, entries, from_entries, from_sorted, get-from_sorted, entries-from_sorted, get-from_entries, get-insert, same_map, len, len-entries}
 use Rattle.std.specs.List.{fold}
 use Rattle.std.specs.Option.{option_or}
-use Rattle.std.specs.FinMap.{get-empty, get-entries, entries_sorted}
-use Rattle.rk_base.specs.Text.{Text, text_cmp, same_text}
+use Rattle.std.specs.FinMap.{get-empty}
+use Rattle.rk_base.specs.Text.{Text, text_cmp}
 use Rattle.rk_tree.specs.Rows.{map_of}
 use Rattle.rk_tree.proofs.TextLemmas.{exact_texts, told_apart, ties_itself}
 

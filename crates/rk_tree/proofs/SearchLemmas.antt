@@ -1,5 +1,5 @@
 -- Rows in order: where a path stands among them, and one row more.
-use Rattle.std.proofs.Common.{◌≡◌, ◌<◌, ◌≤◌, ◌+◌, ℕ, zero, suc, List, [], ◌∷◌, ◌++◌, take, drop, length, Bool, true, false, cond, ◌&&◌, ◌⊎◌, inl, inr, Option, Some, None, Ok, Err, refl, sym, ap, subst, ◌∙◌, arith, append-nil}
+use Rattle.std.proofs.Common.{◌≡◌, ◌<◌, ◌≤◌, ◌+◌, ℕ, zero, suc, List, [], ◌∷◌, ◌++◌, length, Bool, true, false, cond, ◌&&◌, ◌⊎◌, inl, inr, Option, Some, None, refl, sym, ap, subst, ◌∙◌, arith, append-nil}
 use lib.Dec.{T}
 use Rattle.std.specs.Prelude.{slice_get, insert as inserted}
 use Rattle.std.specs.Option.{option_map}
@@ -11,7 +11,7 @@ use Rattle.std.specs.FinMap.Entries.{below_all}
 use Rattle.std.specs.FinMap.{get, insert, find, is_sorted, get-insert}
 use Rattle.rk_base.specs.Text.{Text, text_cmp}
 use Rattle.rk_tree.specs.Held.{Paths}
-use Rattle.rk_tree.specs.Rows.{map_of, AreBelow, AreAbove, IsGap, IsPlace}
+use Rattle.rk_tree.specs.Rows.{map_of, AreBelow, AreAbove, IsGap}
 use Rattle.rk_tree.proofs.RowsLemmas.{and_first, and_second, get-found, same_maps}
 use Rattle.rk_tree.proofs.TextLemmas.{exact_texts, told_apart, ties_itself}
 

@@ -1,15 +1,15 @@
 -- What keeps a tree whole.
-use Rattle.std.proofs.Common.{◌≡◌, ◌≢◌, ◌<◌, ◌≤◌, ◌+◌, ℕ, zero, suc, List, [], ◌∷◌, ◌++◌, length, Bool, true, false, cond, Option, Some, None, ◌⊎◌, inl, inr, refl, sym, ap, subst, ◌∙◌, arith}
+use Rattle.std.proofs.Common.{◌≡◌, ◌<◌, ℕ, zero, suc, List, [], ◌∷◌, ◌++◌, length, Bool, true, false, Option, Some, None, ◌⊎◌, inl, inr, refl, sym, ap, subst, ◌∙◌, arith}
 use Rattle.std.specs.Prelude.{slice_get, slice_set}
 use Rattle.std.specs.Option.{option_and_then}
-use Rattle.std.proofs.lemmas.Option.{slice_get_within, slice_get_past}
-use Rattle.std.specs.FinMap.{get, empty, insert, entries, get-empty}
+use Rattle.std.proofs.lemmas.Option.{slice_get_within}
+use Rattle.std.specs.FinMap.{get, empty, insert, get-empty}
 use Rattle.rk_base.specs.Text.{Text, text_cmp, root, parent, join, hidden, is_within}
 use Rattle.rk_base.specs.Canonical.{is_name, is_canonical}
 use Rattle.rk_tree.specs.declared.entry.Entry.{Entry}
 use Rattle.rk_tree.specs.declared.entry.Entry.TheVariants.{File, Dir, Link}
 use Rattle.rk_tree.specs.Entries.{is_dir, IsFit}
-use Rattle.rk_tree.specs.Held.{Held, Paths, top, node, number_at, path_of, child, with_node, linked, added, with_path, set_node, replaced, replaced_at, set_bytes}
+use Rattle.rk_tree.specs.Held.{Held, Paths, top, node, number_at, path_of, child, with_node, added, with_path, set_node, replaced, replaced_at, set_bytes}
 use Rattle.rk_tree.specs.Whole.{IsPlaced, IsWhole, IsFree}
 use Rattle.rk_tree.proofs.RowsLemmas.{insert_cases}
 use Rattle.rk_tree.proofs.TextLemmas.{parent-root, within-join, hidden-back, root_seen, name_at_root}

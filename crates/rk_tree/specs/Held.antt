@@ -1,5 +1,5 @@
 -- What a tree holds: the number of the node that stands at each path, and the nodes. Directories are spoken of by their numbers.
-use Rattle.std.specs.Prelude.{ℕ, ◌/◌, ◌%◌, List, [], ◌∷◌, ◌++◌, length, Bool, true, false, ◌==◌, if◌then◌else◌, Option, Some, None, slice_get, slice_set, refl}
+use Rattle.std.specs.Prelude.{ℕ, ◌/◌, ◌%◌, List, [], ◌∷◌, ◌++◌, length, Bool, ◌==◌, if◌then◌else◌, Option, Some, None, slice_get, slice_set, refl}
 use Rattle.std.specs.Coded.{Coded, code_by, coded×, coded_ℕ, coded_list}
 use Rattle.std.specs.Option.{option_and_then}
 use Rattle.std.specs.FinMap.{FinMap, entries, get, insert, code}

@@ -1,5 +1,5 @@
 -- What is true of each tree.
-use Rattle.std.specs.Prelude.{◌≡◌, ℕ, true, Option, Some, None}
+use Rattle.std.specs.Prelude.{◌≡◌, ℕ, true, Some, None}
 use Rattle.rk_base.specs.Text.{Text, root, parent, join, hidden, is_within}
 use Rattle.rk_base.specs.Canonical.{is_canonical}
 use Rattle.rk_tree.specs.Entries.{is_dir, IsFit}

@@ -1,5 +1,5 @@
 -- What is known of a name that a path leads to, where it stands for nothing.
-use Rattle.std.proofs.Common.{◌≡◌, ℕ, zero, suc, List, [], ◌∷◌, ◌++◌, Bool, true, false, cond, not, ◌&&◌, ◌||◌, Option, Some, None, Ok, Err, IfOk, refl, sym, ap, ◌∙◌, eqb}
+use Rattle.std.proofs.Common.{◌≡◌, ℕ, zero, suc, List, [], ◌∷◌, ◌++◌, Bool, true, false, cond, not, ◌&&◌, ◌||◌, Option, Some, None, Ok, Err, IfOk, refl, ap, ◌∙◌, eqb}
 use Rattle.std.proofs.lemmas.Bool.{eq-eqb}
 use Rattle.rk_base.specs.Text.{Text, is_slash, same_text, hidden, dot, dot_dot}
 use Rattle.rk_base.specs.Canonical.{is_empty, is_name}
@@ -12,7 +12,6 @@ use Rattle.rk_tree.specs.declared.entry.Entry.TheVariants.{File, Dir, Link}
 use Rattle.rk_tree.proofs.TextLemmas.{same_itself}
 use Rattle.rk_walk.specs.Walk.{Spot, Part, parts, ends_slash, at_node, at_child, at_parent, at_part, walk, start, leads, resolve, has_nul, IsFreePlace}
 use Rattle.rk_walk.specs.declared.place.Here.{Here}
-use Rattle.rk_walk.specs.declared.place.Place.{Place}
 use Rattle.rk_walk.specs.declared.place.Place.TheVariants.{Found, Absent}
 
 abbrev pub IsFreeSpot : Held → Spot → Type 0

@@ -1,4 +1,3 @@
-use Rattle.std.proofs.Common.{◌++◌, sym}
 use Rattle.rk_tree.proofs.CompareLemmas.{told_second, told_last}
 use Rattle.rk_tree.proofs.compare.compare.Goals as goal
 

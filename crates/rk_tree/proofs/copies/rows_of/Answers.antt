@@ -1,10 +1,8 @@
-use Rattle.std.proofs.Common.{◌≡◌, ◌∙◌, ◌+◌, ◌++◌, ◌∷◌, [], sym, ap, ℕ, List, length, rules, arith, length-append}
+use Rattle.std.proofs.Common.{◌≡◌, ◌∙◌, ◌++◌, ◌∷◌, [], ap, ℕ, length, rules}
 use Rattle.std.specs.FinMap.{entries, is_sorted}
 use Rattle.rk_base.specs.Text.{Text, text_cmp}
-use Rattle.rk_tree.specs.declared.entry.Entry.{Entry}
 use Rattle.rk_tree.specs.declared.node.Node.{Node}
-use Rattle.rk_tree.specs.Copies.{numbered}
-use Rattle.rk_tree.specs.Nodes.{placed, placed_rows}
+use Rattle.rk_tree.specs.Nodes.{placed}
 use Rattle.rk_tree.specs.Rows.{map_of}
 use Rattle.rk_tree.proofs.CopiesLemmas.{rows_step, nodes_step, all_rows, all_nodes, numbered-sorted, begun_rows, one_more}
 use Rattle.rk_tree.proofs.copies.rows_of.Goals as goal

@@ -1,9 +1,5 @@
-use Rattle.std.proofs.Common.{◌≡◌, ◌∙◌, ◌≤◌, sym, ap, ℕ, List, drop, length}
-use Rattle.std.specs.List.{filter_map}
-use Rattle.std.specs.FinMap.{empty, entries, is_sorted, entries_sorted}
-use Rattle.rk_base.specs.Text.{Text, text_cmp}
-use Rattle.rk_tree.specs.Rows.{map_of}
-use Rattle.rk_tree.specs.Copies.{entry_row, put_found, snapshot_of}
+use Rattle.std.proofs.Common.{◌∙◌, ap}
+use Rattle.rk_tree.specs.Copies.{put_found}
 use Rattle.rk_tree.specs.Nodes.{entries_of}
 use Rattle.rk_tree.proofs.CopiesLemmas.{found_step, found_all}
 use Rattle.rk_tree.proofs.copies.snapshot_of.Goals as goal

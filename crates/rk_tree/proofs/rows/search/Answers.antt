@@ -1,5 +1,5 @@
-use Rattle.std.proofs.Common.{◌+◌, ◌-◌, ◌/◌, ◌++◌, arith}
-use Rattle.rk_tree.proofs.SearchLemmas.{yes, below_more, above_more, found_place, none_above}
+use Rattle.std.proofs.Common.{arith}
+use Rattle.rk_tree.proofs.SearchLemmas.{yes, below_more, above_more, found_place}
 use Rattle.rk_tree.proofs.rows.search.Goals as goal
 
 pub returns-in-Some-Equal : goal.returns-in-Some-Equal

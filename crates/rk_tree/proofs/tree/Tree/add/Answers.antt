@@ -1,6 +1,6 @@
 use Rattle.std.proofs.Common.{◌∙◌, ◌++◌, ◌∷◌, [], ap}
 use Rattle.rk_tree.specs.declared.node.Node.{Node}
-use Rattle.rk_tree.proofs.NodesLemmas.{free_path, placed-kept, lost-kept, add-placed, add-lost}
+use Rattle.rk_tree.proofs.NodesLemmas.{free_path, placed-kept, lost-kept, add-placed}
 use Rattle.rk_tree.proofs.tree.Tree.add.Goals as goal
 
 pub add_at-requires : goal.add_at-requires

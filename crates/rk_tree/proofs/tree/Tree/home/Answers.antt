@@ -1,4 +1,4 @@
-use Rattle.std.proofs.Common.{◌∙◌, ap, refl, List, Option}
+use Rattle.std.proofs.Common.{◌∙◌, ap, refl, List}
 use Rattle.std.specs.Prelude.{slice_get}
 use Rattle.std.specs.Option.{option_and_then}
 use Rattle.rk_tree.specs.declared.node.Node.{Node}

@@ -1,5 +1,4 @@
-use Rattle.std.proofs.Common.{◌∙◌, sym, ap, subst}
-use Rattle.rk_tree.specs.Whole.{IsWhole}
+use Rattle.std.proofs.Common.{◌∙◌, ap}
 use Rattle.rk_tree.specs.Copies.{snapshot_of}
 use Rattle.rk_tree.proofs.CopiesLemmas.{made_tree, made_kept, snapshot_of-tree_of}
 use Rattle.rk_tree.proofs.tree.Tree.of_snapshot.Goals as goal
