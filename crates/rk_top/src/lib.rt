@@ -11,6 +11,8 @@ mod requests;
 mod run;
 mod shown;
 mod stop;
+#[cfg(test)]
+mod tests;
 mod texts;
 mod top;
 mod words;
