@@ -1,4 +1,8 @@
 // The top call over folders in memory.
+ghost use Rattle.std.specs.Prelude.{◌≡◌, ◌<◌};
+
+use crate::build::{self, Ended};
+use crate::stop::Stop;
 use crate::{Outcome, rkr};
 use rk_base::{Bytes, NoMemory, Path, Steps};
 use rk_folder::{Change, MemFolder, MemSink, Standing};
@@ -110,61 +114,156 @@ fn tells_what_the_script_tells(rt: HostRuntime) -> Result<(), Fail> {
     Ok(())
 }
 
-// How a build of this script ends, where it does.
-fn status_of(alloc: Global, folder: &mut MemFolder) -> Result<Option<u8>, Fail> {
+// The two changes of a build that leaves only its database.
+fn is_only_db(changes: &[Change]) -> bool {
+    match changes {
+        [Change::MakeDir(dir), Change::Write(db)] => dir.text() == b"/.rkr".as_slice()
+            && db.text() == b"/.rkr/db".as_slice(),
+        _ => false,
+    }
+}
+
+// Whether a build over the folder ends so, and leaves only its database.
+fn fails_with(
+    alloc: Global,
+    folder: &mut MemFolder,
+    status: u8,
+    error_text: &[u8],
+) -> Result<bool, Fail> {
     let mut out = MemSink::new(alloc);
     let mut err = MemSink::new(alloc);
-    match build(alloc, folder, &mut out, &mut err)? {
-        Outcome::Ended { status, .. } => Ok(Some(status)),
-        _ => Ok(None),
-    }
+    let outcome = build(alloc, folder, &mut out, &mut err)?;
+    Ok(
+        matches!(outcome, Outcome::Ended { status: it, launched: 1, ran: 1 } if it == status)
+            && err.bytes() == error_text
+            && is_only_db(folder.changes()),
+    )
 }
 
 #[test]
 fn ends_with_the_status_of_the_script(rt: HostRuntime) -> Result<(), Fail> {
     let alloc = rt.alloc();
     let mut empty = MemFolder::new(alloc)?;
-    assert_eq!(rt; status_of(alloc, &mut empty)?, Some(127));
+    assert!(rt; fails_with(alloc, &mut empty, 127, b"sh: Rikerfile: no such file\n")?);
     let mut beyond = folder_of(alloc, b"echo x\n")?;
-    assert_eq!(rt; status_of(alloc, &mut beyond)?, Some(2));
+    assert!(rt;
+        fails_with(
+            alloc,
+            &mut beyond,
+            2,
+            b"sh: Rikerfile: line 1: syntax error\n"
+        )?
+    );
     Ok(())
+}
+
+// Whether a build refuses the path by name, and changes nothing.
+fn refuses(alloc: Global, folder: &mut MemFolder, path: &[u8], line: &[u8]) -> Result<bool, Fail> {
+    let mut out = MemSink::new(alloc);
+    let mut err = MemSink::new(alloc);
+    let outcome = build(alloc, folder, &mut out, &mut err)?;
+    Ok(
+        matches!(outcome, Outcome::Special(it) if it.text() == path)
+            && err.bytes() == line
+            && out.bytes().is_empty()
+            && folder.changes().is_empty(),
+    )
 }
 
 #[test]
 fn refuses_what_is_special(rt: HostRuntime) -> Result<(), Fail> {
     let alloc = rt.alloc();
+    let mut link = folder_of(alloc, b"cat a\n")?;
+    link.set_special(&at(alloc, b"/link")?)?;
+    assert!(rt;
+        refuses(
+            alloc,
+            &mut link,
+            b"/link",
+            b"rkr: /link: not a file or directory\n"
+        )?
+    );
+    let mut dir = folder_of(alloc, b"cat a\n")?;
+    dir.set_dir(&at(alloc, b"/d")?)?;
+    assert!(rt;
+        refuses(
+            alloc,
+            &mut dir,
+            b"/d",
+            b"rkr: /d: not a file or directory\n"
+        )?
+    );
+    let mut attrs = folder_of(alloc, b"cat a\n")?;
+    attrs.set_dir(&at(alloc, b"/.rkr")?)?;
+    attrs.set_file(alloc, &at(alloc, b"/.rkr/attrs")?, b"")?;
+    assert!(rt;
+        refuses(
+            alloc,
+            &mut attrs,
+            b"/.rkr/attrs",
+            b"rkr: /.rkr/attrs: not a file or directory\n"
+        )?
+    );
+    Ok(())
+}
+
+// Whether the words are refused before anything is looked at.
+fn refuses_words<L: Ledger>(alloc: Global, words: &[&str], blank: Blank) -> Result<bool, Fail>
+    requires name { blank.name ≡ L.name }
+    requires parts { blank.parts ≡ L.parts }
+    requires some { 0 < L.parts }
+{
     let mut folder = folder_of(alloc, b"cat a\n")?;
-    folder.set_special(&at(alloc, b"/link")?)?;
     let mut out = MemSink::new(alloc);
     let mut err = MemSink::new(alloc);
-    let outcome = build(alloc, &mut folder, &mut out, &mut err)?;
-    assert!(rt; matches!(outcome, Outcome::Special(path) if path.text() == b"/link".as_slice()));
-    assert_eq!(rt;
-        err.bytes(),
-        b"rkr: /link: not a file or directory\n".as_slice()
-    );
-    assert_eq!(rt; out.bytes(), b"".as_slice());
-    assert_eq!(rt; folder.changes().len(), 0);
+    let outcome = call::<L>(alloc, words, &mut folder, &mut out, &mut err, blank)?;
+    Ok(
+        matches!(outcome, Outcome::Usage)
+            && err.bytes().starts_with(b"usage: rkr ")
+            && folder.calls() == 0,
+    )
+}
+
+#[test]
+fn refuses_no_words(rt: HostRuntime) -> Result<(), Fail> {
+    assert!(rt; refuses_words::<Brand>(rt.alloc(), &["rkr"], Blank::new(1))?);
     Ok(())
 }
 
 #[test]
 fn refuses_wrong_words(rt: HostRuntime) -> Result<(), Fail> {
-    let alloc = rt.alloc();
-    let mut folder = folder_of(alloc, b"cat a\n")?;
+    assert!(rt; refuses_words::<Brand>(rt.alloc(), &["rkr", "bulid"], Blank::new(1))?);
+    Ok(())
+}
+
+// How the first build ends within so many turns.
+fn within<L: Ledger>(alloc: Global, steps: u32, blank: Blank) -> Result<Result<Ended, Stop>, Fail>
+    requires name { blank.name ≡ L.name }
+    requires parts { blank.parts ≡ L.parts }
+    requires some { 0 < L.parts }
+    requires steps { 0 < steps }
+{
+    let mut folder = folder_of(alloc, b"cat a b > out\n")?;
     let mut out = MemSink::new(alloc);
     let mut err = MemSink::new(alloc);
-    let outcome = call::<Brand>(
-        alloc,
-        &["rkr", "bulid"],
-        &mut folder,
-        &mut out,
-        &mut err,
-        Blank::new(1),
-    )?;
-    assert!(rt; matches!(outcome, Outcome::Usage));
-    assert!(rt; err.bytes().starts_with(b"usage: rkr "));
-    assert_eq!(rt; folder.calls(), 0);
+    let mut live = Steps::<L>::new(blank);
+    Ok(build::build(alloc, &mut folder, &mut out, &mut err, steps, &mut live))
+}
+
+#[test]
+fn ends_within_its_turns(rt: HostRuntime) -> Result<(), Fail> {
+    assert!(rt; within::<Brand>(rt.alloc(), 17, Blank::new(1))?.is_ok());
+    Ok(())
+}
+
+#[test]
+fn is_spent_a_turn_before(rt: HostRuntime) -> Result<(), Fail> {
+    assert!(rt;
+        matches!(
+            within::<Brand>(rt.alloc(), 16, Blank::new(1))?,
+            Err(Stop::Spent)
+        )
+    );
     Ok(())
 }
 
@@ -182,21 +281,35 @@ fn tells_a_failed_read(rt: HostRuntime) -> Result<(), Fail> {
     Ok(())
 }
 
-#[test]
-fn leaves_the_file_of_a_failed_write(rt: HostRuntime) -> Result<(), Fail> {
-    let alloc = rt.alloc();
+// The first build with its nth planned call failing, which leaves a byte where it writes.
+fn fails_at(alloc: Global, nth: u64) -> Result<MemFolder, Fail> {
     let mut trial = folder_of(alloc, b"cat a b > out\n")?;
     let mut out = MemSink::new(alloc);
     let mut err = MemSink::new(alloc);
     build(alloc, &mut trial, &mut out, &mut err)?;
-    let writes_from = trial.calls().saturating_sub(2);
     let mut folder = folder_of(alloc, b"cat a b > out\n")?;
-    folder.fail_write_at(writes_from, Bytes::from_slice(alloc, b"1")?)?;
-    let outcome = build(alloc, &mut folder, &mut out, &mut err)?;
-    assert!(rt; matches!(outcome, Outcome::WriteFault));
-    assert!(rt; is_file(&folder, &at(alloc, b"/out")?, b"1"));
-    assert!(rt; folder.at(&at(alloc, b"/.rkr")?).is_none());
-    assert_eq!(rt; err.bytes(), b"rkr: write fault\n".as_slice());
+    let at = trial.calls().saturating_sub(3).saturating_add(nth);
+    folder.fail_write_at(at, Bytes::from_slice(alloc, b"1")?)?;
+    match build(alloc, &mut folder, &mut out, &mut err)? {
+        Outcome::WriteFault => Ok(folder),
+        _ => Ok(MemFolder::new(alloc)?),
+    }
+}
+
+#[test]
+fn leaves_what_a_failed_write_left(rt: HostRuntime) -> Result<(), Fail> {
+    let alloc = rt.alloc();
+    let file = at(alloc, b"/out")?;
+    let db = at(alloc, b"/.rkr/db")?;
+    let first = fails_at(alloc, 1)?;
+    assert!(rt; is_file(&first, &file, b"1"));
+    assert!(rt; first.at(&at(alloc, b"/.rkr")?).is_none());
+    let second = fails_at(alloc, 2)?;
+    assert!(rt; is_file(&second, &file, b"1\n2\n"));
+    assert!(rt; second.at(&db).is_none());
+    let third = fails_at(alloc, 3)?;
+    assert!(rt; is_file(&third, &file, b"1\n2\n"));
+    assert!(rt; is_file(&third, &db, b"1"));
     Ok(())
 }
 
