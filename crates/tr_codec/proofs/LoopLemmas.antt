@@ -1,0 +1,34 @@
+-- Reading one after the other, as a loop does.
+use Rattle.std.proofs.Common.{◌≡◌, ℕ, suc, ◌-◌, ◌+◌, ◌≤◌, ◌<◌, List, [], ◌∷◌, ◌++◌, Option, Some, None, refl, sym, ap, ◌∙◌, arith}
+use Rattle.tr_codec.specs.declared.fault.Odd.{Odd}
+use Rattle.tr_codec.specs.declared.fault.Odd.TheVariants.{Form, NoMemory}
+use Rattle.tr_codec.specs.Reads.{Fails}
+use Rattle.tr_codec.specs.Reading.{◌>>=◌, many_at}
+
+module _ {A : Type 0} (one : List A → List ℕ → Option (A × List ℕ)) where
+  -- one more was read
+  pub goes_on : (front : List A) (count i : ℕ) (bytes : List ℕ) (x : A) (after : List ℕ) (total : Option (List A × List ℕ)) → i < count → one front bytes ≡ Some (x, after)
+      → many_at one (count - i) front bytes ≡ total → many_at one (count - (i + 1)) (front ++ x ∷ []) after ≡ total
+  unfolding many_at
+  goes_on front count i bytes x after total lt h so_far =
+      let k : count - i ≡ suc (count - (i + 1)) = omega arith in
+      let step : many_at one (count - i) front bytes ≡ many_at one (count - (i + 1)) (front ++ x ∷ []) after = rw (k, h) refl in
+      sym step ∙ so_far
+
+  -- where one isn't read, they aren't
+  pub ends : (e : Odd) (front : List A) (count i : ℕ) (bytes : List ℕ) (total : Option (List A × List ℕ)) → i < count → Fails e (one front bytes)
+      → many_at one (count - i) front bytes ≡ total → Fails e total
+  unfolding many_at
+  ends NoMemory front count i bytes total lt h so_far = tt
+  ends Form front count i bytes total lt h so_far =
+      let k : count - i ≡ suc (count - (i + 1)) = omega arith in
+      let step : many_at one (count - i) front bytes ≡ None = rw (k, h) refl in
+      sym so_far ∙ step
+
+  -- after the last
+  pub is_done : (front : List A) (count i : ℕ) (bytes : List ℕ) (total : Option (List A × List ℕ)) → count ≤ i → many_at one (count - i) front bytes ≡ total → total ≡ Some (front, bytes)
+  unfolding many_at
+  is_done front count i bytes total le so_far =
+      let k : count - i ≡ 0 = omega arith in
+      let step : many_at one (count - i) front bytes ≡ Some (front, bytes) = rw k refl in
+      sym so_far ∙ step

@@ -1,0 +1,7 @@
+use Rattle.std.proofs.Common.{◌≡◌, ◌-◌, ℕ, List, []}
+use Rattle.rk_calls.specs.declared.vars.Var.{Var}
+use Rattle.tr_codec.specs.Reading.{var_at, many_at}
+use Rattle.tr_codec.proofs.keys.so_many_vars.Given as goal
+
+abbrev pub invariant-vars : goal.invariant-vars
+invariant-vars l = many_at (λ (front : List Var). var_at l.blobs) (l.count - l.counter) l.vars.items l.rest ≡ many_at (λ (front : List Var). var_at l.blobs) l.count [] l.bytes

@@ -1,0 +1,60 @@
+-- Which tables have a spelling.
+use Rattle.std.specs.Prelude.{◌≡◌, ℕ, ◌+◌, ◌<◌, ◌^◌, List, true, sum_by}
+use Rattle.std.specs.List.{AllByRecursion}
+use Rattle.rk_base.specs.Canonical.{is_canonical}
+use Rattle.rk_calls.specs.Keys.{KeyValue, is_key, are_variables}
+use Rattle.rk_calls.specs.RefMaps.{is_refmap}
+use Rattle.rk_calls.specs.declared.call.Call.{Call}
+use Rattle.rk_calls.specs.declared.call.Call.TheVariants.{Open, Read, Write, Launch}
+use Rattle.rk_calls.specs.declared.answer.Answer.{Answer}
+use Rattle.rk_calls.specs.declared.answer.Answer.TheVariants.{Go, Done, Opened, Content, Joined, No}
+use Rattle.tr_record.specs.Rec.{AreNumbered}
+use Rattle.tr_record.specs.declared.steps.Step.{Step}
+use Rattle.tr_record.specs.declared.records.Record.{Record}
+
+-- at least one word, a canonical working directory, and variables, ascending by name, only where they count
+pub record FitsKey (key : KeyValue) : Type 0 where
+  pub words : is_key key.argv key.vars ≡ true
+  pub wd : is_canonical key.wd ≡ true
+  pub vars : are_variables key.vars ≡ true
+
+-- descriptors 0 to 9, strictly ascending, each with a number
+pub record FitsMap (map : List (ℕ × ℕ)) : Type 0 where
+  pub descriptors : is_refmap map ≡ true
+  pub numbers : AllByRecursion (λ pair. pair.1 < 2 ^ 64) map
+
+abbrev pub FitsCall : Call → Type 0
+FitsCall (Open path how) = Unit {0}
+FitsCall (Read r) = r < 2 ^ 64
+FitsCall (Write r bytes) = r < 2 ^ 64
+FitsCall (Launch key map) = FitsKey key × FitsMap map
+
+-- Go is never recorded
+abbrev pub FitsAnswer : Answer → Type 0
+FitsAnswer Go = ⊥
+FitsAnswer Done = Unit {0}
+FitsAnswer Opened = Unit {0}
+FitsAnswer (Content bytes) = Unit {0}
+FitsAnswer (Joined status) = status < 256
+FitsAnswer (No errno) = Unit {0}
+
+pub record FitsStep (step : Step) : Type 0 where
+  pub cost : step.cost < 2 ^ 32
+  pub call : FitsCall step.call
+  pub answer : FitsAnswer step.answer
+
+-- what a command paid in all
+abbrev pub paid : Record → ℕ
+paid rec = sum_by (λ step. step.cost) rec.steps + rec.exit_cost
+
+pub record FitsRecord (rec : Record) : Type 0 where
+  pub key : FitsKey rec.key
+  pub steps : AllByRecursion FitsStep rec.steps
+  pub exit : rec.exit < 256
+  pub exit_cost : rec.exit_cost < 2 ^ 32
+  pub paid : paid rec < 2 ^ 64
+
+-- each record has a spelling, and each ordinal is the number of earlier records of its key
+pub record Fits (table : List Record) : Type 0 where
+  pub records : AllByRecursion FitsRecord table
+  pub numbered : AreNumbered table

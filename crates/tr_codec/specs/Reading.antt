@@ -1,0 +1,211 @@
+-- Reading, as functions on bytes: a value and the rest, or none.
+use Rattle.std.specs.Prelude.{ℕ, zero, suc, ◌^◌, List, [], ◌∷◌, ◌++◌, length, take, drop, Option, Some, None, Bool, ◌&&◌, ◌==◌, nat_lt, if◌then◌else◌, slice_get}
+use Rattle.std.specs.Int.{Width, w32, w64, byte_len, from_be_bytes}
+use Rattle.rk_base.specs.Text.{Text}
+use Rattle.rk_base.specs.Canonical.{is_canonical}
+use Rattle.rk_base.specs.declared.errno.Errno.{Errno}
+use Rattle.rk_base.specs.declared.errno.Errno.TheVariants as errno
+use Rattle.rk_calls.specs.Keys.{KeyValue, is_key, are_variables}
+use Rattle.rk_calls.specs.RefMaps.{is_refmap}
+use Rattle.rk_calls.specs.declared.vars.Var.{Var}
+use Rattle.rk_calls.specs.declared.call.How.{How}
+use Rattle.rk_calls.specs.declared.call.How.TheVariants as how
+use Rattle.rk_calls.specs.declared.call.Call.{Call}
+use Rattle.rk_calls.specs.declared.call.Call.TheVariants.{Open, Read, Write, Launch}
+use Rattle.rk_calls.specs.declared.answer.Answer.{Answer}
+use Rattle.rk_calls.specs.declared.answer.Answer.TheVariants.{Done, Opened, Content, Joined, No}
+use Rattle.tr_record.specs.Rec.{count_of}
+use Rattle.tr_record.specs.declared.steps.Step.{Step}
+use Rattle.tr_record.specs.declared.records.Record.{Record}
+use Rattle.tr_codec.specs.Fits.{paid}
+
+infixl 10 ◌>>=◌
+abbrev pub ◌>>=◌ : {A B : Type 0} → Option A → (A → Option B) → Option B
+None >>= f = None
+(Some x) >>= f = f x
+
+-- the value where the test passes
+abbrev pub given : {A : Type 0} → Bool → A → Option A
+given b x = if b then Some x else None
+
+-- a number of some width, and one that its bytes can hold
+unfoldable pub number_at : Width → List ℕ → Option (ℕ × List ℕ)
+number_at w bytes =
+    if nat_lt (length bytes) (byte_len w) then None else
+    given (nat_lt (from_be_bytes w (take (byte_len w) bytes)) (256 ^ byte_len w)) (from_be_bytes w (take (byte_len w) bytes), drop (byte_len w) bytes)
+
+unfoldable pub byte_at : List ℕ → Option (ℕ × List ℕ)
+byte_at [] = None
+byte_at (b ∷ bytes) = given (nat_lt b 256) (b, bytes)
+
+-- a number that is no more than the bytes after it
+unfoldable pub count_at : List ℕ → Option (ℕ × List ℕ)
+count_at bytes = do
+  n ← number_at w64 bytes
+  if nat_lt (length n.1) n.0 then None else Some n
+
+-- so many, one after the other, each with what was read before it
+unfoldable pub many_at : {A : Type 0} → (List A → List ℕ → Option (A × List ℕ)) → ℕ → List A → List ℕ → Option (List A × List ℕ)
+many_at one zero front bytes = Some (front, bytes)
+many_at one (suc count) front bytes = do
+  x ← one front bytes
+  many_at one count (front ++ x.0 ∷ []) x.1
+
+-- how many, and each
+abbrev pub counted_at : {A : Type 0} → (List A → List ℕ → Option (A × List ℕ)) → List ℕ → Option (List A × List ℕ)
+counted_at one bytes = do
+  n ← count_at bytes
+  many_at one n.0 [] n.1
+
+unfoldable pub string_at : List ℕ → Option (Text × List ℕ)
+string_at bytes = do
+  n ← number_at w64 bytes
+  if nat_lt (length n.1) n.0 then None else Some (take n.0 n.1, drop n.0 n.1)
+
+-- the text of the blob with this number
+unfoldable pub blob_at : List Text → List ℕ → Option (Text × List ℕ)
+blob_at blobs bytes = do
+  n ← number_at w64 bytes
+  text ← slice_get blobs n.0
+  Some (text, n.1)
+
+unfoldable pub var_at : List Text → List ℕ → Option (Var × List ℕ)
+var_at blobs bytes = do
+  name ← blob_at blobs bytes
+  value ← blob_at blobs name.1
+  Some (record { name = name.0; value = value.0 }, value.1)
+
+-- the key of these parts, where they are parts of one
+abbrev pub key_from : List Text → Text → List Var → Option KeyValue
+key_from argv wd vars = given (is_canonical wd && (are_variables vars && is_key argv vars)) (record { argv = argv; wd = wd; vars = vars })
+
+unfoldable pub key_at : List Text → List ℕ → Option (KeyValue × List ℕ)
+key_at blobs bytes = do
+  argv ← counted_at (λ front. blob_at blobs) bytes
+  wd ← blob_at blobs argv.1
+  vars ← counted_at (λ front. var_at blobs) wd.1
+  key ← key_from argv.0 wd.0 vars.0
+  Some (key, vars.1)
+
+unfoldable pub pair_at : List ℕ → Option ((ℕ × ℕ) × List ℕ)
+pair_at bytes = do
+  d ← byte_at bytes
+  n ← number_at w64 d.1
+  Some ((d.0, n.0), n.1)
+
+unfoldable pub map_at : List ℕ → Option (List (ℕ × ℕ) × List ℕ)
+map_at bytes = do
+  pairs ← counted_at (λ front. pair_at) bytes
+  map ← given (is_refmap pairs.0) pairs.0
+  Some (map, pairs.1)
+
+abbrev pub how_of : ℕ → Option How
+how_of code = if code == 0 then Some how.Read else if code == 1 then Some how.Make else None
+
+abbrev pub errno_of : ℕ → Option Errno
+errno_of code =
+    if code == 1 then Some errno.NoEntry else
+    if code == 2 then Some errno.NotDir else
+    if code == 3 then Some errno.IsDir else
+    if code == 4 then Some errno.Exists else
+    if code == 5 then Some errno.Denied else
+    if code == 6 then Some errno.Loops else
+    if code == 7 then Some errno.NotEmpty else
+    if code == 8 then Some errno.BadRef else
+    if code == 9 then Some errno.Invalid else None
+
+unfoldable pub open_at : List Text → List ℕ → Option (Call × List ℕ)
+open_at blobs bytes = do
+  path ← blob_at blobs bytes
+  code ← byte_at path.1
+  how ← how_of code.0
+  Some (Open path.0 how, code.1)
+
+unfoldable pub read_at : List ℕ → Option (Call × List ℕ)
+read_at bytes = do
+  r ← number_at w64 bytes
+  Some (Read r.0, r.1)
+
+unfoldable pub write_at : List Text → List ℕ → Option (Call × List ℕ)
+write_at blobs bytes = do
+  r ← number_at w64 bytes
+  text ← blob_at blobs r.1
+  Some (Write r.0 text.0, text.1)
+
+unfoldable pub launch_at : List Text → List ℕ → Option (Call × List ℕ)
+launch_at blobs bytes = do
+  key ← key_at blobs bytes
+  map ← map_at key.1
+  Some (Launch key.0 map.0, map.1)
+
+abbrev pub call_of : List Text → ℕ → List ℕ → Option (Call × List ℕ)
+call_of blobs kind bytes =
+    if kind == 1 then open_at blobs bytes else
+    if kind == 2 then read_at bytes else
+    if kind == 4 then write_at blobs bytes else
+    if kind == 18 then launch_at blobs bytes else None
+
+unfoldable pub call_at : List Text → List ℕ → Option (Call × List ℕ)
+call_at blobs bytes = do
+  kind ← byte_at bytes
+  call_of blobs kind.0 kind.1
+
+unfoldable pub content_at : List Text → List ℕ → Option (Answer × List ℕ)
+content_at blobs bytes = do
+  text ← blob_at blobs bytes
+  Some (Content text.0, text.1)
+
+unfoldable pub joined_at : List ℕ → Option (Answer × List ℕ)
+joined_at bytes = do
+  status ← byte_at bytes
+  Some (Joined status.0, status.1)
+
+unfoldable pub no_at : List ℕ → Option (Answer × List ℕ)
+no_at bytes = do
+  code ← byte_at bytes
+  errno ← errno_of code.0
+  Some (No errno, code.1)
+
+abbrev pub answer_of : List Text → ℕ → List ℕ → Option (Answer × List ℕ)
+answer_of blobs kind bytes =
+    if kind == 1 then Some (Done, bytes) else
+    if kind == 2 then Some (Opened, bytes) else
+    if kind == 4 then content_at blobs bytes else
+    if kind == 10 then joined_at bytes else
+    if kind == 11 then no_at bytes else None
+
+unfoldable pub answer_at : List Text → List ℕ → Option (Answer × List ℕ)
+answer_at blobs bytes = do
+  kind ← byte_at bytes
+  answer_of blobs kind.0 kind.1
+
+unfoldable pub step_at : List Text → List ℕ → Option (Step × List ℕ)
+step_at blobs bytes = do
+  cost ← number_at w32 bytes
+  call ← call_at blobs cost.1
+  answer ← answer_at blobs call.1
+  Some (record { cost = cost.0; call = call.0; answer = answer.0 }, answer.1)
+
+-- the next record after these
+abbrev pub next_rec : List Record → KeyValue → List Step → ℕ → ℕ → Record
+next_rec front key steps exit exit_cost = record { key = key; ordinal = count_of key front; steps = steps; exit = exit; exit_cost = exit_cost }
+
+-- a record whose costs together are below 2^64
+abbrev pub payable : Record → Option Record
+payable rec = given (nat_lt (paid rec) (2 ^ 64)) rec
+
+unfoldable pub record_at : List Text → List Record → List ℕ → Option (Record × List ℕ)
+record_at blobs front bytes = do
+  key ← key_at blobs bytes
+  steps ← counted_at (λ before. step_at blobs) key.1
+  exit ← byte_at steps.1
+  exit_cost ← number_at w32 exit.1
+  rec ← payable (next_rec front key.0 steps.0 exit.0 exit_cost.0)
+  Some (rec, exit_cost.1)
+
+-- the table that a body may spell, after its magic; what stands after it isn't looked at
+unfoldable pub table_at : List ℕ → Option (List Record)
+table_at bytes = do
+  blobs ← counted_at (λ front. string_at) bytes
+  table ← counted_at (record_at blobs.0) blobs.1
+  Some table.0

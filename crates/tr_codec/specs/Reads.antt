@@ -1,0 +1,42 @@
+-- What a read tells.
+use Rattle.std.specs.Prelude.{◌≡◌, ◌≢◌, ◌<◌, ◌≤◌, ◌-◌, ℕ, List, take, drop, length, Option, Some, None, Result, Ok, Err}
+use Rattle.sha2.specs.Sha256.{sha256}
+use Rattle.tr_codec.specs.declared.fault.Odd.{Odd}
+use Rattle.tr_codec.specs.declared.fault.Odd.TheVariants.{Form, NoMemory}
+use Rattle.tr_codec.specs.declared.fault.Damage.{Damage}
+use Rattle.tr_codec.specs.declared.fault.Damage.TheVariants as damage
+use Rattle.tr_codec.specs.declared.fault.CodecErr.{CodecErr}
+use Rattle.tr_codec.specs.declared.fault.CodecErr.TheVariants as fault
+
+-- what a reader of the code gives, of what reading gives: Form only where it gives none
+abbrev pub Fails : {Y : Type 0} → Odd → Option Y → Type 0
+Fails Form read = read ≡ None
+Fails NoMemory read = Unit {0}
+
+abbrev pub Gives : {X Y : Type 0} → (X → Y) → Result X Odd → Option Y → Type 0
+Gives view (Ok x) read = read ≡ Some (view x)
+Gives view (Err e) read = Fails e read
+
+-- all but the last 32 bytes, and these
+abbrev pub front_of : List ℕ → List ℕ
+front_of bytes = take (length bytes - 32) bytes
+
+abbrev pub seal_of : List ℕ → List ℕ
+seal_of bytes = drop (length bytes - 32) bytes
+
+-- which damage is told: too short, else the digest is another one, else it is the form
+abbrev pub IsDamage : ℕ → List ℕ → Damage → Type 0
+IsDamage least bytes (damage.Short n) = (n ≡ length bytes) × (n < least)
+IsDamage least bytes (damage.Digest kept computed) = (least ≤ length bytes) × (kept ≡ seal_of bytes) × (computed ≡ sha256 (front_of bytes)) × (kept ≢ computed)
+IsDamage least bytes damage.Form = (least ≤ length bytes) × (seal_of bytes ≡ sha256 (front_of bytes))
+
+abbrev pub Tells : {T : Type 0} → ℕ → List ℕ → Result T CodecErr → Type 0
+Tells least bytes (Ok it) = Unit {0}
+Tells least bytes (Err (fault.Damaged it)) = IsDamage least bytes it
+Tells least bytes (Err fault.NoMemory) = Unit {0}
+
+-- the value, unless memory ran out
+abbrev pub Finds : {T : Type 0} → Result T CodecErr → T → Type 0
+Finds (Ok x) y = x ≡ y
+Finds (Err (fault.Damaged it)) y = ⊥
+Finds (Err fault.NoMemory) y = Unit {0}

@@ -1,0 +1,53 @@
+// Why bytes could not be read.
+ghost use Rattle.std.specs.Prelude.{◌≡◌};
+ghost use Rattle.tr_codec.specs.declared.fault.Odd.TheVariants as odd;
+
+use rk_base::NoMemory;
+use std::alloc::{AllocError, AllocFailed};
+
+/// What is wrong with the bytes of a file: they are too short (their length is told), their last 32 bytes aren't
+/// the SHA-256 of those before, or nothing has them as its spelling.
+#[derive(Clone, Copy, Debug, PartialEq, Eq)]
+pub enum Damage {
+    Short(u64),
+    Digest { kept: [u8; 32], computed: [u8; 32] },
+    Form,
+}
+
+/// Why nothing was read.
+#[derive(Clone, Copy, Debug, PartialEq, Eq)]
+pub enum CodecErr {
+    Damaged(Damage),
+    NoMemory,
+}
+
+/// Why a part was not read.
+#[derive(Clone, Copy, Debug)]
+pub(crate) enum Odd {
+    Form,
+    NoMemory,
+}
+
+impl From<NoMemory> for Odd {
+    ghost from_gives = { λ _ e. e ≡ odd.NoMemory };
+
+    fn from(_: NoMemory) -> Odd {
+        Odd::NoMemory
+    }
+}
+
+impl From<AllocError> for Odd {
+    ghost from_gives = { λ _ e. e ≡ odd.NoMemory };
+
+    fn from(_: AllocError) -> Odd {
+        Odd::NoMemory
+    }
+}
+
+impl<T: Drop> From<AllocFailed<T>> for Odd {
+    ghost from_gives = { λ _ e. e ≡ odd.NoMemory };
+
+    fn from(_: AllocFailed<T>) -> Odd {
+        Odd::NoMemory
+    }
+}

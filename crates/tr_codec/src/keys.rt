@@ -1,0 +1,161 @@
+// Keys and descriptors that are read.
+ghost use Rattle.std.specs.Prelude.{◌≡◌, ℕ, List, []};
+ghost use Rattle.rk_base.specs.Canonical.{is_canonical};
+ghost use Rattle.rk_calls.specs.Keys.{is_key, are_variables};
+ghost use Rattle.rk_calls.specs.RefMaps.{is_refmap};
+ghost use Rattle.tr_codec.specs.Reading.{counted_at, given, many_at, blob_at, var_at, key_from, key_at, pair_at, map_at};
+ghost use Rattle.tr_codec.specs.Reads.{Gives};
+
+use crate::fault::Odd;
+use crate::parts::{blob_of, blobs_of, byte_of, count_of, number_of};
+use rk_base::{Bytes, Path, PathFault};
+use rk_calls::{Key, RefMap, Var, VarList, WordList};
+use std::alloc::Global;
+
+fn words_of<'a>(
+    alloc: Global,
+    blobs: &[Bytes],
+    bytes: &'a [u8],
+) -> Result<(Vec<Bytes>, &'a [u8]), Odd>
+    ensures { Gives (λ x. (x.0.items, x.1.now)) result (counted_at (λ front. blob_at blobs.now) bytes.now) }
+{
+    let (count, rest) = count_of(bytes)?;
+    let (words, rest) = blobs_of(alloc, blobs, count, rest)?;
+    Ok((words, rest))
+}
+
+#[tactic(auto, unfolding(crate::specs::Reading::var_at))]
+fn var_of<'a>(blobs: &[Bytes], bytes: &'a [u8]) -> Result<(Var, &'a [u8]), Odd>
+    ensures { Gives (λ x. (x.0, x.1.now)) result (var_at blobs.now bytes.now) }
+{
+    let (name, rest) = blob_of(blobs, bytes)?;
+    let (value, rest) = blob_of(blobs, rest)?;
+    Ok((Var { name, value }, rest))
+}
+
+fn so_many_vars<'a>(
+    alloc: Global,
+    blobs: &[Bytes],
+    count: u64,
+    bytes: &'a [u8],
+) -> Result<(Vec<Var>, &'a [u8]), Odd>
+    ensures { Gives (λ x. (x.0.items, x.1.now)) result (many_at (λ front. var_at blobs.now) count [] bytes.now) }
+{
+    let mut vars = Vec::new(alloc);
+    let mut rest = bytes;
+    'vars: for _ in 0..count {
+        let (var, after) = var_of(blobs, rest)?;
+        vars.push(var)?;
+        rest = after;
+    }
+    Ok((vars, rest))
+}
+
+fn vars_of<'a>(
+    alloc: Global,
+    blobs: &[Bytes],
+    bytes: &'a [u8],
+) -> Result<(Vec<Var>, &'a [u8]), Odd>
+    ensures { Gives (λ x. (x.0.items, x.1.now)) result (counted_at (λ front. var_at blobs.now) bytes.now) }
+{
+    let (count, rest) = count_of(bytes)?;
+    let (vars, rest) = so_many_vars(alloc, blobs, count, rest)?;
+    Ok((vars, rest))
+}
+
+fn path_of(alloc: Global, text: &[u8]) -> Result<Path, Odd>
+    ensures { Gives (λ p. p) result (given (is_canonical text.now) text.now) }
+{
+    match Path::parse(alloc, text) {
+        Ok(path) => Ok(path),
+        Err(PathFault::Invalid) => Err(Odd::Form),
+        Err(PathFault::NoMemory) => Err(Odd::NoMemory),
+    }
+}
+
+fn list_of(vars: Vec<Var>) -> Result<VarList, Odd>
+    ensures { Gives (λ l. l) result (given (are_variables vars.items) vars.items) }
+{
+    match VarList::from_vec(vars) {
+        Some(vars) => Ok(vars),
+        None => Err(Odd::Form),
+    }
+}
+
+fn whole_key(argv: Vec<Bytes>, wd: Path, vars: VarList) -> Result<Key, Odd>
+    ensures { Gives (λ k. k) result (given (is_key argv.items vars) (record { argv = argv.items; wd = wd; vars = vars })) }
+{
+    match Key::from_parts(WordList::new(argv), wd, vars) {
+        Some(key) => Ok(key),
+        None => Err(Odd::Form),
+    }
+}
+
+// The key of these parts, where they are parts of one.
+fn key_from(alloc: Global, argv: Vec<Bytes>, wd: &[u8], vars: Vec<Var>) -> Result<Key, Odd>
+    ensures { Gives (λ k. k) result (key_from argv.items wd.now vars.items) }
+{
+    let wd = path_of(alloc, wd)?;
+    let vars = list_of(vars)?;
+    whole_key(argv, wd, vars)
+}
+
+#[tactic(auto, unfolding(crate::specs::Reading::key_at))]
+pub(crate) fn key_of<'a>(
+    alloc: Global,
+    blobs: &[Bytes],
+    bytes: &'a [u8],
+) -> Result<(Key, &'a [u8]), Odd>
+    ensures { Gives (λ x. (x.0, x.1.now)) result (key_at blobs.now bytes.now) }
+{
+    let (argv, rest) = words_of(alloc, blobs, bytes)?;
+    let (wd, rest) = blob_of(blobs, rest)?;
+    let (vars, rest) = vars_of(alloc, blobs, rest)?;
+    let key = key_from(alloc, argv, wd.as_slice(), vars)?;
+    Ok((key, rest))
+}
+
+#[tactic(auto, unfolding(crate::specs::Reading::pair_at))]
+fn pair_of(bytes: &[u8]) -> Result<((u8, u64), &[u8]), Odd>
+    ensures { Gives (λ x. (x.0, x.1.now)) result (pair_at bytes.now) }
+{
+    let (d, rest) = byte_of(bytes)?;
+    let (n, rest) = number_of(rest)?;
+    Ok(((d, n), rest))
+}
+
+fn so_many_pairs(
+    alloc: Global,
+    count: u64,
+    bytes: &[u8],
+) -> Result<(Vec<(u8, u64)>, &[u8]), Odd>
+    ensures { Gives (λ x. (x.0.items, x.1.now)) result (many_at (λ front. pair_at) count [] bytes.now) }
+{
+    let mut pairs = Vec::new(alloc);
+    let mut rest = bytes;
+    'pairs: for _ in 0..count {
+        let (pair, after) = pair_of(rest)?;
+        pairs.push(pair)?;
+        rest = after;
+    }
+    Ok((pairs, rest))
+}
+
+fn map_from(pairs: Vec<(u8, u64)>) -> Result<RefMap, Odd>
+    ensures { Gives (λ m. m) result (given (is_refmap pairs.items) pairs.items) }
+{
+    match RefMap::from_vec(pairs) {
+        Some(map) => Ok(map),
+        None => Err(Odd::Form),
+    }
+}
+
+#[tactic(auto, unfolding(crate::specs::Reading::map_at))]
+pub(crate) fn map_of(alloc: Global, bytes: &[u8]) -> Result<(RefMap, &[u8]), Odd>
+    ensures { Gives (λ x. (x.0, x.1.now)) result (map_at bytes.now) }
+{
+    let (count, rest) = count_of(bytes)?;
+    let (pairs, rest) = so_many_pairs(alloc, count, rest)?;
+    let map = map_from(pairs)?;
+    Ok((map, rest))
+}

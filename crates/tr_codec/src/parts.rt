@@ -1,0 +1,120 @@
+// Parts of what is read: numbers, strings and blobs.
+ghost use Rattle.std.specs.Prelude.{◌≡◌, ℕ, List, []};
+ghost use Rattle.std.specs.Int.{w32, w64};
+ghost use Rattle.tr_codec.specs.Reading.{number_at, byte_at, count_at, many_at, string_at, blob_at};
+ghost use Rattle.tr_codec.specs.Reads.{Gives};
+
+use crate::fault::Odd;
+use rk_base::Bytes;
+use std::alloc::Global;
+
+#[tactic(auto, unfolding(crate::specs::Reading::number_at))]
+pub(crate) fn number_of(bytes: &[u8]) -> Result<(u64, &[u8]), Odd>
+    ensures { Gives (λ x. (x.0, x.1.now)) result (number_at w64 bytes.now) }
+{
+    if bytes.len() < 8 {
+        return Err(Odd::Form);
+    }
+    let (front, rest) = bytes.split_at(8);
+    let number = u64::from_be_bytes([
+        front[0], front[1], front[2], front[3], front[4], front[5], front[6], front[7],
+    ]);
+    Ok((number, rest))
+}
+
+/// A number of four bytes.
+#[tactic(auto, unfolding(crate::specs::Reading::number_at))]
+pub(crate) fn cost_of(bytes: &[u8]) -> Result<(u32, &[u8]), Odd>
+    ensures { Gives (λ x. (x.0, x.1.now)) result (number_at w32 bytes.now) }
+{
+    if bytes.len() < 4 {
+        return Err(Odd::Form);
+    }
+    let (front, rest) = bytes.split_at(4);
+    let number = u32::from_be_bytes([front[0], front[1], front[2], front[3]]);
+    Ok((number, rest))
+}
+
+#[tactic(auto, unfolding(crate::specs::Reading::byte_at))]
+pub(crate) fn byte_of(bytes: &[u8]) -> Result<(u8, &[u8]), Odd>
+    ensures { Gives (λ x. (x.0, x.1.now)) result (byte_at bytes.now) }
+{
+    match bytes {
+        [] => Err(Odd::Form),
+        [b, rest @ ..] => Ok((*b, rest)),
+    }
+}
+
+/// How many there are: no more than the bytes after it, so that no memory is asked for more.
+#[tactic(auto, unfolding(crate::specs::Reading::count_at))]
+pub(crate) fn count_of(bytes: &[u8]) -> Result<(u64, &[u8]), Odd>
+    ensures { Gives (λ x. (x.0, x.1.now)) result (count_at bytes.now) }
+{
+    let (n, rest) = number_of(bytes)?;
+    if (rest.len() as u64) < n {
+        return Err(Odd::Form);
+    }
+    Ok((n, rest))
+}
+
+#[tactic(auto, unfolding(crate::specs::Reading::string_at))]
+fn string_of(alloc: Global, bytes: &[u8]) -> Result<(Bytes, &[u8]), Odd>
+    ensures { Gives (λ x. (x.0, x.1.now)) result (string_at bytes.now) }
+{
+    let (len, rest) = number_of(bytes)?;
+    let len = len as usize;
+    if rest.len() < len {
+        return Err(Odd::Form);
+    }
+    let (text, rest) = rest.split_at(len);
+    Ok((Bytes::from_slice(alloc, text)?, rest))
+}
+
+/// The text of the blob with the number that stands there.
+#[tactic(auto, unfolding(crate::specs::Reading::blob_at))]
+pub(crate) fn blob_of<'a>(blobs: &[Bytes], bytes: &'a [u8]) -> Result<(Bytes, &'a [u8]), Odd>
+    ensures { Gives (λ x. (x.0, x.1.now)) result (blob_at blobs.now bytes.now) }
+{
+    let (n, rest) = number_of(bytes)?;
+    match blobs.get(n as usize) {
+        None => Err(Odd::Form),
+        Some(blob) => Ok((blob.copy()?, rest)),
+    }
+}
+
+/// So many strings.
+pub(crate) fn strings_of(
+    alloc: Global,
+    count: u64,
+    bytes: &[u8],
+) -> Result<(Vec<Bytes>, &[u8]), Odd>
+    ensures { Gives (λ x. (x.0.items, x.1.now)) result (many_at (λ front. string_at) count [] bytes.now) }
+{
+    let mut texts = Vec::new(alloc);
+    let mut rest = bytes;
+    'texts: for _ in 0..count {
+        let (text, after) = string_of(alloc, rest)?;
+        texts.push(text)?;
+        rest = after;
+    }
+    Ok((texts, rest))
+}
+
+/// So many blobs.
+pub(crate) fn blobs_of<'a>(
+    alloc: Global,
+    blobs: &[Bytes],
+    count: u64,
+    bytes: &'a [u8],
+) -> Result<(Vec<Bytes>, &'a [u8]), Odd>
+    ensures { Gives (λ x. (x.0.items, x.1.now)) result (many_at (λ front. blob_at blobs.now) count [] bytes.now) }
+{
+    let mut texts = Vec::new(alloc);
+    let mut rest = bytes;
+    'texts: for _ in 0..count {
+        let (text, after) = blob_of(blobs, rest)?;
+        texts.push(text)?;
+        rest = after;
+    }
+    Ok((texts, rest))
+}
