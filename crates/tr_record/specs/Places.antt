@@ -1,11 +1,16 @@
--- The numbers of the records of a key.
+-- Records that are put whole, and the numbers of the records of a key.
 use Rattle.std.specs.Prelude.{◌≡◌, ℕ, suc, List, [], ◌∷◌, ◌++◌, if◌then◌else◌, unwrap_or}
 use Rattle.std.specs.Map.{lookup}
 use Rattle.rk_calls.specs.Keys.{KeyValue, same_key}
+use Rattle.tr_record.specs.declared.steps.Step.{Step}
 use Rattle.tr_record.specs.declared.records.Record.{Record}
-use Rattle.tr_record.specs.Rec.{AreNumbered}
+use Rattle.tr_record.specs.Rec.{count_of, AreNumbered}
 
--- of records that count from a number on
+-- a whole record is put at the end; its ordinal is the number of earlier records of its key
+abbrev pub pushed : KeyValue → List Step → ℕ → ℕ → List Record → List Record
+pushed key steps exit exit_cost table = table ++ record { key = key; ordinal = count_of key table; steps = steps; exit = exit; exit_cost = exit_cost } ∷ []
+
+-- the numbers of the records of a key, where the first record has this one
 abbrev pub places_from : ℕ → KeyValue → List Record → List ℕ
 places_from i key [] = []
 places_from i key (rec ∷ table) = if same_key rec.key key then i ∷ places_from (suc i) key table else places_from (suc i) key table

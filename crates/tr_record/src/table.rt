@@ -1,5 +1,6 @@
 // The table of records.
 ghost use Rattle.std.specs.Prelude.{◌≡◌, ◌≢◌, ℕ, ◌<◌, [], length, option_copied, slice_get, IfOk, OnOk, OnErr, IfSome, IfNone};
+ghost use Rattle.tr_record.specs.Places.{pushed};
 ghost use Rattle.tr_record.specs.Rec.{rec_at, begun, stepped, ended, count_of, AreNumbered};
 
 use crate::index::{PlaceList, note, nth, places};
@@ -48,10 +49,16 @@ impl Table {
         self.records.len()
     }
 
-    /// A command of this key is launched. Its number is told; its ordinal is the count of its key so far.
-    pub fn begin(&mut self, key: Key) -> Result<usize, NoMemory>
-        ensures place { IfOk result (λ i. i ≡ length self.old) }
-        ensures table { OnOk result (self.new ≡ begun key self.old) }
+    /// A whole record is put at the end. Its ordinal is the count of its key so far.
+    pub fn push(
+        &mut self,
+        key: Key,
+        steps: StepList,
+        exit: u8,
+        exit_cost: u32,
+    ) -> Result<(), NoMemory>
+        ensures ok { OnOk result (self.new ≡ pushed key steps exit exit_cost self.old) }
+        ensures err { OnErr result (self.new ≡ self.old) }
     {
         let alloc = *self.records.allocator();
         let i = self.records.len();
@@ -59,14 +66,25 @@ impl Table {
         // Room is made first, so that nothing fails once the index has the number.
         self.records.reserve(1)?;
         note(alloc, &mut self.index, &key, i)?;
-        let steps = StepList::new(alloc);
         self.records.push(Record {
             key,
             ordinal,
             steps,
-            exit: 0,
-            exit_cost: 0,
+            exit,
+            exit_cost,
         })?;
+        Ok(())
+    }
+
+    /// A command of this key is launched. Its number is told; its ordinal is the count of its key so far.
+    pub fn begin(&mut self, key: Key) -> Result<usize, NoMemory>
+        ensures place { IfOk result (λ i. i ≡ length self.old) }
+        ensures table { OnOk result (self.new ≡ begun key self.old) }
+        ensures err { OnErr result (self.new ≡ self.old) }
+    {
+        let i = self.records.len();
+        let steps = StepList::new(*self.records.allocator());
+        self.push(key, steps, 0, 0)?;
         Ok(i)
     }
 
