@@ -1,10 +1,12 @@
 //! The table of records as bytes: one spelling each.
 #![tactic(auto)]
 
+mod calls;
 mod fault;
 mod keys;
 mod parts;
 mod pieces;
+mod records;
 mod writer;
 mod writing;
 
