@@ -43,16 +43,16 @@ pub record FitsStep (step : Step) : Type 0 where
   pub call : FitsCall step.call
   pub answer : FitsAnswer step.answer
 
--- what a command paid in all
-abbrev pub paid : Record → ℕ
-paid rec = sum_by (λ step. step.cost) rec.steps + rec.exit_cost
+-- what a command paid in all, with its exit
+abbrev pub paid : List Step → ℕ → ℕ
+paid steps exit_cost = sum_by (λ step. step.cost) steps + exit_cost
 
 pub record FitsRecord (rec : Record) : Type 0 where
   pub key : FitsKey rec.key
   pub steps : AllByRecursion FitsStep rec.steps
   pub exit : rec.exit < 256
   pub exit_cost : rec.exit_cost < 2 ^ 32
-  pub paid : paid rec < 2 ^ 64
+  pub paid : paid rec.steps rec.exit_cost < 2 ^ 64
 
 -- each record has a spelling, and each ordinal is the number of earlier records of its key
 pub record Fits (table : List Record) : Type 0 where

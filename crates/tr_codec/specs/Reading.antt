@@ -17,6 +17,7 @@ use Rattle.rk_calls.specs.declared.answer.Answer.TheVariants.{Done, Opened, Cont
 use Rattle.tr_record.specs.Rec.{count_of}
 use Rattle.tr_record.specs.declared.steps.Step.{Step}
 use Rattle.tr_record.specs.declared.records.Record.{Record}
+use Rattle.tr_codec.specs.declared.records.Row.{Row}
 use Rattle.tr_codec.specs.Fits.{paid}
 
 infixl 10 ◌>>=◌
@@ -186,22 +187,23 @@ step_at blobs bytes = do
   answer ← answer_at blobs call.1
   Some (record { cost = cost.0; call = call.0; answer = answer.0 }, answer.1)
 
--- the next record after these
-abbrev pub next_rec : List Record → KeyValue → List Step → ℕ → ℕ → Record
-next_rec front key steps exit exit_cost = record { key = key; ordinal = count_of key front; steps = steps; exit = exit; exit_cost = exit_cost }
-
--- a record whose costs together are below 2^64
-abbrev pub payable : Record → Option Record
-payable rec = given (nat_lt (paid rec) (2 ^ 64)) rec
-
-unfoldable pub record_at : List Text → List Record → List ℕ → Option (Record × List ℕ)
-record_at blobs front bytes = do
+-- a record but for its ordinal; its costs together are below 2^64
+unfoldable pub row_at : List Text → List ℕ → Option (Row × List ℕ)
+row_at blobs bytes = do
   key ← key_at blobs bytes
   steps ← counted_at (λ before. step_at blobs) key.1
   exit ← byte_at steps.1
   exit_cost ← number_at w32 exit.1
-  rec ← payable (next_rec front key.0 steps.0 exit.0 exit_cost.0)
-  Some (rec, exit_cost.1)
+  given (nat_lt (paid steps.0 exit_cost.0) (2 ^ 64)) (record { key = key.0; steps = steps.0; exit = exit.0; exit_cost = exit_cost.0 }, exit_cost.1)
+
+-- the next record after these
+abbrev pub next_rec : List Record → Row → Record
+next_rec front row = record { key = row.key; ordinal = count_of row.key front; steps = row.steps; exit = row.exit; exit_cost = row.exit_cost }
+
+unfoldable pub record_at : List Text → List Record → List ℕ → Option (Record × List ℕ)
+record_at blobs front bytes = do
+  row ← row_at blobs bytes
+  Some (next_rec front row.0, row.1)
 
 -- the table that a body may spell, after its magic; what stands after it isn't looked at
 unfoldable pub table_at : List ℕ → Option (List Record)
