@@ -1,3 +1,5 @@
+pub mod AgainLemmas
 pub mod LoopLemmas
 pub mod PutsLemmas
 pub mod RecordLemmas
+pub mod TableAgain

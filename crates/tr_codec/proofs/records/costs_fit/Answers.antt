@@ -1,0 +1,1 @@
+use Rattle.tr_codec.proofs.TableAgain.{Covers}
