@@ -1,4 +1,5 @@
 pub mod AgainLemmas
+pub mod FitLemmas
 pub mod LoopLemmas
 pub mod PutsLemmas
 pub mod RecordLemmas

@@ -1,1 +1,0 @@
-use Rattle.tr_codec.proofs.TableAgain.{Covers}
