@@ -3,4 +3,5 @@ pub mod FitLemmas
 pub mod LoopLemmas
 pub mod PutsLemmas
 pub mod RecordLemmas
+pub mod SealLemmas
 pub mod TableAgain

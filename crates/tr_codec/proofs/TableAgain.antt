@@ -228,9 +228,9 @@ module _ (blobs : List Text) where
         (counted blob key.argv) (blob key.wd ⊕ counted var_piece key.vars) key.argv key
         (back_words key.argv c.0)
         (back_bind (blob_at blobs) (λ wd bytes. counted_at (λ front. var_at blobs) bytes >>= λ vars. key_from key.argv wd vars.0 >>= λ key. Some (key, vars.1))
-          (blob key.wd) (counted var_piece key.vars) key.wd key
-          (back_blob key.wd d.0)
-          (again_check (counted_at (λ front. var_at blobs)) (key_from key.argv key.wd) (λ key. key) ((counted var_piece key.vars).spelt blobs) key.vars key (back_vars key.vars d.1) checked))
+        (blob key.wd) (counted var_piece key.vars) key.wd key
+        (back_blob key.wd d.0)
+        (again_check (counted_at (λ front. var_at blobs)) (key_from key.argv key.wd) (λ key. key) ((counted var_piece key.vars).spelt blobs) key.vars key (back_vars key.vars d.1) checked))
 
     back_pair : (pair : ℕ × ℕ) → (pair.0 < 256) × (pair.1 < 2 ^ 64) → Back pair_at (pair_piece pair) pair
     unfolding pair_at
@@ -245,7 +245,7 @@ module _ (blobs : List Text) where
         let c = both_covered blobs (number (length map)) (each pair_piece map) covered in
         again_check (counted_at (λ front. pair_at)) (λ pairs. given (is_refmap pairs) pairs) (λ map. map) ((counted pair_piece map).spelt blobs) map map
         (back_counted (λ front. pair_at) pair_piece map
-          (items_of pair_at pair_piece InBytes (λ pair h d. back_pair pair h) (λ pair. long_left blobs (byte pair.0) (number pair.1) (long_byte blobs pair.0)) [] map (map_bytes map fits) c.1))
+        (items_of pair_at pair_piece InBytes (λ pair h d. back_pair pair h) (λ pair. long_left blobs (byte pair.0) (number pair.1) (long_byte blobs pair.0)) [] map (map_bytes map fits) c.1))
         (ap (λ b. given b map) fits.descriptors)
 
     -- ---- calls
@@ -349,9 +349,9 @@ module _ (blobs : List Text) where
         (cost step.cost) (call_piece step.call ⊕ answer_piece step.answer) step.cost step
         (back_cost step.cost fits.cost)
         (back_bind (call_at blobs) (λ call bytes. answer_at blobs bytes >>= λ answer. Some (record { cost = step.cost; call = call; answer = answer.0 }, answer.1))
-          (call_piece step.call) (answer_piece step.answer) step.call step
-          (back_call step.call fits.call d.0)
-          (again_last (answer_at blobs) (λ answer. let it : Step = record { cost = step.cost; call = step.call; answer = answer } in it) ((answer_piece step.answer).spelt blobs) step.answer (back_answer step.answer fits.answer d.1)))
+        (call_piece step.call) (answer_piece step.answer) step.call step
+        (back_call step.call fits.call d.0)
+        (again_last (answer_at blobs) (λ answer. let it : Step = record { cost = step.cost; call = step.call; answer = answer } in it) ((answer_piece step.answer).spelt blobs) step.answer (back_answer step.answer fits.answer d.1)))
 
     back_steps : (steps : List Step) → AllByRecursion FitsStep steps → Covers blobs (counted step_piece steps).uses → Back (counted_at (λ before. step_at blobs)) (counted step_piece steps) steps
     back_steps steps fits covered =
@@ -372,15 +372,15 @@ module _ (blobs : List Text) where
         (key_piece rec.key) (counted step_piece rec.steps ⊕ byte rec.exit ⊕ cost rec.exit_cost) rec.key (row_of rec)
         (back_key rec.key fits.key c.0)
         (back_bind (counted_at (λ before. step_at blobs))
-          (λ steps bytes. byte_at bytes >>= λ exit. number_at w32 exit.1 >>= λ exit_cost. given (nat_lt (paid steps exit_cost.0) (2 ^ 64)) (record { key = rec.key; steps = steps; exit = exit.0; exit_cost = exit_cost.0 }, exit_cost.1))
-          (counted step_piece rec.steps) (byte rec.exit ⊕ cost rec.exit_cost) rec.steps (row_of rec)
-          (back_steps rec.steps fits.steps d.0)
-          (back_bind byte_at
-            (λ exit bytes. number_at w32 bytes >>= λ exit_cost. given (nat_lt (paid rec.steps exit_cost.0) (2 ^ 64)) (record { key = rec.key; steps = rec.steps; exit = exit; exit_cost = exit_cost.0 }, exit_cost.1))
-            (byte rec.exit) (cost rec.exit_cost) rec.exit (row_of rec)
-            (back_byte rec.exit fits.exit)
-            (again_given (number_at w32) (λ exit_cost. nat_lt (paid rec.steps exit_cost) (2 ^ 64)) (λ exit_cost. let it : Row = record { key = rec.key; steps = rec.steps; exit = rec.exit; exit_cost = exit_cost } in it)
-              ((cost rec.exit_cost).spelt blobs) rec.exit_cost (back_cost rec.exit_cost fits.exit_cost) (lt-ltb (paid rec.steps rec.exit_cost) (2 ^ 64) fits.paid))))
+        (λ steps bytes. byte_at bytes >>= λ exit. number_at w32 exit.1 >>= λ exit_cost. given (nat_lt (paid steps exit_cost.0) (2 ^ 64)) (record { key = rec.key; steps = steps; exit = exit.0; exit_cost = exit_cost.0 }, exit_cost.1))
+        (counted step_piece rec.steps) (byte rec.exit ⊕ cost rec.exit_cost) rec.steps (row_of rec)
+        (back_steps rec.steps fits.steps d.0)
+        (back_bind byte_at
+        (λ exit bytes. number_at w32 bytes >>= λ exit_cost. given (nat_lt (paid rec.steps exit_cost.0) (2 ^ 64)) (record { key = rec.key; steps = rec.steps; exit = exit; exit_cost = exit_cost.0 }, exit_cost.1))
+        (byte rec.exit) (cost rec.exit_cost) rec.exit (row_of rec)
+        (back_byte rec.exit fits.exit)
+        (again_given (number_at w32) (λ exit_cost. nat_lt (paid rec.steps exit_cost) (2 ^ 64)) (λ exit_cost. let it : Row = record { key = rec.key; steps = rec.steps; exit = rec.exit; exit_cost = exit_cost } in it)
+        ((cost rec.exit_cost).spelt blobs) rec.exit_cost (back_cost rec.exit_cost fits.exit_cost) (lt-ltb (paid rec.steps rec.exit_cost) (2 ^ 64) fits.paid))))
 
     back_record : (front : List Record) (rec : Record) → FitsRecord rec → rec.ordinal ≡ count_of rec.key front → Covers blobs (record_piece rec).uses → Back (record_at blobs front) (record_piece rec) rec
     unfolding record_at row_of
@@ -397,12 +397,11 @@ module _ (blobs : List Text) where
         let before : take (length front) all ≡ front = take_at front (rec ∷ table) (length front) refl in
         let within : length front < length all = omega (arith, length-append front (rec ∷ table)) in
         let ordinal : rec.ordinal ≡ count_of rec.key front =
-          sym (ap (λ (r : Record). r.ordinal) at) ∙ numbered (length front) within ∙ ap (λ (r : Record). count_of r.key (take (length front) all)) at ∙ ap (count_of rec.key) before
-        in
-        (
+        sym (ap (λ (r : Record). r.ordinal) at) ∙ numbered (length front) within ∙ ap (λ (r : Record). count_of r.key (take (length front) all)) at ∙ ap (count_of rec.key) before
+        in (
           back_record front rec fits.0 ordinal c.0,
           long_left blobs (key_piece rec.key) (counted step_piece rec.steps ⊕ byte rec.exit ⊕ cost rec.exit_cost)
-          (long_left blobs (counted blob rec.key.argv) (blob rec.key.wd ⊕ counted var_piece rec.key.vars) (long_left blobs (number (length rec.key.argv)) (each blob rec.key.argv) (long_number blobs (length rec.key.argv)))),
+              (long_left blobs (counted blob rec.key.argv) (blob rec.key.wd ⊕ counted var_piece rec.key.vars) (long_left blobs (number (length rec.key.argv)) (each blob rec.key.argv) (long_number blobs (length rec.key.argv)))),
           record_items (front ++ rec ∷ []) table fits.1 (subst AreNumbered (sym (append_assoc front (rec ∷ []) table)) numbered) c.1,
         )
 

@@ -1,4 +1,5 @@
 pub mod Fits
+pub mod Laws
 pub mod Piece
 pub mod Puts
 pub mod Reading

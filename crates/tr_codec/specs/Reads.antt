@@ -1,6 +1,8 @@
 -- What a read tells.
 use Rattle.std.specs.Prelude.{◌≡◌, ◌≢◌, ◌<◌, ◌≤◌, ◌-◌, ℕ, List, take, drop, length, Option, Some, None, Result, Ok, Err}
+use Rattle.std.specs.Borrow.{Bor}
 use Rattle.sha2.specs.Sha256.{sha256}
+use Rattle.tr_codec.specs.Spelling.{sealed}
 use Rattle.tr_codec.specs.declared.fault.Odd.{Odd}
 use Rattle.tr_codec.specs.declared.fault.Odd.TheVariants.{Form, NoMemory}
 use Rattle.tr_codec.specs.declared.fault.Damage.{Damage}
@@ -24,7 +26,7 @@ front_of bytes = take (length bytes - 32) bytes
 abbrev pub seal_of : List ℕ → List ℕ
 seal_of bytes = drop (length bytes - 32) bytes
 
--- which damage is told: too short, else the digest is another one, else it is the form
+-- which damage it is: too short, else another digest, else the form
 abbrev pub IsDamage : ℕ → List ℕ → Damage → Type 0
 IsDamage least bytes (damage.Short n) = (n ≡ length bytes) × (n < least)
 IsDamage least bytes (damage.Digest kept computed) = (least ≤ length bytes) × (kept ≡ seal_of bytes) × (computed ≡ sha256 (front_of bytes)) × (kept ≢ computed)
@@ -40,3 +42,16 @@ abbrev pub Finds : {T : Type 0} → Result T CodecErr → T → Type 0
 Finds (Ok x) y = x ≡ y
 Finds (Err (fault.Damaged it)) y = ⊥
 Finds (Err fault.NoMemory) y = Unit {0}
+
+-- the same of a part
+abbrev pub FindsPart : {T : Type 0} → Result T Odd → T → Type 0
+FindsPart (Ok x) y = x ≡ y
+FindsPart (Err Form) y = ⊥
+FindsPart (Err NoMemory) y = Unit {0}
+
+-- what stands before a right digest, or which damage it is
+abbrev pub Opens : ℕ → List ℕ → Result (Bor (List ℕ)) Damage → Type 0
+Opens least bytes (Ok front) = (least ≤ length bytes) × (bytes ≡ sealed front.now)
+Opens least bytes (Err (damage.Short n)) = IsDamage least bytes (damage.Short n)
+Opens least bytes (Err (damage.Digest kept computed)) = IsDamage least bytes (damage.Digest kept computed)
+Opens least bytes (Err damage.Form) = ⊥

@@ -48,11 +48,7 @@ fn write_of<'a>(blobs: &[Bytes], bytes: &'a [u8]) -> Result<(Call, &'a [u8]), Od
 }
 
 #[tactic(auto, unfolding(crate::specs::Reading::launch_at))]
-fn launch_of<'a>(
-    alloc: Global,
-    blobs: &[Bytes],
-    bytes: &'a [u8],
-) -> Result<(Call, &'a [u8]), Odd>
+fn launch_of<'a>(alloc: Global, blobs: &[Bytes], bytes: &'a [u8]) -> Result<(Call, &'a [u8]), Odd>
     ensures { Gives (λ x. (x.0, x.1.now)) result (launch_at blobs.now bytes.now) }
 {
     let (key, rest) = key_of(alloc, blobs, bytes)?;
@@ -132,11 +128,7 @@ fn no_of(bytes: &[u8]) -> Result<(Answer, &[u8]), Odd>
     Ok((Answer::No(errno), rest))
 }
 
-fn answer_after<'a>(
-    blobs: &[Bytes],
-    kind: u8,
-    bytes: &'a [u8],
-) -> Result<(Answer, &'a [u8]), Odd>
+fn answer_after<'a>(blobs: &[Bytes], kind: u8, bytes: &'a [u8]) -> Result<(Answer, &'a [u8]), Odd>
     ensures { Gives (λ x. (x.0, x.1.now)) result (answer_of blobs.now kind bytes.now) }
 {
     match kind {
@@ -150,10 +142,7 @@ fn answer_after<'a>(
 }
 
 #[tactic(auto, unfolding(crate::specs::Reading::answer_at))]
-pub(crate) fn answer_of<'a>(
-    blobs: &[Bytes],
-    bytes: &'a [u8],
-) -> Result<(Answer, &'a [u8]), Odd>
+pub(crate) fn answer_of<'a>(blobs: &[Bytes], bytes: &'a [u8]) -> Result<(Answer, &'a [u8]), Odd>
     ensures { Gives (λ x. (x.0, x.1.now)) result (answer_at blobs.now bytes.now) }
 {
     let (kind, rest) = byte_of(bytes)?;

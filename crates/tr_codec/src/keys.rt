@@ -51,11 +51,7 @@ fn so_many_vars<'a>(
     Ok((vars, rest))
 }
 
-fn vars_of<'a>(
-    alloc: Global,
-    blobs: &[Bytes],
-    bytes: &'a [u8],
-) -> Result<(Vec<Var>, &'a [u8]), Odd>
+fn vars_of<'a>(alloc: Global, blobs: &[Bytes], bytes: &'a [u8]) -> Result<(Vec<Var>, &'a [u8]), Odd>
     ensures { Gives (λ x. (x.0.items, x.1.now)) result (counted_at (λ front. var_at blobs.now) bytes.now) }
 {
     let (count, rest) = count_of(bytes)?;
@@ -124,11 +120,7 @@ fn pair_of(bytes: &[u8]) -> Result<((u8, u64), &[u8]), Odd>
     Ok(((d, n), rest))
 }
 
-fn so_many_pairs(
-    alloc: Global,
-    count: u64,
-    bytes: &[u8],
-) -> Result<(Vec<(u8, u64)>, &[u8]), Odd>
+fn so_many_pairs(alloc: Global, count: u64, bytes: &[u8]) -> Result<(Vec<(u8, u64)>, &[u8]), Odd>
     ensures { Gives (λ x. (x.0.items, x.1.now)) result (many_at (λ front. pair_at) count [] bytes.now) }
 {
     let mut pairs = Vec::new(alloc);

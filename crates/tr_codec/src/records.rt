@@ -23,11 +23,7 @@ pub(crate) struct Row {
 }
 
 #[tactic(auto, unfolding(crate::specs::Reading::step_at))]
-fn step_of<'a>(
-    alloc: Global,
-    blobs: &[Bytes],
-    bytes: &'a [u8],
-) -> Result<(Step, &'a [u8]), Odd>
+fn step_of<'a>(alloc: Global, blobs: &[Bytes], bytes: &'a [u8]) -> Result<(Step, &'a [u8]), Odd>
     ensures { Gives (λ x. (x.0, x.1.now)) result (step_at blobs.now bytes.now) }
 {
     let (cost, rest) = cost_of(bytes)?;

@@ -35,7 +35,11 @@ fn script(alloc: Global) -> Result<Key, NoMemory> {
 }
 
 fn cat(alloc: Global) -> Result<Key, NoMemory> {
-    let words = vec![in alloc; text(alloc, b"cat")?, text(alloc, b"a")?, text(alloc, b"b")?]?;
+    let words = vec![in alloc;
+        text(alloc, b"cat")?,
+        text(alloc, b"a")?,
+        text(alloc, b"b")?,
+    ]?;
     let root = Path::root(alloc)?;
     Ok(Key::new(WordList::new(words), root, VarList::new(alloc)))
 }
@@ -76,6 +80,9 @@ fn spells_the_first_table(rt: HostRuntime) -> Result<(), Fail> {
     let bytes = write_db(alloc, &table)?;
     let bytes = bytes.as_slice();
     assert_eq!(rt; bytes.len(), 636);
-    assert_eq!(rt; hex::encode(alloc, &bytes[604..])?.as_str(), "a342bf5380cc76578f27ddbfe179fb35460c2738ef3fc26748b74ba27594cd7c");
+    assert_eq!(rt;
+        hex::encode(alloc, &bytes[604..])?.as_str(),
+        "a342bf5380cc76578f27ddbfe179fb35460c2738ef3fc26748b74ba27594cd7c"
+    );
     Ok(())
 }

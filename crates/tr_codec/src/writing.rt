@@ -1,11 +1,11 @@
 // The spelling of a table.
 ghost use Rattle.std.specs.Prelude.{◌≡◌, IfOk};
-ghost use Rattle.tr_codec.specs.Spelling.{sealed, body, table_piece, db_spelling};
+ghost use Rattle.tr_codec.specs.Spelling.{body, table_piece, db_spelling};
 
 use crate::pieces::put_table;
+use crate::sealing::seal;
 use crate::writer::Writer;
 use rk_base::{Bytes, NoMemory};
-use sha2::{Digest, Sha256};
 use std::alloc::Global;
 use tr_record::Table;
 
@@ -16,15 +16,6 @@ pub(crate) fn body_of(alloc: Global, table: &Table) -> Result<Vec<u8>, NoMemory>
     let mut writer = Writer::new(alloc);
     put_table(&mut writer, table)?;
     writer.body(b"RKR1")
-}
-
-// Bytes, and their digest.
-pub(crate) fn seal(mut out: Vec<u8>) -> Result<Bytes, NoMemory>
-    ensures { IfOk result (λ bytes. bytes ≡ sealed out.items) }
-{
-    let digest = Sha256::digest(out.as_slice());
-    out.extend_from_slice(&digest)?;
-    Ok(Bytes::new(out))
 }
 
 /// The one spelling of a table.

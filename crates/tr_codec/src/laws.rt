@@ -1,0 +1,25 @@
+// Laws of the spelling.
+ghost use Rattle.tr_codec.specs.Fits.{Fits};
+ghost use Rattle.tr_codec.specs.Laws.{OneTable};
+ghost use Rattle.tr_codec.specs.Reads.{Finds};
+
+use crate::fault::CodecErr;
+use crate::reading::read_db;
+use crate::writing::write_db;
+use std::alloc::Global;
+use tr_record::Table;
+
+/// No two tables have one spelling. It does nothing.
+pub fn one_table()
+    ensures { OneTable }
+{}
+
+/// What is written is read back.
+pub fn read_back(alloc: Global, table: &Table) -> Result<Table, CodecErr>
+    ensures { Fits table.now → Finds result table.now }
+{
+    match write_db(alloc, table) {
+        Ok(bytes) => read_db(alloc, bytes.as_slice()),
+        Err(_) => Err(CodecErr::NoMemory),
+    }
+}
