@@ -18,3 +18,6 @@ pub use name::Name;
 pub use path::{Path, PathFault};
 pub use steps::Steps;
 pub use text::is_name;
+
+#[cfg(test)]
+mod tests;

@@ -17,3 +17,6 @@ pub use memory::{Change, MemFolder};
 pub use real::RealFolder;
 pub use sink::{MemSink, RealSink, Sink, SinkErr};
 pub use state_files::state;
+
+#[cfg(test)]
+mod tests;

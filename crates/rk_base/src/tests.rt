@@ -1,0 +1,57 @@
+// Each call that takes memory, once where there is enough.
+use crate::{Budget, Bytes, Name, NoMemory, Path, PathFault};
+use std::alloc::Global;
+use std::test::Fail;
+
+fn path(alloc: Global, text: &[u8]) -> Result<Path, NoMemory> {
+    match Path::parse(alloc, text) {
+        Ok(path) => Ok(path),
+        Err(_) => Err(NoMemory),
+    }
+}
+
+#[test]
+fn reads_names(rt: HostRuntime) -> Result<(), Fail> {
+    let alloc = rt.alloc();
+    assert!(rt;
+        matches!(Name::new(alloc, b"..."), Ok(name) if name.as_slice() == b"...".as_slice())
+    );
+    for text in [b"".as_slice(), b".", b"..", b"a/b", b"a\0", b"\xff"] {
+        assert!(rt; matches!(Name::new(alloc, text), Err(PathFault::Invalid)));
+    }
+    for text in [b"".as_slice(), b"a", b"//", b"/a/", b"/a//b", b"/a/../b"] {
+        assert!(rt; matches!(Path::parse(alloc, text), Err(PathFault::Invalid)));
+    }
+    Ok(())
+}
+
+#[test]
+fn takes_paths_apart(rt: HostRuntime) -> Result<(), Fail> {
+    let alloc = rt.alloc();
+    let file = path(alloc, b"/a/b.c")?;
+    let dir = file.parent()?;
+    assert_eq!(rt; dir.text(), b"/a".as_slice());
+    assert_eq!(rt; file.depth(), 2);
+    assert!(rt; file.is_in(&dir) && Path::root(alloc)?.parent()?.is_root());
+    let Some(name) = file.last()? else {
+        assert!(rt; false);
+        return Ok(());
+    };
+    assert!(rt; dir.join(alloc, &name.copy()?)?.same(&file.copy()?));
+    Ok(())
+}
+
+#[test]
+fn pays_to_the_limit(rt: HostRuntime) -> Result<(), Fail> {
+    let alloc = rt.alloc();
+    let Some(mut budget) = Budget::new(3) else {
+        assert!(rt; false);
+        return Ok(());
+    };
+    assert!(rt; budget.pay(2) && !budget.pay(2) && budget.pay(1));
+    assert_eq!(rt; budget.used(), 3);
+    assert_eq!(rt; budget.left(), 0);
+    let bytes = Bytes::from_slice(alloc, b"ab")?;
+    assert!(rt; bytes.copy()?.same(&bytes));
+    Ok(())
+}
