@@ -74,11 +74,7 @@ pub fn ask<W: Answerer>(
 }
 
 /// The command that waited, after the launched one has ended with this status.
-pub fn join<M: Drop>(
-    table: &mut Table,
-    frame: Frame<M>,
-    status: u8,
-) -> Result<Active<M>, NoMemory>
+pub fn join<M: Drop>(table: &mut Table, frame: Frame<M>, status: u8) -> Result<Active<M>, NoMemory>
     requires { frame.waiting.place < length table.old }
     ensures waited { IfOk result (λ a. a ≡ frame.waiting) }
     ensures table { OnOk result (table.new ≡ stepped frame.waiting.place (step frame.cost (Call.Launch frame.key frame.map) (Answer.Joined status)) table.old) }

@@ -1,5 +1,6 @@
 //! The program: the working directory, standard output and standard error, one call.
 #![tactic(auto)]
+
 ghost use Rattle.std.specs.Prelude.{◌≡◌, ◌<◌};
 
 use rk_base::Steps;
@@ -25,7 +26,14 @@ fn call<L: Ledger>(rt: &HostRuntime, blank: Blank) -> io::Result<u8>
     let mut out = RealSink::new(rt.stdout());
     let mut err = RealSink::new(rt.stderr());
     let mut live = Steps::<L>::new(blank);
-    let outcome = rkr(rt.alloc(), &words, &mut folder, &mut out, &mut err, &mut live);
+    let outcome = rkr(
+        rt.alloc(),
+        &words,
+        &mut folder,
+        &mut out,
+        &mut err,
+        &mut live,
+    );
     Ok(exit_code(&outcome))
 }
 
