@@ -44,32 +44,38 @@ fn cat(alloc: Global) -> Result<Key, NoMemory> {
     Ok(Key::new(WordList::new(words), root, VarList::new(alloc)))
 }
 
+// A step more of a record that there is.
+fn add(table: &mut Table, place: usize, step: Step) -> Result<(), NoMemory> {
+    if place < table.len() {
+        table.add_step(place, step)?;
+    }
+    Ok(())
+}
+
 // The table of `cat a b > out`.
 fn first_table(alloc: Global) -> Result<Table, NoMemory> {
     let mut table = Table::new(alloc);
     table.begin(script(alloc)?)?;
     table.begin(cat(alloc)?)?;
-    if table.len() == 2 {
-        table.add_step(0, opened(alloc, b"/Rikerfile", How::Read, 2)?)?;
-        table.add_step(0, content(alloc, 10, b"cat a b > out\n")?)?;
-        table.add_step(0, opened(alloc, b"/out", How::Make, 6)?)?;
-        let launch = Step {
-            cost: 1,
-            call: Call::Launch(cat(alloc)?, RefMap::with_output(alloc, 11)?),
-            answer: Answer::Joined(0),
-        };
-        table.add_step(0, launch)?;
-        table.add_step(1, opened(alloc, b"/a", How::Read, 2)?)?;
-        table.add_step(1, content(alloc, 10, b"1\n")?)?;
-        table.add_step(1, opened(alloc, b"/b", How::Read, 1)?)?;
-        table.add_step(1, content(alloc, 11, b"2\n")?)?;
-        let write = Step {
-            cost: 2,
-            call: Call::Write(1, text(alloc, b"1\n2\n")?),
-            answer: Answer::Done,
-        };
-        table.add_step(1, write)?;
-    }
+    add(&mut table, 0, opened(alloc, b"/Rikerfile", How::Read, 2)?)?;
+    add(&mut table, 0, content(alloc, 10, b"cat a b > out\n")?)?;
+    add(&mut table, 0, opened(alloc, b"/out", How::Make, 6)?)?;
+    let launch = Step {
+        cost: 1,
+        call: Call::Launch(cat(alloc)?, RefMap::with_output(alloc, 11)?),
+        answer: Answer::Joined(0),
+    };
+    add(&mut table, 0, launch)?;
+    add(&mut table, 1, opened(alloc, b"/a", How::Read, 2)?)?;
+    add(&mut table, 1, content(alloc, 10, b"1\n")?)?;
+    add(&mut table, 1, opened(alloc, b"/b", How::Read, 1)?)?;
+    add(&mut table, 1, content(alloc, 11, b"2\n")?)?;
+    let write = Step {
+        cost: 2,
+        call: Call::Write(1, text(alloc, b"1\n2\n")?),
+        answer: Answer::Done,
+    };
+    add(&mut table, 1, write)?;
     Ok(table)
 }
 
