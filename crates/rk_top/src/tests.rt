@@ -163,7 +163,7 @@ fn refuses(alloc: Global, folder: &mut MemFolder, path: &[u8], line: &[u8]) -> R
     let mut err = MemSink::new(alloc);
     let outcome = build(alloc, folder, &mut out, &mut err)?;
     Ok(
-        matches!(outcome, Outcome::Special(it) if it.text() == path)
+        matches!(&outcome, Outcome::Special(it) if it.text() == path)
             && err.bytes() == line
             && out.bytes().is_empty()
             && folder.changes().is_empty(),
