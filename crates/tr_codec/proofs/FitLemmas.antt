@@ -1,5 +1,5 @@
 -- What is read has a spelling.
-use Rattle.std.proofs.Common.{◌≡◌, ℕ, zero, suc, ◌+◌, ◌^◌, ◌<◌, ◌≤◌, Bool, true, false, ◌&&◌, cond, nat_lt, ltb, ◌==◌, List, [], ◌∷◌, ◌++◌, length, take, drop, Option, Some, None, slice_get, refl, sym, ap, subst, ◌∙◌, arith}
+use Rattle.std.proofs.Common.{◌≡◌, ℕ, zero, suc, ◌^◌, ◌<◌, Bool, true, false, ◌&&◌, cond, nat_lt, ltb, ◌==◌, List, [], ◌∷◌, ◌++◌, length, take, drop, Option, Some, None, refl, ap, subst, ◌∙◌, arith}
 use Rattle.std.specs.Int.{Width, w32, w64, byte_len, from_be_bytes}
 use Rattle.std.specs.List.{AllByRecursion}
 use Rattle.std.proofs.lemmas.Bool.{ltb-true}
@@ -10,7 +10,7 @@ use Rattle.rk_calls.specs.RefMaps.{is_refmap}
 use Rattle.rk_calls.specs.declared.call.Call.{Call}
 use Rattle.rk_calls.specs.declared.call.Call.TheVariants.{Open, Read, Write, Launch}
 use Rattle.rk_calls.specs.declared.answer.Answer.{Answer}
-use Rattle.rk_calls.specs.declared.answer.Answer.TheVariants.{Go, Done, Opened, Content, Joined, No}
+use Rattle.rk_calls.specs.declared.answer.Answer.TheVariants.{Done, Opened, Content, Joined, No}
 use Rattle.tr_record.specs.Rec.{count_of}
 use Rattle.tr_record.specs.declared.steps.Step.{Step}
 use Rattle.tr_record.specs.declared.records.Record.{Record}

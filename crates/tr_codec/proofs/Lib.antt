@@ -3,5 +3,6 @@ pub mod FitLemmas
 pub mod LoopLemmas
 pub mod PutsLemmas
 pub mod RecordLemmas
+pub mod RowLemmas
 pub mod SealLemmas
 pub mod TableAgain

@@ -1,9 +1,9 @@
 -- Reading one after the other, as a loop does.
-use Rattle.std.proofs.Common.{◌≡◌, ℕ, suc, ◌-◌, ◌+◌, ◌≤◌, ◌<◌, List, [], ◌∷◌, ◌++◌, Option, Some, None, refl, sym, ap, ◌∙◌, arith}
+use Rattle.std.proofs.Common.{◌≡◌, ℕ, suc, ◌-◌, ◌+◌, ◌≤◌, ◌<◌, List, [], ◌∷◌, ◌++◌, Option, Some, None, refl, sym, ◌∙◌, arith}
 use Rattle.tr_codec.specs.declared.fault.Odd.{Odd}
 use Rattle.tr_codec.specs.declared.fault.Odd.TheVariants.{Form, NoMemory}
 use Rattle.tr_codec.specs.Reads.{Fails}
-use Rattle.tr_codec.specs.Reading.{◌>>=◌, many_at}
+use Rattle.tr_codec.specs.Reading.{many_at}
 
 module _ {A : Type 0} (one : List A → List ℕ → Option (A × List ℕ)) where
   -- one more was read

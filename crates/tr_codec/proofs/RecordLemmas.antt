@@ -1,5 +1,5 @@
 -- Records that are read, and their costs.
-use Rattle.std.proofs.Common.{◌≡◌, ◌∙◌, ap, ℕ, List, Option, Some, None}
+use Rattle.std.proofs.Common.{◌≡◌, ap, ℕ, List, Option, Some}
 use Rattle.rk_base.specs.Text.{Text}
 use Rattle.tr_record.specs.declared.records.Record.{Record}
 use Rattle.tr_codec.specs.declared.fault.Odd.{Odd}

@@ -1,5 +1,5 @@
 -- What a digest at the end of bytes tells, and what reading finds.
-use Rattle.std.proofs.Common.{◌≡◌, ◌≢◌, ℕ, ◌+◌, ◌-◌, ◌^◌, ◌<◌, ◌≤◌, List, [], ◌∷◌, ◌++◌, length, take, drop, Option, Some, None, Result, Ok, Err, refl, sym, ap, subst, ◌∙◌, arith}
+use Rattle.std.proofs.Common.{◌≡◌, ℕ, ◌+◌, ◌-◌, ◌^◌, ◌<◌, ◌≤◌, List, [], ◌++◌, length, drop, Option, Some, Result, Err, refl, sym, ap, subst, ◌∙◌, arith}
 use Rattle.std.specs.List.{flat_map}
 use Rattle.std.proofs.lemmas.List.{take_at, drop_at, length-append}
 use Rattle.sha2.specs.Sha256.{sha256}
@@ -10,11 +10,11 @@ use Rattle.tr_codec.specs.declared.fault.Odd.TheVariants.{Form, NoMemory}
 use Rattle.tr_codec.specs.declared.fault.Damage.{Damage}
 use Rattle.tr_codec.specs.declared.fault.Damage.TheVariants as damage
 use Rattle.tr_codec.specs.declared.fault.CodecErr.{CodecErr}
-use Rattle.tr_codec.specs.declared.fault.CodecErr.TheVariants as fault
 use Rattle.tr_codec.specs.Piece.{Piece, plain, ◌⊕◌, each, num, string, with_uses}
 use Rattle.tr_codec.specs.Spelling.{table_piece, record_piece, magic, body, sealed}
 use Rattle.tr_codec.specs.Fits.{Fits}
 use Rattle.tr_codec.specs.Reading.{table_at}
+use Rattle.tr_codec.specs.Whole.{whole}
 use Rattle.tr_codec.specs.Reads.{Fails, FindsPart, Finds, Tells, IsDamage, Opens, front_of, seal_of}
 use Rattle.tr_codec.proofs.TableAgain.{body_again}
 
@@ -59,6 +59,15 @@ unopened_digest least bytes damage.Form h le = absurd h
 
 -- ---- parts
 
+pub whole_finds : {T : Type 0} (e : Odd) (y : T) → FindsPart (Err e) y → Finds (Err (whole e)) y
+whole_finds Form y h = h
+whole_finds NoMemory y h = tt
+
+-- behind a right digest, damage is of the form
+pub whole_tells : {T : Type 0} (least : ℕ) (bytes front : List ℕ) (e : Odd) (result : Result T CodecErr) → result ≡ Err (whole e) → least ≤ length bytes → bytes ≡ sealed front → Tells least bytes result
+whole_tells least bytes front Form result err le is = rw err (le, seal_right bytes front is)
+whole_tells least bytes front NoMemory result err le is = rw err tt
+
 pub fails_finds : {Y : Type 0} (e : Odd) (read : Option Y) (y : Y) → Fails e read → read ≡ Some y → FindsPart (Err e) y
 fails_finds Form read y fails is = absurd cc
 fails_finds NoMemory read y fails is = tt
@@ -68,7 +77,7 @@ parsed front table fits small e = ap (λ (f : List ℕ). table_at (drop 4 f)) e 
 
 -- ---- lengths
 
-num_length : (n : ℕ) → length (num n) ≡ 8
+pub num_length : (n : ℕ) → length (num n) ≡ 8
 unfolding num
 num_length n = refl
 

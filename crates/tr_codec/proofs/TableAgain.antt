@@ -1,16 +1,15 @@
 -- The spelling of a table is read again.
-use Rattle.std.proofs.Common.{◌≡◌, ℕ, zero, suc, ◌+◌, ◌^◌, ◌<◌, ◌≤◌, Bool, true, false, ◌||◌, ◌&&◌, cond, not, nat_lt, List, [], ◌∷◌, ◌++◌, length, take, drop, Option, Some, None, slice_get, refl, sym, ap, subst, ◌∙◌, append_assoc, arith}
-use Rattle.std.specs.Int.{w32, w64, to_be_bytes}
-use Rattle.std.specs.List.{flat_map, list_any, position_or_len, AllByRecursion}
+use Rattle.std.proofs.Common.{◌≡◌, ℕ, suc, ◌+◌, ◌^◌, ◌<◌, ◌≤◌, Bool, true, false, ◌||◌, ◌&&◌, cond, not, nat_lt, List, [], ◌∷◌, ◌++◌, length, take, drop, Option, Some, slice_get, refl, sym, ap, subst, ◌∙◌, append_assoc, arith}
+use Rattle.std.specs.Int.{w32, w64}
+use Rattle.std.specs.List.{flat_map, AllByRecursion}
 use Rattle.std.specs.Cmp.Lexicographic.{bytes_decides}
 use Rattle.std.proofs.lemmas.Bool.{le-ltb, lt-ltb, ltb-true}
 use Rattle.std.proofs.Math.Seq.{get_or-append_seam}
 use Rattle.std.proofs.lemmas.List.{take_at, drop_at, length-append, append-nil}
 use Rattle.rk_base.specs.Text.{Text, same_text}
-use Rattle.rk_base.specs.Canonical.{is_canonical}
 use Rattle.rk_base.specs.declared.errno.Errno.{Errno}
 use Rattle.rk_base.specs.declared.errno.Errno.TheVariants as errno
-use Rattle.rk_calls.specs.Keys.{KeyValue, is_key, are_variables}
+use Rattle.rk_calls.specs.Keys.{KeyValue}
 use Rattle.rk_calls.specs.RefMaps.{is_refmap, rise_from}
 use Rattle.rk_calls.specs.declared.vars.Var.{Var}
 use Rattle.rk_calls.specs.declared.call.How.{How}
@@ -26,9 +25,9 @@ use Rattle.tr_codec.specs.declared.records.Row.{Row}
 use Rattle.tr_codec.specs.Piece.{Piece, plain, blob, ◌⊕◌, each, byte, cost, number, counted, num, string, has, number_of, with_use, with_uses}
 use Rattle.tr_codec.specs.Spelling.{var_piece, key_piece, pair_piece, how_code, call_piece, errno_code, answer_piece, step_piece, record_piece, table_piece, magic, body}
 use Rattle.tr_codec.specs.Fits.{FitsKey, FitsMap, FitsCall, FitsAnswer, FitsStep, FitsRecord, Fits, paid}
-use Rattle.tr_codec.specs.Reading.{◌>>=◌, given, number_at, byte_at, count_at, many_at, counted_at, string_at, blob_at, var_at, key_from, key_at, pair_at, map_at, how_of, errno_of, open_at, read_at, write_at, launch_at, call_of, call_at, content_at, joined_at, no_at, answer_of, answer_at, step_at, row_at, next_rec, record_at, table_at}
+use Rattle.tr_codec.specs.Reading.{◌>>=◌, given, number_at, byte_at, counted_at, string_at, blob_at, var_at, key_from, key_at, pair_at, map_at, how_of, errno_of, open_at, read_at, write_at, launch_at, call_of, call_at, content_at, joined_at, no_at, answer_of, answer_at, step_at, row_at, next_rec, record_at, table_at}
 use Rattle.tr_codec.proofs.AgainLemmas.{Again, again_bind, again_last, again_check, again_given, number_again, cost_again, byte_again, Items, items_length, again_counted}
-use Rattle.tr_codec.proofs.PutsLemmas.{number_stays, has_use, with_uses_adds}
+use Rattle.tr_codec.proofs.PutsLemmas.{has_use, with_uses_adds}
 
 -- ---- the blobs themselves
 

@@ -1,3 +1,4 @@
+pub mod Attrs
 pub mod Fits
 pub mod Laws
 pub mod Piece
@@ -5,3 +6,4 @@ pub mod Puts
 pub mod Reading
 pub mod Reads
 pub mod Spelling
+pub mod Whole

@@ -1,6 +1,8 @@
 // Why bytes could not be read.
 ghost use Rattle.std.specs.Prelude.{◌≡◌};
 ghost use Rattle.tr_codec.specs.declared.fault.Odd.TheVariants as odd;
+ghost use Rattle.tr_codec.specs.declared.fault.CodecErr.TheVariants as fault;
+ghost use Rattle.tr_codec.specs.Whole.{whole};
 
 use rk_base::NoMemory;
 use std::alloc::{AllocError, AllocFailed};
@@ -49,5 +51,24 @@ impl<T: Drop> From<AllocFailed<T>> for Odd {
 
     fn from(_: AllocFailed<T>) -> Odd {
         Odd::NoMemory
+    }
+}
+
+impl From<Damage> for CodecErr {
+    ghost from_gives = { λ damage e. e ≡ fault.Damaged damage };
+
+    fn from(damage: Damage) -> CodecErr {
+        CodecErr::Damaged(damage)
+    }
+}
+
+impl From<Odd> for CodecErr {
+    ghost from_gives = { λ odd e. e ≡ whole odd };
+
+    fn from(odd: Odd) -> CodecErr {
+        match odd {
+            Odd::Form => CodecErr::Damaged(Damage::Form),
+            Odd::NoMemory => CodecErr::NoMemory,
+        }
     }
 }

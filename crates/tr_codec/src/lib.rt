@@ -1,4 +1,4 @@
-//! The table of records as bytes: one spelling each.
+//! The table of records, and the attributes of paths, as bytes: one spelling each.
 #![tactic(auto)]
 
 mod calls;
@@ -9,13 +9,15 @@ mod parts;
 mod pieces;
 mod reading;
 mod records;
+mod rows;
 mod sealing;
 mod writer;
 mod writing;
 
 pub use fault::{CodecErr, Damage};
-pub use laws::{one_table, read_back};
+pub use laws::{one_attrs, one_table, read_back, read_back_attrs};
 pub use reading::read_db;
+pub use rows::{AttrRow, Attrs, read_attrs, write_attrs};
 pub use writing::write_db;
 
 #[cfg(test)]

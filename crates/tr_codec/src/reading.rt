@@ -49,12 +49,7 @@ pub fn read_db(alloc: Global, bytes: &[u8]) -> Result<Table, CodecErr>
     ensures short { length bytes.now < 52 → result ≡ Err (CodecErr.Damaged (Damage.Short (length bytes.now))) }
     ensures digest { 52 ≤ length bytes.now → seal_of bytes.now ≢ sha256 (front_of bytes.now) → result ≡ Err (CodecErr.Damaged (Damage.Digest (seal_of bytes.now) (sha256 (front_of bytes.now)))) }
 {
-    match open_seal(bytes, 52) {
-        Err(damage) => Err(CodecErr::Damaged(damage)),
-        Ok(front) => match body_table(alloc, front) {
-            Ok(table) => Ok(table),
-            Err(Odd::Form) => Err(CodecErr::Damaged(Damage::Form)),
-            Err(Odd::NoMemory) => Err(CodecErr::NoMemory),
-        },
-    }
+    let front = open_seal(bytes, 52)?;
+    let table = body_table(alloc, front)?;
+    Ok(table)
 }

@@ -41,7 +41,7 @@ fn number_in(blobs: &mut IndexSet<Bytes>, text: &Bytes) -> Result<usize, NoMemor
 }
 
 #[tactic(auto, unfolding(crate::specs::Piece::num))]
-fn push_number(out: &mut Vec<u8>, n: u64) -> Result<(), NoMemory>
+pub(crate) fn push_number(out: &mut Vec<u8>, n: u64) -> Result<(), NoMemory>
     ensures { OnOk result (out.new.items ≡ out.old.items ++ num n) }
 {
     out.extend_from_slice(&n.to_be_bytes())?;

@@ -1,4 +1,4 @@
-use Rattle.std.proofs.Common.{ℕ, List, []}
+use Rattle.std.proofs.Common.{List, []}
 use Rattle.std.proofs.lemmas.Result.{err_from_is_err_and}
 use Rattle.rk_calls.specs.declared.vars.Var.{Var}
 use Rattle.tr_codec.specs.Reading.{var_at, many_at}

@@ -1,0 +1,29 @@
+use Rattle.std.proofs.Common.{◌∙◌, ap, Err}
+use Rattle.std.proofs.lemmas.Result.{err_from_is_err_and}
+use Rattle.tr_codec.specs.Attrs.{attrs_body}
+use Rattle.tr_codec.proofs.RowLemmas.{same_rows, attrs_length}
+use Rattle.tr_codec.proofs.SealLemmas.{one_front, seal_right, unopened, whole_finds, whole_tells}
+use Rattle.tr_codec.proofs.rows.read_attrs.Goals as goal
+
+pub returns-in_err-front-clause-only : goal.returns-in_err-front-clause-only
+returns-in_err-front-clause-only c = λ rows e.
+    absurd (unopened 44 c.args.bytes.now (attrs_body rows) c.in_err-front.field-0.0 c.in_err-front.ensures (attrs_length c.args.bytes.now rows e) e)
+
+pub returns-in_err-attrs-clause-only : goal.returns-in_err-attrs-clause-only
+returns-in_err-attrs-clause-only c = λ rows e.
+    let p = err_from_is_err_and c.from_residual-in_err-attrs.result c.from_residual-in_err-attrs.ensures.1 in
+    rw (p.1, p.2) (whole_finds c.in_err-attrs.field-0.0 rows (c.in_err-attrs.ensures.only rows (one_front c.args.bytes.now c.in_ok-front.front.now (attrs_body rows) c.in_ok-front.ensures.1 e)))
+
+pub returns-in_err-attrs-clause-damage : goal.returns-in_err-attrs-clause-damage
+returns-in_err-attrs-clause-damage c =
+    let p = err_from_is_err_and c.from_residual-in_err-attrs.result c.from_residual-in_err-attrs.ensures.1 in
+    whole_tells 44 c.args.bytes.now c.in_ok-front.front.now c.in_err-attrs.field-0.0 c.from_residual-in_err-attrs.result (p.1 ∙ ap Err p.2) c.in_ok-front.ensures.0 c.in_ok-front.ensures.1
+
+pub returns-in_err-attrs-clause-digest : goal.returns-in_err-attrs-clause-digest
+returns-in_err-attrs-clause-digest c = λ le other. absurd (other (seal_right c.args.bytes.now c.in_ok-front.front.now c.in_ok-front.ensures.1))
+
+pub returns-clause-only : goal.returns-clause-only
+returns-clause-only c = λ rows e. same_rows _ rows
+
+pub returns-clause-digest : goal.returns-clause-digest
+returns-clause-digest c = λ le other. absurd (other (seal_right c.args.bytes.now c.in_ok-front.front.now c.in_ok-front.ensures.1))
