@@ -1,9 +1,0 @@
-pub mod Following
-pub mod Freshing
-pub mod Going
-pub mod Lasting
-pub mod Places
-pub mod Rest
-pub mod Running
-pub mod Spoken
-pub mod Totals

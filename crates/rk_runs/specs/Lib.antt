@@ -1,4 +1,13 @@
+pub mod Following
+pub mod Freshing
+pub mod Going
+pub mod Lasting
 pub mod Own
+pub mod Places
 pub mod Purse
+pub mod Rest
 pub mod Run
+pub mod Running
+pub mod Speaking
 pub mod Spoken
+pub mod Totals

@@ -1,8 +1,8 @@
 use Rattle.std.proofs.Common.{◌≡◌, length, arith, refl, ap}
 use Rattle.rk_calls.specs.declared.answer.Answer.TheVariants.{Joined}
-use Rattle.rk_runs.proofs.Freshing.{Freshing-start, Freshing-ask, Freshing-launch, Freshing-short, Freshing-end, Freshing-place, Freshing-join}
+use Rattle.rk_runs.specs.Freshing.{Freshing-start, Freshing-ask, Freshing-launch, Freshing-short, Freshing-end, Freshing-place, Freshing-join}
 use Rattle.rk_runs.specs.Run.{game}
-use Rattle.rk_runs.proofs.Spoken.{fresh-spoken, fresh-paid}
+use Rattle.rk_runs.specs.Speaking.{fresh-spoken, fresh-paid}
 use Rattle.rk_runs.proofs.run.run_recorded.Goals as goal
 
 pub turns-init : goal.turns-init

@@ -2,7 +2,7 @@ use Rattle.std.proofs.Common.{◌≡◌, ◌+◌, ◌*◌, ◌≤◌, length}
 use Rattle.rk_calls.specs.Refs.{top_refs}
 use Rattle.rk_runs.specs.Purse.{left}
 use Rattle.rk_runs.specs.Run.{game, fresh}
-use Rattle.rk_runs.proofs.Freshing.{Freshing}
+use Rattle.rk_runs.specs.Freshing.{Freshing}
 use Rattle.rk_runs.proofs.run.run_recorded.Given as goal
 
 abbrev pub invariant-turns : goal.invariant-turns

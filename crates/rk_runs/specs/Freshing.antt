@@ -16,9 +16,9 @@ use Rattle.tr_record.specs.Rec.{begun, stepped, ended}
 use Rattle.rk_runs.specs.declared.active.Active.{Active}
 use Rattle.rk_runs.specs.declared.active.Frame.{Frame}
 use Rattle.rk_runs.specs.Run.{Game, Outcome, Done, Spent, step, fresh}
-use Rattle.rk_runs.proofs.Rest.{Pending, pending}
-use Rattle.rk_runs.proofs.Going.{Going, gives, no-launch, Going-ask, Going-launch, Going-short, Going-end, Going-join}
-use Rattle.rk_runs.proofs.Places.{length-begun, length-stepped, length-ended}
+use Rattle.rk_runs.specs.Rest.{Pending, pending}
+use Rattle.rk_runs.specs.Going.{Going, gives, no-launch, Going-ask, Going-launch, Going-short, Going-end, Going-join}
+use Rattle.rk_runs.specs.Places.{length-begun, length-stepped, length-ended}
 
 -- the places of waiting commands are in the table
 abbrev pub AllBelow : {S : Type 0} → ℕ → List (Frame S) → Type 0

@@ -11,7 +11,7 @@ use Rattle.rk_calls.specs.Talk.{Talk, Says, Cut, Exited, Asked, cut, Lasts}
 use Rattle.rk_calls.specs.Saying.{node, speaks, rest_of, goes_on}
 use Rattle.rk_calls.specs.Keys.{KeyValue}
 use Rattle.rk_runs.specs.Spoken.{follow, Follows}
-use Rattle.rk_runs.proofs.Running.{paid}
+use Rattle.rk_runs.specs.Running.{paid}
 use Rattle.rk_calls.specs.Heard.{IsPaid}
 
 -- where this purse meets it

@@ -16,8 +16,8 @@ use Rattle.rk_calls.specs.Fits.{is_launch}
 use Rattle.tr_record.specs.declared.records.Record.{Record}
 use Rattle.tr_record.specs.Rec.{begun, stepped, ended}
 use Rattle.rk_runs.specs.Run.{Game, Outcome, Done, Spent, On, step, answered, asked, spoken, run}
-use Rattle.rk_runs.proofs.Running.{run-is}
-use Rattle.rk_runs.proofs.Rest.{Pending, pending, rest, rest-push, rest-spent}
+use Rattle.rk_runs.specs.Running.{run-is}
+use Rattle.rk_runs.specs.Rest.{Pending, pending, rest, rest-push, rest-spent}
 
 -- each call but a launch is asked of the world
 pub asked-world : {W : Type 0} (g : Game W) (on : On W) (p place : ℕ) (refs : RefsHeld) (x : Says) (w : W) (t : List Record) (c : ℕ) (call : Call) → is_launch call ≡ false → asked g on p place refs x w t c call ≡ answered on p place (goes_on c x) t c call (g.given w refs call)

@@ -20,11 +20,11 @@ use Rattle.tr_record.specs.Rec.{rec_at, begun, stepped, ended}
 use Rattle.rk_runs.specs.Own.{total}
 use Rattle.rk_runs.specs.Run.{Game, Outcome, Done, Spent, On, and_then, step, answered, joined, asked, spoken, runs, run, fresh}
 use Rattle.rk_runs.specs.Spoken.{follow, Follows, IsSpoken, AreSpoken}
-use Rattle.rk_runs.proofs.Places.{length-begun, length-stepped, length-ended, rec-begun, rec-begun_last, rec-stepped, rec-stepped_same, rec-ended, rec-ended_same}
-use Rattle.rk_runs.proofs.Lasting.{asks-exact, ends-exact, AllLast, Lasts-follow}
-use Rattle.rk_runs.proofs.Following.{follow-snoc, Follows-snoc}
-use Rattle.rk_runs.proofs.Running.{paid}
-use Rattle.rk_runs.proofs.Totals.{total-begun, total-stepped, total-ended}
+use Rattle.rk_runs.specs.Places.{length-begun, length-stepped, length-ended, rec-begun, rec-begun_last, rec-stepped, rec-stepped_same, rec-ended, rec-ended_same}
+use Rattle.rk_runs.specs.Lasting.{asks-exact, ends-exact, AllLast, Lasts-follow}
+use Rattle.rk_runs.specs.Following.{follow-snoc, Follows-snoc}
+use Rattle.rk_runs.specs.Running.{paid}
+use Rattle.rk_runs.specs.Totals.{total-begun, total-stepped, total-ended}
 
 le_or_lt-by : (m n : ℕ) (b : Bool) → leb m n ≡ b → (m ≤ n) ⊎ (n < m)
 le_or_lt-by m n true e = inl (leb-true m n e)
