@@ -1,2 +1,6 @@
+pub mod Checked
+pub mod Differences
 pub mod Fed
+pub mod Laws
 pub mod Started
+pub mod Toy

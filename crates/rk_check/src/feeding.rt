@@ -21,9 +21,7 @@ pub struct Fed<M> {
 #[derive(Debug, Drop)]
 pub enum FeedErr {
     /// It doesn't take the step with this number, from 1 on; one past the last step is the exit.
-    Forged {
-        step: u64,
-    },
+    Forged { step: u64 },
     NoMemory,
 }
 
@@ -57,11 +55,7 @@ fn takes<M: Machine>(machine: &mut M, answer: Answer, step: &Step) -> Result<boo
 /// Starts the command of a record and gives it the first `count` answers, of which it is yet to hear the last.
 ///
 /// Errors: the first of these steps that the command doesn't take, and want of memory.
-pub fn feed<K: Maker>(
-    maker: &mut K,
-    rec: &Record,
-    count: usize,
-) -> Result<Fed<K::Made>, FeedErr>
+pub fn feed<K: Maker>(maker: &mut K, rec: &Record, count: usize) -> Result<Fed<K::Made>, FeedErr>
     requires { count ≤ length rec.now.steps }
     ensures says { IfOk result (λ f. K.Made.talk f.machine f.answer ≡ follow (K.first rec.now.key) (take count rec.now.steps)) }
     ensures waits { IfOk result (λ f. 1 ≤ count → (a : Answer) → K.Made.talk f.machine a ≡ waits_at (K.first rec.now.key) rec.now.steps count a) }
@@ -73,10 +67,11 @@ pub fn feed<K: Maker>(
     let mut machine = maker.start(&rec.key)?;
     let mut answer = Answer::Go;
     'steps: for i in 0..count {
-        if !takes(&mut machine, answer, &steps[i])? {
+        let step = &steps[i];
+        if !takes(&mut machine, answer, step)? {
             return Err(FeedErr::Forged { step: i as u64 + 1 });
         }
-        answer = steps[i].answer.copy()?;
+        answer = step.answer.copy()?;
     }
     Ok(Fed { machine, answer })
 }
