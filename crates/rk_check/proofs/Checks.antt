@@ -1,5 +1,5 @@
 -- What is told of a record, as what is told of its table.
-use Rattle.std.proofs.Common.{◌≡◌, ◌⊎◌, ℕ, suc, ◌+◌, ◌<◌, List, length, Err, refl, sym, ◌∙◌, ap, arith, inl, inr}
+use Rattle.std.proofs.Common.{◌≡◌, ℕ, suc, ◌+◌, ◌<◌, List, length, Err, refl, ◌∙◌, ap, arith, inl, inr}
 use Rattle.rk_calls.specs.Starts.{one_more}
 use Rattle.rk_calls.specs.Talk.{Says}
 use Rattle.rk_calls.specs.Keys.{KeyValue}
@@ -9,8 +9,7 @@ use Rattle.rk_runs.specs.Following.{never-wrong}
 use Rattle.rk_runs.specs.Spoken.{IsSpoken, AreSpoken}
 use Rattle.rk_check.specs.declared.feeding.FeedErr.{FeedErr}
 use Rattle.rk_check.specs.declared.feeding.FeedErr.TheVariants.{Forged as ForgedStep, NoMemory as NoRoom}
-use Rattle.rk_check.specs.declared.check.CheckErr.{CheckErr}
-use Rattle.rk_check.specs.declared.check.CheckErr.TheVariants.{Forged, NoMemory}
+use Rattle.rk_check.specs.declared.check.CheckErr.TheVariants.{NoMemory}
 use Rattle.rk_check.specs.Checked.{IsWrong, IsFirstWrong, IsTold, at_record, TellsForged}
 use Rattle.rk_check.specs.Laws.{one-first_wrong}
 use Rattle.rk_check.specs.Started.{started, StartsOne, StartsEach}

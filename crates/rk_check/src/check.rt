@@ -3,6 +3,7 @@ ghost use Rattle.std.specs.Prelude.{◌≡◌, ◌↔◌, ℕ, length, IfOk, IfE
 ghost use Rattle.rk_calls.specs.Saying.{speaks};
 ghost use Rattle.rk_runs.specs.Spoken.{IsSpoken, AreSpoken};
 ghost use Rattle.rk_check.specs.Checked.{IsWrong, IsFirstWrong, IsTold, at_record, TellsForged};
+ghost use Rattle.rk_check.specs.Over.{IsRunOver};
 ghost use Rattle.rk_check.specs.Started.{StartsOne, StartsEach};
 
 use crate::feeding::{Fed, FeedErr, feed};
@@ -49,6 +50,10 @@ fn exits_so<M: Machine>(machine: &mut M, answer: Answer, rec: &Record) -> Result
 pub fn check_record<K: Maker>(maker: &mut K, rec: &Record) -> Result<(), FeedErr>
     ensures spoken { IfOk result (λ _. IsSpoken K.first rec.now) }
     ensures forged { IfErr result (IsWrong K.first rec.now) }
+
+    // That is, what its command says over the recorded answers, with what the record paid as its purse.
+    ensures run { IsSpoken K.first rec.now ↔ IsRunOver K.first rec.now }
+
     ensures starts { StartsOne (K.starts maker.old) (K.starts maker.new) result }
 {
     let count = rec.steps.as_slice().len();

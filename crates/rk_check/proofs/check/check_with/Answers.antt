@@ -1,4 +1,4 @@
-use Rattle.std.proofs.Common.{◌≡◌, ◌<◌, length, arith, rules, ap, sym, ◌∙◌, subst}
+use Rattle.std.proofs.Common.{◌<◌, length, arith, rules}
 use Rattle.std.proofs.lemmas.Grind.{common_steps}
 use Rattle.rk_check.proofs.Checks.{complete, forged, never-first_wrong, starts}
 use Rattle.rk_check.proofs.check.check_with.Goals as goal
