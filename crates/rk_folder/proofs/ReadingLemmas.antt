@@ -1,5 +1,5 @@
 -- What the parts of an import tell, where the folder tells what it holds.
-use Rattle.std.proofs.Common.{◌≡◌, List, Bool, true, false, Option, Some, None, IfSome, is_some, option_map, option_copied, Bor, refl, sym, ap, subst, ◌∙◌, cond}
+use Rattle.std.proofs.Common.{◌≡◌, List, Bool, true, false, Option, Some, None, IfSome, option_map, refl, sym, ap, subst, ◌∙◌, cond}
 use Rattle.std.specs.List.{list_all, list_any}
 use Rattle.std.specs.Str.{is_utf8, chars}
 use lib.Utf8.{encode}
@@ -9,12 +9,12 @@ use Rattle.rk_base.proofs.CanonicalLemmas.{both, root-canonical, join-canonical}
 use Rattle.rk_base.proofs.PathLemmas.{parent-join}
 use Rattle.rk_tree.proofs.TextLemmas.{same_is}
 use Rattle.rk_tree.specs.Entries.{Entries}
-use Rattle.rk_folder.specs.Told.{Held, standing, is_nothing, is_file, is_dir, bytes_in, item_of, items_of, is_odd}
+use Rattle.rk_folder.specs.Told.{Held, standing, is_nothing, is_dir, bytes_in, item_of, items_of, is_odd}
 use Rattle.rk_folder.specs.Whole.{IsWhole, TellsWhole}
 use Rattle.rk_folder.specs.Hidden.{hidden_dir, attrs_name, db_name, attrs_file, db_file}
-use Rattle.rk_folder.specs.Specials.{or_else, attrs_fault, db_fault, state_special, hidden_fault, hidden_special, first_fault, root_fault, first_special}
+use Rattle.rk_folder.specs.Specials.{or_else, state_fault, state_special, hidden_fault, hidden_special, first_fault, root_fault, first_special}
 use Rattle.rk_folder.specs.Import.{snapshot_of, state_of}
-use Rattle.rk_folder.specs.Steps.{agrees, is_special, item_named, is_odd_item, special_db, special_file, with_items, root_entry, nothing_special}
+use Rattle.rk_folder.specs.Steps.{agrees, is_special, item_named, is_odd_item, is_no_file, special_file, with_items, root_entry, nothing_special}
 use Rattle.rk_folder.specs.declared.hidden_files.Hidden.{Hidden}
 use Rattle.rk_folder.specs.declared.importing.StateFile.{StateFile}
 use Rattle.rk_folder.specs.declared.importing.StateFile.TheVariants as state
@@ -77,15 +77,17 @@ abbrev pub file_path : StateFile → Text
 file_path state.Attrs = attrs_file
 file_path state.Db = db_file
 
-db_special : (d : Option Standing) → option_map file_path (special_db (option_map (item_of db_name) d)) ≡ db_fault d
+db_special : (d : Option Standing) → option_map file_path (cond (is_no_file (option_map (item_of db_name) d)) (Some state.Db) None) ≡ state_fault db_file d
 db_special None = refl
 db_special (Some (File bytes)) = refl
 db_special (Some Dir) = refl
 db_special (Some Special) = refl
 
-file_special : (a d : Option Standing) → option_map file_path (special_file (option_map (item_of attrs_name) a) (option_map (item_of db_name) d)) ≡ or_else (attrs_fault a) (db_fault d)
+file_special : (a d : Option Standing) → option_map file_path (special_file (option_map (item_of attrs_name) a) (option_map (item_of db_name) d)) ≡ or_else (state_fault attrs_file a) (state_fault db_file d)
 file_special None d = db_special d
-file_special (Some it) d = refl
+file_special (Some (File bytes)) d = db_special d
+file_special (Some Dir) d = refl
+file_special (Some Special) d = refl
 
 hidden-named : is_name hidden ≡ true
 unfolding is_name is_utf8 chars encode
@@ -113,29 +115,9 @@ pub told-state : (told : Option Held) (items : List Item) (o : Option StateFile)
 told-state None items o file path whole listed o_is is at = tt
 told-state (Some held) items o file path whole listed o_is is at = state_is held items o whole listed.1 o_is ∙ ap (option_map file_path) is ∙ ap (λ (p : Text). Some p) (sym at)
 
-no_state : (a : Option Standing) (o : Option Text) → or_else (attrs_fault a) o ≡ None → (a ≡ None) × (o ≡ None)
-no_state None o h = (refl, h)
-no_state (Some it) o h = cc
-
-db_stands : (d : Option Standing) → db_fault d ≡ None → is_some (option_map (item_of db_name) d) ≡ is_file d
-db_stands None h = refl
-db_stands (Some (File bytes)) h = refl
-db_stands (Some Dir) h = cc
-db_stands (Some Special) h = cc
-
-copied : (r : Option (Bor Item)) → is_some r ≡ is_some (option_copied r)
-copied None = refl
-copied (Some it) = refl
-
-pub told-no_state : (told : Option Held) (items : List Item) (o : Option StateFile) (r : Option (Bor Item)) (stands : Bool) → TellsWhole told → ToldItems told hidden_dir items → o ≡ special_file (item_named attrs_name items) (item_named db_name items) → o ≡ None → option_copied r ≡ item_named db_name items → stands ≡ is_some r
-    → IfSome told (λ held. (state_special held ≡ None) × (stands ≡ is_file (standing held db_file)))
-told-no_state None items o r stands whole listed o_is none named is = tt
-told-no_state (Some held) items o r stands whole listed o_is none named is =
-    let special : state_special held ≡ None = state_is held items o whole listed.1 o_is ∙ ap (option_map file_path) none in (
-      special,
-      is ∙ copied r ∙ ap is_some (named ∙ ap (item_named db_name) listed.1 ∙ item_named-is held hidden_dir db_name whole hidden-canonical db-named)
-          ∙ db_stands (standing held db_file) (no_state (standing held attrs_file) _ special).1,
-    )
+pub told-no_state : (told : Option Held) (items : List Item) (o : Option StateFile) → TellsWhole told → ToldItems told hidden_dir items → o ≡ special_file (item_named attrs_name items) (item_named db_name items) → o ≡ None → IfSome told (λ held. (state_special held ≡ None) × Unit {0})
+told-no_state None items o whole listed o_is none = tt
+told-no_state (Some held) items o whole listed o_is none = (state_is held items o whole listed.1 o_is ∙ ap (option_map file_path) none, tt)
 
 -- The state files.
 
@@ -161,20 +143,20 @@ nothing_below held name whole n none = (elim (standing held (join hidden_dir nam
       let none : is_dir (standing held hidden_dir) ≡ false = ap is_dir none in cc
 ]) refl
 
-abbrev pub found : Bool → Option Text → Hidden
-found rkr db = record { rkr = rkr; state = record { db = db; attrs = None } }
+abbrev pub found : Bool → Option Text → Option Text → Hidden
+found rkr db attrs = record { rkr = rkr; state = record { db = db; attrs = attrs } }
 
-found_is : (held : Held) (rkr : Bool) (db : Option Text) → is_dir (standing held hidden_dir) ≡ rkr → bytes_in (standing held db_file) ≡ db → bytes_in (standing held attrs_file) ≡ None → found rkr db ≡ state_of held
-found_is held rkr db r d a =
-    ap (λ (b : Bool). found b db) (sym r) ∙ ap (λ (x : Option Text). found (is_dir (standing held hidden_dir)) x) (sym d)
-    ∙ ap (λ (x : Option Text). record { rkr = is_dir (standing held hidden_dir); state = record { db = bytes_in (standing held db_file); attrs = x } }) (sym a)
+found_is : (held : Held) (rkr : Bool) (db attrs : Option Text) → is_dir (standing held hidden_dir) ≡ rkr → bytes_in (standing held db_file) ≡ db → bytes_in (standing held attrs_file) ≡ attrs → found rkr db attrs ≡ state_of held
+found_is held rkr db attrs r d a =
+    ap (λ (b : Bool). found b db attrs) (sym r) ∙ ap (λ (x : Option Text). found (is_dir (standing held hidden_dir)) x attrs) (sym d)
+    ∙ ap (found (is_dir (standing held hidden_dir)) (bytes_in (standing held db_file))) (sym a)
 
-pub told-absent : (told : Option Held) (items : List Item) (s : Hidden) → TellsWhole told → ToldItems told root items → item_named hidden items ≡ None → s ≡ found false None → IfSome told (λ held. (hidden_special held ≡ None) × (s ≡ state_of held))
+pub told-absent : (told : Option Held) (items : List Item) (s : Hidden) → TellsWhole told → ToldItems told root items → item_named hidden items ≡ None → s ≡ found false None None → IfSome told (λ held. (hidden_special held ≡ None) × (s ≡ state_of held))
 told-absent None items s whole listed none is = tt
 told-absent (Some held) items s whole listed none is =
     let gone : standing held hidden_dir ≡ None = no_item _ (sym (hidden_item held items whole listed.1) ∙ none) in (
       ap (λ (o : Option Standing). hidden_fault o (state_special held)) gone,
-      is ∙ found_is held false None (ap is_dir gone) (ap bytes_in (nothing_below held db_name whole db-named gone)) (ap bytes_in (nothing_below held attrs_name whole attrs-named gone)),
+      is ∙ found_is held false None None (ap is_dir gone) (ap bytes_in (nothing_below held db_name whole db-named gone)) (ap bytes_in (nothing_below held attrs_name whole attrs-named gone)),
     )
 
 pub told-hidden_dir : (told : Option Held) (items : List Item) (name : Text) → TellsWhole told → ToldItems told root items → item_named hidden items ≡ Some (item.Dir name) → IfSome told (λ held. standing held hidden_dir ≡ Some Dir)

@@ -13,21 +13,16 @@ abbrev pub or_else : Option Text → Option Text → Option Text
 or_else None second = second
 or_else (Some path) second = Some path
 
--- whatever stands at attrs is special
-abbrev pub attrs_fault : Option Standing → Option Text
-attrs_fault None = None
-attrs_fault (Some it) = Some attrs_file
-
--- the database is to be a file
-abbrev pub db_fault : Option Standing → Option Text
-db_fault None = None
-db_fault (Some (File bytes)) = None
-db_fault (Some Dir) = Some db_file
-db_fault (Some Special) = Some db_file
+-- what stands at a state file's path is to be a file
+abbrev pub state_fault : Text → Option Standing → Option Text
+state_fault path None = None
+state_fault path (Some (File bytes)) = None
+state_fault path (Some Dir) = Some path
+state_fault path (Some Special) = Some path
 
 -- the first state file that is special
 abbrev pub state_special : Held → Option Text
-state_special held = or_else (attrs_fault (standing held attrs_file)) (db_fault (standing held db_file))
+state_special held = or_else (state_fault attrs_file (standing held attrs_file)) (state_fault db_file (standing held db_file))
 
 abbrev pub hidden_fault : Option Standing → Option Text → Option Text
 hidden_fault None state = None

@@ -95,11 +95,11 @@ is_file_item (item.Dir name) = false
 is_file_item (item.Special name) = false
 is_file_item item.Odd = false
 
-abbrev pub special_db : Option Item → Option StateFile
-special_db None = None
-special_db (Some it) = if is_file_item it then None else Some state.Db
+-- something is listed, and it is no file
+abbrev pub is_no_file : Option Item → Bool
+is_no_file None = false
+is_no_file (Some it) = not (is_file_item it)
 
 -- the first state file that is special, by what is listed of the names of both
 abbrev pub special_file : Option Item → Option Item → Option StateFile
-special_file None db = special_db db
-special_file (Some it) db = Some state.Attrs
+special_file attrs db = if is_no_file attrs then Some state.Attrs else if is_no_file db then Some state.Db else None

@@ -5,7 +5,7 @@ ghost use Rattle.rk_base.specs.Text as text;
 ghost use Rattle.rk_base.specs.Canonical.{is_name};
 ghost use Rattle.rk_tree.specs.Entries.{IsWholeSnapshot};
 ghost use Rattle.rk_folder.specs.Told as told;
-ghost use Rattle.rk_folder.specs.Hidden.{hidden_dir, attrs_name, db_name, db_file};
+ghost use Rattle.rk_folder.specs.Hidden.{hidden_dir, attrs_name, db_name};
 ghost use Rattle.rk_folder.specs.Specials.{first_fault, first_special, root_fault, state_special};
 ghost use Rattle.rk_folder.specs.Import.{Tells, ReadCaused, snapshot_of};
 ghost use Rattle.rk_folder.specs.Steps as steps;
@@ -68,12 +68,26 @@ pub(crate) fn list<F: Folder>(
     Ok(items)
 }
 
-/// The bytes of a file; none where nothing stands.
-pub(crate) fn content<F: Folder>(
+/// The bytes of a file; `None` where nothing stands.
+pub(crate) fn bytes_of<F: Folder>(
     alloc: Global,
     folder: &mut F,
     file: &Path,
-) -> Result<Bytes, ImportErr>
+) -> Result<Option<Bytes>, ImportErr>
+    requires { MayCall (F.told folder.old) (told.can_read file.now) }
+    ensures bytes { Tells (F.told folder.old) steps.nothing_special (λ held bytes. bytes ≡ told.bytes_in (told.standing held file.now)) result }
+    ensures cause { ReadCaused (F.read_faults folder.old) (F.read_faults folder.new) result }
+    ensures held { F.told folder.new ≡ F.told folder.old }
+    ensures writes { F.write_faults folder.new ≡ F.write_faults folder.old }
+{
+    match folder.read(alloc, file)? {
+        Got::Content(bytes) => Ok(Some(bytes)),
+        Got::Absent => Ok(None),
+    }
+}
+
+// The bytes of a file; none where nothing stands.
+fn content<F: Folder>(alloc: Global, folder: &mut F, file: &Path) -> Result<Bytes, ImportErr>
     requires { MayCall (F.told folder.old) (told.can_read file.now) }
     ensures bytes { Tells (F.told folder.old) steps.nothing_special (λ held bytes. bytes ≡ steps.content_in (told.bytes_in (told.standing held file.now))) result }
     ensures cause { ReadCaused (F.read_faults folder.old) (F.read_faults folder.new) result }
@@ -122,31 +136,41 @@ enum StateFile {
     Db,
 }
 
+// Something is listed, and it is no file.
+fn is_no_file(item: Option<&Item>) -> bool
+    ensures { result ≡ steps.is_no_file (option_copied item.entry) }
+{
+    match item {
+        None => false,
+        Some(Item::File(_)) => false,
+        Some(_) => true,
+    }
+}
+
 // The first state file in `.rkr` that is special.
 fn special_state(items: &[Item]) -> Option<StateFile>
     ensures { result ≡ steps.special_file (steps.item_named attrs_name items.now) (steps.item_named db_name items.now) }
 {
-    if named(items, ATTRS).is_some() {
+    if is_no_file(named(items, ATTRS)) {
         return Some(StateFile::Attrs);
     }
-    match named(items, DB) {
-        None => None,
-        Some(Item::File(_)) => None,
-        Some(_) => Some(StateFile::Db),
+    if is_no_file(named(items, DB)) {
+        return Some(StateFile::Db);
     }
+    None
 }
 
-/// Looks at the state files in `.rkr`, and says whether a database stands.
-pub(crate) fn look_at_state<F: Folder>(alloc: Global, folder: &mut F) -> Result<bool, ImportErr>
+/// Looks at the state files in `.rkr`.
+pub(crate) fn look_at_state<F: Folder>(alloc: Global, folder: &mut F) -> Result<(), ImportErr>
     requires { MayCall (F.told folder.old) (told.can_list hidden_dir) }
-    ensures look { Tells (F.told folder.old) state_special (λ held stands. stands ≡ told.is_file (told.standing held db_file)) result }
+    ensures look { Tells (F.told folder.old) state_special (λ held it. Unit {0}) result }
     ensures cause { ReadCaused (F.read_faults folder.old) (F.read_faults folder.new) result }
     ensures held { F.told folder.new ≡ F.told folder.old }
     ensures writes { F.write_faults folder.new ≡ F.write_faults folder.old }
 {
     let items = list(alloc, folder, &hidden_dir(alloc)?)?;
     match special_state(&items) {
-        None => Ok(named(&items, DB).is_some()),
+        None => Ok(()),
         Some(StateFile::Attrs) => Err(ImportErr::Special(attrs_file(alloc)?)),
         Some(StateFile::Db) => Err(ImportErr::Special(db_file(alloc)?)),
     }
@@ -170,8 +194,7 @@ fn look_at<F: Folder>(alloc: Global, folder: &mut F, item: &Item) -> Result<(), 
         }
         Item::Dir(name) => {
             if name.as_slice() == HIDDEN {
-                let _stands = look_at_state(alloc, folder)?;
-                return Ok(());
+                return look_at_state(alloc, folder);
             }
             Err(ImportErr::Special(in_root(alloc, name)?))
         }

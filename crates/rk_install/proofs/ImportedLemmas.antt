@@ -10,7 +10,7 @@ use Rattle.rk_tree.proofs.TextLemmas.{told_apart}
 use Rattle.rk_tree.proofs.RowsLemmas.{get-found}
 use Rattle.rk_folder.specs.Told.{Held, standing, is_file, is_dir, is_nothing, bytes_in}
 use Rattle.rk_folder.specs.Whole.{IsWhole}
-use Rattle.rk_folder.specs.Specials.{attrs_fault, db_fault, hidden_fault, state_special, first_special}
+use Rattle.rk_folder.specs.Specials.{state_fault, hidden_fault, state_special, first_special}
 use Rattle.rk_folder.specs.Import.{entry_of, imported, snapshot_of}
 use Rattle.rk_folder.specs.declared.folder.Standing.{Standing}
 use Rattle.rk_folder.specs.declared.folder.Standing.TheVariants.{File, Dir, Special}
@@ -102,15 +102,11 @@ dir_state (Some (File bytes)) state d h = cc
 dir_state (Some Dir) state d h = h refl
 dir_state (Some Special) state d h = cc
 
-attrs_held : (o : Option Standing) → (is_nothing o ≡ false → attrs_fault o ≡ None) → o ≡ option_map File (bytes_in o)
-attrs_held None h = refl
-attrs_held (Some it) h = absurd (faulty attrs_file (h refl))
-
-db_held : (o : Option Standing) → (is_nothing o ≡ false → db_fault o ≡ None) → o ≡ option_map File (bytes_in o)
-db_held None h = refl
-db_held (Some (File bytes)) h = refl
-db_held (Some Dir) h = absurd (faulty db_file (h refl))
-db_held (Some Special) h = absurd (faulty db_file (h refl))
+state_held : (path : Text) (o : Option Standing) → (is_nothing o ≡ false → state_fault path o ≡ None) → o ≡ option_map File (bytes_in o)
+state_held path None h = refl
+state_held path (Some (File bytes)) h = refl
+state_held path (Some Dir) h = absurd (faulty path (h refl))
+state_held path (Some Special) h = absurd (faulty path (h refl))
 
 module _ (held : Held) (whole : IsWhole held) (plain : first_special held ≡ None) where
   shown_outside : (path : Text) → is_within hidden_dir path ≡ false → standing held path ≡ placed (shown (standing held path) false)
@@ -133,8 +129,8 @@ module _ (held : Held) (whole : IsWhole held) (plain : first_special held ≡ No
     unseen = λ path within. get-imported held path ∙ ap (shown (standing held path)) within ∙ shown_hidden (standing held path);
     outside = λ path out. shown_outside path out ∙ ap placed (sym (get-imported held path ∙ ap (shown (standing held path)) out));
     rkr = dir_held (standing held hidden_dir) (state_special held) (hidden-not_special held whole plain);
-    db = db_held (standing held db_file) (λ stands. (no_fault (attrs_fault (standing held attrs_file)) _ (in_hidden db_file db_parent stands)).1);
-    attrs = attrs_held (standing held attrs_file) (λ stands. (no_fault (attrs_fault (standing held attrs_file)) _ (in_hidden attrs_file attrs_parent stands)).0);
+    db = state_held db_file (standing held db_file) (λ stands. (no_fault (state_fault attrs_file (standing held attrs_file)) _ (in_hidden db_file db_parent stands)).1);
+    attrs = state_held attrs_file (standing held attrs_file) (λ stands. (no_fault (state_fault attrs_file (standing held attrs_file)) _ (in_hidden attrs_file attrs_parent stands)).0);
   }
 
   -- and so it may become what a build leaves

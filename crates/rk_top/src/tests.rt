@@ -195,7 +195,7 @@ fn refuses_what_is_special(rt: HostRuntime) -> Result<(), Fail> {
     );
     let mut attrs = folder_of(alloc, b"cat a\n")?;
     attrs.set_dir(&at(alloc, b"/.rkr")?)?;
-    attrs.set_file(alloc, &at(alloc, b"/.rkr/attrs")?, b"")?;
+    attrs.set_dir(&at(alloc, b"/.rkr/attrs")?)?;
     assert!(rt;
         refuses(
             alloc,

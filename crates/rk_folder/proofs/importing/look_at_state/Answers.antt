@@ -1,6 +1,5 @@
-use Rattle.std.proofs.Common.{Some, sym, ap, ◌∙◌}
-use Rattle.rk_folder.specs.Hidden.{hidden_dir, db_name}
-use Rattle.rk_folder.specs.Steps.{item_named}
+use Rattle.std.proofs.Common.{Some, ap, ◌∙◌}
+use Rattle.rk_folder.specs.Hidden.{hidden_dir}
 use Rattle.rk_folder.specs.declared.importing.StateFile.{StateFile}
 use Rattle.rk_folder.specs.declared.importing.StateFile.TheVariants as state
 use Rattle.rk_folder.proofs.ReadingLemmas.{told-same, told-state, told-no_state}
@@ -8,9 +7,9 @@ use Rattle.rk_folder.proofs.importing.look_at_state.Goals as goal
 
 pub returns-in-None-clause-look : goal.returns-in-None-clause-look
 returns-in-None-clause-look g c =
-    told-no_state _ c.deref.result.now c.special_state.result c.named.result c.is_some.result (g.met.F.Folder.whole c.args.folder.now)
+    told-no_state _ c.deref.result.now c.special_state.result (g.met.F.Folder.whole c.args.folder.now)
     (told-same _ c.in_ok-hidden_dir.field-0 hidden_dir c.in_ok-items.items.items c.deref.result.now c.in_ok-items.ensures.items c.in_ok-hidden_dir.ensures c.deref.ensures.value)
-    c.special_state.ensures c.in-None.is (c.named.ensures ∙ ap (item_named db_name) (c.deref-in-None.ensures.value ∙ sym c.deref.ensures.value)) c.is_some.ensures
+    c.special_state.ensures c.in-None.is
 
 pub returns-in-Some-Attrs-clause-look : goal.returns-in-Some-Attrs-clause-look
 returns-in-Some-Attrs-clause-look g c =
