@@ -3,3 +3,4 @@ pub mod LookLemmas
 pub mod PrepareLemmas
 pub mod RunLemmas
 pub mod TextsLemmas
+pub mod TurnsLemmas

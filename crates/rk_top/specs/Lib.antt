@@ -5,5 +5,5 @@ pub mod Shown
 pub mod Stages
 pub mod Telling
 pub mod Texts
+pub mod Turns
 pub mod Verdict
-pub mod Words

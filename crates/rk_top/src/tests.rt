@@ -1,9 +1,7 @@
 // The top call over folders in memory.
 ghost use Rattle.std.specs.Prelude.{◌≡◌, ◌<◌};
 
-use crate::build::{self, Ended};
-use crate::stop::Stop;
-use crate::{Outcome, rkr};
+use crate::{Outcome, exit_code, rkr};
 use rk_base::{Bytes, NoMemory, Path, Steps};
 use rk_folder::{Change, MemFolder, MemSink, Standing};
 use std::alloc::Global;
@@ -171,39 +169,51 @@ fn refuses(alloc: Global, folder: &mut MemFolder, path: &[u8], line: &[u8]) -> R
 }
 
 #[test]
-fn refuses_what_is_special(rt: HostRuntime) -> Result<(), Fail> {
+fn refuses_a_link(rt: HostRuntime) -> Result<(), Fail> {
     let alloc = rt.alloc();
-    let mut link = folder_of(alloc, b"cat a\n")?;
-    link.set_special(&at(alloc, b"/link")?)?;
-    assert!(rt;
-        refuses(
-            alloc,
-            &mut link,
-            b"/link",
-            b"rkr: /link: not a file or directory\n"
-        )?
-    );
-    let mut dir = folder_of(alloc, b"cat a\n")?;
-    dir.set_dir(&at(alloc, b"/d")?)?;
-    assert!(rt;
-        refuses(
-            alloc,
-            &mut dir,
-            b"/d",
-            b"rkr: /d: not a file or directory\n"
-        )?
-    );
-    let mut attrs = folder_of(alloc, b"cat a\n")?;
-    attrs.set_dir(&at(alloc, b"/.rkr")?)?;
-    attrs.set_dir(&at(alloc, b"/.rkr/attrs")?)?;
-    assert!(rt;
-        refuses(
-            alloc,
-            &mut attrs,
-            b"/.rkr/attrs",
-            b"rkr: /.rkr/attrs: not a file or directory\n"
-        )?
-    );
+    let mut folder = folder_of(alloc, b"cat a\n")?;
+    folder.set_special(&at(alloc, b"/link")?)?;
+    let line = b"rkr: /link: not a file or directory\n";
+    assert!(rt; refuses(alloc, &mut folder, b"/link", line)?);
+    Ok(())
+}
+
+// Whether a build is refused for a directory at this path, in a folder with `.rkr`.
+fn refuses_dir(alloc: Global, path: &[u8], line: &[u8]) -> Result<bool, Fail> {
+    let mut folder = folder_of(alloc, b"cat a\n")?;
+    folder.set_dir(&at(alloc, b"/.rkr")?)?;
+    folder.set_dir(&at(alloc, path)?)?;
+    refuses(alloc, &mut folder, path, line)
+}
+
+#[test]
+fn refuses_a_directory(rt: HostRuntime) -> Result<(), Fail> {
+    let line = b"rkr: /d: not a file or directory\n";
+    assert!(rt; refuses_dir(rt.alloc(), b"/d", line)?);
+    Ok(())
+}
+
+#[test]
+fn refuses_attrs_that_is_no_file(rt: HostRuntime) -> Result<(), Fail> {
+    let line = b"rkr: /.rkr/attrs: not a file or directory\n";
+    assert!(rt; refuses_dir(rt.alloc(), b"/.rkr/attrs", line)?);
+    Ok(())
+}
+
+#[test]
+fn refuses_a_database_that_is_no_file(rt: HostRuntime) -> Result<(), Fail> {
+    let line = b"rkr: /.rkr/db: not a file or directory\n";
+    assert!(rt; refuses_dir(rt.alloc(), b"/.rkr/db", line)?);
+    Ok(())
+}
+
+#[test]
+fn refuses_a_hidden_file(rt: HostRuntime) -> Result<(), Fail> {
+    let alloc = rt.alloc();
+    let mut folder = folder_of(alloc, b"cat a\n")?;
+    folder.set_file(alloc, &at(alloc, b"/.rkr")?, b"")?;
+    let line = b"rkr: /.rkr: not a file or directory\n";
+    assert!(rt; refuses(alloc, &mut folder, b"/.rkr", line)?);
     Ok(())
 }
 
@@ -236,34 +246,34 @@ fn refuses_wrong_words(rt: HostRuntime) -> Result<(), Fail> {
     Ok(())
 }
 
-// How the first build ends within so many turns.
-fn within<L: Ledger>(alloc: Global, steps: u32, blank: Blank) -> Result<Result<Ended, Stop>, Fail>
-    requires name { blank.name ≡ L.name }
-    requires parts { blank.parts ≡ L.parts }
-    requires some { 0 < L.parts }
-    requires steps { 0 < steps }
-{
+// What a call of these words comes to where nothing was built yet.
+fn first_outcome(alloc: Global, words: &[&str]) -> Result<Outcome, Fail> {
     let mut folder = folder_of(alloc, b"cat a b > out\n")?;
     let mut out = MemSink::new(alloc);
     let mut err = MemSink::new(alloc);
-    let mut live = Steps::<L>::new(blank);
-    Ok(build::build(alloc, &mut folder, &mut out, &mut err, steps, &mut live))
+    call::<Brand>(alloc, words, &mut folder, &mut out, &mut err, Blank::new(1))
 }
 
 #[test]
 fn ends_within_its_turns(rt: HostRuntime) -> Result<(), Fail> {
-    assert!(rt; within::<Brand>(rt.alloc(), 17, Blank::new(1))?.is_ok());
+    let outcome = first_outcome(rt.alloc(), &["rkr", "build", "--steps", "17"])?;
+    assert!(rt; matches!(outcome, Outcome::Ended { status: 0, .. }));
     Ok(())
 }
 
 #[test]
 fn is_spent_a_turn_before(rt: HostRuntime) -> Result<(), Fail> {
-    assert!(rt;
-        matches!(
-            within::<Brand>(rt.alloc(), 16, Blank::new(1))?,
-            Err(Stop::Spent)
-        )
-    );
+    let outcome = first_outcome(rt.alloc(), &["rkr", "build", "--steps", "16"])?;
+    assert!(rt; matches!(outcome, Outcome::Spent));
+    assert_eq!(rt; exit_code(&outcome), 243);
+    Ok(())
+}
+
+#[test]
+fn refuses_a_build_within_no_turns(rt: HostRuntime) -> Result<(), Fail> {
+    let outcome = first_outcome(rt.alloc(), &["rkr", "build", "--steps", "0"])?;
+    assert!(rt; matches!(outcome, Outcome::Usage));
+    assert_eq!(rt; exit_code(&outcome), 241);
     Ok(())
 }
 

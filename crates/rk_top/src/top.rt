@@ -1,20 +1,22 @@
 // The top call.
-ghost use Rattle.std.specs.Prelude.{◌≡◌, ◌⊎◌, ◌↔◌, map, string_bytes, is_some, IfSome, Some, None, true};
+ghost use Rattle.std.specs.Prelude.{◌≡◌, ◌⊎◌, map, string_bytes, is_some, IfSome, Some, None, true};
 ghost use Rattle.rk_folder.specs.Counts.{Rose, Still};
 ghost use Rattle.rk_folder.specs.Told.{Held};
 ghost use Rattle.rk_folder.specs.Specials.{first_special};
+ghost use Rattle.rk_top.specs.Lines.{line_of};
 ghost use Rattle.rk_top.specs.Outcomes.{outcome_of, outcome_of_stop, Leaves, Gains, GainsLine, Counted, Ticked, Faults, IfSpecial, Settles};
 ghost use Rattle.rk_top.specs.Verdict.{verdict, output_of, error_text_of, Overspent};
-ghost use Rattle.rk_top.specs.Words.{request_of, steps_of};
+ghost use Rattle.rk_top.specs.Texts.{Front};
+ghost use Rattle.rk_top.specs.Turns.{turns, turns_of};
+ghost use Rattle.rk_words.specs.Asked.{request_of};
 
 use crate::Outcome;
 use crate::build::{Ended, build};
 use crate::lines::tell;
-use crate::requests::{Request, RequestErr};
 use crate::stop::Stop;
-use crate::words::request;
 use rk_base::Steps;
 use rk_folder::{Folder, Sink};
+use rk_words::{Request, RequestErr, request};
 use std::alloc::Global;
 use std::sync::ledger::Ledger;
 
@@ -49,6 +51,14 @@ fn outcome_of(built: Result<Ended, Stop>) -> Outcome
     }
 }
 
+fn turns(request: Request) -> u32
+    ensures { result ≡ turns request }
+{
+    match request {
+        Request::Build { steps } => steps,
+    }
+}
+
 // Does what the words ask for.
 fn work<F: Folder, O: Sink, E: Sink, L: Ledger>(
     alloc: Global,
@@ -58,17 +68,23 @@ fn work<F: Folder, O: Sink, E: Sink, L: Ledger>(
     err: &mut E,
     live: &mut Steps<L>,
 ) -> Outcome
-    ensures usage { (result ≡ Outcome.Usage) ↔ (request_of (map string_bytes words.now) ≡ None) }
-    ensures folder { Leaves (steps_of (map string_bytes words.now)) (F.told folder.old) (F.told folder.new) result }
-    ensures output { Gains (steps_of (map string_bytes words.now)) output_of (F.told folder.old) (O.so_far out.old) (O.so_far out.new) result }
-    ensures errors { Gains (steps_of (map string_bytes words.now)) error_text_of (F.told folder.old) (E.so_far err.old) (E.so_far err.new) result }
+    ensures usage { result ≡ Outcome.Usage → request_of (map string_bytes words.now) ≡ None }
+    ensures refused { request_of (map string_bytes words.now) ≡ None → (result ≡ Outcome.Usage) ⊎ (result ≡ Outcome.NoMemory) }
+    ensures untouched { request_of (map string_bytes words.now) ≡ None → (F.told folder.new ≡ F.told folder.old) × (O.so_far out.new ≡ O.so_far out.old) × (E.so_far err.new ≡ E.so_far err.old) × (live.new ≡ live.old) }
+    ensures folder { Leaves (turns_of (map string_bytes words.now)) (F.told folder.old) (F.told folder.new) result }
+    ensures output { Gains (turns_of (map string_bytes words.now)) output_of (F.told folder.old) (O.so_far out.old) (O.so_far out.new) result }
+    ensures errors { Gains (turns_of (map string_bytes words.now)) error_text_of (F.told folder.old) (E.so_far err.old) (E.so_far err.new) result }
     ensures counts { Counted (record { reads = F.read_faults folder.old; writes = F.write_faults folder.old; puts = O.faults out.old; error_puts = E.faults err.old })
         (record { reads = F.read_faults folder.new; writes = F.write_faults folder.new; puts = O.faults out.new; error_puts = E.faults err.new }) result }
-    ensures live { Ticked (steps_of (map string_bytes words.now)) (F.told folder.old) live.old live.new result }
+    ensures live { Ticked (turns_of (map string_bytes words.now)) (F.told folder.old) live.old live.new result }
 {
-    match request(words) {
-        Ok(Request::Build { steps }) => outcome_of(build(alloc, folder, out, err, steps, live)),
+    match request(alloc, words) {
+        Ok(asked) => {
+            let steps = turns(asked);
+            outcome_of(build(alloc, folder, out, err, steps, live))
+        }
         Err(RequestErr::Usage) => Outcome::Usage,
+        Err(RequestErr::NoMemory) => Outcome::NoMemory,
     }
 }
 
@@ -83,19 +99,21 @@ pub fn rkr<F: Folder, O: Sink, E: Sink, L: Ledger>(
     err: &mut E,
     live: &mut Steps<L>,
 ) -> Outcome
-    // Usage exactly where the words are no request.
-    ensures usage { (result ≡ Outcome.Usage) ↔ (request_of (map string_bytes words.now) ≡ None) }
+    // Usage exactly where the words are no request, unless there is no memory to read them; then nothing is touched.
+    ensures usage { result ≡ Outcome.Usage → request_of (map string_bytes words.now) ≡ None }
+    ensures refused { request_of (map string_bytes words.now) ≡ None → (result ≡ Outcome.Usage) ⊎ (result ≡ Outcome.NoMemory) }
+    ensures untouched { request_of (map string_bytes words.now) ≡ None → (F.told folder.new ≡ F.told folder.old) × (O.so_far out.new ≡ O.so_far out.old) × Front (line_of result) (E.so_far err.old) (E.so_far err.new) × (live.new ≡ live.old) }
 
     // What the folder holds afterwards: over an end what the fresh run on the present tree leaves, with its status.
-    ensures folder { Leaves (steps_of (map string_bytes words.now)) (F.told folder.old) (F.told folder.new) result }
+    ensures folder { Leaves (turns_of (map string_bytes words.now)) (F.told folder.old) (F.told folder.new) result }
 
     // What was put: the run's output and error text, and then the outcome's own line.
-    ensures output { Gains (steps_of (map string_bytes words.now)) output_of (F.told folder.old) (O.so_far out.old) (O.so_far out.new) result }
-    ensures errors { GainsLine (steps_of (map string_bytes words.now)) (F.told folder.old) (E.so_far err.old) (E.so_far err.new) result }
+    ensures output { Gains (turns_of (map string_bytes words.now)) output_of (F.told folder.old) (O.so_far out.old) (O.so_far out.new) result }
+    ensures errors { GainsLine (turns_of (map string_bytes words.now)) (F.told folder.old) (E.so_far err.old) (E.so_far err.new) result }
 
     // Special exactly with the first special path, and spent exactly where the fresh run is.
     ensures special { IfSpecial result (λ path. IfSome (F.told folder.old) (λ held. first_special held ≡ Some path)) }
-    ensures spent { result ≡ Outcome.Spent → IfSome (F.told folder.old) (λ held. verdict (steps_of (map string_bytes words.now)) held ≡ Overspent) }
+    ensures spent { result ≡ Outcome.Spent → IfSome (F.told folder.old) (λ held. verdict (turns_of (map string_bytes words.now)) held ≡ Overspent) }
 
     // A fault is told only where a count for it rose in this call.
     ensures read_fault { result ≡ Outcome.ReadFault → Rose (F.read_faults folder.old) (F.read_faults folder.new) }
@@ -104,12 +122,12 @@ pub fn rkr<F: Folder, O: Sink, E: Sink, L: Ledger>(
         (record { reads = F.read_faults folder.new; writes = F.write_faults folder.new; puts = O.faults out.new; error_puts = E.faults err.new }) result }
 
     // The turns of the commands that ran, which over an end are all that the fresh run paid.
-    ensures live { Ticked (steps_of (map string_bytes words.now)) (F.told folder.old) live.old live.new result }
+    ensures live { Ticked (turns_of (map string_bytes words.now)) (F.told folder.old) live.old live.new result }
 
     // With a request and no count that rose, the outcome is the one that what the folder holds calls for.
     ensures complete { (held : Held) → F.told folder.old ≡ Some held → is_some (request_of (map string_bytes words.now)) ≡ true
         → Still (F.read_faults folder.old) (F.read_faults folder.new) → Still (F.write_faults folder.old) (F.write_faults folder.new) → Still (O.faults out.old) (O.faults out.new) → Still (E.faults err.old) (E.faults err.new)
-        → Settles (verdict (steps_of (map string_bytes words.now)) held) result }
+        → Settles (verdict (turns_of (map string_bytes words.now)) held) result }
 {
     let outcome = work(alloc, words, folder, out, err, live);
     tell(alloc, err, outcome)

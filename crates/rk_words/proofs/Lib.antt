@@ -1,3 +1,4 @@
 pub mod CommandLineLemmas
 pub mod DecimalLemmas
 pub mod FormsLemmas
+pub mod TurnsLemmas

@@ -1,0 +1,51 @@
+-- A request of a build has at least one turn.
+use Rattle.std.proofs.Common.{◌≡◌, ℕ, ◌<◌, ◌≤◌, List, [], ◌∷◌, Bool, true, false, Option, Some, None, arith, refl, subst, codes, option_map, if◌then◌else◌}
+use Rattle.std.specs.Prelude.{option_and_then}
+use Rattle.std.specs.Str.{bytes_eq}
+use Rattle.std.proofs.lemmas.Bool.Decides.{nat_tests}
+use Rattle.std.specs.Str.Parse.{digits_value}
+use Rattle.clap.specs.Words.{Kinds, Row, Text, first_of, fault_of, subcommand_of}
+use Rattle.rk_words.specs.CommandLine.{command_line}
+use Rattle.rk_words.specs.Asked.{steps_of, build_request, request_by, if_no_fault, request_of}
+use Rattle.rk_words.specs.Decimal.{is_decimal, is_within, number_of}
+use Rattle.rk_words.specs.declared.requests.Request.{Request}
+use Rattle.rk_words.specs.declared.requests.Request.TheVariants.{Build}
+
+some-is : (a b : ℕ) → Some a ≡ Some b → a ≡ b
+some-is a b e = cc
+
+number-low : (most low high : ℕ) (text : List ℕ) (n : ℕ) → number_of most low high text ≡ Some n → low ≤ n
+number-low most low high text n e = grind (arith, nat_tests)
+
+turns-some : (text : Option Text) (n : ℕ) → steps_of text ≡ Some n → 0 < n
+turns-some None n e = let h : 1000000 ≡ n = some-is 1000000 n e in omega arith
+turns-some (Some text) n e = let h : 1 ≤ n = number-low 10 1 4294967295 text n e in omega arith
+
+abbrev HasTurns : Option Request → Type 0
+HasTurns None = Unit {0}
+HasTurns (Some (Build n)) = 0 < n
+
+built : (o : Option ℕ) → ((n : ℕ) → o ≡ Some n → 0 < n) → HasTurns (option_map Build o)
+built None h = tt
+built (Some n) h = h n refl
+
+where_so : (b : Bool) (o : Option Request) → HasTurns o → HasTurns (if b then o else None)
+where_so true o h = h
+where_so false o h = tt
+
+found : (o : Option (Text × List Row)) → HasTurns (option_and_then (λ p. request_by p.0 p.1) o)
+found None = tt
+found (Some p) =
+    where_so (bytes_eq p.0 (codes "build")) (build_request p.1) (built (steps_of (first_of (codes "steps") p.1)) (turns-some (first_of (codes "steps") p.1)))
+
+unless_fault : (kinds : Kinds) (o : Option Request) → HasTurns o → HasTurns (if_no_fault kinds o)
+unless_fault [] o h = h
+unless_fault (k ∷ ks) o h = tt
+
+has_turns : (words : List Text) → HasTurns (request_of words)
+unfolding request_of
+has_turns words = unless_fault (fault_of command_line words) _ (found (subcommand_of command_line words))
+
+-- so has the budget that the words ask for
+pub some_turns : (words : List Text) (n : ℕ) → request_of words ≡ Some (Build n) → 0 < n
+some_turns words n e = subst HasTurns e (has_turns words)
