@@ -8,16 +8,16 @@ use Rattle.rk_install.specs.Changes.{MayRun, Partly, after_all}
 use Rattle.rk_install.specs.declared.ops.Op.{Op}
 use Rattle.rk_install.specs.declared.installation.InstallErr.{InstallErr}
 use Rattle.rk_install.specs.declared.installation.InstallErr.TheVariants as install
-use Rattle.rk_folder.specs.Import.{snapshot_of}
 use Rattle.rk_folder.specs.Specials.{first_special}
 use Rattle.rk_kernel.specs.World.{World}
-use Rattle.rk_runs.specs.Run.{Outcome as Run, Done, Spent}
-use Rattle.rk_top.specs.Run.{fresh_run}
+use Rattle.rk_runs.specs.Run.{Outcome as Run}
 use Rattle.rk_top.specs.Telling.{Keeps, Put, Tells}
-use Rattle.rk_top.specs.Outcomes.{outcome_of_stop, GainsLine, Faults, IfSpecial, EndsSo, Installed, Ticks, Leaves, StoppedAt, PartlyInstalled, Gains, Counts, Counted, Ticked}
+use Rattle.rk_top.specs.Outcomes.{outcome_of_stop, GainsLine, Faults, IfSpecial, IfDamaged, EndsSo, Ticks, Leaves, StoppedAt, PartlyInstalled, Halts, Gains, Counts, Counted, Ticked}
 use Rattle.rk_top.specs.Stages.{PreparesSo, IsPrepared, ReadsCounted, WritesCounted, InstallsSo}
 use Rattle.rk_top.specs.Texts.{Front, PutSo, BothCounted}
-use Rattle.rk_top.specs.Verdict.{Verdict, Refused, of_run, unless_special, verdict, output_of, error_text_of}
+use Rattle.rk_top.specs.Fresh.{fresh_in, output_of, error_text_of}
+use Rattle.rk_top.specs.Kept.{Keeping, IsDamaged, state_in}
+use Rattle.rk_top.specs.declared.stop.Refusal.TheVariants as refusal
 use Rattle.rk_top.specs.declared.outcome.Outcome.{Outcome}
 use Rattle.rk_top.specs.declared.outcome.Outcome.TheVariants as out
 use Rattle.rk_top.specs.declared.prepare.Prepared.{Prepared}
@@ -46,32 +46,39 @@ counts-same before now r w p e =
     ∙ ap (λ (p : ℕ). record { reads = before.reads; writes = before.writes; puts = p; error_puts = now.error_puts }) p
     ∙ ap (λ (e : ℕ). record { reads = before.reads; writes = before.writes; puts = before.puts; error_puts = e }) e
 
+unput : (steps : ℕ) (text : Run World → Text) (told : Option Held) (old new : Option Text) → new ≡ old → Halts steps text told old new
+unput steps text None old new same = tt
+unput steps text (Some held) old new same = inl same
+
 -- Before anything was put out.
 
 pub prepare-leaves : (steps : ℕ) (told new : Option Held) (before now : ℕ) (e : Stop) → PreparesSo steps told before now (Err e) → new ≡ told → Leaves steps told new (outcome_of_stop e)
-prepare-leaves steps told new before now (stop.Special path) p same = (same, p.0)
+prepare-leaves steps told new before now (stop.Refused (refusal.Special path)) p same = (same, p.0)
+prepare-leaves steps told new before now (stop.Refused (refusal.Damaged file damage)) p same = (same, p.0)
 prepare-leaves steps told new before now stop.Spent p same = (same, p.0)
 prepare-leaves steps told new before now stop.ReadFault p same = same
 prepare-leaves steps told new before now stop.WriteFault p same = absurd p
 prepare-leaves steps told new before now stop.NoMemory p same = as_before steps told new install.NoMemory same
 
-pub prepare-gains : (steps : ℕ) (text : Verdict → Text) (told : Option Held) (old new : Option Text) (before now : ℕ) (e : Stop) → PreparesSo steps told before now (Err e) → new ≡ old → Gains steps text told old new (outcome_of_stop e)
-prepare-gains steps text told old new before now (stop.Special path) p same = same
+pub prepare-gains : (steps : ℕ) (text : Run World → Text) (told : Option Held) (old new : Option Text) (before now : ℕ) (e : Stop) → PreparesSo steps told before now (Err e) → new ≡ old → Gains steps text told old new (outcome_of_stop e)
+prepare-gains steps text told old new before now (stop.Refused (refusal.Special path)) p same = same
+prepare-gains steps text told old new before now (stop.Refused (refusal.Damaged file damage)) p same = same
 prepare-gains steps text told old new before now stop.Spent p same = same
 prepare-gains steps text told old new before now stop.ReadFault p same = same
 prepare-gains steps text told old new before now stop.WriteFault p same = absurd p
-prepare-gains steps text None old new before now stop.NoMemory p same = tt
-prepare-gains steps text (Some held) old new before now stop.NoMemory p same = Front-none (text (verdict steps held)) old new same
+prepare-gains steps text told old new before now stop.NoMemory p same = unput steps text told old new same
 
 pub prepare-ticked : (steps : ℕ) (told : Option Held) (before now : ℕ) (e : Stop) → PreparesSo steps told before now (Err e) → Ticked steps told before now (outcome_of_stop e)
-prepare-ticked steps told before now (stop.Special path) p = p.1
+prepare-ticked steps told before now (stop.Refused (refusal.Special path)) p = p.1
+prepare-ticked steps told before now (stop.Refused (refusal.Damaged file damage)) p = p.1
 prepare-ticked steps told before now stop.Spent p = p.1
 prepare-ticked steps told before now stop.ReadFault p = p
 prepare-ticked steps told before now stop.WriteFault p = absurd p
 prepare-ticked steps told before now stop.NoMemory p = p
 
 pub prepare-counted : (steps : ℕ) (told : Option Held) (before now : ℕ) (b n : Counts) (e : Stop) → PreparesSo steps told before now (Err e) → ReadsCounted {T = Prepared} b.reads n.reads (Err e) → n.writes ≡ b.writes → n.puts ≡ b.puts → n.error_puts ≡ b.error_puts → Counted b n (outcome_of_stop e)
-prepare-counted steps told before now b n (stop.Special path) p r w o x = counts-same b n r w o x
+prepare-counted steps told before now b n (stop.Refused (refusal.Special path)) p r w o x = counts-same b n r w o x
+prepare-counted steps told before now b n (stop.Refused (refusal.Damaged file damage)) p r w o x = counts-same b n r w o x
 prepare-counted steps told before now b n stop.Spent p r w o x = counts-same b n r w o x
 prepare-counted steps told before now b n stop.ReadFault p r w o x = (r, w, o, x)
 prepare-counted steps told before now b n stop.WriteFault p r w o x = absurd p
@@ -80,51 +87,55 @@ prepare-counted steps told before now b n stop.NoMemory p r w o x = counts-same 
 -- A put failed.
 
 pub put-leaves : (steps : ℕ) (told new : Option Held) (text : Text) (o n : Option Text) (e : Stop) → PutSo {T = Unit {0}} text o n (Err e) → new ≡ told → Leaves steps told new (outcome_of_stop e)
-put-leaves steps told new text o n (stop.Special path) p same = absurd p
+put-leaves steps told new text o n (stop.Refused refusal) p same = absurd p
 put-leaves steps told new text o n stop.Spent p same = absurd p
 put-leaves steps told new text o n stop.ReadFault p same = absurd p
 put-leaves steps told new text o n stop.WriteFault p same = as_before steps told new install.WriteFault same
 put-leaves steps told new text o n stop.NoMemory p same = as_before steps told new install.NoMemory same
 
--- the texts of what was prepared are those of the verdict
-pub output-is : (steps : ℕ) (held : Held) (before now : ℕ) (p : Prepared) → IsPrepared steps held before now p → p.finished.world.out ≡ output_of (verdict steps held)
-output-is steps held before now p is = sym (ap output_of is.ends)
+-- nothing is special, and the state files are well
+abbrev pub IsWell : Held → Type 0
+IsWell held = Keeping held (λ old. Unit {0})
 
-pub error_text-is : (steps : ℕ) (held : Held) (before now : ℕ) (p : Prepared) → IsPrepared steps held before now p → p.finished.world.err ≡ error_text_of (verdict steps held)
-error_text-is steps held before now p is = sym (ap error_text_of is.ends)
+well : (steps : ℕ) (held : Held) (before now : ℕ) (p : Prepared) → IsPrepared steps held before now p → IsWell held
+well steps held before now p is = (is.none, (is.old, is.kept, tt))
 
--- of whatever text the verdict has
-abbrev pub IsTextOf : ℕ → (Verdict → Text) → Option Held → Text → Type 0
-IsTextOf steps text told it = IfSome told (λ held. it ≡ text (verdict steps held))
+keeping : (held : Held) (P : Type 0) → IsWell held → P → Keeping held (λ old. P)
+keeping held P is h = (is.0, (is.1.0, is.1.1, h))
+
+-- of whatever text the run has
+abbrev pub IsTextOf : ℕ → (Run World → Text) → Option Held → Text → Type 0
+IsTextOf steps text told it = IfSome told (λ held. IsWell held × (it ≡ text (fresh_in steps held)))
 
 pub output-told : (steps : ℕ) (told : Option Held) (before now : ℕ) (p : Prepared) → IfSome told (λ held. IsPrepared steps held before now p) → IsTextOf steps output_of told p.finished.world.out
 output-told steps None before now p is = tt
-output-told steps (Some held) before now p is = output-is steps held before now p is
+output-told steps (Some held) before now p is = (well steps held before now p is, sym (ap output_of is.ends))
 
 pub error_text-told : (steps : ℕ) (told : Option Held) (before now : ℕ) (p : Prepared) → IfSome told (λ held. IsPrepared steps held before now p) → IsTextOf steps error_text_of told p.finished.world.err
 error_text-told steps None before now p is = tt
-error_text-told steps (Some held) before now p is = error_text-is steps held before now p is
+error_text-told steps (Some held) before now p is = (well steps held before now p is, sym (ap error_text_of is.ends))
 
-front-told : (steps : ℕ) (text : Verdict → Text) (told : Option Held) (it : Text) (old new : Option Text) → IsTextOf steps text told it → Front it old new → IfSome told (λ held. Front (text (verdict steps held)) old new)
+front-told : (steps : ℕ) (text : Run World → Text) (told : Option Held) (it : Text) (old new : Option Text) → IsTextOf steps text told it → Front it old new → Halts steps text told old new
 front-told steps text None it old new is front = tt
-front-told steps text (Some held) it old new is front = subst (λ (t : Text). Front t old new) is front
+front-told steps text (Some held) it old new is front =
+    inr (keeping held (Front (text (fresh_in steps held)) old new) is.0 (subst (λ (t : Text). Front t old new) is.1 front))
 
-pub put-gains : (steps : ℕ) (text : Verdict → Text) (told : Option Held) (it : Text) (old new : Option Text) (e : Stop) → IsTextOf steps text told it → PutSo {T = Unit {0}} it old new (Err e) → Gains steps text told old new (outcome_of_stop e)
-put-gains steps text told it old new (stop.Special path) is p = absurd p
+pub put-gains : (steps : ℕ) (text : Run World → Text) (told : Option Held) (it : Text) (old new : Option Text) (e : Stop) → IsTextOf steps text told it → PutSo {T = Unit {0}} it old new (Err e) → Gains steps text told old new (outcome_of_stop e)
+put-gains steps text told it old new (stop.Refused refusal) is p = absurd p
 put-gains steps text told it old new stop.Spent is p = absurd p
 put-gains steps text told it old new stop.ReadFault is p = absurd p
 put-gains steps text told it old new stop.WriteFault is p = front-told steps text told it old new is p
 put-gains steps text told it old new stop.NoMemory is p = front-told steps text told it old new is p
 
 pub put-counted : (b n : Counts) (text : Text) (old new : Option Text) (e : Stop) → PutSo {T = Unit {0}} text old new (Err e) → BothCounted {T = Unit {0}} b.puts n.puts b.error_puts n.error_puts (Err e) → n.reads ≡ b.reads → n.writes ≡ b.writes → Counted b n (outcome_of_stop e)
-put-counted b n text old new (stop.Special path) p c r w = absurd p
+put-counted b n text old new (stop.Refused refusal) p c r w = absurd p
 put-counted b n text old new stop.Spent p c r w = absurd p
 put-counted b n text old new stop.ReadFault p c r w = absurd p
 put-counted b n text old new stop.WriteFault p c r w = (r, inr c)
 put-counted b n text old new stop.NoMemory p c r w = counts-same b n r w c.0 c.1
 
 pub put-ticked : (steps : ℕ) (told : Option Held) (before now : ℕ) (text : Text) (old new : Option Text) (e : Stop) → PutSo {T = Unit {0}} text old new (Err e) → now ≤ before + steps → Ticked steps told before now (outcome_of_stop e)
-put-ticked steps told before now text old new (stop.Special path) p most = absurd p
+put-ticked steps told before now text old new (stop.Refused refusal) p most = absurd p
 put-ticked steps told before now text old new stop.Spent p most = most
 put-ticked steps told before now text old new stop.ReadFault p most = most
 put-ticked steps told before now text old new stop.WriteFault p most = most
@@ -136,37 +147,37 @@ pub may_run : (steps : ℕ) (told : Option Held) (before now : ℕ) (p : Prepare
 may_run steps None before now p is = tt
 may_run steps (Some held) before now p is = is.allowed
 
-partly : (steps : ℕ) (held : Held) (before now : ℕ) (p : Prepared) (new : Option Held) (e : InstallErr) → IsPrepared steps held before now p → Partly p.plan (Some held) new e → PartlyInstalled (verdict steps held) held new e
+partly : (steps : ℕ) (held : Held) (before now : ℕ) (p : Prepared) (new : Option Held) (e : InstallErr) → IsPrepared steps held before now p → Partly p.plan (Some held) new e → PartlyInstalled (fresh_in steps held) held new e
 partly steps held before now p new e is part =
-    subst (λ (v : Verdict). PartlyInstalled v held new e) (sym is.ends) (subst (λ (ops : List Op). Partly ops (Some held) new e) is.plan part)
+    subst (λ (r : Run World). PartlyInstalled r held new e) (sym is.ends) (subst (λ (ops : List Op). Partly ops (Some held) new e) is.plan part)
 
 stopped : (steps : ℕ) (told new : Option Held) (before now : ℕ) (p : Prepared) (e : InstallErr) → IfSome told (λ held. IsPrepared steps held before now p) → Partly p.plan told new e → StoppedAt steps told new e
 stopped steps None new before now p e is part = tt
-stopped steps (Some held) new before now p e is part = inr (partly steps held before now p new e is part)
+stopped steps (Some held) new before now p e is part = inr (keeping held (PartlyInstalled (fresh_in steps held) held new e) (well steps held before now p is) (partly steps held before now p new e is part))
 
 pub install-leaves : (steps : ℕ) (told new : Option Held) (before now : ℕ) (p : Prepared) (e : Stop) → IfSome told (λ held. IsPrepared steps held before now p) → InstallsSo {T = Unit {0}} p.plan told new (Err e) → Leaves steps told new (outcome_of_stop e)
-install-leaves steps told new before now p (stop.Special path) is part = absurd part
+install-leaves steps told new before now p (stop.Refused refusal) is part = absurd part
 install-leaves steps told new before now p stop.Spent is part = absurd part
 install-leaves steps told new before now p stop.ReadFault is part = absurd part
 install-leaves steps told new before now p stop.WriteFault is part = stopped steps told new before now p install.WriteFault is part
 install-leaves steps told new before now p stop.NoMemory is part = stopped steps told new before now p install.NoMemory is part
 
-pub install-gains : (steps : ℕ) (text : Verdict → Text) (told h n : Option Held) (ops : List Op) (it : Text) (old new : Option Text) (e : Stop) → IsTextOf steps text told it → InstallsSo {T = Unit {0}} ops h n (Err e) → new ≡ with_bytes it old → Gains steps text told old new (outcome_of_stop e)
-install-gains steps text told h n ops it old new (stop.Special path) is part all = absurd part
+pub install-gains : (steps : ℕ) (text : Run World → Text) (told h n : Option Held) (ops : List Op) (it : Text) (old new : Option Text) (e : Stop) → IsTextOf steps text told it → InstallsSo {T = Unit {0}} ops h n (Err e) → new ≡ with_bytes it old → Gains steps text told old new (outcome_of_stop e)
+install-gains steps text told h n ops it old new (stop.Refused refusal) is part all = absurd part
 install-gains steps text told h n ops it old new stop.Spent is part all = absurd part
 install-gains steps text told h n ops it old new stop.ReadFault is part all = absurd part
 install-gains steps text told h n ops it old new stop.WriteFault is part all = front-told steps text told it old new is (Front-all it old new all)
 install-gains steps text told h n ops it old new stop.NoMemory is part all = front-told steps text told it old new is (Front-all it old new all)
 
 pub install-counted : (b n : Counts) (h k : Option Held) (ops : List Op) (e : Stop) → InstallsSo {T = Unit {0}} ops h k (Err e) → WritesCounted {T = Unit {0}} b.writes n.writes (Err e) → n.reads ≡ b.reads → n.puts ≡ b.puts → n.error_puts ≡ b.error_puts → Counted b n (outcome_of_stop e)
-install-counted b n h k ops (stop.Special path) part w r o x = absurd part
+install-counted b n h k ops (stop.Refused refusal) part w r o x = absurd part
 install-counted b n h k ops stop.Spent part w r o x = absurd part
 install-counted b n h k ops stop.ReadFault part w r o x = absurd part
 install-counted b n h k ops stop.WriteFault part w r o x = (r, inl w)
 install-counted b n h k ops stop.NoMemory part w r o x = counts-same b n r w o x
 
 pub install-ticked : (steps : ℕ) (told h k : Option Held) (ops : List Op) (before now : ℕ) (e : Stop) → InstallsSo {T = Unit {0}} ops h k (Err e) → now ≤ before + steps → Ticked steps told before now (outcome_of_stop e)
-install-ticked steps told h k ops before now (stop.Special path) part most = absurd part
+install-ticked steps told h k ops before now (stop.Refused refusal) part most = absurd part
 install-ticked steps told h k ops before now stop.Spent part most = most
 install-ticked steps told h k ops before now stop.ReadFault part most = most
 install-ticked steps told h k ops before now stop.WriteFault part most = most
@@ -174,29 +185,29 @@ install-ticked steps told h k ops before now stop.NoMemory part most = most
 
 -- All went well.
 
-ended : (steps : ℕ) (held : Held) (before now : ℕ) (p : Prepared) (new : Option Held) (count : ℕ) → IsPrepared steps held before now p → new ≡ Some (after_all p.plan held) → count ≡ length p.finished.table → EndsSo (verdict steps held) p.finished.status count count × Installed (verdict steps held) held new
+ended : (steps : ℕ) (held : Held) (before now : ℕ) (p : Prepared) (new : Option Held) (count : ℕ) → IsPrepared steps held before now p → new ≡ Some (after_all p.plan held) → count ≡ length p.finished.table → EndsSo (fresh_in steps held) held new p.finished.status count count
 ended steps held before now p new count is same number =
-    subst (λ (v : Verdict). EndsSo v p.finished.status count count × Installed v held new) (sym is.ends) ((refl, number, number), (after_all p.plan held, same, is.leads))
+    subst (λ (r : Run World). EndsSo r held new p.finished.status count count) (sym is.ends) (refl, number, number, (after_all p.plan held, same, is.leads))
 
 pub end-leaves : (steps : ℕ) (told new : Option Held) (before now : ℕ) (p : Prepared) (count : ℕ) → IfSome told (λ held. IsPrepared steps held before now p) → new ≡ option_map (after_all p.plan) told → count ≡ length p.finished.table → Leaves steps told new (out.Ended p.finished.status count count)
 end-leaves steps None new before now p count is same number = tt
-end-leaves steps (Some held) new before now p count is same number = ended steps held before now p new count is same number
+end-leaves steps (Some held) new before now p count is same number = keeping held (EndsSo (fresh_in steps held) held new p.finished.status count count) (well steps held before now p is) (ended steps held before now p new count is same number)
 
-pub end-gains : (steps : ℕ) (text : Verdict → Text) (told : Option Held) (it : Text) (old new : Option Text) (status launched ran : ℕ) → IsTextOf steps text told it → new ≡ with_bytes it old → Gains steps text told old new (out.Ended status launched ran)
+pub end-gains : (steps : ℕ) (text : Run World → Text) (told : Option Held) (it : Text) (old new : Option Text) (status launched ran : ℕ) → IsTextOf steps text told it → new ≡ with_bytes it old → Gains steps text told old new (out.Ended status launched ran)
 end-gains steps text None it old new status launched ran is all = tt
-end-gains steps text (Some held) it old new status launched ran is all = all ∙ ap (λ (t : Text). with_bytes t old) is
+end-gains steps text (Some held) it old new status launched ran is all = all ∙ ap (λ (t : Text). with_bytes t old) is.1
 
 pub end-counted : (b n : Counts) (status launched ran : ℕ) → n.reads ≡ b.reads → n.writes ≡ b.writes → n.puts ≡ b.puts → n.error_puts ≡ b.error_puts → Counted b n (out.Ended status launched ran)
 end-counted b n status launched ran r w o x = counts-same b n r w o x
 
 pub end-ticked : (steps : ℕ) (told : Option Held) (before now : ℕ) (p : Prepared) (status launched ran : ℕ) → IfSome told (λ held. IsPrepared steps held before now p) × (now ≤ before + steps) → Ticked steps told before now (out.Ended status launched ran)
 end-ticked steps None before now p status launched ran h = h
-end-ticked steps (Some held) before now p status launched ran h = (subst (λ (v : Verdict). Ticks steps v before now) (sym h.0.ends) h.0.ticked, h.1)
+end-ticked steps (Some held) before now p status launched ran h = (subst (λ (r : Run World). Ticks steps r before now) (sym h.0.ends) h.0.ticked, h.1)
 
 -- of a text that is the same
-pub text-told : (steps : ℕ) (text : Verdict → Text) (told : Option Held) (it out : Text) → it ≡ out → IsTextOf steps text told out → IsTextOf steps text told it
+pub text-told : (steps : ℕ) (text : Run World → Text) (told : Option Held) (it out : Text) → it ≡ out → IsTextOf steps text told out → IsTextOf steps text told it
 text-told steps text None it out same is = tt
-text-told steps text (Some held) it out same is = same ∙ is
+text-told steps text (Some held) it out same is = (is.0, same ∙ is.1)
 
 -- After the line.
 
@@ -204,14 +215,11 @@ line-same : (steps : ℕ) (told : Option Held) (old mid new : Option Text) (b n 
 line-same steps told old mid new b n (out.Ended status launched ran) g put = (mid, g, Front-none [] mid new put.0)
 line-same steps told old mid new b n out.Usage g put = (mid, g, put.0)
 line-same steps told old mid new b n (out.Special path) g put = (mid, g, put.0)
+line-same steps told old mid new b n (out.Damaged file damage) g put = (mid, g, put.0)
 line-same steps told old mid new b n out.Spent g put = (mid, g, put.0)
 line-same steps told old mid new b n out.ReadFault g put = (mid, g, put.0)
 line-same steps told old mid new b n out.WriteFault g put = (mid, g, put.0)
 line-same steps told old mid new b n out.NoMemory g put = (mid, g, put.0)
-
-unput : (steps : ℕ) (text : Verdict → Text) (told : Option Held) (old mid : Option Text) → mid ≡ old → IfSome told (λ held. Front (text (verdict steps held)) old mid)
-unput steps text None old mid same = tt
-unput steps text (Some held) old mid same = Front-none (text (verdict steps held)) old mid same
 
 -- what is said of an outcome is said of what is told of it
 abbrev kept : (P : Outcome → Type 0) (outcome told : Outcome) → told ≡ outcome → P outcome → P told
@@ -222,6 +230,10 @@ line-gains steps told old mid new b n (out.Ended status launched ran) it g t = k
 line-gains steps told old mid new b n out.Usage it g t = kept (λ r. Put r mid new b n → GainsLine steps told old new r) _ it t.0 (line-same steps told old mid new b n out.Usage g) t.1
 line-gains steps told old mid new b n (out.Special path) it g t = elim t.0 [
   | inl same ↦ kept (λ r. Put r mid new b n → GainsLine steps told old new r) _ it same (line-same steps told old mid new b n (out.Special path) g) t.1
+  | inr none ↦ kept (λ r. Put r mid new b n → GainsLine steps told old new r) _ it none (line-same steps told old mid new b n out.NoMemory (unput steps error_text_of told old mid g)) t.1
+]
+line-gains steps told old mid new b n (out.Damaged file damage) it g t = elim t.0 [
+  | inl same ↦ kept (λ r. Put r mid new b n → GainsLine steps told old new r) _ it same (line-same steps told old mid new b n (out.Damaged file damage) g) t.1
   | inr none ↦ kept (λ r. Put r mid new b n → GainsLine steps told old new r) _ it none (line-same steps told old mid new b n out.NoMemory (unput steps error_text_of told old mid g)) t.1
 ]
 line-gains steps told old mid new b n out.Spent it g t = kept (λ r. Put r mid new b n → GainsLine steps told old new r) _ it t.0 (line-same steps told old mid new b n out.Spent g) t.1
@@ -236,38 +248,40 @@ line-leaves steps told new (out.Special path) it l k = elim k [
   | inl same ↦ kept (Leaves steps told new) _ it same l
   | inr none ↦ kept (Leaves steps told new) _ it none (as_before steps told new install.NoMemory l.0)
 ]
+line-leaves steps told new (out.Damaged file damage) it l k = elim k [
+  | inl same ↦ kept (Leaves steps told new) _ it same l
+  | inr none ↦ kept (Leaves steps told new) _ it none (as_before steps told new install.NoMemory l.0)
+]
 line-leaves steps told new out.Spent it l k = kept (Leaves steps told new) _ it k l
 line-leaves steps told new out.ReadFault it l k = kept (Leaves steps told new) _ it k l
 line-leaves steps told new out.WriteFault it l k = kept (Leaves steps told new) _ it k l
 line-leaves steps told new out.NoMemory it l k = kept (Leaves steps told new) _ it k l
 
-not_refused : (o : Run World) (path : Text) → of_run o ≡ Refused path → ⊥
-not_refused (Done world status left table) path e = cc
-not_refused Spent path e = cc
-
-is_first : (o : Option Text) (v : Verdict) (path : Text) → unless_special o v ≡ Refused path → ((path : Text) → v ≡ Refused path → ⊥) → o ≡ Some path
-is_first None v path e never = absurd (never path e)
-is_first (Some p) v path e never = cc
-
--- the path that is refused is the first special one
-refused-first : (steps : ℕ) (held : Held) (path : Text) → verdict steps held ≡ Refused path → first_special held ≡ Some path
-unfolding verdict
-refused-first steps held path e = is_first (first_special held) _ path e (λ p. not_refused (fresh_run steps (snapshot_of held)) p)
-
 pub special-first : (steps : ℕ) (told new : Option Held) (outcome : Outcome) → Leaves steps told new outcome → IfSpecial outcome (λ path. IfSome told (λ held. first_special held ≡ Some path))
 special-first steps told new (out.Ended status launched ran) l = tt
 special-first steps told new out.Usage l = tt
-special-first steps None new (out.Special path) l = tt
-special-first steps (Some held) new (out.Special path) l = refused-first steps held path l.1
+special-first steps told new (out.Special path) l = l.1
+special-first steps told new (out.Damaged file damage) l = tt
 special-first steps told new out.Spent l = tt
 special-first steps told new out.ReadFault l = tt
 special-first steps told new out.WriteFault l = tt
 special-first steps told new out.NoMemory l = tt
 
+pub damaged-first : (steps : ℕ) (told new : Option Held) (outcome : Outcome) → Leaves steps told new outcome → IfDamaged outcome (λ file damage. IfSome told (λ held. (first_special held ≡ None) × IsDamaged (state_in held) file damage))
+damaged-first steps told new (out.Ended status launched ran) l = tt
+damaged-first steps told new out.Usage l = tt
+damaged-first steps told new (out.Special path) l = tt
+damaged-first steps told new (out.Damaged file damage) l = l.1
+damaged-first steps told new out.Spent l = tt
+damaged-first steps told new out.ReadFault l = tt
+damaged-first steps told new out.WriteFault l = tt
+damaged-first steps told new out.NoMemory l = tt
+
 faults-same : (b m n : Counts) (old new : Option Text) (outcome : Outcome) → Counted b m outcome → n.reads ≡ m.reads → n.writes ≡ m.writes → n.puts ≡ m.puts → Put outcome old new m.error_puts n.error_puts → Faults b n outcome
 faults-same b m n old new (out.Ended status launched ran) c r w p put = (m, c, counts-same m n r w p put.1)
 faults-same b m n old new out.Usage c r w p put = (m, c, (r, w, p, put.1))
 faults-same b m n old new (out.Special path) c r w p put = (m, c, (r, w, p, put.1))
+faults-same b m n old new (out.Damaged file damage) c r w p put = (m, c, (r, w, p, put.1))
 faults-same b m n old new out.Spent c r w p put = (m, c, (r, w, p, put.1))
 faults-same b m n old new out.ReadFault c r w p put = (m, c, (r, w, p, put.1))
 faults-same b m n old new out.WriteFault c r w p put = (m, c, (r, w, p, put.1))
@@ -278,6 +292,10 @@ line-faults b m n old new (out.Ended status launched ran) it c t r w p = kept (�
 line-faults b m n old new out.Usage it c t r w p = kept (λ o. Put o old new m.error_puts n.error_puts → Faults b n o) _ it t.0 (faults-same b m n old new out.Usage c r w p) t.1
 line-faults b m n old new (out.Special path) it c t r w p = elim t.0 [
   | inl same ↦ kept (λ o. Put o old new m.error_puts n.error_puts → Faults b n o) _ it same (faults-same b m n old new (out.Special path) c r w p) t.1
+  | inr none ↦ kept (λ o. Put o old new m.error_puts n.error_puts → Faults b n o) _ it none (faults-same b m n old new out.NoMemory c r w p) t.1
+]
+line-faults b m n old new (out.Damaged file damage) it c t r w p = elim t.0 [
+  | inl same ↦ kept (λ o. Put o old new m.error_puts n.error_puts → Faults b n o) _ it same (faults-same b m n old new (out.Damaged file damage) c r w p) t.1
   | inr none ↦ kept (λ o. Put o old new m.error_puts n.error_puts → Faults b n o) _ it none (faults-same b m n old new out.NoMemory c r w p) t.1
 ]
 line-faults b m n old new out.Spent it c t r w p = kept (λ o. Put o old new m.error_puts n.error_puts → Faults b n o) _ it t.0 (faults-same b m n old new out.Spent c r w p) t.1

@@ -1,4 +1,5 @@
 pub mod BuildLemmas
+pub mod FoundLemmas
 pub mod LookLemmas
 pub mod PrepareLemmas
 pub mod RunLemmas

@@ -1,3 +1,5 @@
+pub mod Fresh
+pub mod Kept
 pub mod Lines
 pub mod Outcomes
 pub mod Run
@@ -6,4 +8,3 @@ pub mod Stages
 pub mod Telling
 pub mod Texts
 pub mod Turns
-pub mod Verdict

@@ -1,5 +1,5 @@
 -- What each outcome says of the folder, the sinks, the counts of faults and the count of turns.
-use Rattle.std.specs.Prelude.{◌≡◌, ◌⊎◌, ◌≤◌, ◌+◌, ◌-◌, ℕ, length, Option, Some, IfSome, Result, Ok, Err}
+use Rattle.std.specs.Prelude.{◌≡◌, ◌⊎◌, ◌≤◌, ◌+◌, ◌-◌, ℕ, List, length, Option, Some, IfSome, Result, Ok, Err}
 use Rattle.rk_base.specs.Text.{Text}
 use Rattle.rk_folder.specs.Told.{Held}
 use Rattle.rk_folder.specs.Counts.{Rose}
@@ -12,15 +12,27 @@ use Rattle.rk_install.specs.declared.installation.InstallErr.{InstallErr}
 use Rattle.rk_install.specs.declared.installation.InstallErr.TheVariants as install
 use Rattle.rk_top.specs.Lines.{line_of}
 use Rattle.rk_top.specs.Texts.{Front}
-use Rattle.rk_top.specs.Verdict.{Verdict, Refused, Ends, Overspent, verdict, error_text_of, held_after}
+use Rattle.tr_codec.specs.declared.fault.Damage.{Damage}
+use Rattle.tr_record.specs.declared.records.Record.{Record}
+use Rattle.rk_kernel.specs.World.{World}
+use Rattle.rk_runs.specs.Run.{Outcome as Run, Done, Spent}
+use Rattle.rk_top.specs.Fresh.{fresh_in, error_text_of, held_after}
+use Rattle.rk_top.specs.Kept.{Keeping, Refuses}
 use Rattle.rk_top.specs.declared.build.Ended.{Ended}
+use Rattle.rk_top.specs.declared.outcome.StateFile.{StateFile}
+use Rattle.rk_top.specs.declared.stop.Refusal.{Refusal}
+use Rattle.rk_top.specs.declared.stop.Refusal.TheVariants as refusal
 use Rattle.rk_top.specs.declared.stop.Stop.{Stop}
 use Rattle.rk_top.specs.declared.stop.Stop.TheVariants as stop
 use Rattle.rk_top.specs.declared.outcome.Outcome.{Outcome}
 use Rattle.rk_top.specs.declared.outcome.Outcome.TheVariants as out
 
+abbrev pub outcome_of_refusal : Refusal → Outcome
+outcome_of_refusal (refusal.Special path) = out.Special path
+outcome_of_refusal (refusal.Damaged file damage) = out.Damaged file damage
+
 abbrev pub outcome_of_stop : Stop → Outcome
-outcome_of_stop (stop.Special path) = out.Special path
+outcome_of_stop (stop.Refused refusal) = outcome_of_refusal refusal
 outcome_of_stop stop.Spent = out.Spent
 outcome_of_stop stop.ReadFault = out.ReadFault
 outcome_of_stop stop.WriteFault = out.WriteFault
@@ -32,33 +44,30 @@ outcome_of (Err e) = outcome_of_stop e
 
 -- The folder.
 
--- it holds what the fresh run leaves, its trace included, and all else as before
-abbrev pub Installed : Verdict → Held → Option Held → Type 0
-Installed (Refused path) held new = ⊥
-Installed (Ends world status left table) held new = (after : Held) × (new ≡ Some after) × IsAfter held after (held_after world table)
-Installed Overspent held new = ⊥
+-- it holds what the run leaves, its trace included, and all else as before
+abbrev pub Installed : World → List Record → Held → Option Held → Type 0
+Installed world table held new = (after : Held) × (new ≡ Some after) × IsAfter held after (held_after world table)
+
+-- the status, how many commands were launched and ran: all; and what was installed
+abbrev pub EndsSo : Run World → Held → Option Held → ℕ → ℕ → ℕ → Type 0
+EndsSo (Done world exit left table) held new status launched ran = (status ≡ exit) × (launched ≡ length table) × (ran ≡ length table) × Installed world table held new
+EndsSo Spent held new status launched ran = ⊥
 
 -- some of the planned calls were made, and the next one failed and left its damage
-abbrev pub PartlyInstalled : Verdict → Held → Option Held → InstallErr → Type 0
-PartlyInstalled (Refused path) held new e = ⊥
-PartlyInstalled (Ends world status left table) held new e = Partly (planned (holding_of held) (held_after world table)) (Some held) new e
-PartlyInstalled Overspent held new e = ⊥
+abbrev pub PartlyInstalled : Run World → Held → Option Held → InstallErr → Type 0
+PartlyInstalled (Done world status left table) held new e = Partly (planned (holding_of held) (held_after world table)) (Some held) new e
+PartlyInstalled Spent held new e = ⊥
 
 -- it is as before, or partly installed
 abbrev pub StoppedAt : ℕ → Option Held → Option Held → InstallErr → Type 0
-StoppedAt steps told new e = IfSome told (λ held. (new ≡ told) ⊎ PartlyInstalled (verdict steps held) held new e)
-
--- the status, and how many commands were launched and ran: all
-abbrev pub EndsSo : Verdict → ℕ → ℕ → ℕ → Type 0
-EndsSo (Refused path) status launched ran = ⊥
-EndsSo (Ends world exit left table) status launched ran = (status ≡ exit) × (launched ≡ length table) × (ran ≡ length table)
-EndsSo Overspent status launched ran = ⊥
+StoppedAt steps told new e = IfSome told (λ held. (new ≡ told) ⊎ Keeping held (λ old. PartlyInstalled (fresh_in steps held) held new e))
 
 abbrev pub Leaves : ℕ → Option Held → Option Held → Outcome → Type 0
-Leaves steps told new (out.Ended status launched ran) = IfSome told (λ held. EndsSo (verdict steps held) status launched ran × Installed (verdict steps held) held new)
+Leaves steps told new (out.Ended status launched ran) = IfSome told (λ held. Keeping held (λ old. EndsSo (fresh_in steps held) held new status launched ran))
 Leaves steps told new out.Usage = new ≡ told
-Leaves steps told new (out.Special path) = (new ≡ told) × IfSome told (λ held. verdict steps held ≡ Refused path)
-Leaves steps told new out.Spent = (new ≡ told) × IfSome told (λ held. verdict steps held ≡ Overspent)
+Leaves steps told new (out.Special path) = (new ≡ told) × IfSome told (λ held. Refuses held (refusal.Special path))
+Leaves steps told new (out.Damaged file damage) = (new ≡ told) × IfSome told (λ held. Refuses held (refusal.Damaged file damage))
+Leaves steps told new out.Spent = (new ≡ told) × IfSome told (λ held. Keeping held (λ old. fresh_in steps held ≡ Spent))
 Leaves steps told new out.ReadFault = new ≡ told
 Leaves steps told new out.WriteFault = StoppedAt steps told new install.WriteFault
 Leaves steps told new out.NoMemory = StoppedAt steps told new install.NoMemory
@@ -66,14 +75,19 @@ Leaves steps told new out.NoMemory = StoppedAt steps told new install.NoMemory
 -- The sinks: a text of the run by what the folder held, all over an end, a front over a stop that came late, and
 -- nothing over the others.
 
-abbrev pub Gains : ℕ → (Verdict → Text) → Option Held → Option Text → Option Text → Outcome → Type 0
-Gains steps text told old new (out.Ended status launched ran) = IfSome told (λ held. new ≡ with_bytes (text (verdict steps held)) old)
+-- nothing, or a front of the run's text
+abbrev pub Halts : ℕ → (Run World → Text) → Option Held → Option Text → Option Text → Type 0
+Halts steps text told old new = IfSome told (λ held. (new ≡ old) ⊎ Keeping held (λ kept. Front (text (fresh_in steps held)) old new))
+
+abbrev pub Gains : ℕ → (Run World → Text) → Option Held → Option Text → Option Text → Outcome → Type 0
+Gains steps text told old new (out.Ended status launched ran) = IfSome told (λ held. new ≡ with_bytes (text (fresh_in steps held)) old)
 Gains steps text told old new out.Usage = new ≡ old
 Gains steps text told old new (out.Special path) = new ≡ old
+Gains steps text told old new (out.Damaged file damage) = new ≡ old
 Gains steps text told old new out.Spent = new ≡ old
 Gains steps text told old new out.ReadFault = new ≡ old
-Gains steps text told old new out.WriteFault = IfSome told (λ held. Front (text (verdict steps held)) old new)
-Gains steps text told old new out.NoMemory = IfSome told (λ held. Front (text (verdict steps held)) old new)
+Gains steps text told old new out.WriteFault = Halts steps text told old new
+Gains steps text told old new out.NoMemory = Halts steps text told old new
 
 -- and then the outcome's own line, or a front of it
 abbrev pub GainsLine : ℕ → Option Held → Option Text → Option Text → Outcome → Type 0
@@ -95,15 +109,15 @@ Counted before now other = now ≡ before
 -- The count of turns.
 
 -- what the run paid
-abbrev pub Ticks : ℕ → Verdict → ℕ → ℕ → Type 0
-Ticks steps (Refused path) before now = ⊥
-Ticks steps (Ends world status left table) before now = now ≡ before + (steps - left)
-Ticks steps Overspent before now = ⊥
+abbrev pub Ticks : ℕ → Run World → ℕ → ℕ → Type 0
+Ticks steps (Done world status left table) before now = now ≡ before + (steps - left)
+Ticks steps Spent before now = ⊥
 
 abbrev pub Ticked : ℕ → Option Held → ℕ → ℕ → Outcome → Type 0
-Ticked steps told before now (out.Ended status launched ran) = IfSome told (λ held. Ticks steps (verdict steps held) before now) × (now ≤ before + steps)
+Ticked steps told before now (out.Ended status launched ran) = IfSome told (λ held. Ticks steps (fresh_in steps held) before now) × (now ≤ before + steps)
 Ticked steps told before now out.Usage = now ≡ before
 Ticked steps told before now (out.Special path) = now ≡ before
+Ticked steps told before now (out.Damaged file damage) = now ≡ before
 Ticked steps told before now other = now ≤ before + steps
 
 -- The outcome's own line, which is put last.
@@ -123,10 +137,20 @@ abbrev pub IfSpecial : Outcome → (Text → Type 0) → Type 0
 IfSpecial (out.Special path) P = P path
 IfSpecial other P = Unit {0}
 
--- the outcome that a verdict calls for, or want of memory
-abbrev pub Settles : Verdict → Outcome → Type 0
-Settles v out.NoMemory = Unit {0}
-Settles (Refused path) (out.Special p) = p ≡ path
-Settles (Ends world exit left table) (out.Ended status launched ran) = status ≡ exit
-Settles Overspent out.Spent = Unit {0}
-Settles v other = ⊥
+abbrev pub IfDamaged : Outcome → (StateFile → Damage → Type 0) → Type 0
+IfDamaged (out.Damaged file damage) P = P file damage
+IfDamaged other P = Unit {0}
+
+-- the run ends with this status
+abbrev pub EndsWith : Run World → ℕ → Type 0
+EndsWith (Done world exit left table) status = status ≡ exit
+EndsWith Spent status = ⊥
+
+-- The outcome that what a folder holds calls for, or want of memory. What calls for one of them calls for no other.
+abbrev pub Settles : ℕ → Held → Outcome → Type 0
+Settles steps held (out.Ended status launched ran) = Keeping held (λ old. EndsWith (fresh_in steps held) status)
+Settles steps held (out.Special path) = Refuses held (refusal.Special path)
+Settles steps held (out.Damaged file damage) = Refuses held (refusal.Damaged file damage)
+Settles steps held out.Spent = Keeping held (λ old. fresh_in steps held ≡ Spent)
+Settles steps held out.NoMemory = Unit {0}
+Settles steps held other = ⊥

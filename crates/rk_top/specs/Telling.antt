@@ -13,6 +13,7 @@ PutsLine line old new before now = Front line old new × (before ≤ now)
 -- the same outcome, or for want of memory for its line that of want of memory
 abbrev pub Keeps : Outcome → Outcome → Type 0
 Keeps (out.Special path) told = (told ≡ out.Special path) ⊎ (told ≡ out.NoMemory)
+Keeps (out.Damaged file damage) told = (told ≡ out.Damaged file damage) ⊎ (told ≡ out.NoMemory)
 Keeps outcome told = told ≡ outcome
 
 -- the line of what is told; over an end nothing is put

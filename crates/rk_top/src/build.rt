@@ -3,7 +3,7 @@ ghost use Rattle.std.specs.Prelude.{◌≡◌, ◌<◌, Ok};
 ghost use Rattle.rk_install.specs.Changes.{MayRun};
 ghost use Rattle.rk_top.specs.Outcomes.{outcome_of, Leaves, Gains, Counted, Ticked};
 ghost use Rattle.rk_top.specs.Stages.{InstallsSo, WritesCounted};
-ghost use Rattle.rk_top.specs.Verdict.{output_of, error_text_of};
+ghost use Rattle.rk_top.specs.Fresh.{output_of, error_text_of};
 
 use crate::prepare::{Prepared, prepare};
 use crate::stop::Stop;

@@ -3,6 +3,8 @@
 
 mod build;
 mod exits;
+mod found;
+mod kept;
 mod lines;
 mod look;
 mod outcome;
@@ -16,6 +18,7 @@ mod texts;
 mod top;
 
 pub use exits::exit_code;
-pub use outcome::Outcome;
+pub use outcome::{Outcome, StateFile};
 pub use rk_words::{Request, RequestErr, request};
 pub use top::rkr;
+pub use tr_codec::Damage;

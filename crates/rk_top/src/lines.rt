@@ -1,13 +1,14 @@
 // The lines that tell outcomes.
 ghost use Rattle.std.specs.Prelude.{◌≡◌, IfOk};
-ghost use Rattle.rk_top.specs.Lines.{fixed_line, special_line};
+ghost use Rattle.rk_top.specs.Lines.{damage_text, damaged_line, digests, fixed_line, name_of, special_line};
 ghost use Rattle.rk_top.specs.Telling.{PutsLine, Tells};
 
-use crate::Outcome;
 use crate::shown::shown;
+use crate::{Outcome, StateFile};
 use rk_base::{Bytes, NoMemory, Path};
 use rk_folder::Sink;
 use std::alloc::Global;
+use tr_codec::Damage;
 
 fn special_line(alloc: Global, path: &Path) -> Result<Bytes, NoMemory>
     ensures { IfOk result (λ b. b ≡ special_line path.now) }
@@ -16,6 +17,49 @@ fn special_line(alloc: Global, path: &Path) -> Result<Bytes, NoMemory>
     let mut line = Vec::from_slice(alloc, b"rkr: ")?;
     line.extend_from_slice(path.as_slice())?;
     line.extend_from_slice(b": not a file or directory\n")?;
+    Ok(Bytes::new(line))
+}
+
+fn name_of(file: StateFile) -> &'static [u8]
+    ensures { result.now ≡ name_of file }
+{
+    match file {
+        StateFile::Attrs => b"attrs",
+        StateFile::Db => b"db",
+    }
+}
+
+fn digests(alloc: Global, kept: &[u8; 32], computed: &[u8; 32]) -> Result<Bytes, NoMemory>
+    ensures { IfOk result (λ b. b ≡ digests kept.now computed.now) }
+{
+    let kept = hex::encode(alloc, kept.as_slice())?;
+    let computed = hex::encode(alloc, computed.as_slice())?;
+    let mut text = Vec::from_slice(alloc, b"digest ")?;
+    text.extend_from_slice(kept.as_bytes())?;
+    text.extend_from_slice(b", computed ")?;
+    text.extend_from_slice(computed.as_bytes())?;
+    Ok(Bytes::new(text))
+}
+
+fn damage_text(alloc: Global, damage: &Damage) -> Result<Bytes, NoMemory>
+    ensures { IfOk result (λ b. b ≡ damage_text damage.now) }
+{
+    match damage {
+        Damage::Short(_) => Bytes::from_slice(alloc, b"short"),
+        Damage::Digest { kept, computed } => digests(alloc, kept, computed),
+        Damage::Form => Bytes::from_slice(alloc, b"form"),
+    }
+}
+
+fn damaged_line(alloc: Global, file: StateFile, damage: &Damage) -> Result<Bytes, NoMemory>
+    ensures { IfOk result (λ b. b ≡ damaged_line file damage.now) }
+{
+    let damage = damage_text(alloc, damage)?;
+    let mut line = Vec::from_slice(alloc, b"rkr: .rkr/")?;
+    line.extend_from_slice(name_of(file))?;
+    line.extend_from_slice(b": damaged: ")?;
+    line.extend_from_slice(damage.as_slice())?;
+    line.push(b'\n')?;
     Ok(Bytes::new(line))
 }
 
@@ -28,6 +72,7 @@ fn fixed_line(outcome: &Outcome) -> &'static [u8]
         Outcome::Usage =>
             b"usage: rkr build [--steps N] [--explain] [--fresh] [--check] | check | trace [--json] | forget | gen SEED\n",
         Outcome::Special(_) => b"",
+        Outcome::Damaged(_, _) => b"",
         Outcome::Spent => b"rkr: budget spent\n",
         Outcome::ReadFault => b"rkr: read fault\n",
         Outcome::WriteFault => b"rkr: write fault\n",
@@ -44,8 +89,8 @@ fn put_line<E: Sink>(err: &mut E, line: &[u8])
     }
 }
 
-/// Puts the outcome's line. Where there is no memory for the line of a special path, the outcome is want of
-/// memory.
+/// Puts the outcome's line. Where there is no memory for the line of a special path or of damage, the outcome is
+/// want of memory.
 pub(crate) fn tell<E: Sink>(alloc: Global, err: &mut E, outcome: Outcome) -> Outcome
     ensures { Tells outcome result (E.so_far err.old) (E.so_far err.new) (E.faults err.old) (E.faults err.new) }
 {
@@ -54,6 +99,16 @@ pub(crate) fn tell<E: Sink>(alloc: Global, err: &mut E, outcome: Outcome) -> Out
             Ok(line) => {
                 put_line(err, line.as_slice());
                 Outcome::Special(path)
+            }
+            Err(_) => {
+                put_line(err, fixed_line(&Outcome::NoMemory));
+                Outcome::NoMemory
+            }
+        },
+        Outcome::Damaged(file, damage) => match damaged_line(alloc, file, &damage) {
+            Ok(line) => {
+                put_line(err, line.as_slice());
+                Outcome::Damaged(file, damage)
             }
             Err(_) => {
                 put_line(err, fixed_line(&Outcome::NoMemory));

@@ -3,7 +3,7 @@ ghost use Rattle.std.specs.Prelude.{◌≡◌, IfOk, IfErr};
 ghost use Rattle.rk_tree.specs.Entries.{IsWholeSnapshot};
 ghost use Rattle.rk_top.specs.Stages.{LooksSo, ReadsCounted, stop_of};
 
-use crate::stop::Stop;
+use crate::stop::{Refusal, Stop};
 use rk_folder::{Folder, Hidden, ImportErr, import, state};
 use rk_install::Holding;
 use std::alloc::Global;
@@ -12,7 +12,7 @@ fn stop_of(e: ImportErr) -> Stop
     ensures { result ≡ stop_of e }
 {
     match e {
-        ImportErr::Special(path) => Stop::Special(path),
+        ImportErr::Special(path) => Stop::Refused(Refusal::Special(path)),
         ImportErr::ReadFault => Stop::ReadFault,
         ImportErr::NoMemory => Stop::NoMemory,
     }

@@ -1,5 +1,13 @@
 // How a call of `rkr` ends.
 use rk_base::Path;
+use tr_codec::Damage;
+
+/// A file in `.rkr` that a build reads.
+#[derive(Clone, Copy, Debug, PartialEq, Eq)]
+pub enum StateFile {
+    Attrs,
+    Db,
+}
 
 /// How a call of `rkr` ends.
 #[derive(Debug, Drop)]
@@ -10,6 +18,8 @@ pub enum Outcome {
     Usage,
     /// The first path, in listing order, at which neither a file nor a directory stands where one has to.
     Special(Path),
+    /// The first state file, of attrs and then the database, that is damaged, and how.
+    Damaged(StateFile, Damage),
     /// The script's run doesn't end within the budget of turns.
     Spent,
     /// A list or a read of the folder failed.

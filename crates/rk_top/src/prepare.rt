@@ -2,9 +2,9 @@
 ghost use Rattle.std.specs.Prelude.{◌≡◌, ◌<◌, IfOk};
 ghost use Rattle.rk_install.specs.Holdings.{IsBuilt};
 ghost use Rattle.rk_top.specs.Stages.{PreparesSo, ReadsCounted};
-ghost use Rattle.rk_top.specs.Verdict.{held_after};
+ghost use Rattle.rk_top.specs.Fresh.{held_after};
 
-use crate::look::look;
+use crate::found::{Found, find};
 use crate::run::{Finished, run};
 use crate::stop::Stop;
 use rk_base::{NoMemory, Steps};
@@ -38,7 +38,7 @@ fn held_after(alloc: Global, finished: &Finished) -> Result<Holding, NoMemory>
     })
 }
 
-/// Looks at the folder, runs the script on what it holds, and plans what leads to what the run leaves.
+/// Looks at the folder, reads its state files, runs the script on what it holds, and plans what leads to what the run leaves.
 pub(crate) fn prepare<F: Folder, L: Ledger>(
     alloc: Global,
     folder: &mut F,
@@ -51,7 +51,10 @@ pub(crate) fn prepare<F: Folder, L: Ledger>(
     ensures reads { ReadsCounted (F.read_faults folder.old) (F.read_faults folder.new) result }
     ensures prepares { PreparesSo steps (F.told folder.old) live.old live.new result }
 {
-    let before = look(alloc, folder)?;
+    let Found {
+        holding: before,
+        old: _,
+    } = find(alloc, folder)?;
     let finished = run(alloc, &before.entries, steps, live)?;
     let after = held_after(alloc, &finished)?;
     let plan = plan(alloc, &before, &after)?;

@@ -2,12 +2,21 @@
 ghost use Rattle.std.specs.Prelude.{◌≡◌};
 ghost use Rattle.rk_top.specs.declared.stop.Stop.TheVariants as stop;
 
+use crate::outcome::StateFile;
 use rk_base::{NoMemory, Path};
+use tr_codec::Damage;
+
+/// Why a folder is refused as it stands.
+#[derive(Debug, Drop)]
+pub(crate) enum Refusal {
+    Special(Path),
+    Damaged(StateFile, Damage),
+}
 
 /// Why the work stopped before its end.
 #[derive(Debug, Drop)]
 pub(crate) enum Stop {
-    Special(Path),
+    Refused(Refusal),
     Spent,
     ReadFault,
     WriteFault,

@@ -217,6 +217,107 @@ fn refuses_a_hidden_file(rt: HostRuntime) -> Result<(), Fail> {
     Ok(())
 }
 
+// A folder to be built, with these bytes in `.rkr/db`.
+fn folder_with_db(alloc: Global, db: &[u8]) -> Result<MemFolder, Fail> {
+    let mut folder = folder_of(alloc, b"cat a b > out\n")?;
+    folder.set_dir(&at(alloc, b"/.rkr")?)?;
+    folder.set_file(alloc, &at(alloc, b"/.rkr/db")?, db)?;
+    Ok(folder)
+}
+
+// The database of the first build.
+fn first_db(alloc: Global) -> Result<Bytes, Fail> {
+    let mut folder = folder_of(alloc, b"cat a b > out\n")?;
+    let mut out = MemSink::new(alloc);
+    let mut err = MemSink::new(alloc);
+    let _ended = build(alloc, &mut folder, &mut out, &mut err)?;
+    match folder.at(&at(alloc, b"/.rkr/db")?) {
+        Some(Standing::File(bytes)) => Ok(bytes.copy()?),
+        _ => Ok(Bytes::new(Vec::new(alloc))),
+    }
+}
+
+// The first so many bytes, or all where there are no more.
+fn front(bytes: &[u8], most: usize) -> &[u8] {
+    if most < bytes.len() {
+        let (front, _) = bytes.split_at(most);
+        front
+    } else {
+        bytes
+    }
+}
+
+// Whether a build ends with this line alone, and changes nothing.
+fn finds_damaged(alloc: Global, folder: &mut MemFolder, line: &[u8]) -> Result<bool, Fail> {
+    let mut out = MemSink::new(alloc);
+    let mut err = MemSink::new(alloc);
+    let outcome = build(alloc, folder, &mut out, &mut err)?;
+    Ok(
+        exit_code(&outcome) == 242
+            && err.bytes() == line
+            && out.bytes().is_empty()
+            && folder.changes().is_empty(),
+    )
+}
+
+#[test]
+fn finds_a_database_cut_short(rt: HostRuntime) -> Result<(), Fail> {
+    let alloc = rt.alloc();
+    let db = first_db(alloc)?;
+    let mut folder = folder_with_db(alloc, front(db.as_slice(), 10))?;
+    assert!(rt; finds_damaged(alloc, &mut folder, b"rkr: .rkr/db: damaged: short\n")?);
+    Ok(())
+}
+
+#[test]
+fn finds_a_database_without_its_last_byte(rt: HostRuntime) -> Result<(), Fail> {
+    let alloc = rt.alloc();
+    let db = first_db(alloc)?;
+    let mut folder = folder_with_db(alloc, front(db.as_slice(), 635))?;
+    let line =
+        b"rkr: .rkr/db: damaged: digest 00a342bf5380cc76578f27ddbfe179fb35460c2738ef3fc26748b74ba27594cd, computed d23cb4ffa1c8131219b3f57899ba9838b8e52450d9e9a0c7362f9dc47321d296\n";
+    assert!(rt; finds_damaged(alloc, &mut folder, line)?);
+    Ok(())
+}
+
+#[test]
+fn finds_a_database_of_another_form(rt: HostRuntime) -> Result<(), Fail> {
+    let alloc = rt.alloc();
+    let db =
+        b"RKR2\0\0\0\0\0\0\0\0\0\0\0\0\0\0\0\0\x2f\x0c\x0a\xa5\x67\xd0\x7b\x0b\x7b\x90\x78\x67\xd4\x15\xd9\xde\x02\x86\xd5\x6b\x2d\x7d\x8c\x86\x33\x32\x0b\x06\x69\x68\x53\x80";
+    let mut folder = folder_with_db(alloc, db)?;
+    assert!(rt; finds_damaged(alloc, &mut folder, b"rkr: .rkr/db: damaged: form\n")?);
+    Ok(())
+}
+
+#[test]
+fn tells_damaged_attrs_before_a_damaged_database(rt: HostRuntime) -> Result<(), Fail> {
+    let alloc = rt.alloc();
+    let mut folder = folder_with_db(alloc, b"")?;
+    let attrs = [0u8; 43];
+    folder.set_file(alloc, &at(alloc, b"/.rkr/attrs")?, &attrs)?;
+    let line = b"rkr: .rkr/attrs: damaged: short\n";
+    assert!(rt; finds_damaged(alloc, &mut folder, line)?);
+    Ok(())
+}
+
+#[test]
+fn removes_attrs_without_rows(rt: HostRuntime) -> Result<(), Fail> {
+    let alloc = rt.alloc();
+    let db = first_db(alloc)?;
+    let mut folder = folder_with_db(alloc, db.as_slice())?;
+    let attrs = at(alloc, b"/.rkr/attrs")?;
+    let rows =
+        b"RKA1\0\0\0\0\0\0\0\0\x16\xda\x7b\xce\xb0\xfc\xd7\xca\xb3\x15\xa7\x89\x76\x04\x9a\x89\xad\x08\xfd\xcb\xfc\x82\xe9\xf8\x14\xf2\xde\x21\x43\x21\xd3\x45";
+    folder.set_file(alloc, &attrs, rows)?;
+    let mut out = MemSink::new(alloc);
+    let mut err = MemSink::new(alloc);
+    let outcome = build(alloc, &mut folder, &mut out, &mut err)?;
+    assert!(rt; matches!(outcome, Outcome::Ended { status: 0, .. }));
+    assert!(rt; folder.at(&attrs).is_none());
+    Ok(())
+}
+
 // Whether the words are refused before anything is looked at.
 fn refuses_words<L: Ledger>(alloc: Global, words: &[&str], blank: Blank) -> Result<bool, Fail>
     requires name { blank.name ≡ L.name }

@@ -4,8 +4,10 @@ ghost use Rattle.rk_folder.specs.Counts.{Rose, Still};
 ghost use Rattle.rk_folder.specs.Told.{Held};
 ghost use Rattle.rk_folder.specs.Specials.{first_special};
 ghost use Rattle.rk_top.specs.Lines.{line_of};
-ghost use Rattle.rk_top.specs.Outcomes.{outcome_of, outcome_of_stop, Leaves, Gains, GainsLine, Counted, Ticked, Faults, IfSpecial, Settles};
-ghost use Rattle.rk_top.specs.Verdict.{verdict, output_of, error_text_of, Overspent};
+ghost use Rattle.rk_top.specs.Outcomes.{outcome_of, outcome_of_stop, outcome_of_refusal, Leaves, Gains, GainsLine, Counted, Ticked, Faults, IfSpecial, IfDamaged, Settles};
+ghost use Rattle.rk_top.specs.Fresh.{fresh_in, output_of, error_text_of};
+ghost use Rattle.rk_runs.specs.Run.{Spent};
+ghost use Rattle.rk_top.specs.Kept.{state_in, IsDamaged};
 ghost use Rattle.rk_top.specs.Texts.{Front};
 ghost use Rattle.rk_top.specs.Turns.{turns, turns_of};
 ghost use Rattle.rk_words.specs.Asked.{request_of};
@@ -13,18 +15,27 @@ ghost use Rattle.rk_words.specs.Asked.{request_of};
 use crate::Outcome;
 use crate::build::{Ended, build};
 use crate::lines::tell;
-use crate::stop::Stop;
+use crate::stop::{Refusal, Stop};
 use rk_base::Steps;
 use rk_folder::{Folder, Sink};
 use rk_words::{Request, RequestErr, request};
 use std::alloc::Global;
 use std::sync::ledger::Ledger;
 
+fn outcome_of_refusal(refusal: Refusal) -> Outcome
+    ensures { result ≡ outcome_of_refusal refusal }
+{
+    match refusal {
+        Refusal::Special(path) => Outcome::Special(path),
+        Refusal::Damaged(file, damage) => Outcome::Damaged(file, damage),
+    }
+}
+
 fn outcome_of_stop(stop: Stop) -> Outcome
     ensures { result ≡ outcome_of_stop stop }
 {
     match stop {
-        Stop::Special(path) => Outcome::Special(path),
+        Stop::Refused(refusal) => outcome_of_refusal(refusal),
         Stop::Spent => Outcome::Spent,
         Stop::ReadFault => Outcome::ReadFault,
         Stop::WriteFault => Outcome::WriteFault,
@@ -111,9 +122,11 @@ pub fn rkr<F: Folder, O: Sink, E: Sink, L: Ledger>(
     ensures output { Gains (turns_of (map string_bytes words.now)) output_of (F.told folder.old) (O.so_far out.old) (O.so_far out.new) result }
     ensures errors { GainsLine (turns_of (map string_bytes words.now)) (F.told folder.old) (E.so_far err.old) (E.so_far err.new) result }
 
-    // Special exactly with the first special path, and spent exactly where the fresh run is.
+    // Special only with the first special path, Damaged only with the first state file that is damaged and its damage, and
+    // Spent only where the fresh run is spent.
     ensures special { IfSpecial result (λ path. IfSome (F.told folder.old) (λ held. first_special held ≡ Some path)) }
-    ensures spent { result ≡ Outcome.Spent → IfSome (F.told folder.old) (λ held. verdict (turns_of (map string_bytes words.now)) held ≡ Overspent) }
+    ensures damaged { IfDamaged result (λ file damage. IfSome (F.told folder.old) (λ held. (first_special held ≡ None) × IsDamaged (state_in held) file damage)) }
+    ensures spent { result ≡ Outcome.Spent → IfSome (F.told folder.old) (λ held. fresh_in (turns_of (map string_bytes words.now)) held ≡ Spent) }
 
     // A fault is told only where a count for it rose in this call.
     ensures read_fault { result ≡ Outcome.ReadFault → Rose (F.read_faults folder.old) (F.read_faults folder.new) }
@@ -127,7 +140,7 @@ pub fn rkr<F: Folder, O: Sink, E: Sink, L: Ledger>(
     // With a request and no count that rose, the outcome is the one that what the folder holds calls for.
     ensures complete { (held : Held) → F.told folder.old ≡ Some held → is_some (request_of (map string_bytes words.now)) ≡ true
         → Still (F.read_faults folder.old) (F.read_faults folder.new) → Still (F.write_faults folder.old) (F.write_faults folder.new) → Still (O.faults out.old) (O.faults out.new) → Still (E.faults err.old) (E.faults err.new)
-        → Settles (verdict (turns_of (map string_bytes words.now)) held) result }
+        → Settles (turns_of (map string_bytes words.now)) held result }
 {
     let outcome = work(alloc, words, folder, out, err, live);
     tell(alloc, err, outcome)

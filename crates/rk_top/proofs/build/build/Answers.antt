@@ -1,7 +1,7 @@
 use Rattle.std.proofs.Common.{◌∙◌, ap, option_map}
 use Rattle.std.proofs.lemmas.Result.{err_from_is_err_and}
 use Rattle.rk_install.specs.Changes.{after_all}
-use Rattle.rk_top.specs.Verdict.{output_of, error_text_of}
+use Rattle.rk_top.specs.Fresh.{output_of, error_text_of}
 use Rattle.rk_top.proofs.BuildLemmas.{put-gains, install-gains, end-gains, end-leaves, text-told, output-told, error_text-told}
 use Rattle.rk_top.proofs.build.build.Goals as goal
 

@@ -1,20 +1,25 @@
 use Rattle.std.proofs.Common.{refl}
 use Rattle.std.proofs.lemmas.Result.{err_from_is_err_and}
-use Rattle.rk_top.proofs.PrepareLemmas.{look-stops, run-stops, is_prepared}
+use Rattle.rk_top.proofs.PrepareLemmas.{find-stops, run-stops, is_prepared}
 use Rattle.rk_top.proofs.prepare.prepare.Goals as goal
 
 pub returns-in_err-before-clause-prepares : goal.returns-in_err-before-clause-prepares
 returns-in_err-before-clause-prepares g c =
     let p = err_from_is_err_and c.from_residual.result c.from_residual.ensures.1 in
-    rw (p.1, p.2) (look-stops _ _ _ _ _ c.in_err-before.ensures.look refl)
+    rw (p.1, p.2) (find-stops _ _ _ _ _ c.in_err-before.ensures.finds refl)
 
 pub returns-in_err-finished-clause-prepares : goal.returns-in_err-finished-clause-prepares
 returns-in_err-finished-clause-prepares g c =
     let p = err_from_is_err_and c.from_residual-in_err-finished.result c.from_residual-in_err-finished.ensures.1 in
-    rw (p.1, p.2) (run-stops _ _ c.in_ok-before.before _ _ _ c.in_ok-before.ensures.look c.in_err-finished.ensures.runs c.run.ensures.at_most)
+    rw (p.1, p.2) (run-stops _ _ c.in_ok-before.field-0 _ _ _ c.in_ok-before.ensures.finds c.in_err-finished.ensures.runs c.run.ensures.at_most)
 
 pub returns-clause-prepares : goal.returns-clause-prepares
 returns-clause-prepares g c =
-    is_prepared _ _ c.in_ok-before.before c.in_ok-after.after _ _ c.in_ok-finished.finished c.in_ok-plan.plan (g.met.F.Folder.whole c.args.folder.now)
-    c.in_ok-before.ensures.look c.in_ok-finished.ensures.runs c.run.ensures.at_most c.in_ok-after.ensures.holding c.in_ok-after.ensures.built
+    is_prepared _ _ c.in_ok-before.field-0 c.in_ok-after.after _ _ c.in_ok-finished.finished c.in_ok-plan.plan (g.met.F.Folder.whole c.args.folder.now)
+    c.in_ok-before.ensures.finds c.in_ok-finished.ensures.runs c.run.ensures.at_most c.in_ok-after.ensures.holding c.in_ok-after.ensures.built
     c.in_ok-plan.ensures.planned c.in_ok-plan.ensures.allowed c.in_ok-plan.ensures.leads
+
+pub returns-in_err-plan-clause-reads : goal.returns-in_err-plan-clause-reads
+returns-in_err-plan-clause-reads g c =
+    let p = err_from_is_err_and c.from_residual-in_err-plan.result c.from_residual-in_err-plan.ensures.1 in
+    rw (p.1, p.2) c.in_ok-before.ensures.reads

@@ -1,0 +1,16 @@
+use Rattle.std.proofs.lemmas.Result.{err_from_is_err_and}
+use Rattle.rk_top.proofs.FoundLemmas.{look-stops, kept-stops, is_found}
+use Rattle.rk_top.proofs.found.find.Goals as goal
+
+pub returns-in_err-holding-clause-finds : goal.returns-in_err-holding-clause-finds
+returns-in_err-holding-clause-finds g c =
+    let p = err_from_is_err_and c.from_residual.result c.from_residual.ensures.1 in
+    rw (p.1, p.2) (look-stops _ _ c.in_err-holding.ensures.look)
+
+pub returns-in_err-old-clause-finds : goal.returns-in_err-old-clause-finds
+returns-in_err-old-clause-finds g c =
+    let p = err_from_is_err_and c.from_residual-in_err-old.result c.from_residual-in_err-old.ensures.1 in
+    rw (p.1, p.2) (kept-stops _ c.in_ok-holding.holding _ c.in_ok-holding.ensures.look c.in_err-old.ensures)
+
+pub returns-clause-finds : goal.returns-clause-finds
+returns-clause-finds g c = is_found _ (record { holding = c.in_ok-holding.holding; old = c.in_ok-old.old }) c.in_ok-holding.ensures.look c.in_ok-old.ensures

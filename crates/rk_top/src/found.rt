@@ -1,0 +1,32 @@
+// What a build finds in a folder.
+ghost use Rattle.std.specs.Prelude.{◌≡◌, IfOk};
+ghost use Rattle.rk_tree.specs.Entries.{IsWholeSnapshot};
+ghost use Rattle.rk_top.specs.Stages.{FindsSo, ReadsCounted};
+
+use crate::kept::kept;
+use crate::look::look;
+use crate::stop::Stop;
+use rk_folder::Folder;
+use rk_install::Holding;
+use std::alloc::Global;
+use tr_record::Table;
+
+/// What the folder holds, and the records that its state files keep.
+#[derive(Drop)]
+pub(crate) struct Found {
+    pub holding: Holding,
+    pub old: Table,
+}
+
+/// Lists and reads the folder, and reads what its state files keep.
+pub(crate) fn find<F: Folder>(alloc: Global, folder: &mut F) -> Result<Found, Stop>
+    ensures held { F.told folder.new ≡ F.told folder.old }
+    ensures writes { F.write_faults folder.new ≡ F.write_faults folder.old }
+    ensures reads { ReadsCounted (F.read_faults folder.old) (F.read_faults folder.new) result }
+    ensures finds { FindsSo (F.told folder.old) result }
+    ensures whole { IfOk result (λ found. IsWholeSnapshot found.holding.entries) }
+{
+    let holding = look(alloc, folder)?;
+    let old = kept(alloc, &holding.state)?;
+    Ok(Found { holding, old })
+}
