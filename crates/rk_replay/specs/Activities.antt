@@ -1,0 +1,90 @@
+-- Commands that run or are replayed.
+use Rattle.std.specs.Prelude.{◌≡◌, ◌≢◌, ℕ, ◌+◌, ◌≤◌, ◌<◌, List, length, take, Some, None}
+use Rattle.rk_calls.specs.declared.answer.Answer.{Answer}
+use Rattle.rk_calls.specs.declared.drive.Spoke.{Spoke}
+use Rattle.rk_calls.specs.declared.drive.Spoke.TheVariants.{Call as Calls, Exit as Exits, Short}
+use Rattle.rk_calls.specs.Talk.{Says}
+use Rattle.rk_calls.specs.Saying.{goes_on}
+use Rattle.rk_calls.specs.Keys.{KeyValue}
+use Rattle.tr_record.specs.declared.records.Record.{Record}
+use Rattle.tr_record.specs.Rec.{rec_at}
+use Rattle.rk_runs.specs.Own.{steps_cost}
+use Rattle.rk_runs.specs.Spoken.{follow, step_at}
+use Rattle.rk_replay.specs.declared.activity.Activity.{Activity}
+use Rattle.rk_replay.specs.declared.activity.Activity.TheVariants.{Runs, Replays}
+use Rattle.rk_replay.specs.Ran.{found}
+
+-- what it says from here on, once it is given this answer: a replayed command stands where its machine would
+abbrev pub stands : {S : Type 0} → (S → Answer → Says) → (KeyValue → Says) → List Record → Activity S → Answer → Says
+stands talk first old (Runs machine) a = talk machine a
+stands talk first old (Replays rec at) a = follow (first (rec_at rec old).key) (take at (rec_at rec old).steps)
+
+-- what it says by the answer, while it waits for one
+abbrev pub waits : {S : Type 0} → (S → Answer → Says) → (KeyValue → Says) → List Record → Activity S → Answer → Says
+waits talk first old (Runs machine) a = talk machine a
+waits talk first old (Replays rec at) a =
+    goes_on (step_at at (rec_at rec old).steps).cost (follow (first (rec_at rec old).key) (take at (rec_at rec old).steps)) a
+
+-- it can be resumed
+abbrev pub IsReady : {S : Type 0} → List Record → Activity S → Type 0
+IsReady old (Runs machine) = Unit {0}
+IsReady old (Replays rec at) = (rec < length old) × (at ≤ length (rec_at rec old).steps)
+
+-- it waits for an answer
+abbrev pub IsWaiting : {S : Type 0} → List Record → Activity S → Type 0
+IsWaiting old (Runs machine) = Unit {0}
+IsWaiting old (Replays rec at) = (rec < length old) × (at < length (rec_at rec old).steps)
+
+-- it was launched so: the record under its key and ordinal is replayed from the beginning, and where there is
+-- none a machine was made
+abbrev pub IsLaunched : {S : Type 0} → List Record → KeyValue → ℕ → Activity S → Type 0
+IsLaunched old key ordinal (Runs machine) = found old key ordinal ≡ None
+IsLaunched old key ordinal (Replays rec at) = (at ≡ 0) × (rec < length old) × (found old key ordinal ≡ Some (rec_at rec old))
+
+-- how many machines were made for it when it was launched
+abbrev pub made : {S : Type 0} → Activity S → ℕ
+made (Runs machine) = 1
+made (Replays rec at) = 0
+
+abbrev pub IsRunning : {S : Type 0} → Activity S → Type 0
+IsRunning (Runs machine) = Unit {0}
+IsRunning (Replays rec at) = ⊥
+
+-- what is asked is the next step of a record
+abbrev pub IsNext : Record → ℕ → Spoke → Type 0
+IsNext rec at (Calls call cost) = (at < length rec.steps) × (call ≡ (step_at at rec.steps).call) × (cost ≡ (step_at at rec.steps).cost)
+IsNext rec at (Exits status cost) = Unit {0}
+IsNext rec at Short = Unit {0}
+
+-- as it speaks, its machine runs on, or its record stays
+abbrev pub Speaks_on : {S : Type 0} → List Record → Activity S → Activity S → Spoke → Type 0
+Speaks_on old (Runs machine) now spoke = IsRunning now
+Speaks_on old (Replays rec at) now spoke = (now ≡ Replays rec at) × IsNext (rec_at rec old) at spoke
+
+-- as it takes an answer, its machine stays; a record is replayed on where the answer is the recorded one, and
+-- is given up for a machine where it is another
+abbrev pub Takes : {S : Type 0} → List Record → Activity S → Answer → Activity S → Type 0
+Takes old (Runs machine) a now = now ≡ Runs machine
+Takes old (Replays rec at) a (Runs machine) = (step_at at (rec_at rec old).steps).answer ≢ a
+Takes old (Replays rec at) a (Replays rec' at') = (rec' ≡ rec) × (at' ≡ at + 1) × ((step_at at (rec_at rec old).steps).answer ≡ a)
+
+-- how many machines were made for it as it took an answer
+abbrev pub given_up : {S : Type 0} → Activity S → Activity S → ℕ
+given_up (Runs machine) now = 0
+given_up (Replays rec at) now = made now
+
+-- what a command paid so far that a machine was made for
+abbrev pub so_far : {S : Type 0} → Activity S → Record → ℕ
+so_far (Runs machine) rec = steps_cost rec.steps
+so_far (Replays r at) rec = 0
+
+-- what is counted as it takes an answer: the step's cost where a machine ran, and all so far where a record is
+-- given up
+abbrev pub counted : {S : Type 0} → Activity S → Activity S → ℕ → Record → ℕ
+counted (Runs machine) now cost rec = cost
+counted (Replays r at) now cost rec = so_far now rec
+
+-- what is counted as it exits
+abbrev pub exit_counted : {S : Type 0} → Activity S → ℕ → ℕ
+exit_counted (Runs machine) cost = cost
+exit_counted (Replays rec at) cost = 0

@@ -1,0 +1,4 @@
+pub mod Activities
+pub mod Answers
+pub mod Ran
+pub mod Stops

@@ -1,0 +1,114 @@
+// Builds over an old table.
+ghost use Rattle.std.specs.Prelude.{◌≡◌, ◌+◌, ◌≤◌, length, IfOk, IfErr};
+ghost use Rattle.rk_calls.specs.Refs.{top_refs};
+ghost use Rattle.rk_check.specs.Started.{started};
+ghost use Rattle.rk_runs.specs.Own.{total};
+ghost use Rattle.rk_runs.specs.Purse.{left};
+ghost use Rattle.rk_runs.specs.Run.{game, fresh, Done};
+ghost use Rattle.rk_runs.specs.Spoken.{AreSpoken};
+ghost use Rattle.rk_replay.specs.Ran.{ran_of, ran_total};
+ghost use Rattle.rk_replay.specs.Stops.{Stops};
+
+use crate::activity::{Activity, begin, exit_counted, settle};
+use crate::hearing::hear;
+use crate::ran::{RanList, ran_of};
+use crate::stop::{Stop, spent};
+use rk_base::{Budget, NoMemory, Steps};
+use rk_calls::{Answer, Answerer, Call, Key, Machine, Maker, Refs, Spoke};
+use rk_runs::{Frame, ask, join, pay};
+use std::alloc::Global;
+use std::mem;
+use std::sync::ledger::Ledger;
+use tr_record::Table;
+
+/// A build that ended: its status, the records of its commands, and those of them that ran, in launch order.
+#[derive(Debug, Drop)]
+pub struct Built {
+    pub status: u8,
+    pub table: Table,
+    pub ran: RanList,
+}
+
+/// Runs the command of a key, and those that it launches, on a world, and answers from the old table where the
+/// world still answers so. The first command has the empty input, the output and the error text as its
+/// descriptors.
+///
+/// Errors: `Forged` for a record of the old table that isn't what its command says; `Spent` where the budget
+/// doesn't meet the run, and the old table has no such record.
+pub fn build_with<K: Maker, W: Answerer, L: Ledger>(
+    alloc: Global,
+    maker: &mut K,
+    world: &mut W,
+    key: &Key,
+    old: &Table,
+    budget: &mut Budget,
+    live: &mut Steps<L>,
+) -> Result<Built, Stop>
+    // It ends as the run in which nothing is recorded yet, and leaves the same records.
+    ensures done { IfOk result (λ b. AreSpoken K.first old.now → fresh (game K.first W.given) (left budget.old) key.now top_refs world.old ≡ Done world.new b.status (left budget.new) b.table) }
+    ensures spoken { IfOk result (λ b. AreSpoken K.first old.now → AreSpoken K.first b.table) }
+    ensures stops { IfErr result (Stops (game K.first W.given) old.now (fresh (game K.first W.given) (left budget.old) key.now top_refs world.old)) }
+
+    // Whatever the old table: what ran, and why; a machine was started for each, and their costs were counted.
+    ensures ran { IfOk result (λ b. b.ran ≡ ran_of old.now b.table) }
+    ensures starts { IfOk result (λ b. K.starts maker.new ≡ started (length b.ran) (K.starts maker.old)) }
+    ensures live { IfOk result (λ b. live.new ≡ live.old + ran_total old.now b.table) }
+    ensures paid { IfOk result (λ b. budget.new.used ≡ budget.old.used + total b.table) }
+    ensures limit { budget.new.limit ≡ budget.old.limit }
+    ensures at_most { live.new ≤ live.old + left budget.old }
+{
+    let mut table = Table::new(alloc);
+    let mut stack: Vec<Frame<Activity<K::Made>>> = Vec::new(alloc);
+    let refs = Refs::top(alloc)?;
+    let mut top = begin(maker, &mut table, key, refs, old)?;
+    let mut answer = Answer::Go;
+    'turns: loop {
+        match hear(maker, &mut top.machine, answer, budget.left(), old)? {
+            Spoke::Call(call, cost) => {
+                let cost = pay(budget, cost);
+                match call {
+                    Call::Launch(key, map) => {
+                        let refs = top.refs.pass(&map)?;
+                        let child = begin(maker, &mut table, &key, refs, old)?;
+                        let waiting = mem::replace(&mut top, child);
+                        stack.push(Frame {
+                            waiting,
+                            key,
+                            map,
+                            cost,
+                        })?;
+                        answer = Answer::Go;
+                    }
+                    call => {
+                        answer = ask(world, &mut table, top.place, &mut top.refs, call, cost)?;
+                        settle(
+                            maker, &mut top.machine, &answer, cost, &table, top.place, old, live,
+                        )?;
+                    }
+                }
+            }
+            Spoke::Exit(status, cost) => {
+                let cost = pay(budget, cost);
+                let counted = exit_counted(&top.machine, cost);
+                table.end(top.place, status, cost);
+                match stack.pop() {
+                    None => {
+                        let ran = ran_of(alloc, old, &table)?;
+                        live.tick(u64::from(counted));
+                        return Ok(Built { status, table, ran });
+                    }
+                    Some(frame) => {
+                        let cost = frame.cost;
+                        top = join(&mut table, frame, status)?;
+                        answer = Answer::Joined(status);
+                        settle(
+                            maker, &mut top.machine, &answer, cost, &table, top.place, old, live,
+                        )?;
+                        live.tick(u64::from(counted));
+                    }
+                }
+            }
+            Spoke::Short => return Err(spent(maker, old)),
+        }
+    }
+}
