@@ -1,5 +1,5 @@
 -- The record under a key and an ordinal.
-use Rattle.std.proofs.Common.{◌≡◌, ◌≢◌, ℕ, zero, suc, ◌<◌, Bool, true, false, eqb, ◌&&◌, ◌==◌, List, [], ◌∷◌, length, refl, sym, ◌∙◌, ap, arith, Option, Some, None, get_or}
+use Rattle.std.proofs.Common.{◌≡◌, ◌≢◌, ℕ, zero, suc, ◌<◌, Bool, true, false, eqb, ◌&&◌, ◌==◌, List, [], ◌∷◌, length, refl, sym, ◌∙◌, ap, subst, arith, Option, Some, None, get_or}
 use Rattle.std.specs.Prelude.{find}
 use Rattle.std.proofs.lemmas.Bool.{eqb-true}
 use Rattle.rk_calls.specs.Keys.{KeyValue, same_key}
@@ -45,3 +45,9 @@ module _ (old : List Record) (key : KeyValue) (ordinal : ℕ) where
   pub found-none : ((i : ℕ) → i < length old → (rec_at i old).key ≡ key → (rec_at i old).ordinal ≢ ordinal) → found old key ordinal ≡ None
   unfolding found
   found-none none = find-none is old (fresh_rec no_key 0) (λ k lt. isnt (rec_at k old) (none k lt))
+
+  pub launched-some : (n i : ℕ) → ordinal ≡ n → i < length old → (rec_at i old).key ≡ key → (rec_at i old).ordinal ≡ ordinal → ((k : ℕ) → k < i → (rec_at k old).key ≡ key → (rec_at k old).ordinal ≢ ordinal) → (◌≡◌ {A = ℕ} 0 0) × (i < length old) × (found old key n ≡ Some (rec_at i old))
+  launched-some n i e h ek eo before = (refl, h, subst (λ n. found old key n ≡ Some (rec_at i old)) e (found-some i h ek eo before))
+
+  pub launched-none : (n : ℕ) → ordinal ≡ n → ((i : ℕ) → i < length old → (rec_at i old).key ≡ key → (rec_at i old).ordinal ≢ ordinal) → found old key n ≡ None
+  launched-none n e none = subst (λ n. found old key n ≡ None) e (found-none none)

@@ -36,3 +36,4 @@ same_key-Decides a b =
     let vars = pointwise_decides same_var-Decides a.vars b.vars in (
       λ e. let p = both _ _ e in let q = both _ _ p.1 in joined_key a b (words.0 p.0) (wd.0 q.0) (vars.0 q.1),
       λ e. and_both _ _ (words.1 (ap (λ (x : KeyValue). x.argv) e)) (and_both _ _ (wd.1 (ap (λ (x : KeyValue). x.wd) e)) (vars.1 (ap (λ (x : KeyValue). x.vars) e))),
+    )

@@ -1,6 +1,8 @@
 -- What a replayed command says is what its machine would say.
 use Rattle.std.proofs.Common.{◌≡◌, ℕ, ◌+◌, ◌-◌, ◌≤◌, ◌<◌, List, length, take, refl, sym, ◌∙◌, ap, subst, arith}
-use Rattle.std.proofs.lemmas.List.{take_all}
+use Rattle.std.proofs.Common.{get_or}
+use Rattle.std.proofs.lemmas.List.{take_all, get_or_default}
+use Rattle.rk_calls.specs.declared.call.Call.{Call}
 use Rattle.rk_calls.specs.declared.answer.Answer.{Answer}
 use Rattle.rk_calls.specs.declared.drive.Spoke.{Spoke}
 use Rattle.rk_calls.specs.declared.drive.Spoke.TheVariants.{Call as Calls, Exit as Exits, Short}
@@ -14,9 +16,16 @@ use Rattle.tr_record.specs.Rec.{rec_at}
 use Rattle.rk_runs.specs.Following.{Follows-at, Follows-last, Follows-take, follow-next, next-take}
 use Rattle.rk_runs.specs.Lasting.{AllLast, asks-enough, asks-short, ends-enough, ends-short, Lasts-follow}
 use Rattle.rk_runs.specs.Running.{paid}
-use Rattle.rk_runs.specs.Spoken.{follow, Follows, step_at, AreSpoken}
+use Rattle.rk_runs.specs.Spoken.{follow, Follows, step_at, no_step, AreSpoken}
 use Rattle.rk_check.specs.Fed.{waits_at}
 use Rattle.rk_replay.specs.Activities.{IsNext}
+
+-- the step that the code reads
+read-step : (steps xs : List Step) (at : ℕ) (st : Step) → steps ≡ xs → at < length steps → get_or steps at st ≡ step_at at xs
+read-step steps xs at st es h = get_or_default steps at st no_step h ∙ ap (step_at at) es
+
+pub read-answer : (xs steps : List Step) (at : ℕ) (st : Step) (a : Answer) → steps ≡ xs → at < length xs → (get_or steps at st).answer ≡ a → (step_at at xs).answer ≡ a
+read-answer xs steps at st a es h e = ap (λ (s : Step). s.answer) (sym (read-step steps xs at st es (subst (λ x. at < length x) (sym es) h))) ∙ e
 
 module _ (first : KeyValue → Says) (lasts : AllLast first) (old : List Record) (rec at : ℕ) (in_old : rec < length old) (r : Record) (er : r ≡ rec_at rec old) (steps : List Step) (es : steps ≡ r.steps) (p : ℕ) (spoken : AreSpoken first old) where
   same-steps : steps ≡ (rec_at rec old).steps
@@ -40,14 +49,17 @@ module _ (first : KeyValue → Says) (lasts : AllLast first) (old : List Record)
   told-call : at < length (rec_at rec old).steps → speaks (step_at at (rec_at rec old).steps).cost (follow (first (rec_at rec old).key) (take at (rec_at rec old).steps)) ≡ Calls (step_at at (rec_at rec old).steps).call (step_at at (rec_at rec old).steps).cost
   told-call h = (Follows-at (first (rec_at rec old).key) (rec_at rec old).steps at (spoken rec in_old).follows h).0
 
-  pub Heard-call : at < length steps → (step_at at steps).cost ≤ p → Calls (step_at at steps).call (step_at at steps).cost ≡ speaks p (follow (first (rec_at rec old).key) (take at (rec_at rec old).steps))
-  Heard-call b h =
-      rw same-steps
-      (sym (asks-enough (follow (first (rec_at rec old).key) (take at (rec_at rec old).steps)) lasting (step_at at (rec_at rec old).steps).cost p (step_at at (rec_at rec old).steps).call (told-call (subst (λ x. at < length x) same-steps b)) (subst (λ x. (step_at at x).cost ≤ p) same-steps h)))
+  pub Heard-call : (st st' : Step) (call : Call) (cost : ℕ) → at < length steps → cost ≡ (get_or steps at st).cost → call ≡ (get_or steps at st').call → cost ≤ p → Calls call cost ≡ speaks p (follow (first (rec_at rec old).key) (take at (rec_at rec old).steps))
+  Heard-call st st' call cost b ec ek h =
+      let ec' : cost ≡ (step_at at (rec_at rec old).steps).cost = ec ∙ ap (λ (s : Step). s.cost) (read-step steps (rec_at rec old).steps at st same-steps b) in
+      let ek' : call ≡ (step_at at (rec_at rec old).steps).call = ek ∙ ap (λ (s : Step). s.call) (read-step steps (rec_at rec old).steps at st' same-steps b) in
+      ap (λ k. Calls k cost) ek' ∙ ap (Calls (step_at at (rec_at rec old).steps).call) ec'
+      ∙ sym (asks-enough (follow (first (rec_at rec old).key) (take at (rec_at rec old).steps)) lasting (step_at at (rec_at rec old).steps).cost p (step_at at (rec_at rec old).steps).call (told-call (subst (λ x. at < length x) same-steps b)) (subst (λ x. x ≤ p) ec' h))
 
-  pub Heard-call_short : at < length steps → p < (step_at at steps).cost → Short ≡ speaks p (follow (first (rec_at rec old).key) (take at (rec_at rec old).steps))
-  Heard-call_short b h =
-      sym (asks-short (follow (first (rec_at rec old).key) (take at (rec_at rec old).steps)) lasting (step_at at (rec_at rec old).steps).cost p (step_at at (rec_at rec old).steps).call (told-call (subst (λ x. at < length x) same-steps b)) (subst (λ x. p < (step_at at x).cost) same-steps h))
+  pub Heard-call_short : (st : Step) (cost : ℕ) → at < length steps → cost ≡ (get_or steps at st).cost → p < cost → Short ≡ speaks p (follow (first (rec_at rec old).key) (take at (rec_at rec old).steps))
+  Heard-call_short st cost b ec h =
+      let ec' : cost ≡ (step_at at (rec_at rec old).steps).cost = ec ∙ ap (λ (s : Step). s.cost) (read-step steps (rec_at rec old).steps at st same-steps b) in
+      sym (asks-short (follow (first (rec_at rec old).key) (take at (rec_at rec old).steps)) lasting (step_at at (rec_at rec old).steps).cost p (step_at at (rec_at rec old).steps).call (told-call (subst (λ x. at < length x) same-steps b)) (subst (λ x. p < x) ec' h))
 
 -- it waits for the answer
 pub Heard-goes : (x : Says) (r : Record) (at : ℕ) (s : Spoke) → IsNext r at s → Goes s x (goes_on (step_at at r.steps).cost x)
@@ -56,12 +68,12 @@ Heard-goes x r at (Exits status cost) h = tt
 Heard-goes x r at Short h = tt
 
 -- no machine asks at no cost
-pub Follows-dear : (x : Says) (xs : List Step) (at : ℕ) (steps : List Step) → steps ≡ xs → at < length steps → (step_at at steps).cost ≡ 0 → Follows x (take (at + 1) xs) → ⊥
-Follows-dear x xs at steps es b z f =
+pub Follows-dear : (x : Says) (xs : List Step) (at : ℕ) (steps : List Step) (st : Step) (cost : ℕ) → steps ≡ xs → at < length steps → cost ≡ (get_or steps at st).cost → cost ≡ 0 → Follows x (take (at + 1) xs) → ⊥
+Follows-dear x xs at steps st cost es b ec z f =
     let b' = subst (λ x. at < length x) es b in
     let told = (Follows-last x (take at xs) (step_at at xs) (subst (Follows x) (next-take xs at b') f)).0 in
     let dear = subst (IsPaid (step_at at xs).cost) told (paid (step_at at xs).cost (follow x (take at xs))) in
-    let z' : (step_at at xs).cost ≡ 0 = subst (λ x. (step_at at x).cost ≡ 0) es z in
+    let z' : (step_at at xs).cost ≡ 0 = ap (λ (s : Step). s.cost) (sym (read-step steps xs at st es b)) ∙ sym ec ∙ z in
     let some : 1 ≤ (step_at at xs).cost = dear.0 in
     omega arith
 

@@ -1,5 +1,6 @@
 // Which commands ran, and why.
-ghost use Rattle.std.specs.Prelude.{◌≡◌, ◌++◌, ◌∷◌, [], IfOk, OnOk, OnErr, length, cons_option};
+ghost use Rattle.std.specs.Prelude.{◌≡◌, ◌++◌, ◌∷◌, [], IfOk, OnOk, OnErr, length};
+ghost use Rattle.std.specs.List.{cons_option};
 ghost use Rattle.rk_replay.specs.declared.ran.Cause.TheVariants.{Differs};
 ghost use Rattle.rk_replay.specs.Ran.{first_difference, cause_of, ran_for, ran_of};
 
