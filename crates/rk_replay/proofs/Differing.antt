@@ -7,7 +7,9 @@ use Rattle.rk_base.specs.declared.errno.Errno.TheVariants.{NoEntry, NotDir, IsDi
 use Rattle.rk_calls.specs.declared.answer.Answer.{Answer}
 use Rattle.rk_calls.specs.declared.answer.Answer.TheVariants.{Go, Done, Opened, Content, Joined, No}
 use Rattle.tr_record.specs.declared.steps.Step.{Step}
-use Rattle.rk_runs.specs.Spoken.{step_at}
+use Rattle.std.proofs.Common.{get_or}
+use Rattle.std.proofs.lemmas.List.{get_or_default}
+use Rattle.rk_runs.specs.Spoken.{step_at, no_step}
 use Rattle.rk_check.specs.Differences.{BothHave, IsFirstDifference, AnswerAlike}
 use Rattle.rk_replay.specs.declared.ran.Cause.{Cause}
 use Rattle.rk_replay.specs.declared.ran.Cause.TheVariants.{Differs}
@@ -15,7 +17,7 @@ use Rattle.rk_replay.specs.Answers.{number_of, same_answer}
 use Rattle.rk_replay.specs.Ran.{first_difference}
 
 -- the refusal of a number
-errno_of : ℕ → Errno
+abbrev errno_of : ℕ → Errno
 errno_of n =
     if eqb n 0 then NoEntry
     else if eqb n 1 then NotDir else if eqb n 2 then IsDir else if eqb n 3 then Exists else if eqb n 4 then Denied else if eqb n 5 then Loops else if eqb n 6 then NotEmpty else if eqb n 7 then BadRef else Invalid
@@ -106,3 +108,12 @@ first_difference-first n (suc i) (x ∷ xs) (y ∷ ys) d =
     } in
     rw (e, same-itself)
     (first_difference-first (suc n) i xs ys later ∙ ap (λ m. Some (Differs m (step_at i xs).answer (step_at i ys).answer)) (omega arith))
+
+-- as the code tells it
+pub difference-told : (xs ys ws zs : List Step) (i : ℕ) (x y : Step) (cause : Cause) → ws ≡ xs → zs ≡ ys → IsFirstDifference xs ys i → cause ≡ Differs (i + 1) (get_or ws i x).answer (get_or zs i y).answer → Some cause ≡ first_difference 1 xs ys
+difference-told xs ys ws zs i x y cause ew ez d e =
+    let ex = ap (λ ws. get_or ws i x) ew ∙ get_or_default xs i x no_step d.here.0 in
+    let ey = ap (λ zs. get_or zs i y) ez ∙ get_or_default ys i y no_step d.here.1 in
+    let m : i + 1 ≡ 1 + i = omega arith in
+    ap (λ c. Some c) (e ∙ ap (λ n. Differs n (get_or ws i x).answer (get_or zs i y).answer) m ∙ ap (λ (s : Step). Differs (1 + i) s.answer (get_or zs i y).answer) ex ∙ ap (λ (s : Step). Differs (1 + i) (step_at i xs).answer s.answer) ey)
+    ∙ sym (first_difference-first 1 i xs ys d)

@@ -19,6 +19,7 @@ use Rattle.rk_replay.specs.declared.ran.Cause.{Cause}
 use Rattle.rk_replay.specs.declared.ran.Cause.TheVariants.{NoRecord, Differs}
 use Rattle.rk_replay.specs.Ran.{found, cause_by, cause_of, own_for}
 use Rattle.rk_replay.specs.Activities.{IsReady, IsWaiting, IsLaunched, IsRunning, IsNext, Speaks_on, Takes, made, given_up, so_far, counted, exit_counted}
+use Rattle.rk_replay.proofs.Causing.{cause-found, cause-missing}
 use Rattle.rk_replay.proofs.Differing.{first_difference-prefix, first_difference-stable, first_difference-next}
 
 -- its machine was made for a cause, or it has the beginning of the record under its key and ordinal
@@ -56,14 +57,6 @@ asks old r (Replays rec at) now s call c es l h =
 abbrev pub ran_one : Option Cause → ℕ
 ran_one None = 0
 ran_one (Some c) = 1
-
-cause-found : (old : List Record) (r x : Record) → found old r.key r.ordinal ≡ Some x → cause_of old r ≡ cause_by (let o : Option Record = Some x in o) r.steps
-unfolding cause_of
-cause-found old r x e = ap (λ o. cause_by o r.steps) e
-
-cause-missing : (old : List Record) (r : Record) → found old r.key r.ordinal ≡ None → cause_of old r ≡ Some NoRecord
-unfolding cause_of
-cause-missing old r e = ap (λ o. cause_by o r.steps) e
 
 -- it is replayed, so it didn't run so far
 pub replayed-cause : (old : List Record) (r : Record) (rec at : ℕ) → found old r.key r.ordinal ≡ Some (rec_at rec old) → r.steps ≡ take at (rec_at rec old).steps → cause_of old r ≡ None

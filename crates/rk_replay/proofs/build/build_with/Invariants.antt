@@ -1,0 +1,29 @@
+use Rattle.std.proofs.Common.{◌≡◌, ◌+◌, ◌*◌, ◌≤◌, length}
+use Rattle.rk_calls.specs.Refs.{top_refs}
+use Rattle.rk_check.specs.Started.{started}
+use Rattle.rk_runs.specs.Own.{total}
+use Rattle.rk_runs.specs.Purse.{left}
+use Rattle.rk_runs.specs.Run.{game, fresh}
+use Rattle.rk_runs.specs.Spoken.{AreSpoken}
+use Rattle.rk_runs.specs.Freshing.{Freshing}
+use Rattle.rk_replay.specs.Activities.{stands, waits}
+use Rattle.rk_replay.specs.Ran.{ran_total}
+use Rattle.rk_replay.proofs.Totalling.{ran_count}
+use Rattle.rk_replay.proofs.Replaying.{Replaying, pend}
+use Rattle.rk_replay.proofs.build.build_with.Given as goal
+
+abbrev pub invariant-turns : goal.invariant-turns
+invariant-turns g l =
+    let a = game g.K.Maker.first g.W.Answerer.given in
+    record {
+      goes : Freshing (AreSpoken g.K.Maker.first l.fn.old) (stands g.K.Made.Machine.talk g.K.Maker.first l.fn.old) (waits g.K.Made.Machine.talk g.K.Maker.first l.fn.old) a (fresh a (left l.fn.budget) l.fn.key top_refs l.fn.world) (left l.budget) l.top l.answer l.world l.table l.stack.items;
+      replays : Replaying l.fn.old l.table l.top l.stack.items;
+      starts : g.K.Maker.starts l.maker ≡ started (ran_count l.fn.old l.table) (g.K.Maker.starts l.fn.maker);
+      live : l.live ≡ l.fn.live + ran_total l.fn.old l.table;
+      paid : l.budget.used ≡ l.fn.budget.used + (total l.table + pend l.stack.items);
+      limit : l.budget.limit ≡ l.fn.budget.limit;
+      few : l.live ≤ l.fn.live + left l.fn.budget;
+    }
+
+abbrev pub decreases-turns : goal.decreases-turns
+decreases-turns g l = 2 * left l.budget + length l.stack.items
