@@ -5,4 +5,5 @@ pub mod KeyLemmas
 pub mod Linking
 pub mod Replaying
 pub mod Standing
+pub mod Stopping
 pub mod Totalling

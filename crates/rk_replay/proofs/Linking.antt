@@ -63,9 +63,9 @@ pub replayed-cause : (old : List Record) (r : Record) (rec at : ℕ) → found o
 replayed-cause old r rec at ef es = cause-found old r (rec_at rec old) ef ∙ ap (cause_by (Some (rec_at rec old))) es ∙ first_difference-prefix 1 at (rec_at rec old).steps
 
 -- one record changed so: what counts of it
-pub record Changes (old : List Record) (r r' : Record) (ran live : ℕ) : Type 0 where
-  pub ran : ran_one (cause_of old r') ≡ ran_one (cause_of old r) + ran
-  pub live : own_for r' (cause_of old r') ≡ own_for r (cause_of old r) + live
+pub record Changes (old : List Record) (r r' : Record) (more count : ℕ) : Type 0 where
+  pub ran : ran_one (cause_of old r') ≡ ran_one (cause_of old r) + more
+  pub live : own_for r' (cause_of old r') ≡ own_for r (cause_of old r) + count
 
 -- a command is launched
 pub record Begins {S : Type 0} (old : List Record) (r : Record) (a : Activity S) : Type 0 where
@@ -107,57 +107,60 @@ steps-running old r call c a k e =
 step-is : (x : Step) (call : Call) (c : ℕ) (a : Answer) → call ≡ x.call → c ≡ x.cost → x.answer ≡ a → step c call a ≡ x
 step-is x call c a ec ek ea = rw (ec, ek, ← ea) refl
 
-module _ {S : Type 0} (old : List Record) (r : Record) (call : Call) (c : ℕ) (a : Answer) (rec at : ℕ) (l : IsAsking old r call c (let w : Activity S = Replays rec at in w)) where
-  as-recorded : (step_at at (rec_at rec old).steps).answer ≡ a → r.steps ++ step c call a ∷ [] ≡ take (at + 1) (rec_at rec old).steps
-  as-recorded e =
-      ap (λ x. x ++ step c call a ∷ []) l.3 ∙ ap (λ x. take at (rec_at rec old).steps ++ x ∷ []) (step-is (step_at at (rec_at rec old).steps) call c a l.4 l.5 e)
-      ∙ sym (next-take (rec_at rec old).steps at l.1)
-
-  goes-on : (step_at at (rec_at rec old).steps).answer ≡ a → Steps old r c (with_step r (step c call a)) (let w : Activity S = Replays rec at in w) (let w : Activity S = Replays rec (at + 1) in w)
-  goes-on e =
-      let es = as-recorded e in
-      let k = replayed-cause old r rec at l.2 l.3 in
-      let k' = replayed-cause old (with_step r (step c call a)) rec (at + 1) l.2 es in
-      let lt : at < length (rec_at rec old).steps = l.1 in
-      record { linked = (l.0, omega arith, l.2, es); changes = record { ran = rw (k', k) refl; live = rw (k', k) refl } }
+module _ (old : List Record) (r : Record) (call : Call) (c : ℕ) (a : Answer) (rec at : ℕ) (lt : at < length (rec_at rec old).steps) (ef : found old r.key r.ordinal ≡ Some (rec_at rec old)) (es : r.steps ≡ take at (rec_at rec old).steps) where
+  as-recorded : call ≡ (step_at at (rec_at rec old).steps).call → c ≡ (step_at at (rec_at rec old).steps).cost → (step_at at (rec_at rec old).steps).answer ≡ a → r.steps ++ step c call a ∷ [] ≡ take (at + 1) (rec_at rec old).steps
+  as-recorded ek ec e =
+      ap (λ x. x ++ step c call a ∷ []) es ∙ ap (λ x. take at (rec_at rec old).steps ++ x ∷ []) (step-is (step_at at (rec_at rec old).steps) call c a ek ec e)
+      ∙ sym (next-take (rec_at rec old).steps at lt)
 
   cause-other : (step_at at (rec_at rec old).steps).answer ≢ a → cause_of old (with_step r (step c call a)) ≡ Some (Differs (1 + at) (step_at at (rec_at rec old).steps).answer a)
   cause-other ne =
-      cause-found old (with_step r (step c call a)) (rec_at rec old) l.2 ∙ ap (λ xs. cause_by (Some (rec_at rec old)) (xs ++ step c call a ∷ [])) l.3
-      ∙ first_difference-next 1 at (rec_at rec old).steps (step c call a) l.1 ne
+      cause-found old (with_step r (step c call a)) (rec_at rec old) ef ∙ ap (λ xs. cause_by (Some (rec_at rec old)) (xs ++ step c call a ∷ [])) es
+      ∙ first_difference-next 1 at (rec_at rec old).steps (step c call a) lt ne
 
-  gives-up : (m : S) → r.exit_cost ≡ 0 → (step_at at (rec_at rec old).steps).answer ≢ a → Steps old r c (with_step r (step c call a)) (let w : Activity S = Replays rec at in w) (let w : Activity S = Runs m in w)
-  gives-up m z ne =
-      let k = replayed-cause old r rec at l.2 l.3 in
+  same-changes : call ≡ (step_at at (rec_at rec old).steps).call → c ≡ (step_at at (rec_at rec old).steps).cost → (step_at at (rec_at rec old).steps).answer ≡ a → Changes old r (with_step r (step c call a)) 0 0
+  same-changes ek ec e =
+      let k = replayed-cause old r rec at ef es in
+      let k' = replayed-cause old (with_step r (step c call a)) rec (at + 1) ef (as-recorded ek ec e) in
+      record { ran = rw (k', k) refl; live = rw (k', k) refl }
+
+  other-changes : r.exit_cost ≡ 0 → (step_at at (rec_at rec old).steps).answer ≢ a → Changes old r (with_step r (step c call a)) 1 (steps_cost (r.steps ++ step c call a ∷ []))
+  other-changes z ne =
+      let k = replayed-cause old r rec at ef es in
       let k' = cause-other ne in
-      record {
-        linked = (Differs (1 + at) (step_at at (rec_at rec old).steps).answer a, k');
-        changes = record { ran = rw (k', k) refl; live = rw (k', k) (omega arith) };
-      }
+      record { ran = rw (k', k) refl; live = rw (k', k) (omega arith) }
 
 pub steps : {S : Type 0} (old : List Record) (r : Record) (call : Call) (c : ℕ) (a : Answer) (was now : Activity S) → r.exit_cost ≡ 0 → IsAsking old r call c was → Takes old was a now → Steps old r c (with_step r (step c call a)) was now
 steps {S} old r call c a (Runs m) now z l t =
     subst (Steps old r c (with_step r (step c call a)) (let w : Activity S = Runs m in w)) (sym t)
     (record { linked = (l.0, cause-stays old r (step c call a) l.0 l.1); changes = steps-running old r call c a l.0 l.1 })
-steps old r call c a (Replays rec at) (Runs m) z l t = gives-up old r call c a rec at l m z t
+steps old r call c a (Replays rec at) (Runs m) z l t =
+    record {
+      linked = (Differs (1 + at) (step_at at (rec_at rec old).steps).answer a, cause-other old r call c a rec at l.1 l.2 l.3 t);
+      changes = other-changes old r call c a rec at l.1 l.2 l.3 z t;
+    }
 steps {S} old r call c a (Replays rec at) (Replays rec' at') z l t =
-    rw (t.0, t.1) (goes-on {S} old r call c a rec at l t.2)
+    let lt : at < length (rec_at rec old).steps = l.1 in
+    let on : Steps old r c (with_step r (step c call a)) (let w : Activity S = Replays rec at in w) (let w : Activity S = Replays rec (at + 1) in w) = record {
+      linked = (l.0, omega arith, l.2, as-recorded old r call c a rec at l.1 l.2 l.3 l.4 l.5 t.2);
+      changes = same-changes old r call c a rec at l.1 l.2 l.3 l.4 l.5 t.2;
+    } in
+    rw (t.0, t.1) on
 
 -- it exits
 cause-ended : (old : List Record) (r : Record) (status c : ℕ) → cause_of old (with_exit r status c) ≡ cause_of old r
 unfolding cause_of
 cause-ended old r status c = refl
 
+running-ends : {S : Type 0} (old : List Record) (r : Record) (status c : ℕ) (k : Cause) (now : Activity S) → r.exit_cost ≡ 0 → cause_of old r ≡ Some k → IsRunning now → Changes old r (with_exit r status c) 0 (exit_counted now c)
+running-ends old r status c k (Runs m) z e h =
+    let e' = cause-ended old r status c ∙ e in
+    let o = own-exit r status c z in
+    record { ran = rw (e', e) refl; live = rw (e', e) o }
+running-ends old r status c k (Replays rec at) z e h = absurd h
+
 pub ends : {S : Type 0} (old : List Record) (r : Record) (status c n : ℕ) (was now : Activity S) (s : Spoke) → r.exit_cost ≡ 0 → s ≡ Exits status n → IsLinked old r was → Speaks_on old was now s → Changes old r (with_exit r status c) 0 (exit_counted now c)
-ends old r status c n (Runs m) now s z es l h = ran now h
-  where
-    ran : (now : Activity _) → IsRunning now → Changes old r (with_exit r status c) 0 (exit_counted now c)
-    ran (Runs m) h =
-        let e = cause-ended old r status c ∙ l.1 in
-        let o = own-exit r status c z in
-        let k : cause_of old r ≡ Some l.0 = l.1 in
-        record { ran = rw (e, k) refl; live = rw (e, k) o }
-    ran (Replays rec at) h = absurd h
+ends old r status c n (Runs m) now s z es l h = running-ends old r status c l.0 now z l.1 h
 ends {S} old r status c n (Replays rec at) now s z es l h =
     let k = replayed-cause old r rec at l.2 l.3 in
     let e = cause-ended old r status c ∙ k in

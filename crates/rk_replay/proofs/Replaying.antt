@@ -14,7 +14,11 @@ use Rattle.tr_record.specs.declared.records.Record.{Record}
 use Rattle.tr_record.specs.Rec.{rec_at, begun, stepped, ended, fresh_rec, with_step, with_exit, count_of}
 use Rattle.rk_runs.specs.declared.active.Active.{Active}
 use Rattle.rk_runs.specs.declared.active.Frame.{Frame}
+use Rattle.rk_base.specs.Paid.{Paid}
+use Rattle.rk_check.specs.Started.{started}
+use Rattle.rk_check.specs.Laws.{started-adds}
 use Rattle.rk_runs.specs.Own.{total}
+use Rattle.rk_runs.specs.Purse.{left}
 use Rattle.rk_runs.specs.Run.{step}
 use Rattle.rk_runs.specs.Places.{length-begun, length-stepped, length-ended, rec-begun, rec-begun_last, rec-stepped, rec-stepped_same, rec-ended, rec-ended_same}
 use Rattle.rk_runs.specs.Totals.{total-begun, total-stepped, total-ended}
@@ -22,7 +26,7 @@ use Rattle.rk_replay.specs.declared.activity.Activity.{Activity}
 use Rattle.rk_replay.specs.Activities.{IsReady, IsWaiting, IsLaunched, Speaks_on, Takes, made, given_up, counted, exit_counted}
 use Rattle.rk_replay.specs.Ran.{ran_total}
 use Rattle.rk_replay.proofs.Linking.{IsLinked, IsAsking, linked-ready, asking-waiting, asks, begins, steps, ends}
-use Rattle.rk_replay.proofs.Totalling.{ran_count, ran_total-none, Counts, stepped-counts, ended-counts, begun-counts}
+use Rattle.rk_replay.proofs.Totalling.{ran_count, ran_total-none, ran-within, Counts, stepped-counts, ended-counts, begun-counts}
 
 -- each of them stands above this place
 abbrev pub AllOver : {S : Type 0} → ℕ → List (Frame S) → Type 0
@@ -75,8 +79,8 @@ abbrev pub pend : {S : Type 0} → List (Frame S) → ℕ
 pend fs = sum_by (λ f. f.cost) fs
 
 -- what changes of the counts, and of all that stands in the table
-pub record Pays (old t t' : List Record) (ran live paid : ℕ) : Type 0 where
-  pub counts : Counts old t t' ran live
+pub record Pays (old t t' : List Record) (more count paid : ℕ) : Type 0 where
+  pub counts : Counts old t t' more count
   pub total : total t' ≡ total t + paid
 
 pub ready : {S : Type 0} (old t : List Record) (m : Active (Activity S)) (fs : List (Frame (Activity S))) → Replaying old t m fs → IsReady old m.machine
@@ -102,10 +106,10 @@ launch-pays old t key a l =
 pub Replaying-start : {S : Type 0} (old t0 t : List Record) (key : KeyValue) (child : Active (Activity S)) (fs : List (Frame (Activity S))) → t0 ≡ [] → fs ≡ [] → IsLaunched old key (count_of key t0) child.machine → child.place ≡ length t0 → t ≡ begun key t0 → Replaying old t child fs
 Replaying-start old t0 t key child fs e0 ef l ep et = rw (et, ef) (launched old t0 key child [] l ep tt)
 
-pub Pays-start : {S : Type 0} (old t0 t : List Record) (key : KeyValue) (child : Active (Activity S)) → t0 ≡ [] → IsLaunched old key (count_of key t0) child.machine → t ≡ begun key t0 → (ran_count old t ≡ made child.machine) × (ran_total old t ≡ 0) × (total t ≡ 0)
+pub Pays-start : {S : Type 0} (old t0 t : List Record) (key : KeyValue) (child : Activity S) → t0 ≡ [] → IsLaunched old key (count_of key t0) child → t ≡ begun key t0 → (ran_count old t ≡ made child) × (ran_total old t ≡ 0) × (total t ≡ 0)
 Pays-start old t0 t key child e0 l et =
-    let p = launch-pays old t0 key child.machine l in
-    let a : ran_count old (begun key t0) ≡ ran_count old t0 + made child.machine = p.counts.ran in
+    let p = launch-pays old t0 key child l in
+    let a : ran_count old (begun key t0) ≡ ran_count old t0 + made child = p.counts.ran in
     let b : ran_total old (begun key t0) ≡ ran_total old t0 + 0 = p.counts.live in
     let c : total (begun key t0) ≡ total t0 + 0 = p.total in
     let x : ran_count old t0 ≡ 0 = ap (ran_count old) e0 in
@@ -161,8 +165,8 @@ module _ {S : Type 0} (old t : List Record) (m : Active (Activity S)) (fs : List
       (subst (λ r. IsAsking old r (Launch key map) c now) (sym kept) a)
       (ap (λ (r : Record). r.exit_cost) kept ∙ i.unended) (omega arith) i.here))
 
-  pub Pays-launch : (key : KeyValue) (child : Active (Activity S)) (t' : List Record) → IsLaunched old key (count_of key t) child.machine → t' ≡ begun key t → Pays old t t' (made child.machine) 0 0
-  Pays-launch key child t' l et = rw et (launch-pays old t key child.machine l)
+  pub Pays-launch : (key : KeyValue) (child : Activity S) (t' : List Record) → IsLaunched old key (count_of key t) child → t' ≡ begun key t → Pays old t t' (made child) 0 0
+  Pays-launch key child t' l et = rw et (launch-pays old t key child l)
 
   pub Pays-end : (status n c : ℕ) (t' : List Record) → s ≡ Exits status n → t' ≡ ended m.place status c t → Pays old t t' 0 (exit_counted now c) c
   Pays-end status n c t' es et =
@@ -217,3 +221,29 @@ module _ {S : Type 0} (old t : List Record) (m : Active (Activity S)) (fs : List
 
 pub pend-push : {S : Type 0} (fs fs' : List (Frame S)) (f : Frame S) → fs' ≡ fs ++ f ∷ [] → pend fs' ≡ pend fs + f.cost
 pend-push fs fs' f e = ap pend e ∙ sum_by_push (λ (f : Frame _). f.cost) fs f
+
+pub pend-none : {S : Type 0} (fs : List (Frame S)) → fs ≡ [] → pend fs ≡ 0
+pend-none fs e = ap pend e
+
+none-from_length : {A : Type 0} (xs : List A) → length xs ≡ 0 → xs ≡ []
+none-from_length [] h = refl
+none-from_length (x ∷ xs) h = absurd (omega arith)
+
+pub pend-empty : {S : Type 0} (fs : List (Frame S)) → length fs ≡ 0 → pend fs ≡ 0
+pend-empty fs e = pend-none fs (none-from_length fs e)
+
+-- the count of starts
+pub starts-first : (s0 s n k : ℕ) → s ≡ started k s0 → n ≡ k → s ≡ started n s0
+starts-first s0 s n k e en = e ∙ ap (λ m. started m s0) (sym en)
+
+pub starts-next : (s0 s s' s'' n n' k : ℕ) → s ≡ started n s0 → s' ≡ s → s'' ≡ started k s' → n' ≡ n + k → s'' ≡ started n' s0
+starts-next s0 s s' s'' n n' k e e' e'' en =
+    let m : k + n ≡ n' = omega arith in
+    e'' ∙ ap (started k) (e' ∙ e) ∙ sym (started-adds k n s0) ∙ ap (λ m. started m s0) m
+
+pub live-next : (b l l' r r' k : ℕ) → l ≡ b + r → l' ≡ l + k → r' ≡ r + k → l' ≡ b + r'
+live-next b l l' r r' k e e' er = omega arith
+
+-- no more is counted than the budget had
+pub few-counted : (old t : List Record) (l0 l : ℕ) (b0 b : Paid) (pending : ℕ) → l ≡ l0 + ran_total old t → b.used ≡ b0.used + (total t + pending) → b.limit ≡ b0.limit → b.used ≤ b.limit → l ≤ l0 + left b0
+few-counted old t l0 l b0 b pending el eb em h = let w = ran-within old t in omega arith

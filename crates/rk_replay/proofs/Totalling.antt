@@ -27,9 +27,9 @@ ran_count-length old (r ∷ t) =
     by_cause (Some c) e = let e' : length (ran_of old t) ≡ ran_count old t = e in omega arith
 
 -- what changes of the counts
-pub record Counts (old t t' : List Record) (ran live : ℕ) : Type 0 where
-  pub ran : ran_count old t' ≡ ran_count old t + ran
-  pub live : ran_total old t' ≡ ran_total old t + live
+pub record Counts (old t t' : List Record) (more count : ℕ) : Type 0 where
+  pub ran : ran_count old t' ≡ ran_count old t + more
+  pub live : ran_total old t' ≡ ran_total old t + count
 
 set-counts : (old t : List Record) (i : ℕ) (r : Record) (ran live : ℕ) → i < length t → Changes old (rec_at i t) r ran live → Counts old t (slice_set t i r) ran live
 unfolding ran_total

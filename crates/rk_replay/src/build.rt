@@ -9,15 +9,15 @@ ghost use Rattle.rk_runs.specs.Spoken.{AreSpoken};
 ghost use Rattle.rk_replay.specs.Ran.{ran_of, ran_total};
 ghost use Rattle.rk_replay.specs.Stops.{Stops};
 
-use crate::activity::{Activity, begin, exit_counted, settle};
+use crate::activity::{Activity, begin, exit_counted};
 use crate::hearing::hear;
 use crate::ran::{RanList, ran_of};
 use crate::stop::{Stop, spent};
+use crate::turns::{answer_call, launch_below, resume};
 use rk_base::{Budget, NoMemory, Steps};
 use rk_calls::{Answer, Answerer, Call, Key, Machine, Maker, Refs, Spoke};
-use rk_runs::{Frame, ask, join, pay};
+use rk_runs::{Frame, pay};
 use std::alloc::Global;
-use std::mem;
 use std::sync::ledger::Ledger;
 use tr_record::Table;
 
@@ -68,21 +68,14 @@ pub fn build_with<K: Maker, W: Answerer, L: Ledger>(
                 let cost = pay(budget, cost);
                 match call {
                     Call::Launch(key, map) => {
-                        let refs = top.refs.pass(&map)?;
-                        let child = begin(maker, &mut table, &key, refs, old)?;
-                        let waiting = mem::replace(&mut top, child);
-                        stack.push(Frame {
-                            waiting,
-                            key,
-                            map,
-                            cost,
-                        })?;
+                        launch_below(
+                            maker, &mut table, &mut stack, &mut top, key, map, cost, old,
+                        )?;
                         answer = Answer::Go;
                     }
                     call => {
-                        answer = ask(world, &mut table, top.place, &mut top.refs, call, cost)?;
-                        settle(
-                            maker, &mut top.machine, &answer, cost, &table, top.place, old, live,
+                        answer = answer_call(
+                            maker, world, &mut table, &mut top, call, cost, old, live,
                         )?;
                     }
                 }
@@ -98,13 +91,8 @@ pub fn build_with<K: Maker, W: Answerer, L: Ledger>(
                         return Ok(Built { status, table, ran });
                     }
                     Some(frame) => {
-                        let cost = frame.cost;
-                        top = join(&mut table, frame, status)?;
+                        top = resume(maker, &mut table, frame, status, counted, old, live)?;
                         answer = Answer::Joined(status);
-                        settle(
-                            maker, &mut top.machine, &answer, cost, &table, top.place, old, live,
-                        )?;
-                        live.tick(u64::from(counted));
                     }
                 }
             }

@@ -3,11 +3,11 @@
 #![tactic(auto)]
 
 mod activity;
-
 mod build;
 mod hearing;
 mod ran;
 mod stop;
+mod turns;
 
 pub use build::{Built, build_with};
 pub use ran::{Cause, Ran, RanList};

@@ -1,0 +1,163 @@
+use Rattle.std.proofs.Common.{◌≡◌, ◌+◌, ◌≤◌, ◌<◌, length, arith, refl, ap, sym, subst, ◌∙◌}
+use Rattle.std.proofs.lemmas.Result.{err_from_is_err_and}
+use Rattle.rk_runs.specs.Freshing.{Freshing-start, Freshing-ask, Freshing-launch, Freshing-short, Freshing-end, Freshing-place, Freshing-join}
+use Rattle.rk_runs.specs.Run.{game}
+use Rattle.rk_runs.specs.Speaking.{fresh-spoken}
+use Rattle.rk_replay.proofs.Replaying.{ready, Replaying-start, Pays-start, Waiting-ask, Replaying-ask, Pays-ask, Replaying-launch, Pays-launch, Pays-end, join-place, Waiting-join, Replaying-join, Pays-join, pend, pend-push, pend-none, pend-empty, starts-first, starts-next, few-counted}
+use Rattle.rk_replay.proofs.Stopping.{stops-forged, stops-looked}
+use Rattle.rk_replay.proofs.Totalling.{ran_count-length}
+use Rattle.rk_replay.proofs.build.build_with.Goals as goal
+
+pub turns-init : goal.turns-init
+turns-init g c =
+    let p = Pays-start _ _ _ _ _ c.new-table.ensures c.in_ok-top.ensures.launched c.in_ok-top.ensures.table in
+    let z = pend-none _ c.new-stack.ensures.items in
+    record {
+      goes = Freshing-start _ _ _ _ _ _ _ _ _ _ _ _ _ c.new-table.ensures c.in_ok-top.ensures.place c.in_ok-top.ensures.refs c.in_ok-refs.ensures c.in_ok-top.ensures.table c.in_ok-top.ensures.says c.new-stack.ensures.items;
+      replays = Replaying-start _ _ _ _ _ _ c.new-table.ensures c.new-stack.ensures.items c.in_ok-top.ensures.launched c.in_ok-top.ensures.place c.in_ok-top.ensures.table;
+      starts = starts-first _ _ _ _ c.in_ok-top.ensures.starts p.0;
+      live = omega (arith, p.1);
+      paid = omega (arith, p.2, z);
+      limit = refl;
+      few = omega arith;
+    }
+
+pub hear-requires : goal.hear-requires
+hear-requires g c = ready _ _ _ _ c.turns.invariant.replays
+
+pub returns-in_err-call-clause-stops : goal.returns-in_err-call-clause-stops
+returns-in_err-call-clause-stops g c =
+    let p = err_from_is_err_and c.from_residual-in_err-call.result c.from_residual-in_err-call.ensures.1 in
+    rw (p.1, p.2) (stops-forged (game g.K.Maker.first g.W.Answerer.given) _ _ _ c.in_err-call.ensures.forged)
+
+pub turns-preserved-in-Launch : goal.turns-preserved-in-Launch
+turns-preserved-in-Launch g c =
+    let p = Pays-launch _ _ _ _ c.turns.invariant.replays _ _ c.in_ok-call.ensures.on _ _ _ c.in_ok-launch_below-in-Launch.ensures.launched c.in_ok-launch_below-in-Launch.ensures.table in
+    let n = pend-push _ _ _ c.in_ok-launch_below-in-Launch.ensures.stack in
+    record {
+      goes =
+          Freshing-launch _ _ _ _ _ _ _ _ _ _ _ c.turns.invariant.goes _ _ (λ q. rw c.left.ensures.left at (c.in_ok-call.ensures.spoke q)) c.in_ok-call.ensures.goes
+          _ _ _ _ _ _ _ _ _ _ c.in-Call.is c.pay-cost.ensures.cost (omega arith) c.in-Launch.is
+          c.in_ok-launch_below-in-Launch.ensures.refs refl c.in_ok-launch_below-in-Launch.ensures.says c.in_ok-launch_below-in-Launch.ensures.place c.in_ok-launch_below-in-Launch.ensures.table
+          c.in_ok-launch_below-in-Launch.ensures.stack;
+      replays =
+          Replaying-launch _ _ _ _ c.turns.invariant.replays _ _ c.in_ok-call.ensures.on _ _ _ _ _ _ _ _ c.in-Call.is c.pay-cost.ensures.cost c.in-Launch.is
+          c.in_ok-launch_below-in-Launch.ensures.launched c.in_ok-launch_below-in-Launch.ensures.place c.in_ok-launch_below-in-Launch.ensures.table
+          c.in_ok-launch_below-in-Launch.ensures.stack;
+      starts = starts-next _ _ _ _ _ _ _ c.turns.invariant.starts c.in_ok-call.ensures.starts c.in_ok-launch_below-in-Launch.ensures.starts p.counts.ran;
+      live = omega (arith, p.counts.live);
+      paid = omega (arith, p.total, n);
+      limit = omega arith;
+      few = omega arith;
+    }
+
+pub answer_call-requires : goal.answer_call-requires
+answer_call-requires g c = record {
+  waiting = Waiting-ask _ _ _ _ c.turns.invariant.replays _ _ c.in_ok-call.ensures.on _ _ c.in-Call.is;
+  here = c.turns.invariant.replays.here;
+}
+
+pub turns-preserved-in_default : goal.turns-preserved-in_default
+turns-preserved-in_default g c =
+    let p = Pays-ask _ _ _ _ c.turns.invariant.replays _ _ c.in_ok-call.ensures.on _ _ _ _ _ _ c.in-Call.is c.pay-cost.ensures.cost c.in_ok-answer-in_default.ensures.table c.in_ok-answer-in_default.ensures.takes in
+    record {
+      goes =
+          Freshing-ask _ _ _ _ _ _ _ _ _ _ _ c.turns.invariant.goes _ _ (λ q. rw c.left.ensures.left at (c.in_ok-call.ensures.spoke q)) c.in_ok-call.ensures.goes
+          _ _ _ _ _ _ _ _ _ c.in-Call.is c.pay-cost.ensures.cost (omega arith)
+          c.in_default.not-Launch
+          c.in_ok-answer-in_default.ensures.given c.in_ok-answer-in_default.ensures.table c.in_ok-answer-in_default.ensures.place refl c.in_ok-answer-in_default.ensures.state;
+      replays =
+          Replaying-ask _ _ _ _ c.turns.invariant.replays _ _ c.in_ok-call.ensures.on _ _ _ _ _ _ c.in-Call.is c.pay-cost.ensures.cost
+          c.in_ok-answer-in_default.ensures.table c.in_ok-answer-in_default.ensures.place c.in_ok-answer-in_default.ensures.takes;
+      starts = starts-next _ _ _ _ _ _ _ c.turns.invariant.starts c.in_ok-call.ensures.starts c.in_ok-answer-in_default.ensures.starts p.counts.ran;
+      live = omega (arith, p.counts.live, c.in_ok-answer-in_default.ensures.live);
+      paid = omega (arith, p.total);
+      limit = omega arith;
+      few = few-counted _ _ _ _ _ _ (pend c.turns.stack.items) (omega (arith, p.counts.live, c.in_ok-answer-in_default.ensures.live)) (omega (arith, p.total)) (omega arith) c.pay-cost.ensures.within;
+    }
+
+pub returns-in_err-answer-in_default : goal.returns-in_err-answer-in_default
+returns-in_err-answer-in_default g c =
+    let p = err_from_is_err_and c.from_residual-in_err-answer-in_default.result c.from_residual-in_err-answer-in_default.ensures.1 in
+    record {
+      done = rw p.1 tt;
+      spoken = rw p.1 tt;
+      stops = rw (p.1, p.2) (stops-forged (game g.K.Maker.first g.W.Answerer.given) _ _ _ c.in_err-answer-in_default.ensures.forged);
+      ran = rw p.1 tt;
+      starts = rw p.1 tt;
+      live = rw p.1 tt;
+      paid = rw p.1 tt;
+      limit = omega arith;
+      at_most = omega (arith, c.in_err-answer-in_default.ensures.still);
+    }
+
+pub returns-in_err-ran-in-None-clause-stops : goal.returns-in_err-ran-in-None-clause-stops
+returns-in_err-ran-in-None-clause-stops g c =
+    let p = err_from_is_err_and c.from_residual-in_err-ran-in-None.result c.from_residual-in_err-ran-in-None.ensures.1 in
+    rw (p.1, p.2) tt
+
+pub returns-in-None-clause-done : goal.returns-in-None-clause-done
+returns-in-None-clause-done g c = λ q.
+    let z : length c.turns.stack.items ≡ 0 = omega (arith, c.in-None.ensures.cases.0, c.turns.stack.ok.0) in
+    Freshing-end _ _ _ _ _ _ _ _ _ _ _ c.turns.invariant.goes _ _ (λ q. rw c.left.ensures.left at (c.in_ok-call.ensures.spoke q)) c.in_ok-call.ensures.goes
+    _ _ _ _ _ c.in-Exit.is c.pay-cost-in-Exit.ensures.cost (omega arith) c.end.ensures z q
+
+pub returns-in-None-clause-spoken : goal.returns-in-None-clause-spoken
+returns-in-None-clause-spoken g c = λ q.
+    fresh-spoken (game g.K.Maker.first g.W.Answerer.given) g.met.K.Maker.lasts g.met.W.Answerer.fitting _ _ _ _ _ _ _ _ (returns-in-None-clause-done g c q)
+
+pub returns-in-None-clause-starts : goal.returns-in-None-clause-starts
+returns-in-None-clause-starts g c =
+    let p = Pays-end _ _ _ _ c.turns.invariant.replays _ _ c.in_ok-call.ensures.on _ _ _ _ c.in-Exit.is c.end.ensures in
+    starts-next _ _ _ _ _ _ 0 c.turns.invariant.starts c.in_ok-call.ensures.starts refl (ap length c.in_ok-ran-in-None.ensures ∙ ran_count-length _ _ ∙ p.counts.ran)
+
+pub returns-in-None-clause-live : goal.returns-in-None-clause-live
+returns-in-None-clause-live g c =
+    let p = Pays-end _ _ _ _ c.turns.invariant.replays _ _ c.in_ok-call.ensures.on _ _ _ _ c.in-Exit.is c.end.ensures in
+    omega (arith, p.counts.live, c.exit_counted-counted.ensures)
+
+pub returns-in-None-clause-paid : goal.returns-in-None-clause-paid
+returns-in-None-clause-paid g c =
+    let z : length c.turns.stack.items ≡ 0 = omega (arith, c.in-None.ensures.cases.0, c.turns.stack.ok.0) in
+    let n = pend-empty _ z in
+    let p = Pays-end _ _ _ _ c.turns.invariant.replays _ _ c.in_ok-call.ensures.on _ _ _ _ c.in-Exit.is c.end.ensures in
+    omega (arith, p.total, n)
+
+pub returns-in-None-clause-at_most : goal.returns-in-None-clause-at_most
+returns-in-None-clause-at_most g c =
+    few-counted _ _ _ _ _ _ 0 (returns-in-None-clause-live g c) (let p = returns-in-None-clause-paid g c in omega (arith, p)) (omega arith) c.pay-cost-in-Exit.ensures.within
+
+pub resume-requires-clause-waiting : goal.resume-requires-clause-waiting
+resume-requires-clause-waiting g c = Waiting-join _ _ _ _ c.turns.invariant.replays _ _ c.in_ok-call.ensures.on _ _ _ _ _ _ c.in-Exit.is c.end.ensures c.in-Some.ensures.items
+
+pub resume-requires-clause-here : goal.resume-requires-clause-here
+resume-requires-clause-here g c = join-place _ _ _ _ c.turns.invariant.replays _ _ c.in_ok-call.ensures.on _ _ _ _ _ _ c.in-Exit.is c.end.ensures c.in-Some.ensures.items
+
+pub returns-in_err-top-in-Some-clause-stops : goal.returns-in_err-top-in-Some-clause-stops
+returns-in_err-top-in-Some-clause-stops g c =
+    let p = err_from_is_err_and c.from_residual-in_err-top-in-Some.result c.from_residual-in_err-top-in-Some.ensures.1 in
+    rw (p.1, p.2) (stops-forged (game g.K.Maker.first g.W.Answerer.given) _ _ _ c.in_err-top-in-Some.ensures.forged)
+
+pub turns-preserved : goal.turns-preserved
+turns-preserved g c =
+    let p = Pays-join _ _ _ _ c.turns.invariant.replays _ _ c.in_ok-call.ensures.on _ _ c.pay-cost-in-Exit.result _ _ _ c.in-Exit.is c.end.ensures c.in-Some.ensures.items _ _ c.in_ok-top-in-Some.ensures.table c.in_ok-top-in-Some.ensures.takes in
+    let n = pend-push _ _ _ c.in-Some.ensures.items in
+    record {
+      goes =
+          Freshing-join _ _ _ _ _ _ _ _ _ _ _ c.turns.invariant.goes _ _ (λ q. rw c.left.ensures.left at (c.in_ok-call.ensures.spoke q)) c.in_ok-call.ensures.goes
+          _ _ _ _ _ _ _ _ _ c.in-Exit.is c.pay-cost-in-Exit.ensures.cost (omega arith) c.end.ensures c.in-Some.ensures.items
+          c.in_ok-top-in-Some.ensures.table c.in_ok-top-in-Some.ensures.place c.in_ok-top-in-Some.ensures.refs c.in_ok-top-in-Some.ensures.state;
+      replays =
+          Replaying-join _ _ _ _ c.turns.invariant.replays _ _ c.in_ok-call.ensures.on _ _ _ _ _ _ c.in-Exit.is c.end.ensures c.in-Some.ensures.items
+          _ _ c.in_ok-top-in-Some.ensures.table c.in_ok-top-in-Some.ensures.place c.in_ok-top-in-Some.ensures.takes;
+      starts = starts-next _ _ _ _ _ _ _ c.turns.invariant.starts c.in_ok-call.ensures.starts c.in_ok-top-in-Some.ensures.starts p.counts.ran;
+      live = omega (arith, p.counts.live, c.in_ok-top-in-Some.ensures.live, c.exit_counted-counted.ensures);
+      paid = omega (arith, p.total, n);
+      limit = omega arith;
+      few = few-counted _ _ _ _ _ _ (pend c.pop.new.self.items) (omega (arith, p.counts.live, c.in_ok-top-in-Some.ensures.live, c.exit_counted-counted.ensures)) (omega (arith, p.total, n)) (omega arith) c.pay-cost-in-Exit.ensures.within;
+    }
+
+pub returns-in-Short-clause-stops : goal.returns-in-Short-clause-stops
+returns-in-Short-clause-stops g c =
+    stops-looked (game g.K.Maker.first g.W.Answerer.given) _ _ _ c.spent.ensures
+    (Freshing-short _ _ _ _ _ _ _ _ _ _ _ c.turns.invariant.goes _ _ (λ q. rw c.left.ensures.left at (c.in_ok-call.ensures.spoke q)) c.in_ok-call.ensures.goes c.in-Short.is)

@@ -1,0 +1,5 @@
+use Rattle.rk_runs.specs.Places.{length-stepped}
+use Rattle.rk_replay.proofs.turns.resume.Goals as goal
+
+pub settle-requires-clause-here : goal.settle-requires-clause-here
+settle-requires-clause-here g c = rw (c.in_ok-top.ensures.table, length-stepped, c.in_ok-top.ensures.waited) c.requires.here

@@ -1,0 +1,114 @@
+// What commands do after they asked, and once what they launched has exited.
+ghost use Rattle.std.specs.Prelude.{◌≡◌, ◌+◌, ◌<◌, ◌++◌, ◌∷◌, [], length, IfOk, IfErr, OnErr};
+ghost use Rattle.rk_calls.specs.Given.{Given};
+ghost use Rattle.rk_calls.specs.Refs.{passed_refs};
+ghost use Rattle.rk_calls.specs.declared.answer.Answer.TheVariants.{Go, Joined};
+ghost use Rattle.rk_calls.specs.declared.call.Call.TheVariants.{Launch};
+ghost use Rattle.tr_record.specs.Rec.{rec_at, begun, stepped, count_of};
+ghost use Rattle.rk_runs.specs.Run.{step};
+ghost use Rattle.rk_check.specs.Started.{started};
+ghost use Rattle.rk_replay.specs.Activities.{stands, waits, IsWaiting, IsLaunched, made, Takes, given_up, counted};
+ghost use Rattle.rk_replay.specs.Stops.{IsForged};
+
+use crate::activity::{Activity, begin, settle};
+use crate::stop::Stop;
+use rk_base::{NoMemory, Steps};
+use rk_calls::{Answer, Answerer, Call, Key, Machine, Maker, RefMap};
+use rk_runs::{Active, Frame, ask, join};
+use std::mem;
+use std::sync::ledger::Ledger;
+use tr_record::Table;
+
+/// A command launches another one, which goes on in its place, and waits for it.
+pub(crate) fn launch_below<K: Maker>(
+    maker: &mut K,
+    table: &mut Table,
+    stack: &mut Vec<Frame<Activity<K::Made>>>,
+    top: &mut Active<Activity<K::Made>>,
+    key: Key,
+    map: RefMap,
+    cost: u32,
+    old: &Table,
+) -> Result<(), NoMemory>
+    ensures says { IfOk result (λ _. stands K.Made.talk K.first old.now top.new.machine Go ≡ K.first key) }
+    ensures launched { IfOk result (λ _. IsLaunched old.now key (count_of key table.old) top.new.machine) }
+    ensures starts { IfOk result (λ _. K.starts maker.new ≡ started (made top.new.machine) (K.starts maker.old)) }
+    ensures refs { IfOk result (λ _. top.new.refs ≡ passed_refs top.old.refs map) }
+    ensures place { IfOk result (λ _. top.new.place ≡ length table.old) }
+    ensures table { IfOk result (λ _. table.new ≡ begun key table.old) }
+    ensures stack { IfOk result (λ _. stack.new.items ≡ stack.old.items ++ record { waiting = top.old; key = key; map = map; cost = cost } ∷ []) }
+{
+    let refs = top.refs.pass(&map)?;
+    let child = begin(maker, table, &key, refs, old)?;
+    let waiting = mem::replace(top, child);
+    stack.push(Frame {
+        waiting,
+        key,
+        map,
+        cost,
+    })?;
+    Ok(())
+}
+
+/// The world answers a call of a command, the step is recorded, and the command takes the answer.
+pub(crate) fn answer_call<K: Maker, W: Answerer, L: Ledger>(
+    maker: &mut K,
+    world: &mut W,
+    table: &mut Table,
+    top: &mut Active<Activity<K::Made>>,
+    call: Call,
+    cost: u32,
+    old: &Table,
+    live: &mut Steps<L>,
+) -> Result<Answer, Stop>
+    requires waiting { IsWaiting old.now top.old.machine }
+    requires here { top.old.place < length table.old }
+    ensures place { IfOk result (λ _. top.new.place ≡ top.old.place) }
+    ensures given { IfOk result (λ a. record { answer = a; refs = top.new.refs; world = world.new } ≡ W.given world.old top.old.refs call) }
+    ensures table { IfOk result (λ a. table.new ≡ stepped top.old.place (step cost call a) table.old) }
+    ensures state { IfOk result (λ a. stands K.Made.talk K.first old.now top.new.machine a ≡ waits K.Made.talk K.first old.now top.old.machine a) }
+    ensures takes { IfOk result (λ a. Takes old.now top.old.machine a top.new.machine) }
+    ensures starts { IfOk result (λ _. K.starts maker.new ≡ started (given_up top.old.machine top.new.machine) (K.starts maker.old)) }
+    ensures live { IfOk result (λ _. live.new ≡ live.old + counted top.old.machine top.new.machine cost (rec_at top.old.place table.new)) }
+    ensures still { OnErr result (live.new ≡ live.old) }
+    ensures forged { IfErr result (IsForged K.first old.now) }
+{
+    let answer = ask(world, table, top.place, &mut top.refs, call, cost)?;
+    settle(
+        maker, &mut top.machine, &answer, cost, table, top.place, old, live,
+    )?;
+    Ok(answer)
+}
+
+/// A command that waited takes the status of the one that it launched. What counts of that one's exit is
+/// counted with it.
+pub(crate) fn resume<K: Maker, L: Ledger>(
+    maker: &mut K,
+    table: &mut Table,
+    frame: Frame<Activity<K::Made>>,
+    status: u8,
+    exited: u32,
+    old: &Table,
+    live: &mut Steps<L>,
+) -> Result<Active<Activity<K::Made>>, Stop>
+    requires waiting { IsWaiting old.now frame.waiting.machine }
+    requires here { frame.waiting.place < length table.old }
+    ensures place { IfOk result (λ a. a.place ≡ frame.waiting.place) }
+    ensures refs { IfOk result (λ a. a.refs ≡ frame.waiting.refs) }
+    ensures table { IfOk result (λ _. table.new ≡ stepped frame.waiting.place (step frame.cost (Launch frame.key frame.map) (Joined status)) table.old) }
+    ensures state { IfOk result (λ a. stands K.Made.talk K.first old.now a.machine (Joined status) ≡ waits K.Made.talk K.first old.now frame.waiting.machine (Joined status)) }
+    ensures takes { IfOk result (λ a. Takes old.now frame.waiting.machine (Joined status) a.machine) }
+    ensures starts { IfOk result (λ a. K.starts maker.new ≡ started (given_up frame.waiting.machine a.machine) (K.starts maker.old)) }
+    ensures live { IfOk result (λ a. live.new ≡ live.old + (exited + counted frame.waiting.machine a.machine frame.cost (rec_at frame.waiting.place table.new))) }
+    ensures still { OnErr result (live.new ≡ live.old) }
+    ensures forged { IfErr result (IsForged K.first old.now) }
+{
+    let cost = frame.cost;
+    let mut top = join(table, frame, status)?;
+    let answer = Answer::Joined(status);
+    settle(
+        maker, &mut top.machine, &answer, cost, table, top.place, old, live,
+    )?;
+    live.tick(u64::from(exited));
+    Ok(top)
+}
