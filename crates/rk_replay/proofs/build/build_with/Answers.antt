@@ -73,7 +73,7 @@ turns-preserved-in_default g c =
       live = omega (arith, p.counts.live, c.in_ok-answer-in_default.ensures.live);
       paid = omega (arith, p.total);
       limit = omega arith;
-      few = few-counted _ _ _ _ _ _ (pend c.turns.stack.items) (omega (arith, p.counts.live, c.in_ok-answer-in_default.ensures.live)) (omega (arith, p.total)) (omega arith) c.pay-cost.ensures.within;
+      few = few-counted c.args.old.now c.answer_call.new.table c.args.live.now c.answer_call.new.live c.args.budget.now c.pay-cost.new.budget (pend c.turns.stack.items) (omega (arith, p.counts.live, c.in_ok-answer-in_default.ensures.live)) (omega (arith, p.total)) (omega arith) c.pay-cost.ensures.within;
     }
 
 pub returns-in_err-answer-in_default : goal.returns-in_err-answer-in_default
@@ -125,7 +125,7 @@ returns-in-None-clause-paid g c =
 
 pub returns-in-None-clause-at_most : goal.returns-in-None-clause-at_most
 returns-in-None-clause-at_most g c =
-    few-counted _ _ _ _ _ _ 0 (returns-in-None-clause-live g c) (let p = returns-in-None-clause-paid g c in omega (arith, p)) (omega arith) c.pay-cost-in-Exit.ensures.within
+    few-counted _ _ _ _ _ c.pay-cost-in-Exit.new.budget 0 (returns-in-None-clause-live g c) (let p = returns-in-None-clause-paid g c in omega (arith, p)) (omega arith) c.pay-cost-in-Exit.ensures.within
 
 pub resume-requires-clause-waiting : goal.resume-requires-clause-waiting
 resume-requires-clause-waiting g c = Waiting-join _ _ _ _ c.turns.invariant.replays _ _ c.in_ok-call.ensures.on _ _ _ _ _ _ c.in-Exit.is c.end.ensures c.in-Some.ensures.items
@@ -154,7 +154,7 @@ turns-preserved g c =
       live = omega (arith, p.counts.live, c.in_ok-top-in-Some.ensures.live, c.exit_counted-counted.ensures);
       paid = omega (arith, p.total, n);
       limit = omega arith;
-      few = few-counted _ _ _ _ _ _ (pend c.pop.new.self.items) (omega (arith, p.counts.live, c.in_ok-top-in-Some.ensures.live, c.exit_counted-counted.ensures)) (omega (arith, p.total, n)) (omega arith) c.pay-cost-in-Exit.ensures.within;
+      few = few-counted c.args.old.now c.resume.new.table c.args.live.now c.resume.new.live c.args.budget.now c.pay-cost-in-Exit.new.budget (pend c.pop.new.self.items) (omega (arith, p.counts.live, c.in_ok-top-in-Some.ensures.live, c.exit_counted-counted.ensures)) (omega (arith, p.total, n)) (omega arith) c.pay-cost-in-Exit.ensures.within;
     }
 
 pub returns-in-Short-clause-stops : goal.returns-in-Short-clause-stops
