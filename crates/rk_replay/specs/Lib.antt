@@ -1,4 +1,5 @@
 pub mod Activities
 pub mod Answers
 pub mod Ran
+pub mod Script
 pub mod Stops

@@ -8,7 +8,9 @@ mod hearing;
 mod ran;
 mod stop;
 mod turns;
+mod world;
 
 pub use build::{Built, build_with};
 pub use ran::{Cause, Ran, RanList};
 pub use stop::Stop;
+pub use world::{BuiltWorld, build_world, check, script_key};
