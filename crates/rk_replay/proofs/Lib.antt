@@ -1,6 +1,7 @@
 pub mod Causing
 pub mod Differing
 pub mod Finding
+pub mod Keeping
 pub mod KeyLemmas
 pub mod Linking
 pub mod Replaying

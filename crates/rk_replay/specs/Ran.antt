@@ -1,8 +1,9 @@
 -- Which commands ran, and why.
-use Rattle.std.specs.Prelude.{ℕ, suc, ◌&&◌, ◌==◌, if◌then◌else◌, List, [], ◌∷◌, Option, Some, None, find, filter_map, sum_by}
+use Rattle.std.specs.Prelude.{◌≡◌, ℕ, suc, ◌<◌, ◌&&◌, ◌==◌, if◌then◌else◌, List, [], ◌∷◌, length, Option, Some, None, find, filter_map, sum_by}
 use Rattle.rk_calls.specs.Keys.{KeyValue, same_key}
 use Rattle.tr_record.specs.declared.records.Record.{Record}
 use Rattle.tr_record.specs.declared.steps.Step.{Step}
+use Rattle.tr_record.specs.Rec.{rec_at}
 use Rattle.rk_runs.specs.Own.{own}
 use Rattle.rk_replay.specs.declared.ran.Cause.{Cause}
 use Rattle.rk_replay.specs.declared.ran.Cause.TheVariants.{NoRecord, Differs}
@@ -29,6 +30,15 @@ cause_by (Some rec) steps = first_difference 1 rec.steps steps
 -- with another answer
 unfoldable pub cause_of : List Record → Record → Option Cause
 cause_of old rec = cause_by (found old rec.key rec.ordinal) rec.steps
+
+-- the old table has this record under its key and ordinal, with the same steps and the same exit
+abbrev pub IsKept : List Record → Record → Type 0
+IsKept old rec =
+    (was : Record) × (found old rec.key rec.ordinal ≡ Some was) × (was.steps ≡ rec.steps) × (was.exit ≡ rec.exit) × (was.exit_cost ≡ rec.exit_cost)
+
+-- each record whose command didn't run is the old table's
+abbrev pub AreKept : List Record → List Record → Type 0
+AreKept old table = (i : ℕ) → i < length table → cause_of old (rec_at i table) ≡ None → IsKept old (rec_at i table)
 
 abbrev pub ran_for : Record → Option Cause → Option Ran
 ran_for rec None = None

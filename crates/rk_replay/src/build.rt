@@ -6,7 +6,7 @@ ghost use Rattle.rk_runs.specs.Own.{total};
 ghost use Rattle.rk_runs.specs.Purse.{left};
 ghost use Rattle.rk_runs.specs.Run.{game, fresh, Done};
 ghost use Rattle.rk_runs.specs.Spoken.{AreSpoken};
-ghost use Rattle.rk_replay.specs.Ran.{ran_of, ran_total};
+ghost use Rattle.rk_replay.specs.Ran.{AreKept, ran_of, ran_total};
 ghost use Rattle.rk_replay.specs.Stops.{Stops};
 
 use crate::activity::{Activity, begin, exit_counted};
@@ -44,9 +44,11 @@ pub fn build_with<K: Maker, W: Answerer, L: Ledger>(
     budget: &mut Budget,
     live: &mut Steps<L>,
 ) -> Result<Built, Stop>
-    // It ends as the run in which nothing is recorded yet, and leaves the same records.
+    // It ends as the run in which nothing is recorded yet, and leaves the same records. What didn't run is the
+    // old table's.
     ensures done { IfOk result (λ b. AreSpoken K.first old.now → fresh (game K.first W.given) (left budget.old) key.now top_refs world.old ≡ Done world.new b.status (left budget.new) b.table) }
     ensures spoken { IfOk result (λ b. AreSpoken K.first old.now → AreSpoken K.first b.table) }
+    ensures kept { IfOk result (λ b. AreSpoken K.first old.now → AreKept old.now b.table) }
     ensures stops { IfErr result (Stops (game K.first W.given) old.now (fresh (game K.first W.given) (left budget.old) key.now top_refs world.old)) }
 
     // Whatever the old table: what ran, and why; a machine was started for each, and their costs were counted.

@@ -4,6 +4,7 @@ use Rattle.rk_runs.specs.Freshing.{Freshing-start, Freshing-ask, Freshing-launch
 use Rattle.rk_runs.specs.Run.{game}
 use Rattle.rk_runs.specs.Speaking.{fresh-spoken}
 use Rattle.rk_replay.proofs.Replaying.{ready, Replaying-start, Pays-start, Waiting-ask, Replaying-ask, Pays-ask, Replaying-launch, Pays-launch, Pays-end, join-place, Waiting-join, Replaying-join, Pays-join, pend, pend-push, pend-none, pend-empty, starts-first, starts-next, few-counted}
+use Rattle.rk_replay.proofs.Keeping.{all-kept}
 use Rattle.rk_replay.proofs.Stopping.{stops-forged, stops-looked}
 use Rattle.rk_replay.proofs.Totalling.{ran_count-length}
 use Rattle.rk_replay.proofs.build.build_with.Goals as goal
@@ -82,6 +83,7 @@ returns-in_err-answer-in_default g c =
     record {
       done = rw p.1 tt;
       spoken = rw p.1 tt;
+      kept = rw p.1 tt;
       stops = rw (p.1, p.2) (stops-forged (game g.K.Maker.first g.W.Answerer.given) _ _ _ c.in_err-answer-in_default.ensures.forged);
       ran = rw p.1 tt;
       starts = rw p.1 tt;
@@ -105,6 +107,9 @@ returns-in-None-clause-done g c = λ q.
 pub returns-in-None-clause-spoken : goal.returns-in-None-clause-spoken
 returns-in-None-clause-spoken g c = λ q.
     fresh-spoken (game g.K.Maker.first g.W.Answerer.given) g.met.K.Maker.lasts g.met.W.Answerer.fitting _ _ _ _ _ _ _ _ (returns-in-None-clause-done g c q)
+
+pub returns-in-None-clause-kept : goal.returns-in-None-clause-kept
+returns-in-None-clause-kept g c = λ q. all-kept g.K.Maker.first g.met.K.Maker.lasts _ _ q (returns-in-None-clause-spoken g c q)
 
 pub returns-in-None-clause-starts : goal.returns-in-None-clause-starts
 returns-in-None-clause-starts g c =
