@@ -7,6 +7,8 @@ mod build;
 mod hearing;
 mod ran;
 mod stop;
+#[cfg(test)]
+mod tests;
 mod turns;
 mod world;
 
