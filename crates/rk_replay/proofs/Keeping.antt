@@ -1,14 +1,13 @@
 -- What didn't run is the old table's.
 use Rattle.std.proofs.Common.{◌≡◌, ℕ, zero, suc, ◌<◌, Bool, true, false, ◌&&◌, ◌==◌, cond, if◌then◌else◌, List, [], ◌∷◌, length, refl, sym, ◌∙◌, ap, subst, arith, Option, Some, None, get_or}
 use Rattle.std.specs.Prelude.{find}
-use Rattle.rk_calls.specs.declared.answer.Answer.{Answer}
 use Rattle.rk_calls.specs.Talk.{Says}
 use Rattle.rk_calls.specs.Keys.{KeyValue, same_key}
 use Rattle.tr_record.specs.declared.records.Record.{Record}
 use Rattle.tr_record.specs.declared.steps.Step.{Step}
 use Rattle.tr_record.specs.Rec.{rec_at, fresh_rec, no_key}
 use Rattle.rk_runs.specs.Lasting.{AllLast}
-use Rattle.rk_runs.specs.Spoken.{step_at, IsSpoken, AreSpoken}
+use Rattle.rk_runs.specs.Spoken.{IsSpoken, AreSpoken}
 use Rattle.rk_check.specs.Differences.{AnswerAlike}
 use Rattle.rk_check.specs.Laws.{spoken-alike}
 use Rattle.rk_replay.specs.declared.ran.Cause.{Cause}

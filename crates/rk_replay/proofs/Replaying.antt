@@ -1,6 +1,6 @@
 -- A build under way: what stands in the records of the command that goes on and of those that wait, and what
 -- changes of the counts.
-use Rattle.std.proofs.Common.{◌≡◌, ◌≢◌, ℕ, ◌+◌, ◌≤◌, ◌<◌, List, [], ◌∷◌, ◌++◌, length, refl, sym, ◌∙◌, ap, subst, arith}
+use Rattle.std.proofs.Common.{◌≡◌, ℕ, ◌+◌, ◌≤◌, ◌<◌, List, [], ◌∷◌, ◌++◌, length, refl, sym, ◌∙◌, ap, subst, arith}
 use Rattle.std.specs.Prelude.{sum_by}
 use Rattle.std.proofs.lemmas.List.Sums.{sum_by_push}
 use Rattle.rk_calls.specs.declared.call.Call.{Call}
@@ -11,7 +11,7 @@ use Rattle.rk_calls.specs.declared.drive.Spoke.{Spoke}
 use Rattle.rk_calls.specs.declared.drive.Spoke.TheVariants.{Call as Calls, Exit as Exits}
 use Rattle.rk_calls.specs.Keys.{KeyValue}
 use Rattle.tr_record.specs.declared.records.Record.{Record}
-use Rattle.tr_record.specs.Rec.{rec_at, begun, stepped, ended, fresh_rec, with_step, with_exit, count_of}
+use Rattle.tr_record.specs.Rec.{rec_at, begun, stepped, ended, with_step, count_of}
 use Rattle.rk_runs.specs.declared.active.Active.{Active}
 use Rattle.rk_runs.specs.declared.active.Frame.{Frame}
 use Rattle.rk_base.specs.Paid.{Paid}
@@ -20,7 +20,7 @@ use Rattle.rk_check.specs.Laws.{started-adds}
 use Rattle.rk_runs.specs.Own.{total}
 use Rattle.rk_runs.specs.Purse.{left}
 use Rattle.rk_runs.specs.Run.{step}
-use Rattle.rk_runs.specs.Places.{length-begun, length-stepped, length-ended, rec-begun, rec-begun_last, rec-stepped, rec-stepped_same, rec-ended, rec-ended_same}
+use Rattle.rk_runs.specs.Places.{length-begun, length-stepped, length-ended, rec-begun, rec-begun_last, rec-stepped, rec-stepped_same, rec-ended}
 use Rattle.rk_runs.specs.Totals.{total-begun, total-stepped, total-ended}
 use Rattle.rk_replay.specs.declared.activity.Activity.{Activity}
 use Rattle.rk_replay.specs.Activities.{IsReady, IsWaiting, IsLaunched, Speaks_on, Takes, made, given_up, counted, exit_counted}

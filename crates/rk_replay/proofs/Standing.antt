@@ -1,5 +1,5 @@
 -- What a replayed command says is what its machine would say.
-use Rattle.std.proofs.Common.{◌≡◌, ℕ, ◌+◌, ◌-◌, ◌≤◌, ◌<◌, List, length, take, refl, sym, ◌∙◌, ap, subst, arith}
+use Rattle.std.proofs.Common.{◌≡◌, ℕ, ◌+◌, ◌-◌, ◌≤◌, ◌<◌, List, length, take, sym, ◌∙◌, ap, subst, arith}
 use Rattle.std.proofs.Common.{get_or}
 use Rattle.std.proofs.lemmas.List.{take_all, get_or_default}
 use Rattle.rk_calls.specs.declared.call.Call.{Call}

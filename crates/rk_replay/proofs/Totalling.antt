@@ -1,5 +1,5 @@
 -- What counts of all records, as the table changes.
-use Rattle.std.proofs.Common.{◌≡◌, ℕ, ◌+◌, ◌≤◌, ◌<◌, List, [], ◌∷◌, ◌++◌, length, refl, sym, ◌∙◌, ap, arith, Option, Some, None}
+use Rattle.std.proofs.Common.{◌≡◌, ℕ, ◌+◌, ◌≤◌, ◌<◌, List, [], ◌∷◌, length, refl, sym, ◌∙◌, ap, arith, Option, Some, None}
 use Rattle.std.specs.Prelude.{slice_set, sum_by}
 use Rattle.std.specs.List.{cons_option}
 use Rattle.std.proofs.lemmas.List.Sums.{sum_by-set, sum_by-append}
@@ -10,7 +10,7 @@ use Rattle.tr_record.specs.Rec.{rec_at, begun, stepped, ended, fresh_rec, with_s
 use Rattle.rk_runs.specs.Own.{own, total}
 use Rattle.rk_replay.specs.declared.ran.Cause.{Cause}
 use Rattle.rk_replay.specs.Ran.{cause_of, own_for, ran_for, ran_of, ran_total}
-use Rattle.rk_replay.proofs.Linking.{ran_one, Changes, Begins}
+use Rattle.rk_replay.proofs.Linking.{ran_one, Changes}
 
 -- how many of them ran
 abbrev pub ran_count : List Record → List Record → ℕ

@@ -70,9 +70,7 @@ pub fn build_with<K: Maker, W: Answerer, L: Ledger>(
                 let cost = pay(budget, cost);
                 match call {
                     Call::Launch(key, map) => {
-                        launch_below(
-                            maker, &mut table, &mut stack, &mut top, key, map, cost, old,
-                        )?;
+                        launch_below(maker, &mut table, &mut stack, &mut top, key, map, cost, old)?;
                         answer = Answer::Go;
                     }
                     call => {

@@ -15,10 +15,7 @@ pub enum Stop {
     Spent,
     /// The record of this number isn't what its command says; the step's number counts from 1 on, and one past
     /// the last step is the exit.
-    Forged {
-        rec: u64,
-        step: u64,
-    },
+    Forged { rec: u64, step: u64 },
     NoMemory,
 }
 

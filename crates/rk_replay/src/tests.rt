@@ -13,12 +13,7 @@ use std::sync::ledger::{Blank, Ledger};
 use std::test::Fail;
 use tr_record::{Record, StepList, Table};
 
-fn put(
-    alloc: Global,
-    world: &mut World,
-    path: &[u8],
-    bytes: &[u8],
-) -> Result<(), NoMemory> {
+fn put(alloc: Global, world: &mut World, path: &[u8], bytes: &[u8]) -> Result<(), NoMemory> {
     let mut refs = Refs::top(alloc)?;
     let open = Call::Open(Bytes::from_slice(alloc, path)?, How::Make);
     let _opened = world.answer(&mut refs, &open)?;
@@ -79,7 +74,10 @@ fn is_forged(alloc: Global, old: &Table, number: u64) -> bool {
 }
 
 fn is_wrong(alloc: Global, table: &Table) -> bool {
-    matches!(check(alloc, table), Err(CheckErr::Forged { rec: 0, step: 1 }))
+    matches!(
+        check(alloc, table),
+        Err(CheckErr::Forged { rec: 0, step: 1 })
+    )
 }
 
 fn is_of(key: &Key, name: &[u8]) -> bool {

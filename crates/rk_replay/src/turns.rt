@@ -75,7 +75,14 @@ pub(crate) fn answer_call<K: Maker, W: Answerer, L: Ledger>(
 {
     let answer = ask(world, table, top.place, &mut top.refs, call, cost)?;
     settle(
-        maker, &mut top.machine, &answer, cost, table, top.place, old, live,
+        maker,
+        &mut top.machine,
+        &answer,
+        cost,
+        table,
+        top.place,
+        old,
+        live,
     )?;
     Ok(answer)
 }
@@ -107,7 +114,14 @@ pub(crate) fn resume<K: Maker, L: Ledger>(
     let mut top = join(table, frame, status)?;
     let answer = Answer::Joined(status);
     settle(
-        maker, &mut top.machine, &answer, cost, table, top.place, old, live,
+        maker,
+        &mut top.machine,
+        &answer,
+        cost,
+        table,
+        top.place,
+        old,
+        live,
     )?;
     live.tick(u64::from(exited));
     Ok(top)

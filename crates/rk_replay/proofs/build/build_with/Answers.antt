@@ -1,6 +1,6 @@
-use Rattle.std.proofs.Common.{◌≡◌, ◌+◌, ◌≤◌, ◌<◌, length, arith, refl, ap, sym, subst, ◌∙◌}
+use Rattle.std.proofs.Common.{◌≡◌, length, arith, refl, ap, ◌∙◌}
 use Rattle.std.proofs.lemmas.Result.{err_from_is_err_and}
-use Rattle.rk_runs.specs.Freshing.{Freshing-start, Freshing-ask, Freshing-launch, Freshing-short, Freshing-end, Freshing-place, Freshing-join}
+use Rattle.rk_runs.specs.Freshing.{Freshing-start, Freshing-ask, Freshing-launch, Freshing-short, Freshing-end, Freshing-join}
 use Rattle.rk_runs.specs.Run.{game}
 use Rattle.rk_runs.specs.Speaking.{fresh-spoken}
 use Rattle.rk_replay.proofs.Replaying.{ready, Replaying-start, Pays-start, Waiting-ask, Replaying-ask, Pays-ask, Replaying-launch, Pays-launch, Pays-end, join-place, Waiting-join, Replaying-join, Pays-join, pend, pend-push, pend-none, pend-empty, starts-first, starts-next, few-counted}
