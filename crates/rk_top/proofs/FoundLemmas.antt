@@ -18,6 +18,7 @@ pub look-stops : (told : Option Held) (e : Stop) → LooksSo told (Err e) → Fi
 look-stops None (stop.Refused (refusal.Special path)) look = tt
 look-stops (Some held) (stop.Refused (refusal.Special path)) look = look
 look-stops told (stop.Refused (refusal.Damaged file damage)) look = absurd look
+look-stops told (stop.Forged rec step) look = absurd look
 look-stops told stop.Spent look = absurd look
 look-stops told stop.ReadFault look = tt
 look-stops told stop.WriteFault look = absurd look
@@ -29,6 +30,7 @@ kept-stops told holding (stop.Refused (refusal.Special path)) look kept = absurd
 kept-stops None holding (stop.Refused (refusal.Damaged file damage)) look kept = tt
 kept-stops (Some held) holding (stop.Refused (refusal.Damaged file damage)) look kept =
     (look.0, subst (λ s. ReadsState s (Err (stop.Refused (refusal.Damaged file damage)))) (state-same held holding look.1) kept)
+kept-stops told holding (stop.Forged rec step) look kept = absurd kept
 kept-stops told holding stop.Spent look kept = absurd kept
 kept-stops told holding stop.ReadFault look kept = absurd kept
 kept-stops told holding stop.WriteFault look kept = absurd kept

@@ -14,6 +14,7 @@ use Rattle.rk_top.specs.declared.stop.Stop.TheVariants as stop
 pub PutSo-whole : {T : Type 0} (text : Text) (old new : Option Text) (later : Text) (before now : Option Text) (r : Result T Stop) → PutSo later before now r → new ≡ with_bytes text old → PutSo text old new r
 PutSo-whole text old new later before now (Ok it) put whole = whole
 PutSo-whole text old new later before now (Err (stop.Refused refusal)) put whole = put
+PutSo-whole text old new later before now (Err (stop.Forged rec step)) put whole = put
 PutSo-whole text old new later before now (Err stop.Spent) put whole = put
 PutSo-whole text old new later before now (Err stop.ReadFault) put whole = put
 PutSo-whole text old new later before now (Err stop.WriteFault) put whole = (length text, whole ∙ ap (λ (t : Text). with_bytes t old) (sym (take-length text)))

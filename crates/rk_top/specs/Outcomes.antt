@@ -1,5 +1,5 @@
 -- What each outcome says of the folder, the sinks, the counts of faults and the count of turns.
-use Rattle.std.specs.Prelude.{◌≡◌, ◌⊎◌, ◌≤◌, ◌+◌, ◌-◌, ℕ, List, length, Option, Some, IfSome, Result, Ok, Err}
+use Rattle.std.specs.Prelude.{◌≡◌, ◌⊎◌, ◌≤◌, ◌+◌, ℕ, List, length, Option, Some, IfSome, Result, Ok, Err}
 use Rattle.rk_base.specs.Text.{Text}
 use Rattle.rk_folder.specs.Told.{Held}
 use Rattle.rk_folder.specs.Counts.{Rose}
@@ -17,7 +17,10 @@ use Rattle.tr_record.specs.declared.records.Record.{Record}
 use Rattle.rk_kernel.specs.World.{World}
 use Rattle.rk_runs.specs.Run.{Outcome as Run, Done, Spent}
 use Rattle.rk_top.specs.Fresh.{fresh_in, error_text_of, held_after}
+use Rattle.rk_install.specs.declared.holding.Holding.{Holding}
+use Rattle.rk_replay.specs.Ran.{ran_total}
 use Rattle.rk_top.specs.Kept.{Keeping, Refuses}
+use Rattle.rk_top.specs.Run.{IsSpokenTable, IsForged, ran_count}
 use Rattle.rk_top.specs.declared.build.Ended.{Ended}
 use Rattle.rk_top.specs.declared.outcome.StateFile.{StateFile}
 use Rattle.rk_top.specs.declared.stop.Refusal.{Refusal}
@@ -33,6 +36,7 @@ outcome_of_refusal (refusal.Damaged file damage) = out.Damaged file damage
 
 abbrev pub outcome_of_stop : Stop → Outcome
 outcome_of_stop (stop.Refused refusal) = outcome_of_refusal refusal
+outcome_of_stop (stop.Forged rec step) = out.Forged rec step
 outcome_of_stop stop.Spent = out.Spent
 outcome_of_stop stop.ReadFault = out.ReadFault
 outcome_of_stop stop.WriteFault = out.WriteFault
@@ -48,26 +52,35 @@ outcome_of (Err e) = outcome_of_stop e
 abbrev pub Installed : World → List Record → Held → Option Held → Type 0
 Installed world table held new = (after : Held) × (new ≡ Some after) × IsAfter held after (held_after world table)
 
--- the status, how many commands were launched and ran: all; and what was installed
-abbrev pub EndsSo : Run World → Held → Option Held → ℕ → ℕ → ℕ → Type 0
-EndsSo (Done world exit left table) held new status launched ran = (status ≡ exit) × (launched ≡ length table) × (ran ≡ length table) × Installed world table held new
-EndsSo Spent held new status launched ran = ⊥
+-- the status; how many commands were launched, and how many of them ran, over the records that were kept; and what was
+-- installed, of which the records are spoken
+abbrev pub EndsSo : Run World → List Record → Held → Option Held → ℕ → ℕ → ℕ → Type 0
+EndsSo (Done world exit left table) old held new status launched ran =
+    (status ≡ exit) × (launched ≡ length table) × (ran ≡ ran_count old table) × IsSpokenTable table × Installed world table held new
+EndsSo Spent old held new status launched ran = ⊥
 
--- some of the planned calls were made, and the next one failed and left its damage
-abbrev pub PartlyInstalled : Run World → Held → Option Held → InstallErr → Type 0
-PartlyInstalled (Done world status left table) held new e = Partly (planned (holding_of held) (held_after world table)) (Some held) new e
-PartlyInstalled Spent held new e = ⊥
+-- what a run leaves
+abbrev pub IsLeft : Run World → Holding → Type 0
+IsLeft (Done world status left table) after = after ≡ held_after world table
+IsLeft Spent after = ⊥
+
+-- some of the calls that lead to what is to be left were made, and the next one failed and left its damage; over
+-- spoken records it is what the fresh run leaves
+abbrev pub PartlyInstalled : ℕ → List Record → Held → Option Held → InstallErr → Type 0
+PartlyInstalled steps old held new e =
+    (after : Holding) × (IsSpokenTable old → IsLeft (fresh_in steps held) after) × Partly (planned (holding_of held) after) (Some held) new e
 
 -- it is as before, or partly installed
 abbrev pub StoppedAt : ℕ → Option Held → Option Held → InstallErr → Type 0
-StoppedAt steps told new e = IfSome told (λ held. (new ≡ told) ⊎ Keeping held (λ old. PartlyInstalled (fresh_in steps held) held new e))
+StoppedAt steps told new e = IfSome told (λ held. (new ≡ told) ⊎ Keeping held (λ old. PartlyInstalled steps old held new e))
 
 abbrev pub Leaves : ℕ → Option Held → Option Held → Outcome → Type 0
-Leaves steps told new (out.Ended status launched ran) = IfSome told (λ held. Keeping held (λ old. EndsSo (fresh_in steps held) held new status launched ran))
+Leaves steps told new (out.Ended status launched ran) = IfSome told (λ held. Keeping held (λ old. IsSpokenTable old → EndsSo (fresh_in steps held) old held new status launched ran))
 Leaves steps told new out.Usage = new ≡ told
 Leaves steps told new (out.Special path) = (new ≡ told) × IfSome told (λ held. Refuses held (refusal.Special path))
 Leaves steps told new (out.Damaged file damage) = (new ≡ told) × IfSome told (λ held. Refuses held (refusal.Damaged file damage))
-Leaves steps told new out.Spent = (new ≡ told) × IfSome told (λ held. Keeping held (λ old. fresh_in steps held ≡ Spent))
+Leaves steps told new (out.Forged rec step) = (new ≡ told) × IfSome told (λ held. Keeping held (λ old. IsForged old rec step))
+Leaves steps told new out.Spent = (new ≡ told) × IfSome told (λ held. Keeping held (λ old. IsSpokenTable old × (fresh_in steps held ≡ Spent)))
 Leaves steps told new out.ReadFault = new ≡ told
 Leaves steps told new out.WriteFault = StoppedAt steps told new install.WriteFault
 Leaves steps told new out.NoMemory = StoppedAt steps told new install.NoMemory
@@ -75,15 +88,17 @@ Leaves steps told new out.NoMemory = StoppedAt steps told new install.NoMemory
 -- The sinks: a text of the run by what the folder held, all over an end, a front over a stop that came late, and
 -- nothing over the others.
 
--- nothing, or a front of the run's text
+-- nothing, or a front of a text; over spoken records it is the fresh run's
 abbrev pub Halts : ℕ → (Run World → Text) → Option Held → Option Text → Option Text → Type 0
-Halts steps text told old new = IfSome told (λ held. (new ≡ old) ⊎ Keeping held (λ kept. Front (text (fresh_in steps held)) old new))
+Halts steps text told old new =
+    IfSome told (λ held. (new ≡ old) ⊎ Keeping held (λ kept. (it : Text) × (IsSpokenTable kept → it ≡ text (fresh_in steps held)) × Front it old new))
 
 abbrev pub Gains : ℕ → (Run World → Text) → Option Held → Option Text → Option Text → Outcome → Type 0
-Gains steps text told old new (out.Ended status launched ran) = IfSome told (λ held. new ≡ with_bytes (text (fresh_in steps held)) old)
+Gains steps text told old new (out.Ended status launched ran) = IfSome told (λ held. Keeping held (λ kept. IsSpokenTable kept → new ≡ with_bytes (text (fresh_in steps held)) old))
 Gains steps text told old new out.Usage = new ≡ old
 Gains steps text told old new (out.Special path) = new ≡ old
 Gains steps text told old new (out.Damaged file damage) = new ≡ old
+Gains steps text told old new (out.Forged rec step) = new ≡ old
 Gains steps text told old new out.Spent = new ≡ old
 Gains steps text told old new out.ReadFault = new ≡ old
 Gains steps text told old new out.WriteFault = Halts steps text told old new
@@ -108,13 +123,13 @@ Counted before now other = now ≡ before
 
 -- The count of turns.
 
--- what the run paid
-abbrev pub Ticks : ℕ → Run World → ℕ → ℕ → Type 0
-Ticks steps (Done world status left table) before now = now ≡ before + (steps - left)
-Ticks steps Spent before now = ⊥
+-- what the commands paid that ran, over the records that were kept
+abbrev pub Ticks : Run World → List Record → ℕ → ℕ → Type 0
+Ticks (Done world status left table) old before now = now ≡ before + ran_total old table
+Ticks Spent old before now = ⊥
 
 abbrev pub Ticked : ℕ → Option Held → ℕ → ℕ → Outcome → Type 0
-Ticked steps told before now (out.Ended status launched ran) = IfSome told (λ held. Ticks steps (fresh_in steps held) before now) × (now ≤ before + steps)
+Ticked steps told before now (out.Ended status launched ran) = IfSome told (λ held. Keeping held (λ old. IsSpokenTable old → Ticks (fresh_in steps held) old before now)) × (now ≤ before + steps)
 Ticked steps told before now out.Usage = now ≡ before
 Ticked steps told before now (out.Special path) = now ≡ before
 Ticked steps told before now (out.Damaged file damage) = now ≡ before
@@ -141,6 +156,10 @@ abbrev pub IfDamaged : Outcome → (StateFile → Damage → Type 0) → Type 0
 IfDamaged (out.Damaged file damage) P = P file damage
 IfDamaged other P = Unit {0}
 
+abbrev pub IfForged : Outcome → (ℕ → ℕ → Type 0) → Type 0
+IfForged (out.Forged rec step) P = P rec step
+IfForged other P = Unit {0}
+
 -- the run ends with this status
 abbrev pub EndsWith : Run World → ℕ → Type 0
 EndsWith (Done world exit left table) status = status ≡ exit
@@ -148,9 +167,10 @@ EndsWith Spent status = ⊥
 
 -- The outcome that what a folder holds calls for, or want of memory. What calls for one of them calls for no other.
 abbrev pub Settles : ℕ → Held → Outcome → Type 0
-Settles steps held (out.Ended status launched ran) = Keeping held (λ old. EndsWith (fresh_in steps held) status)
+Settles steps held (out.Ended status launched ran) = Keeping held (λ old. IsSpokenTable old → EndsWith (fresh_in steps held) status)
 Settles steps held (out.Special path) = Refuses held (refusal.Special path)
 Settles steps held (out.Damaged file damage) = Refuses held (refusal.Damaged file damage)
-Settles steps held out.Spent = Keeping held (λ old. fresh_in steps held ≡ Spent)
+Settles steps held (out.Forged rec step) = Keeping held (λ old. IsForged old rec step)
+Settles steps held out.Spent = Keeping held (λ old. IsSpokenTable old × (fresh_in steps held ≡ Spent))
 Settles steps held out.NoMemory = Unit {0}
 Settles steps held other = ⊥

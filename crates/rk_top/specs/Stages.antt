@@ -1,5 +1,5 @@
 -- What each stage of a build tells.
-use Rattle.std.specs.Prelude.{◌≡◌, ◌≤◌, ◌+◌, ◌-◌, ℕ, List, Option, Some, None, IfSome, option_map, Result, Ok, Err}
+use Rattle.std.specs.Prelude.{◌≡◌, ◌≤◌, ◌+◌, ℕ, List, Option, Some, None, IfSome, option_map, Result, Ok, Err}
 use Rattle.rk_folder.specs.Told.{Held}
 use Rattle.rk_folder.specs.Counts.{Rose}
 use Rattle.rk_folder.specs.Specials.{first_special}
@@ -13,7 +13,9 @@ use Rattle.rk_install.specs.declared.holding.Holding.{Holding}
 use Rattle.rk_install.specs.declared.ops.Op.{Op}
 use Rattle.rk_install.specs.declared.installation.InstallErr.TheVariants as install
 use Rattle.tr_record.specs.declared.records.Record.{Record}
-use Rattle.rk_runs.specs.Run.{Done, Spent}
+use Rattle.rk_runs.specs.Run.{Spent}
+use Rattle.rk_folder.specs.Import.{snapshot_of}
+use Rattle.rk_top.specs.Run.{IsRun, IsSpokenTable, IsForged}
 use Rattle.rk_top.specs.Fresh.{fresh_in, held_after}
 use Rattle.rk_top.specs.Kept.{IsKept, Keeping, Refuses, state_in}
 use Rattle.rk_top.specs.declared.stop.Refusal.TheVariants as refusal
@@ -34,6 +36,7 @@ LooksSo told (Err (stop.Refused (refusal.Special path))) = IfSome told (λ held.
 LooksSo told (Err (stop.Refused (refusal.Damaged file damage))) = ⊥
 LooksSo told (Err stop.ReadFault) = Unit {0}
 LooksSo told (Err stop.NoMemory) = Unit {0}
+LooksSo told (Err (stop.Forged rec step)) = ⊥
 LooksSo told (Err stop.Spent) = ⊥
 LooksSo told (Err stop.WriteFault) = ⊥
 
@@ -48,6 +51,7 @@ FindsSo told (Ok found) = IfSome told (λ held. (first_special held ≡ None) ×
 FindsSo told (Err (stop.Refused refusal)) = IfSome told (λ held. Refuses held refusal)
 FindsSo told (Err stop.ReadFault) = Unit {0}
 FindsSo told (Err stop.NoMemory) = Unit {0}
+FindsSo told (Err (stop.Forged rec step)) = ⊥
 FindsSo told (Err stop.Spent) = ⊥
 FindsSo told (Err stop.WriteFault) = ⊥
 
@@ -57,6 +61,7 @@ InstallsSo ops old new (Ok it) = new ≡ option_map (after_all ops) old
 InstallsSo ops old new (Err stop.WriteFault) = Partly ops old new install.WriteFault
 InstallsSo ops old new (Err stop.NoMemory) = Partly ops old new install.NoMemory
 InstallsSo ops old new (Err (stop.Refused refusal)) = ⊥
+InstallsSo ops old new (Err (stop.Forged rec step)) = ⊥
 InstallsSo ops old new (Err stop.Spent) = ⊥
 InstallsSo ops old new (Err stop.ReadFault) = ⊥
 
@@ -65,14 +70,12 @@ abbrev pub WritesCounted : {T : Type 0} → ℕ → ℕ → Result T Stop → Ty
 WritesCounted before now (Err stop.WriteFault) = Rose before now
 WritesCounted before now other = now ≡ before
 
--- the fresh run of what the folder holds has ended so, and the plan leads to what it leaves
+-- the run on what the folder holds, over the records that it keeps, has ended so, and the plan leads to what it leaves
 pub record IsPrepared (steps : ℕ) (held : Held) (before now : ℕ) (p : Prepared) : Type 0 where
   pub none : first_special held ≡ None
   pub old : List Record
   pub kept : IsKept (state_in held) old
-  pub left : ℕ
-  pub ends : fresh_in steps held ≡ Done p.finished.world p.finished.status left p.finished.table
-  pub ticked : now ≡ before + (steps - left)
+  pub run : IsRun steps (snapshot_of held) old before now p.finished
   pub plan : p.plan ≡ planned (holding_of held) (held_after p.finished.world p.finished.table)
   pub allowed : AllowsAll p.plan held
   pub leads : IsAfter held (after_all p.plan held) (held_after p.finished.world p.finished.table)
@@ -80,7 +83,8 @@ pub record IsPrepared (steps : ℕ) (held : Held) (before now : ℕ) (p : Prepar
 abbrev pub PreparesSo : ℕ → Option Held → ℕ → ℕ → Result Prepared Stop → Type 0
 PreparesSo steps told before now (Ok p) = IfSome told (λ held. IsPrepared steps held before now p) × (now ≤ before + steps)
 PreparesSo steps told before now (Err (stop.Refused refusal)) = IfSome told (λ held. Refuses held refusal) × (now ≡ before)
-PreparesSo steps told before now (Err stop.Spent) = IfSome told (λ held. Keeping held (λ old. fresh_in steps held ≡ Spent)) × (now ≤ before + steps)
+PreparesSo steps told before now (Err (stop.Forged rec step)) = IfSome told (λ held. Keeping held (λ old. IsForged old rec step)) × (now ≤ before + steps)
+PreparesSo steps told before now (Err stop.Spent) = IfSome told (λ held. Keeping held (λ old. IsSpokenTable old × (fresh_in steps held ≡ Spent))) × (now ≤ before + steps)
 PreparesSo steps told before now (Err stop.ReadFault) = now ≤ before + steps
 PreparesSo steps told before now (Err stop.NoMemory) = now ≤ before + steps
 PreparesSo steps told before now (Err stop.WriteFault) = ⊥

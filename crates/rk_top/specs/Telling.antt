@@ -14,6 +14,7 @@ PutsLine line old new before now = Front line old new × (before ≤ now)
 abbrev pub Keeps : Outcome → Outcome → Type 0
 Keeps (out.Special path) told = (told ≡ out.Special path) ⊎ (told ≡ out.NoMemory)
 Keeps (out.Damaged file damage) told = (told ≡ out.Damaged file damage) ⊎ (told ≡ out.NoMemory)
+Keeps (out.Forged rec step) told = (told ≡ out.Forged rec step) ⊎ (told ≡ out.NoMemory)
 Keeps outcome told = told ≡ outcome
 
 -- the line of what is told; over an end nothing is put

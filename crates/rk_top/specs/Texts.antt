@@ -14,6 +14,7 @@ Front text old new = (n : ℕ) × (new ≡ with_bytes (take n text) old)
 abbrev pub PutSo : {T : Type 0} → Text → Option Text → Option Text → Result T Stop → Type 0
 PutSo text old new (Ok it) = new ≡ with_bytes text old
 PutSo text old new (Err (stop.Refused refusal)) = ⊥
+PutSo text old new (Err (stop.Forged rec step)) = ⊥
 PutSo text old new (Err stop.Spent) = ⊥
 PutSo text old new (Err stop.ReadFault) = ⊥
 PutSo text old new (Err stop.WriteFault) = Front text old new

@@ -60,6 +60,6 @@ pub(crate) fn build<F: Folder, O: Sink, E: Sink, L: Ledger>(
     Ok(Ended {
         status: finished.status,
         launched,
-        ran: launched,
+        ran: finished.ran,
     })
 }

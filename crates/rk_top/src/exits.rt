@@ -14,6 +14,7 @@ pub fn exit_code(outcome: &Outcome) -> u8
         Outcome::Usage => 241,
         Outcome::Special(_) => 247,
         Outcome::Damaged(_, _) => 242,
+        Outcome::Forged { .. } => 248,
         Outcome::Spent => 243,
         Outcome::ReadFault => 244,
         Outcome::WriteFault => 245,

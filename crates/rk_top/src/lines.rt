@@ -1,6 +1,6 @@
 // The lines that tell outcomes.
 ghost use Rattle.std.specs.Prelude.{◌≡◌, IfOk};
-ghost use Rattle.rk_top.specs.Lines.{damage_text, damaged_line, digests, fixed_line, name_of, special_line};
+ghost use Rattle.rk_top.specs.Lines.{damage_text, damaged_line, digests, fixed_line, forged_line, name_of, special_line};
 ghost use Rattle.rk_top.specs.Telling.{PutsLine, Tells};
 
 use crate::shown::shown;
@@ -63,6 +63,13 @@ fn damaged_line(alloc: Global, file: StateFile, damage: &Damage) -> Result<Bytes
     Ok(Bytes::new(line))
 }
 
+fn forged_line(alloc: Global, rec: u64, step: u64) -> Result<Bytes, NoMemory>
+    ensures { IfOk result (λ b. b ≡ forged_line rec step) }
+{
+    let line = format!(in alloc; "rkr: record {rec} step {step}: forged\n")?;
+    Bytes::from_slice(alloc, line.as_bytes())
+}
+
 // The lines that name nothing; none for an end.
 fn fixed_line(outcome: &Outcome) -> &'static [u8]
     ensures { result.now ≡ fixed_line outcome.now }
@@ -73,6 +80,7 @@ fn fixed_line(outcome: &Outcome) -> &'static [u8]
             b"usage: rkr build [--steps N] [--explain] [--fresh] [--check] | check | trace [--json] | forget | gen SEED\n",
         Outcome::Special(_) => b"",
         Outcome::Damaged(_, _) => b"",
+        Outcome::Forged { .. } => b"",
         Outcome::Spent => b"rkr: budget spent\n",
         Outcome::ReadFault => b"rkr: read fault\n",
         Outcome::WriteFault => b"rkr: write fault\n",
@@ -89,8 +97,8 @@ fn put_line<E: Sink>(err: &mut E, line: &[u8])
     }
 }
 
-/// Puts the outcome's line. Where there is no memory for the line of a special path or of damage, the outcome is
-/// want of memory.
+/// Puts the outcome's line. Where there is no memory for a line that names something, the outcome is want of
+/// memory.
 pub(crate) fn tell<E: Sink>(alloc: Global, err: &mut E, outcome: Outcome) -> Outcome
     ensures { Tells outcome result (E.so_far err.old) (E.so_far err.new) (E.faults err.old) (E.faults err.new) }
 {
@@ -109,6 +117,16 @@ pub(crate) fn tell<E: Sink>(alloc: Global, err: &mut E, outcome: Outcome) -> Out
             Ok(line) => {
                 put_line(err, line.as_slice());
                 Outcome::Damaged(file, damage)
+            }
+            Err(_) => {
+                put_line(err, fixed_line(&Outcome::NoMemory));
+                Outcome::NoMemory
+            }
+        },
+        Outcome::Forged { rec, step } => match forged_line(alloc, rec, step) {
+            Ok(line) => {
+                put_line(err, line.as_slice());
+                Outcome::Forged { rec, step }
             }
             Err(_) => {
                 put_line(err, fixed_line(&Outcome::NoMemory));

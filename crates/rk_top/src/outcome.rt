@@ -20,6 +20,9 @@ pub enum Outcome {
     Special(Path),
     /// The first state file, of attrs and then the database, that is damaged, and how.
     Damaged(StateFile, Damage),
+    /// This record of the database, from 0 on, isn't what its command says, and this is its first step, from 1 on,
+    /// that the command doesn't take; one past the last is the exit.
+    Forged { rec: u64, step: u64 },
     /// The script's run doesn't end within the budget of turns.
     Spent,
     /// A list or a read of the folder failed.

@@ -38,7 +38,7 @@ fn held_after(alloc: Global, finished: &Finished) -> Result<Holding, NoMemory>
     })
 }
 
-/// Looks at the folder, reads its state files, runs the script on what it holds, and plans what leads to what the run leaves.
+/// Looks at the folder, reads its state files, runs the script on what it holds, where no record answers for it, and plans what leads to what the run leaves.
 pub(crate) fn prepare<F: Folder, L: Ledger>(
     alloc: Global,
     folder: &mut F,
@@ -53,9 +53,9 @@ pub(crate) fn prepare<F: Folder, L: Ledger>(
 {
     let Found {
         holding: before,
-        old: _,
+        old,
     } = find(alloc, folder)?;
-    let finished = run(alloc, &before.entries, steps, live)?;
+    let finished = run(alloc, &before.entries, &old, steps, live)?;
     let after = held_after(alloc, &finished)?;
     let plan = plan(alloc, &before, &after)?;
     Ok(Prepared { finished, plan })

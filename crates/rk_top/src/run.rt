@@ -1,35 +1,25 @@
 // The run of the script.
-ghost use Rattle.std.specs.Prelude.{◌≡◌, ◌+◌, ◌<◌, ◌≤◌, IfOk};
+ghost use Rattle.std.specs.Prelude.{◌≡◌, ◌+◌, ◌<◌, ◌≤◌};
 ghost use Rattle.rk_tree.specs.Entries.{IsWholeSnapshot};
-ghost use Rattle.rk_top.specs.Run.{Runs, script_key};
+ghost use Rattle.rk_top.specs.Run.{Runs};
 
 use crate::stop::Stop;
-use rk_base::{Budget, Bytes, NoMemory, Path, Steps};
-use rk_calls::{Key, VarList, WordList};
-use rk_command::Commands;
+use rk_base::{Budget, Steps};
 use rk_kernel::World;
-use rk_runs::{Halt, Ran, run_recorded};
+use rk_replay::{BuiltWorld, build_world};
 use rk_tree::{Snapshot, Tree};
 use std::alloc::Global;
 use std::sync::ledger::Ledger;
 use tr_record::Table;
 
-/// A run that ended: the world that it left, the script's status, and the records of its commands.
+/// A run that ended: the world that it left, the script's status, the records of its commands, and how many of them
+/// ran.
 #[derive(Drop)]
 pub(crate) struct Finished {
     pub world: World,
     pub status: u8,
     pub table: Table,
-}
-
-fn script_key(alloc: Global) -> Result<Key, NoMemory>
-    ensures { IfOk result (λ key. key ≡ script_key) }
-{
-    let mut words = WordList::new(Vec::new(alloc));
-    words.push(Bytes::from_slice(alloc, b"sh")?)?;
-    words.push(Bytes::from_slice(alloc, b"Rikerfile")?)?;
-    let wd = Path::root(alloc)?;
-    Ok(Key::new(words, wd, VarList::new(alloc)))
+    pub ran: u64,
 }
 
 // A budget of which nothing is paid yet.
@@ -41,31 +31,43 @@ fn budget(steps: u32) -> Budget
     Budget::new(steps).unwrap()
 }
 
-/// Runs the script on a tree of these entries, within so many turns.
+/// Runs the script on a tree of these entries, within so many turns. The commands of the old table whose answers
+/// still hold don't run.
 #[tactic(auto, unfolding(crate::specs::Run::fresh_run))]
 pub(crate) fn run<L: Ledger>(
     alloc: Global,
     entries: &Snapshot,
+    old: &Table,
     steps: u32,
     live: &mut Steps<L>,
 ) -> Result<Finished, Stop>
     requires whole { IsWholeSnapshot entries.now }
     requires some { 0 < steps }
-    ensures runs { Runs steps entries.now live.old live.new result }
+    ensures runs { Runs steps entries.now old.now live.old live.new result }
     ensures at_most { live.new ≤ live.old + steps }
 {
     let tree = Tree::of_snapshot(alloc, entries)?;
-    let mut world = World::new(alloc, tree)?;
-    let mut maker = Commands::new(alloc);
-    let key = script_key(alloc)?;
+    let world = World::new(alloc, tree)?;
     let mut budget = budget(steps);
-    match run_recorded(alloc, &mut maker, &mut world, &key, &mut budget, live) {
-        Ok(Ran { status, table }) => Ok(Finished {
-            world,
-            status,
-            table,
-        }),
-        Err(Halt::Spent) => Err(Stop::Spent),
-        Err(Halt::NoMemory) => Err(Stop::NoMemory),
+    match build_world(alloc, world, old, &mut budget, live) {
+        Ok(
+            BuiltWorld {
+                world,
+                status,
+                table,
+                ran,
+            },
+        ) => {
+            let ran = ran.len() as u64;
+            Ok(Finished {
+                world,
+                status,
+                table,
+                ran,
+            })
+        }
+        Err(rk_replay::Stop::Forged { rec, step }) => Err(Stop::Forged { rec, step }),
+        Err(rk_replay::Stop::Spent) => Err(Stop::Spent),
+        Err(rk_replay::Stop::NoMemory) => Err(Stop::NoMemory),
     }
 }

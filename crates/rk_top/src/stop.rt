@@ -17,6 +17,7 @@ pub(crate) enum Refusal {
 #[derive(Debug, Drop)]
 pub(crate) enum Stop {
     Refused(Refusal),
+    Forged { rec: u64, step: u64 },
     Spent,
     ReadFault,
     WriteFault,

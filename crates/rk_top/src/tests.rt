@@ -1,4 +1,6 @@
 // The top call over folders in memory.
+mod rebuilds;
+
 ghost use Rattle.std.specs.Prelude.{◌≡◌, ◌<◌};
 
 use crate::{Outcome, exit_code, rkr};

@@ -1,8 +1,8 @@
-use Rattle.std.proofs.Common.{◌∙◌, ap, option_map}
+use Rattle.std.proofs.Common.{◌∙◌, ap, option_map, refl}
 use Rattle.std.proofs.lemmas.Result.{err_from_is_err_and}
 use Rattle.rk_install.specs.Changes.{after_all}
 use Rattle.rk_top.specs.Fresh.{output_of, error_text_of}
-use Rattle.rk_top.proofs.BuildLemmas.{put-gains, install-gains, end-gains, end-leaves, text-told, output-told, error_text-told}
+use Rattle.rk_top.proofs.BuildLemmas.{put-gains, install-leaves-now, install-gains, end-gains, end-leaves, text-told, output-told, error_text-told}
 use Rattle.rk_top.proofs.build.build.Goals as goal
 
 pub returns-in_err-put_texts-clause-output : goal.returns-in_err-put_texts-clause-output
@@ -14,6 +14,11 @@ pub returns-in_err-put_texts-clause-errors : goal.returns-in_err-put_texts-claus
 returns-in_err-put_texts-clause-errors g c =
     let p = err_from_is_err_and c.from_residual-in_err-put_texts.result c.from_residual-in_err-put_texts.ensures.1 in
     rw (p.1, p.2) (put-gains _ error_text_of _ c.err.result.now _ _ _ (text-told _ error_text_of _ _ _ c.err.ensures (error_text-told _ _ _ _ c.in_ok-finished.field-0 c.in_ok-finished.ensures.prepares.0)) c.in_err-put_texts.ensures.errors)
+
+pub returns-in_err-carry_out-clause-folder : goal.returns-in_err-carry_out-clause-folder
+returns-in_err-carry_out-clause-folder g c =
+    let p = err_from_is_err_and c.from_residual-in_err-carry_out.result c.from_residual-in_err-carry_out.ensures.1 in
+    rw (p.1, p.2) (install-leaves-now _ _ _ _ _ _ c.in_ok-finished.field-0 _ c.prepare.ensures.held c.in_ok-finished.ensures.prepares.0 c.in_err-carry_out.ensures.held)
 
 pub returns-in_err-carry_out-clause-output : goal.returns-in_err-carry_out-clause-output
 returns-in_err-carry_out-clause-output g c =
@@ -27,12 +32,12 @@ returns-in_err-carry_out-clause-errors g c =
 
 pub returns-clause-folder : goal.returns-clause-folder
 returns-clause-folder g c =
-    end-leaves _ _ _ _ _ c.in_ok-finished.field-0 _ c.in_ok-finished.ensures.prepares.0 (c.in_ok-carry_out.ensures.held ∙ ap (option_map (after_all c.in_ok-finished.field-0.plan)) c.prepare.ensures.held) c.len-launched.ensures
+    end-leaves _ _ _ _ _ c.in_ok-finished.field-0 _ _ c.in_ok-finished.ensures.prepares.0 (c.in_ok-carry_out.ensures.held ∙ ap (option_map (after_all c.in_ok-finished.field-0.plan)) c.prepare.ensures.held) c.len-launched.ensures refl
 
 pub returns-clause-output : goal.returns-clause-output
 returns-clause-output g c =
-    end-gains _ output_of _ c.out.result.now _ _ c.in_ok-finished.field-0.finished.status c.len-launched.result c.len-launched.result (text-told _ output_of _ _ _ c.out.ensures (output-told _ _ _ _ c.in_ok-finished.field-0 c.in_ok-finished.ensures.prepares.0)) c.in_ok-put_texts.ensures.output
+    end-gains _ output_of _ c.out.result.now _ _ c.in_ok-finished.field-0.finished.status c.len-launched.result c.in_ok-finished.field-0.finished.ran (text-told _ output_of _ _ _ c.out.ensures (output-told _ _ _ _ c.in_ok-finished.field-0 c.in_ok-finished.ensures.prepares.0)) c.in_ok-put_texts.ensures.output
 
 pub returns-clause-errors : goal.returns-clause-errors
 returns-clause-errors g c =
-    end-gains _ error_text_of _ c.err.result.now _ _ c.in_ok-finished.field-0.finished.status c.len-launched.result c.len-launched.result (text-told _ error_text_of _ _ _ c.err.ensures (error_text-told _ _ _ _ c.in_ok-finished.field-0 c.in_ok-finished.ensures.prepares.0)) c.in_ok-put_texts.ensures.errors
+    end-gains _ error_text_of _ c.err.result.now _ _ c.in_ok-finished.field-0.finished.status c.len-launched.result c.in_ok-finished.field-0.finished.ran (text-told _ error_text_of _ _ _ c.err.ensures (error_text-told _ _ _ _ c.in_ok-finished.field-0 c.in_ok-finished.ensures.prepares.0)) c.in_ok-put_texts.ensures.errors

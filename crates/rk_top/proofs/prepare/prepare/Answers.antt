@@ -23,3 +23,18 @@ pub returns-in_err-plan-clause-reads : goal.returns-in_err-plan-clause-reads
 returns-in_err-plan-clause-reads g c =
     let p = err_from_is_err_and c.from_residual-in_err-plan.result c.from_residual-in_err-plan.ensures.1 in
     rw (p.1, p.2) c.in_ok-before.ensures.reads
+
+pub returns-in_err-after-clause-reads : goal.returns-in_err-after-clause-reads
+returns-in_err-after-clause-reads g c =
+    let p = err_from_is_err_and c.from_residual-in_err-after.result c.from_residual-in_err-after.ensures.1 in
+    rw (p.1, p.2) c.in_ok-before.ensures.reads
+
+pub returns-in_err-after-clause-prepares : goal.returns-in_err-after-clause-prepares
+returns-in_err-after-clause-prepares g c =
+    let p = err_from_is_err_and c.from_residual-in_err-after.result c.from_residual-in_err-after.ensures.1 in
+    rw (p.1, p.2) c.run.ensures.at_most
+
+pub returns-in_err-plan-clause-prepares : goal.returns-in_err-plan-clause-prepares
+returns-in_err-plan-clause-prepares g c =
+    let p = err_from_is_err_and c.from_residual-in_err-plan.result c.from_residual-in_err-plan.ensures.1 in
+    rw (p.1, p.2) c.run.ensures.at_most

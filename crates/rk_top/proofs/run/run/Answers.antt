@@ -1,13 +1,22 @@
-use Rattle.std.proofs.Common.{arith}
+use Rattle.std.proofs.Common.{◌∙◌, ap, length}
+use Rattle.rk_command.specs.First.{first_talk}
+use Rattle.rk_kernel.specs.Do.{answered}
 use Rattle.rk_runs.specs.Purse.{left}
-use Rattle.rk_top.proofs.RunLemmas.{fresh_run-is}
+use Rattle.rk_runs.specs.Run.{game}
+use Rattle.rk_top.proofs.RunLemmas.{fresh_run-is, spent-is}
 use Rattle.rk_top.proofs.run.run.Goals as goal
 
 pub returns-in-Ok-clause-runs : goal.returns-in-Ok-clause-runs
 returns-in-Ok-clause-runs g c =
-    let e = c.in-Ok.ensures in (
-      left c.run_recorded.new.budget,
-      fresh_run-is _ _ _ _ _ _ _ c.budget-budget.ensures.limit c.budget-budget.ensures.used c.in_ok-key.ensures c.in_ok-tree.ensures.tree c.in_ok-world.ensures e.done,
-      omega arith,
-      omega arith,
-    )
+    let e = c.in-Ok.ensures in
+    record {
+      ends = λ spoken. (left c.build_world.new.budget, fresh_run-is _ _ _ _ _ _ c.budget-budget.ensures.limit c.budget-budget.ensures.used c.in_ok-tree.ensures.tree c.in_ok-world.ensures (e.done spoken));
+      spoken = e.spoken;
+      ran = c.len-ran.ensures ∙ ap length e.ran;
+      ticked = e.live;
+    }
+
+pub returns-in-Err-Spent-clause-runs : goal.returns-in-Err-Spent-clause-runs
+returns-in-Err-Spent-clause-runs g c =
+    let s = spent-is (game first_talk answered) _ _ _ c.in-Err-Spent.field-0-is c.in-Err-Spent.ensures.stops in
+    (s.0, fresh_run-is _ _ _ _ _ _ c.budget-budget.ensures.limit c.budget-budget.ensures.used c.in_ok-tree.ensures.tree c.in_ok-world.ensures s.1)
