@@ -1,5 +1,6 @@
 pub mod Fresh
 pub mod Kept
+pub mod Laws
 pub mod Lines
 pub mod Outcomes
 pub mod Run

@@ -165,7 +165,7 @@ abbrev pub EndsWith : Run World → ℕ → Type 0
 EndsWith (Done world exit left table) status = status ≡ exit
 EndsWith Spent status = ⊥
 
--- The outcome that what a folder holds calls for, or want of memory. What calls for one of them calls for no other.
+-- an outcome that what a folder holds calls for, or want of memory (`Laws.antt` has that it calls for one alone)
 abbrev pub Settles : ℕ → Held → Outcome → Type 0
 Settles steps held (out.Ended status launched ran) = Keeping held (λ old. IsSpokenTable old → EndsWith (fresh_in steps held) status)
 Settles steps held (out.Special path) = Refuses held (refusal.Special path)

@@ -5,6 +5,7 @@ mod build;
 mod exits;
 mod found;
 mod kept;
+mod laws;
 mod lines;
 mod look;
 mod outcome;
@@ -18,6 +19,7 @@ mod texts;
 mod top;
 
 pub use exits::exit_code;
+pub use laws::{refused_settle, spoken_settle};
 pub use outcome::{Outcome, StateFile};
 pub use rk_words::{Request, RequestErr, request};
 pub use top::rkr;
