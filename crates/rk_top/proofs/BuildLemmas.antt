@@ -199,7 +199,7 @@ install-ticked steps told h k ops before now stop.NoMemory part most = most
 ended : (steps : ℕ) (held : Held) (before now : ℕ) (p : Prepared) (new : Option Held) (launched ran : ℕ) → (is : IsPrepared steps held before now p) → new ≡ Some (after_all p.plan held) → launched ≡ length p.finished.table → ran ≡ p.finished.ran → IsSpokenTable is.old → EndsSo (fresh_in steps held) is.old held new p.finished.status launched ran
 ended steps held before now p new launched ran is same number count spoken =
     subst (λ (r : Run World). EndsSo r is.old held new p.finished.status launched ran) (sym (is.run.ends spoken).1)
-    (refl, number, count ∙ is.run.ran, is.run.spoken spoken, (after_all p.plan held, same, is.leads))
+    (refl, number, count ∙ is.run.ran, is.run.spoken spoken, is.run.fits spoken, (after_all p.plan held, same, is.leads))
 
 pub end-leaves : (steps : ℕ) (told new : Option Held) (before now : ℕ) (p : Prepared) (launched ran : ℕ) → IfSome told (λ held. IsPrepared steps held before now p) → new ≡ option_map (after_all p.plan) told → launched ≡ length p.finished.table → ran ≡ p.finished.ran → Leaves steps told new (out.Ended p.finished.status launched ran)
 end-leaves steps None new before now p launched ran is same number count = tt

@@ -2,6 +2,7 @@ pub mod BuildLemmas
 pub mod FoundLemmas
 pub mod LookLemmas
 pub mod PrepareLemmas
+pub mod ReadBackLemmas
 pub mod RunLemmas
 pub mod SettledLemmas
 pub mod TextsLemmas

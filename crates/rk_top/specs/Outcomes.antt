@@ -12,6 +12,7 @@ use Rattle.rk_install.specs.declared.installation.InstallErr.{InstallErr}
 use Rattle.rk_install.specs.declared.installation.InstallErr.TheVariants as install
 use Rattle.rk_top.specs.Lines.{line_of}
 use Rattle.rk_top.specs.Texts.{Front}
+use Rattle.tr_codec.specs.Fits.{Fits}
 use Rattle.tr_codec.specs.declared.fault.Damage.{Damage}
 use Rattle.tr_record.specs.declared.records.Record.{Record}
 use Rattle.rk_kernel.specs.World.{World}
@@ -53,10 +54,10 @@ abbrev pub Installed : World → List Record → Held → Option Held → Type 0
 Installed world table held new = (after : Held) × (new ≡ Some after) × IsAfter held after (held_after world table)
 
 -- the status; how many commands were launched, and how many of them ran, over the records that were kept; and what was
--- installed, of which the records are spoken
+-- installed, of which the records are spoken and can be read back
 abbrev pub EndsSo : Run World → List Record → Held → Option Held → ℕ → ℕ → ℕ → Type 0
 EndsSo (Done world exit left table) old held new status launched ran =
-    (status ≡ exit) × (launched ≡ length table) × (ran ≡ ran_count old table) × IsSpokenTable table × Installed world table held new
+    (status ≡ exit) × (launched ≡ length table) × (ran ≡ ran_count old table) × IsSpokenTable table × Fits table × Installed world table held new
 EndsSo Spent old held new status launched ran = ⊥
 
 -- what a run leaves

@@ -9,6 +9,7 @@ use Rattle.rk_kernel.specs.Do.{answered}
 use Rattle.rk_command.specs.First.{first_talk}
 use Rattle.rk_runs.specs.Run.{Outcome, Done, Spent, game, fresh}
 use Rattle.rk_runs.specs.Spoken.{AreSpoken, IsWrongStep}
+use Rattle.tr_codec.specs.Fits.{Fits}
 use Rattle.rk_replay.specs.Ran.{ran_of, ran_total}
 use Rattle.rk_replay.specs.Script.{script_key}
 use Rattle.rk_top.specs.declared.stop.Stop.{Stop}
@@ -33,10 +34,11 @@ abbrev pub ran_count : List Record → List Record → ℕ
 ran_count old table = length (ran_of old table)
 
 -- What a run made over the records of an old table tells: over spoken ones that it is the fresh run, and leaves spoken
--- ones; how many commands ran, and the turns that these paid.
+-- ones that have a spelling; how many commands ran, and the turns that these paid.
 pub record IsRun (steps : ℕ) (entries : Entries) (old : List Record) (before now : ℕ) (f : Finished) : Type 0 where
   pub ends : IsSpokenTable old → (left : ℕ) × (fresh_run steps entries ≡ Done f.world f.status left f.table)
   pub spoken : IsSpokenTable old → IsSpokenTable f.table
+  pub fits : IsSpokenTable old → Fits f.table
   pub ran : f.ran ≡ ran_count old f.table
   pub ticked : now ≡ before + ran_total old f.table
 

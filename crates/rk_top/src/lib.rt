@@ -10,6 +10,7 @@ mod lines;
 mod look;
 mod outcome;
 mod prepare;
+mod read_back;
 mod run;
 mod shown;
 mod stop;

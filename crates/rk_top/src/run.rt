@@ -3,6 +3,7 @@ ghost use Rattle.std.specs.Prelude.{◌≡◌, ◌+◌, ◌<◌, ◌≤◌};
 ghost use Rattle.rk_tree.specs.Entries.{IsWholeSnapshot};
 ghost use Rattle.rk_top.specs.Run.{Runs};
 
+use crate::read_back::read_back;
 use crate::stop::Stop;
 use rk_base::{Budget, Steps};
 use rk_kernel::World;
@@ -58,6 +59,8 @@ pub(crate) fn run<L: Ledger>(
                 ran,
             },
         ) => {
+            let _paid = budget.used();
+            read_back(&table);
             let ran = ran.len() as u64;
             Ok(Finished {
                 world,

@@ -3,6 +3,7 @@ use Rattle.rk_command.specs.First.{first_talk}
 use Rattle.rk_kernel.specs.Do.{answered}
 use Rattle.rk_runs.specs.Purse.{left}
 use Rattle.rk_runs.specs.Run.{game}
+use Rattle.rk_top.proofs.ReadBackLemmas.{sound, small}
 use Rattle.rk_top.proofs.RunLemmas.{fresh_run-is, spent-is}
 use Rattle.rk_top.proofs.run.run.Goals as goal
 
@@ -12,6 +13,7 @@ returns-in-Ok-clause-runs g c =
     record {
       ends = λ spoken. (left c.build_world.new.budget, fresh_run-is _ _ _ _ _ _ c.budget-budget.ensures.limit c.budget-budget.ensures.used c.in_ok-tree.ensures.tree c.in_ok-world.ensures (e.done spoken));
       spoken = e.spoken;
+      fits = λ spoken. c.read_back.ensures (sound _ (e.spoken spoken) (small _ _ _ _ _ _ e.paid c.budget-budget.ensures.used c.used-paid.ensures.used c.used-paid.ensures.within (e.limit ∙ c.budget-budget.ensures.limit) c.ranges.steps.fits));
       ran = c.len-ran.ensures ∙ ap length e.ran;
       ticked = e.live;
     }
