@@ -1,2 +1,4 @@
 pub mod CanonicalLemmas
 pub mod PathLemmas
+pub mod MovedLemmas
+pub mod WithinLemmas

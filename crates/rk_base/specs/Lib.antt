@@ -1,5 +1,6 @@
 pub mod Canonical
 pub mod Errno
 pub mod Faults
+pub mod Names
 pub mod Paid
 pub mod Text

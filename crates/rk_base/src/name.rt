@@ -1,5 +1,7 @@
 // Names.
-ghost use Rattle.std.specs.Prelude.{◌≡◌, IfOk, true, false};
+ghost use Rattle.std.specs.Prelude.{◌≡◌, IfOk, true, false, nat_eq};
+ghost use Rattle.std.specs.Cmp.{partial_equiv_from_equiv, nat_eq_equiv};
+ghost use Rattle.std.specs.Cmp.Lexicographic.{pointwise, lists_equiv};
 ghost use Rattle.rk_base.specs.Canonical.{is_name};
 ghost use Rattle.rk_base.specs.declared.path.PathFault.TheVariants.{Invalid};
 ghost use Rattle.rk_base.specs.Faults.{Reads};
@@ -11,7 +13,7 @@ use std::alloc::Global;
 use std::marker::Model;
 
 /// A name: UTF-8 of 1 to 255 bytes, without a slash or a NUL, and not `.` or `..`.
-#[derive(Debug, Drop)]
+#[derive(Debug, Drop, Clone)]
 pub struct Name {
     bytes: Bytes,
 }
@@ -60,4 +62,18 @@ impl Name {
         let bytes = self.bytes.copy()?;
         Ok(Name { bytes })
     }
+}
+
+impl PartialEq for Name {
+    ghost eq = { pointwise nat_eq };
+
+    ghost laws = { partial_equiv_from_equiv (lists_equiv nat_eq_equiv) };
+
+    fn eq(&self, other: &Name) -> bool {
+        self.as_slice() == other.as_slice()
+    }
+}
+
+impl Eq for Name {
+    ghost laws = { lists_equiv nat_eq_equiv };
 }

@@ -1,10 +1,10 @@
 // Paths.
-ghost use Rattle.std.specs.Prelude.{◌≡◌, ◌+◌, ◌↔◌, IsTrue, ℕ, List, IfOk, nat_eq, Some, refl, true};
+ghost use Rattle.std.specs.Prelude.{◌≡◌, ◌+◌, ◌++◌, ◌∷◌, [], ◌↔◌, IsTrue, ℕ, List, IfOk, drop, nat_eq, Some, refl, true, false};
 ghost use Rattle.std.specs.Ordering.{nat_cmp};
 ghost use Rattle.std.specs.Hash as fed;
 ghost use Rattle.std.specs.Cmp.{po, partial_equiv_from_equiv, nat_eq_equiv, unsigned_ties, unsigned_Decides};
 ghost use Rattle.std.specs.Cmp.Lexicographic.{slice_cmp, pointwise, lists_equiv, lists_ties, nat_list_cmp_total};
-ghost use Rattle.rk_base.specs.Text.{depth, root, join, parent, stem, name_of, last_of, is_in, or_root, is_root};
+ghost use Rattle.rk_base.specs.Text.{begins_with, depth, root, join, moved, parent, stem, name_of, last_of, is_in, is_within, or_root, is_root};
 ghost use Rattle.rk_base.specs.Canonical.{is_canonical, is_name};
 ghost use Rattle.rk_base.specs.Faults.{Reads};
 ghost use Rattle.rk_base.specs.declared.path.PathFault.TheVariants as fault;
@@ -32,7 +32,7 @@ impl From<NoMemory> for PathFault {
 }
 
 /// A path: `/`, or names each after one slash. Paths are ordered by the bytes of their texts.
-#[derive(Debug, Drop)]
+#[derive(Debug, Drop, Clone)]
 pub struct Path {
     text: Bytes,
 }
@@ -63,6 +63,42 @@ fn join(alloc: Global, dir: &[u8], name: &[u8]) -> Result<Vec<u8>, AllocError>
     text.push(b'/')?;
     text.extend_from_slice(name)?;
     Ok(text)
+}
+
+fn begins_slash(text: &[u8]) -> bool
+    ensures { result ≡ begins_with text.now (47 ∷ []) }
+{
+    match text {
+        [first, ..] => *first == b'/',
+        [] => false,
+    }
+}
+
+fn is_below(above: &[u8], path: &[u8]) -> bool
+    ensures { result ≡ begins_with path.now (stem above.now ++ 47 ∷ []) }
+{
+    match path.strip_prefix(stem(above)) {
+        Some(rest) => begins_slash(rest),
+        None => false,
+    }
+}
+
+fn after(text: &[u8], n: usize) -> &[u8]
+    ensures { result.now ≡ drop n text.now }
+{
+    if n <= text.len() {
+        text.split_at(n).1
+    } else {
+        b""
+    }
+}
+
+fn joined(alloc: Global, front: &[u8], back: &[u8]) -> Result<Bytes, NoMemory>
+    ensures { IfOk result (λ b. b ≡ front.now ++ back.now) }
+{
+    let mut text = Vec::from_slice(alloc, front)?;
+    text.extend_from_slice(back)?;
+    Ok(Bytes::new(text))
 }
 
 impl Path {
@@ -166,6 +202,32 @@ impl Path {
         ensures { result ≡ is_in dir.now self.now }
     {
         !self.is_root() && self.parent_text() == dir.text()
+    }
+
+    /// Whether it is this path or stands anywhere below it.
+    #[tactic(auto, unfolding(crate::specs::Text::is_within))]
+    pub fn is_within(&self, above: &Path) -> bool
+        ensures { result ≡ is_within above.now self.now }
+    {
+        self.text() == above.text() || is_below(above.text(), self.text())
+    }
+
+    /// The path that it has after all within `from` has gone to `to`.
+    #[tactic(auto, unfolding(crate::specs::Text::moved))]
+    pub fn moved(&self, from: &Path, to: &Path) -> Result<Path, NoMemory>
+        requires from { is_root from.now ≡ false }
+        requires to { is_root to.now ≡ false }
+        ensures { IfOk result (λ p. p ≡ moved from.now to.now self.now) }
+    {
+        if !self.is_within(from) {
+            return self.copy();
+        }
+        let text = joined(
+            self.text.allocator(),
+            to.text(),
+            after(self.text(), from.text().len()),
+        )?;
+        Ok(Path { text })
     }
 
     pub fn is_root(&self) -> bool

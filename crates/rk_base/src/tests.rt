@@ -1,5 +1,5 @@
 // Each call that takes memory, once where there is enough.
-use crate::{Budget, Bytes, Name, NoMemory, Path, PathFault};
+use crate::{Budget, Bytes, Name, NameList, NoMemory, Path, PathFault};
 use std::alloc::Global;
 use std::test::Fail;
 
@@ -22,6 +22,31 @@ fn reads_names(rt: HostRuntime) -> Result<(), Fail> {
     for text in [b"".as_slice(), b"a", b"//", b"/a/", b"/a//b", b"/a/../b"] {
         assert!(rt; matches!(Path::parse(alloc, text), Err(PathFault::Invalid)));
     }
+    Ok(())
+}
+
+fn names(alloc: Global, texts: &[&[u8]]) -> Result<Option<NameList>, NoMemory> {
+    let mut names = Vec::new(alloc);
+    'texts: for text in texts {
+        match Name::new(alloc, text) {
+            Ok(name) => names.push(name)?,
+            Err(_) => return Err(NoMemory),
+        }
+    }
+    Ok(NameList::from_vec(names))
+}
+
+#[test]
+fn lists_ascend(rt: HostRuntime) -> Result<(), Fail> {
+    let alloc = rt.alloc();
+    let Some(list) = names(alloc, &[b"A".as_slice(), b"a", b"a.c", b"ab"])? else {
+        assert!(rt; false);
+        return Ok(());
+    };
+    assert_eq!(rt; list.len(), 4);
+    assert!(rt; list.copy()?.same(&list));
+    assert!(rt; names(alloc, &[b"a".as_slice(), b"a"])?.is_none());
+    assert!(rt; names(alloc, &[b"ab".as_slice(), b"a.c"])?.is_none());
     Ok(())
 }
 

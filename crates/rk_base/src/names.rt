@@ -1,0 +1,120 @@
+// Lists of names.
+ghost use Rattle.std.specs.Prelude.{◌≡◌, ◌↔◌, IsTrue, IfOk, Some, None, true, length, if◌then◌else◌};
+ghost use Rattle.std.specs.List.{list_all};
+ghost use Rattle.std.specs.Ordering.{is_lt};
+ghost use Rattle.rk_base.specs.Text.{text_cmp};
+ghost use Rattle.rk_base.specs.Canonical.{is_name};
+ghost use Rattle.rk_base.specs.Names.{ascend, ascend_from, are_names};
+
+use crate::{Name, NoMemory};
+use std::cmp::Ordering;
+use std::marker::Model;
+
+/// Names, strictly ascending by their bytes.
+#[derive(Debug, Drop, Clone)]
+pub struct NameList {
+    names: Vec<Name>,
+}
+
+impl Model for NameList {
+    ghost use Rattle.std.specs.Prelude.{◌≡◌, List, ℕ, true};
+    ghost use Rattle.rk_base.specs.Names.{are_names};
+
+    ghost Value = { List (List ℕ) };
+
+    ghost view = { λ n. n.names.items };
+
+    ghost invariant = { λ n. are_names n.names.items ≡ true };
+}
+
+fn is_below(a: &Name, b: &Name) -> bool
+    ensures { result ≡ is_lt (text_cmp a.now b.now) }
+{
+    matches!(a.as_slice().cmp(b.as_slice()), Ordering::Less)
+}
+
+fn ascends_from(first: &Name, names: &[Name]) -> bool
+    ensures { result ≡ ascend_from first.now names.now }
+{
+    let mut last = first;
+    'names: for name in names {
+        if !is_below(last, name) {
+            return false;
+        }
+        last = name;
+    }
+    true
+}
+
+fn ascends(names: &[Name]) -> bool
+    ensures { result ≡ ascend names.now }
+{
+    match names {
+        [] => true,
+        [name, rest @ ..] => ascends_from(name, rest),
+    }
+}
+
+// Each is a name, by its type.
+fn all_names(names: &[Name])
+    ensures { list_all is_name names.now ≡ true }
+{
+    'names: for name in names {
+        let _bytes = name.as_slice();
+    }
+}
+
+#[tactic(auto, unfolding(crate::specs::Names::are_names))]
+fn are_names(names: &[Name]) -> bool
+    ensures { result ≡ are_names names.now }
+{
+    all_names(names);
+    ascends(names)
+}
+
+impl NameList {
+    /// The list of these names; `None` exactly where they don't ascend strictly.
+    pub fn from_vec(names: Vec<Name>) -> Option<NameList>
+        ensures { result ≡ (if are_names names.items then Some names.items else None) }
+    {
+        if are_names(&names) {
+            Some(NameList { names })
+        } else {
+            None
+        }
+    }
+
+    pub fn as_slice(&self) -> &[Name]
+        ensures value { result.now ≡ self.now }
+        ensures names { are_names self.now ≡ true }
+    {
+        self.names.as_slice()
+    }
+
+    /// How many names there are.
+    pub fn len(&self) -> usize
+        ensures { result ≡ length self.now }
+    {
+        self.names.len()
+    }
+
+    pub fn is_empty(&self) -> bool
+        ensures { IsTrue result ↔ (length self.now ≡ 0) }
+    {
+        self.names.is_empty()
+    }
+
+    /// Whether both are the same names.
+    pub fn same(&self, other: &NameList) -> bool
+        ensures { IsTrue result ↔ (self.now ≡ other.now) }
+    {
+        self.names.as_slice() == other.names.as_slice()
+    }
+
+    pub fn copy(&self) -> Result<NameList, NoMemory>
+        ensures { IfOk result (λ n. n ≡ self.now) }
+    {
+        let names = self.names.clone()?;
+        Ok(NameList { names })
+    }
+}
