@@ -5,6 +5,7 @@ pub mod Given
 pub mod Heard
 pub mod Keys
 pub mod Laws
+pub mod Proper
 pub mod RefMaps
 pub mod Refs
 pub mod Saying

@@ -1,16 +1,27 @@
 // Answers.
 ghost use Rattle.std.specs.Prelude.{◌≡◌, IfOk};
 
-use rk_base::{Bytes, Errno, NoMemory};
+use rk_base::{Bytes, Errno, Kind, NameList, NoMemory, Path};
 
 /// What a call is answered.
-#[derive(Debug, Drop)]
+#[derive(Debug, Drop, Clone)]
 pub enum Answer {
     /// No call was asked: the command goes on.
     Go,
     Done,
+    /// The command's next number is that of what was opened.
     Opened,
+    /// Its next two numbers are a pipe's, the read end first.
+    Piped,
     Content(Bytes),
+    /// What stands there, its mode (0777 for a link), and whether it is a file without bytes.
+    Stat { kind: Kind, mode: u16, empty: bool },
+    Names(NameList),
+    /// The text of a link.
+    Text(Bytes),
+    /// The canonical path of a directory.
+    Place(Path),
+    Same(bool),
     /// The launched command has exited with this status.
     Joined(u8),
     No(Errno),
@@ -20,16 +31,7 @@ impl Answer {
     pub fn copy(&self) -> Result<Answer, NoMemory>
         ensures { IfOk result (λ a. a ≡ self.now) }
     {
-        match self {
-            Answer::Go => Ok(Answer::Go),
-            Answer::Done => Ok(Answer::Done),
-            Answer::Opened => Ok(Answer::Opened),
-            Answer::Content(bytes) => {
-                let bytes = bytes.copy()?;
-                Ok(Answer::Content(bytes))
-            }
-            Answer::Joined(status) => Ok(Answer::Joined(*status)),
-            Answer::No(errno) => Ok(Answer::No(*errno)),
-        }
+        let copy = self.clone()?;
+        Ok(copy)
     }
 }

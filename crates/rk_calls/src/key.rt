@@ -10,7 +10,7 @@ use std::marker::Model;
 
 /// What a command is known by: its words, its working directory and, where the first word is `sh` or has a
 /// slash, its exported variables.
-#[derive(Debug, Drop, PartialEq, Eq, Hash)]
+#[derive(Debug, Drop, Clone, PartialEq, Eq, Hash)]
 pub struct Key {
     argv: WordList,
     wd: Path,

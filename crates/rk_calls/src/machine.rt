@@ -26,6 +26,7 @@ pub trait Machine: Drop {
 /// What makes the command of a key. It counts those that it has started.
 pub trait Maker {
     ghost use Rattle.rk_calls.specs.Talk.{Says, Lasts};
+    ghost use Rattle.rk_calls.specs.Proper.{AsksProperly};
     ghost use Rattle.rk_calls.specs.Keys.{KeyValue};
 
     type Made: Machine;
@@ -42,4 +43,7 @@ pub trait Maker {
 
     /// Fewer turns only cut what it says.
     ghost lasts: { (key : KeyValue) → Lasts (first key) };
+
+    /// A mode in a call that it asks is at most 0777.
+    ghost proper: { (key : KeyValue) → AsksProperly (first key) };
 }

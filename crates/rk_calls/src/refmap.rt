@@ -8,7 +8,7 @@ use std::marker::Model;
 
 /// Pairs of a descriptor of the launched command, 0 to 9, and the launcher's number that it stands for; each
 /// descriptor once, ascending.
-#[derive(Debug, Drop)]
+#[derive(Debug, Drop, Clone)]
 pub struct RefMap {
     pairs: Vec<(u8, u64)>,
 }

@@ -2,7 +2,7 @@
 ghost use Rattle.std.specs.Prelude.{◌≡◌, IfOk, length};
 
 use crate::{Answer, Call, How, Key, RefMap, Refs, VarList, WordList, same_answer, same_call};
-use rk_base::{Bytes, NoMemory, Path};
+use rk_base::{Bytes, Errno, Kind, NameList, NoMemory, Path};
 use std::alloc::Global;
 use std::test::Fail;
 
@@ -27,13 +27,125 @@ fn copies_keys(rt: HostRuntime) -> Result<(), Fail> {
     Ok(())
 }
 
+fn path(alloc: Global) -> Result<Bytes, NoMemory> {
+    Bytes::from_slice(alloc, b"/a")
+}
+
+fn launch(alloc: Global) -> Result<Call, NoMemory> {
+    let key = Key::new(words(alloc)?, Path::root(alloc)?, VarList::new(alloc));
+    let map = RefMap::with_output(alloc, 10)?;
+    Ok(Call::Launch(key, map))
+}
+
+fn openings(alloc: Global) -> Result<Vec<Call>, NoMemory> {
+    let calls = vec![in alloc;
+        Call::Open(path(alloc)?, How::Read),
+        Call::Open(path(alloc)?, How::Make),
+        Call::Open(path(alloc)?, How::Append),
+        Call::Pipe,
+    ]?;
+    Ok(calls)
+}
+
+fn readings(alloc: Global) -> Result<Vec<Call>, NoMemory> {
+    let launch = launch(alloc)?;
+    let write = Call::Write(1, path(alloc)?);
+    let calls = vec![in alloc;
+        launch,
+        write,
+        Call::Read(10),
+        Call::ReadLine(10),
+        Call::Read(1),
+    ]?;
+    Ok(calls)
+}
+
+fn questions(alloc: Global) -> Result<Vec<Call>, NoMemory> {
+    let calls = vec![in alloc;
+        Call::Stat(path(alloc)?, true),
+        Call::Stat(path(alloc)?, false),
+        Call::List(path(alloc)?),
+        Call::ReadLink(path(alloc)?),
+        Call::Walk(path(alloc)?),
+        Call::Same(path(alloc)?, path(alloc)?),
+    ]?;
+    Ok(calls)
+}
+
+fn changes(alloc: Global) -> Result<Vec<Call>, NoMemory> {
+    let calls = vec![in alloc;
+        Call::Mkdir(path(alloc)?, 0o755),
+        Call::Rmdir(path(alloc)?),
+        Call::Unlink(path(alloc)?),
+        Call::Rename(path(alloc)?, path(alloc)?),
+        Call::Symlink(path(alloc)?, path(alloc)?),
+        Call::Link(path(alloc)?, path(alloc)?),
+        Call::Chmod(path(alloc)?, 0o755),
+        Call::Chmod(path(alloc)?, 0o700),
+    ]?;
+    Ok(calls)
+}
+
+fn answers(alloc: Global) -> Result<Vec<Answer>, NoMemory> {
+    let Some(names) = NameList::from_vec(Vec::new(alloc)) else {
+        return Err(NoMemory);
+    };
+    let answers = vec![in alloc;
+        Answer::Go,
+        Answer::Done,
+        Answer::Opened,
+        Answer::Piped,
+        Answer::Content(path(alloc)?),
+        Answer::Stat {
+            kind: Kind::Dir,
+            mode: 0o755,
+            empty: false
+        },
+        Answer::Stat {
+            kind: Kind::File,
+            mode: 0o755,
+            empty: false
+        },
+        Answer::Names(names),
+        Answer::Text(path(alloc)?),
+        Answer::Place(Path::root(alloc)?),
+        Answer::Same(true),
+        Answer::Joined(0),
+        Answer::No(Errno::NoEntry),
+    ]?;
+    Ok(answers)
+}
+
+// Each call's copy is the same call, and no other of them is.
+fn are_apart(calls: &[Call]) -> Result<bool, NoMemory> {
+    'calls: for (i, call) in calls.iter().enumerate() {
+        let copy = call.copy()?;
+        if calls.iter().position(|other| same_call(&copy, other)) != Some(i) {
+            return Ok(false);
+        }
+    }
+    Ok(true)
+}
+
 #[test]
 fn copies_calls(rt: HostRuntime) -> Result<(), Fail> {
     let alloc = rt.alloc();
-    let call = Call::Open(Bytes::from_slice(alloc, b"/a")?, How::Read);
-    assert!(rt; same_call(&call.copy()?, &call));
-    let answer = Answer::Content(Bytes::from_slice(alloc, b"1\n")?);
-    assert!(rt; same_answer(&answer.copy()?, &answer));
+    assert!(rt; are_apart(&openings(alloc)?)?);
+    assert!(rt; are_apart(&readings(alloc)?)?);
+    assert!(rt; are_apart(&questions(alloc)?)?);
+    assert!(rt; are_apart(&changes(alloc)?)?);
+    Ok(())
+}
+
+#[test]
+fn copies_answers(rt: HostRuntime) -> Result<(), Fail> {
+    let alloc = rt.alloc();
+    let answers = answers(alloc)?;
+    'answers: for (i, answer) in answers.iter().enumerate() {
+        let copy = answer.copy()?;
+        let first = answers.iter().position(|other| same_answer(&copy, other));
+        assert!(rt; first == Some(i));
+    }
     Ok(())
 }
 

@@ -16,7 +16,7 @@ pub struct Var {
 }
 
 /// Variables, ascending by name, each name once. A name is a letter or `_`, then letters, digits and `_`.
-#[derive(Debug, Drop)]
+#[derive(Debug, Drop, Clone)]
 pub struct VarList {
     vars: Vec<Var>,
 }
