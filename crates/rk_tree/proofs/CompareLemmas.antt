@@ -12,7 +12,7 @@ use Rattle.rk_base.specs.Text.{Text, text_cmp, same_text}
 use Rattle.rk_tree.proofs.TextLemmas.{same_is}
 
 -- a front that both have
-cmp-front : (front rest back : Text) → text_cmp (front ++ rest) (front ++ back) ≡ text_cmp rest back
+pub cmp-front : (front rest back : Text) → text_cmp (front ++ rest) (front ++ back) ≡ text_cmp rest back
 cmp-front [] rest back = refl
 cmp-front (f ∷ fs) rest back = ap (λ (o : Ordering). ordering_then o (text_cmp (fs ++ rest) (fs ++ back))) (tied_itself nat_cmp_total f) ∙ cmp-front fs rest back
 

@@ -345,7 +345,7 @@ found_step nodes before after items i row so_far lt is put =
       one_up : (i : ℕ) → suc i ≡ i + 1
       one_up i = omega arith
 
-drop_past : (items : List (Text × ℕ)) (i : ℕ) → length items ≤ i → drop i items ≡ []
+pub drop_past : (items : List (Text × ℕ)) (i : ℕ) → length items ≤ i → drop i items ≡ []
 drop_past [] zero h = refl
 drop_past [] (suc i) h = refl
 drop_past (x ∷ items) zero h = absurd (omega arith)

@@ -1,8 +1,16 @@
+pub mod BelowLemmas
 pub mod CompareLemmas
 pub mod CopiesLemmas
 pub mod HeldLemmas
+pub mod HomesLemmas
+pub mod ListLemmas
+pub mod MovedLemmas
 pub mod NodesLemmas
+pub mod RefusalLemmas
+pub mod RemovedLemmas
+pub mod RenamedLemmas
 pub mod RowsLemmas
 pub mod SearchLemmas
+pub mod TakenLemmas
 pub mod TextLemmas
 pub mod WholeLemmas

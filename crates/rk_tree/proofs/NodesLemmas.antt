@@ -11,19 +11,21 @@ use Rattle.rk_tree.specs.declared.entry.Entry.{Entry}
 use Rattle.rk_tree.specs.declared.entry.Entry.TheVariants.{File, Dir, Link}
 use Rattle.rk_tree.specs.declared.node.Node.{Node}
 use Rattle.rk_tree.specs.Entries.{is_dir, IsFit}
-use Rattle.rk_tree.specs.Held.{Held, Paths, node, number_at, path_of, child, parent_of, with_path, added, replaced, replaced_at, set_bytes}
-use Rattle.rk_tree.specs.Nodes.{entries_of, held_by, home_of, lost, placed, with_bytes, IsHome, HaveHomes}
+use Rattle.rk_tree.specs.Held.{Held, Paths, node, number_at, path_of, child, parent_of, with_path, linked, added, changed_at, change_node}
+use Rattle.rk_tree.specs.Nodes.{entries_of, held_by, changed_node, home_of, lost, placed, IsHome, HaveHomes}
+use Rattle.rk_tree.specs.Refusals.{is_there}
 use Rattle.rk_tree.specs.Rows.{map_of}
-use Rattle.rk_tree.specs.Whole.{IsWhole, IsFree}
+use Rattle.rk_tree.specs.Whole.{IsWhole, MayHold}
 use Rattle.rk_tree.proofs.HeldLemmas.{home-path}
+use Rattle.rk_tree.proofs.RefusalLemmas.{there_is}
 use Rattle.rk_tree.proofs.RowsLemmas.{insert_cases}
-use Rattle.rk_tree.proofs.WholeLemmas.{root_row, added-whole, bytes-whole, new_nowhere, root-whole, stays, stands_cases, root_stands}
+use Rattle.rk_tree.proofs.WholeLemmas.{root_row, added-whole, linked-whole, changed-whole, new_nowhere, root-whole, stays, stands_cases, root_stands}
 
 -- what is kept of a tree
 abbrev pub Kept : Paths → List Node → Type 0
 Kept paths nodes = IsWhole (held_by paths nodes) × HaveHomes (held_by paths nodes) nodes
 
-entry_at : (nodes : List Node) (n : ℕ) (it : Node) → slice_get nodes n ≡ Some it → slice_get (entries_of nodes) n ≡ Some it.entry
+pub entry_at : (nodes : List Node) (n : ℕ) (it : Node) → slice_get nodes n ≡ Some it → slice_get (entries_of nodes) n ≡ Some it.entry
 entry_at nodes n it at = slice_get-map (λ (m : Node). m.entry) nodes n ∙ ap (option_map (λ (m : Node). m.entry)) at
 
 -- The path of a directory.
@@ -117,6 +119,7 @@ lost-homes paths nodes it whole homes n node at d = elim (node_cases nodes (lost
 
 -- a new node at a name of a directory that has a path
 pub add-placed : (paths more : Paths) (before after : List Node) (held : Held) (dir : ℕ) (path joined name : Text) (it : Entry) → held_by paths before ≡ held → Some path ≡ path_of held dir → joined ≡ join path name → more ≡ insert paths joined (length before) → after ≡ before ++ placed joined it ∷ [] → held_by more after ≡ added held dir name it
+unfolding added linked
 add-placed paths more before after held dir path joined name it is at named put pushed =
     ap (λ (m : Paths). held_by m after) (put ∙ ap (λ (t : Text). insert paths t (length before)) named ∙ ap (insert paths (join path name)) (sym (length_entries before)))
     ∙ ap (λ (ns : List Entry). record { paths = insert paths (join path name) (length (entries_of before)); nodes = ns }) (ap entries_of pushed ∙ entries-push before (placed joined it))
@@ -125,44 +128,71 @@ add-placed paths more before after held dir path joined name it is at named put 
 
 -- and of one that has none
 pub add-lost : (paths : Paths) (before after : List Node) (held : Held) (dir : ℕ) (name : Text) (it : Entry) → held_by paths before ≡ held → None ≡ path_of held dir → after ≡ before ++ lost it ∷ [] → held_by paths after ≡ added held dir name it
+unfolding added linked
 add-lost paths before after held dir name it is at pushed =
     ap (λ (ns : List Entry). record { paths = paths; nodes = ns }) (ap entries_of pushed ∙ entries-push before (lost it))
     ∙ ap (λ (h : Held). record { paths = h.paths; nodes = h.nodes ++ it ∷ [] }) is
     ∙ ap (λ (o : Option Text). record { paths = with_path o (λ p. insert held.paths (join p name) (length held.nodes)) held.paths; nodes = held.nodes ++ it ∷ [] }) at
 
-pub free_path : (paths : Paths) (nodes : List Node) (held : Held) (dir : ℕ) (path joined name : Text) → held_by paths nodes ≡ held → Some path ≡ path_of held dir → joined ≡ join path name → IsFree held dir name → get paths joined ≡ None
+pub free_path : (paths : Paths) (nodes : List Node) (held : Held) (dir : ℕ) (path joined name : Text) → held_by paths nodes ≡ held → Some path ≡ path_of held dir → joined ≡ join path name → child held dir name ≡ None → get paths joined ≡ None
 unfolding child
-free_path paths nodes held dir path joined name is at named free =
-    ap (get paths) named ∙ ap (λ (h : Held). get h.paths (join path name)) is ∙ ap (λ (o : Option Text). option_and_then (λ p. number_at held (join p name)) o) at ∙ free.absent
+free_path paths nodes held dir path joined name is at named absent =
+    ap (get paths) named ∙ ap (λ (h : Held). get h.paths (join path name)) is ∙ ap (λ (o : Option Text). option_and_then (λ p. number_at held (join p name)) o) at ∙ absent
 
-pub placed-kept : (paths more : Paths) (before after : List Node) (held : Held) (dir : ℕ) (path joined name : Text) (it : Entry) → held_by paths before ≡ held → Kept paths before → is_name name ≡ true → IsFree held dir name → IsFit it → Some path ≡ path_of held dir → joined ≡ join path name → more ≡ insert paths joined (length before) → after ≡ before ++ placed joined it ∷ [] → Kept more after
-placed-kept paths more before after held dir path joined name it is kept named free fits at joins put pushed = (
-  subst IsWhole (sym (add-placed paths more before after held dir path joined name it is at joins put pushed)) (added-whole held dir name it (subst IsWhole is kept.0) named free fits),
+pub placed-kept : (paths more : Paths) (before after : List Node) (held : Held) (dir : ℕ) (path joined name : Text) (it : Entry) → held_by paths before ≡ held → Kept paths before → is_name name ≡ true → MayHold held dir name → child held dir name ≡ None → IsFit it → Some path ≡ path_of held dir → joined ≡ join path name → more ≡ insert paths joined (length before) → after ≡ before ++ placed joined it ∷ [] → Kept more after
+placed-kept paths more before after held dir path joined name it is kept named may absent fits at joins put pushed = (
+  subst IsWhole (sym (add-placed paths more before after held dir path joined name it is at joins put pushed)) (added-whole held dir name it (subst IsWhole is kept.0) named may absent fits),
   subst (λ (m : Paths). HaveHomes (held_by m after) after) (sym put) (subst (λ (ns : List Node). HaveHomes (held_by (insert paths joined (length before)) ns) ns) (sym pushed)
-      (placed-homes paths before joined it (free_path paths before held dir path joined name is at joins free) kept.1)),
+      (placed-homes paths before joined it (free_path paths before held dir path joined name is at joins absent) kept.1)),
 )
 
-pub lost-kept : (paths : Paths) (before after : List Node) (held : Held) (dir : ℕ) (name : Text) (it : Entry) → held_by paths before ≡ held → Kept paths before → is_name name ≡ true → IsFree held dir name → IsFit it → None ≡ path_of held dir → after ≡ before ++ lost it ∷ [] → Kept paths after
-lost-kept paths before after held dir name it is kept named free fits at pushed = (
-  subst IsWhole (sym (add-lost paths before after held dir name it is at pushed)) (added-whole held dir name it (subst IsWhole is kept.0) named free fits),
+pub lost-kept : (paths : Paths) (before after : List Node) (held : Held) (dir : ℕ) (name : Text) (it : Entry) → held_by paths before ≡ held → Kept paths before → is_name name ≡ true → MayHold held dir name → child held dir name ≡ None → IsFit it → None ≡ path_of held dir → after ≡ before ++ lost it ∷ [] → Kept paths after
+lost-kept paths before after held dir name it is kept named may absent fits at pushed = (
+  subst IsWhole (sym (add-lost paths before after held dir name it is at pushed)) (added-whole held dir name it (subst IsWhole is kept.0) named may absent fits),
   subst (λ (ns : List Node). HaveHomes (held_by paths ns) ns) (sym pushed) (lost-homes paths before it kept.0 kept.1),
 )
 
--- Other bytes.
+-- A node under one name more.
 
-entries-set : (nodes : List Node) (n : ℕ) (new : Node) → entries_of (slice_set nodes n new) ≡ slice_set (entries_of nodes) n new.entry
+linked-homes : (paths : Paths) (nodes : List Node) (path : Text) (n : ℕ) → get paths path ≡ None → is_dir (slice_get (entries_of nodes) n) ≡ false → HaveHomes (held_by paths nodes) nodes → HaveHomes (held_by (insert paths path n) nodes) nodes
+linked-homes paths nodes path n free file homes k it on d = home_stays (held_by paths nodes) (held_by (insert paths path n) nodes) path k it.home n free refl
+    (λ same. clash _ (ap is_dir (ap (slice_get (entries_of nodes)) (sym same) ∙ entry_at nodes k it on) ∙ d) file) (homes k it on d)
+
+pub link-placed : (paths more : Paths) (nodes : List Node) (held : Held) (dir n : ℕ) (path joined name : Text) → held_by paths nodes ≡ held → Some path ≡ path_of held dir → joined ≡ join path name → more ≡ insert paths joined n → held_by more nodes ≡ linked held dir name n
+unfolding linked
+link-placed paths more nodes held dir n path joined name is at named put =
+    ap (λ (m : Paths). held_by m nodes) (put ∙ ap (λ (t : Text). insert paths t n) named)
+    ∙ ap (λ (h : Held). record { paths = insert h.paths (join path name) n; nodes = h.nodes }) is
+    ∙ ap (λ (o : Option Text). record { paths = with_path o (λ p. insert held.paths (join p name) n) held.paths; nodes = held.nodes }) at
+
+pub link-lost : (held : Held) (dir n : ℕ) (name : Text) → None ≡ path_of held dir → held ≡ linked held dir name n
+unfolding linked
+link-lost held dir n name at = ap (λ (o : Option Text). record { paths = with_path o (λ p. insert held.paths (join p name) n) held.paths; nodes = held.nodes }) at
+
+pub link-kept : (paths more : Paths) (nodes : List Node) (held : Held) (dir n : ℕ) (path joined name : Text) → held_by paths nodes ≡ held → Kept paths nodes → is_name name ≡ true → MayHold held dir name → child held dir name ≡ None → is_there (node held n) ≡ true → is_dir (node held n) ≡ false
+    → Some path ≡ path_of held dir → joined ≡ join path name → more ≡ insert paths joined n → Kept more nodes
+link-kept paths more nodes held dir n path joined name is kept named may absent there file at joins put =
+    let it = there_is (node held n) there in (
+      subst IsWhole (sym (link-placed paths more nodes held dir n path joined name is at joins put)) (linked-whole held dir name n it.0 (subst IsWhole is kept.0) named may absent it.1 file),
+      subst (λ (m : Paths). HaveHomes (held_by m nodes) nodes) (sym put)
+          (linked-homes paths nodes joined n (free_path paths nodes held dir path joined name is at joins absent) (ap (λ (h : Held). is_dir (node h n)) is ∙ file) kept.1),
+    )
+
+-- Other nodes.
+
+pub entries-set : (nodes : List Node) (n : ℕ) (new : Node) → entries_of (slice_set nodes n new) ≡ slice_set (entries_of nodes) n new.entry
 entries-set [] n new = refl
 entries-set (x ∷ nodes) zero new = refl
 entries-set (x ∷ nodes) (suc n) new = ap (λ (es : List Entry). x.entry ∷ es) (entries-set nodes n new)
 
-entries-bytes : (nodes : List Node) (n : ℕ) (bytes : List ℕ) (o : Option Node) → entries_of (with_bytes nodes n bytes o) ≡ replaced_at (entries_of nodes) n bytes (option_map (λ (m : Node). m.entry) o)
-entries-bytes nodes n bytes None = refl
-entries-bytes nodes n bytes (Some it) = entries-set nodes n (record it { entry = replaced bytes it.entry })
+entries-changed : (f : Entry → Entry) (nodes : List Node) (n : ℕ) (o : Option Node) → entries_of (changed_node f nodes n o) ≡ changed_at f (entries_of nodes) n (option_map (λ (m : Node). m.entry) o)
+entries-changed f nodes n None = refl
+entries-changed f nodes n (Some it) = entries-set nodes n (record it { entry = f it.entry })
 
-pub other_bytes : (paths : Paths) (before after : List Node) (held : Held) (n : ℕ) (bytes : List ℕ) → held_by paths before ≡ held → after ≡ with_bytes before n bytes (slice_get before n) → held_by paths after ≡ set_bytes held n bytes
-other_bytes paths before after held n bytes is put =
-    ap (λ (ns : List Entry). record { paths = paths; nodes = ns }) (ap entries_of put ∙ entries-bytes before n bytes (slice_get before n) ∙ ap (replaced_at (entries_of before) n bytes) (sym (slice_get-map (λ (m : Node). m.entry) before n)))
-    ∙ ap (λ (h : Held). set_bytes h n bytes) is
+pub other_node : (f : Entry → Entry) (paths : Paths) (before after : List Node) (held : Held) (n : ℕ) → held_by paths before ≡ held → after ≡ changed_node f before n (slice_get before n) → held_by paths after ≡ change_node held n f
+other_node f paths before after held n is put =
+    ap (λ (ns : List Entry). record { paths = paths; nodes = ns }) (ap entries_of put ∙ entries-changed f before n (slice_get before n) ∙ ap (changed_at f (entries_of before) n) (sym (slice_get-map (λ (m : Node). m.entry) before n)))
+    ∙ ap (λ (h : Held). change_node h n f) is
 
 node_set : (nodes : List Node) (n : ℕ) (old new : Node) → slice_get nodes n ≡ Some old → (k : ℕ) (it : Node) → slice_get (slice_set nodes n new) k ≡ Some it → (slice_get nodes k ≡ Some it) ⊎ ((k ≡ n) × (new ≡ it))
 node_set [] n old new at k it on = cc
@@ -176,27 +206,22 @@ node_set (x ∷ nodes) (suc n) old new at (suc k) it on = elim (node_set nodes n
   | inr here ↦ inr (ap suc here.0, here.1)
 ]
 
-alike_replaced : (bytes : List ℕ) (it : Entry) → is_dir (Some (replaced bytes it)) ≡ is_dir (Some it)
-alike_replaced bytes (File mode old) = refl
-alike_replaced bytes (Dir mode) = refl
-alike_replaced bytes (Link text) = refl
-
 any_nodes : (paths : Paths) (some other : List Node) (n : ℕ) (home : Option Text) → IsHome (held_by paths some) n home → IsHome (held_by paths other) n home
 any_nodes paths some other n None h = h
 any_nodes paths some other n (Some path) h = h
 
-bytes-homes : (paths : Paths) (nodes : List Node) (n : ℕ) (bytes : List ℕ) (o : Option Node) → slice_get nodes n ≡ o → HaveHomes (held_by paths nodes) nodes → HaveHomes (held_by paths (with_bytes nodes n bytes o)) (with_bytes nodes n bytes o)
-bytes-homes paths nodes n bytes None at homes = homes
-bytes-homes paths nodes n bytes (Some old) at homes = λ k it on d. elim (node_set nodes n old (record old { entry = replaced bytes old.entry }) at k it on) [
-  | inl other ↦ any_nodes paths nodes (slice_set nodes n (record old { entry = replaced bytes old.entry })) k it.home (homes k it other d)
-  | inr here ↦ subst (λ (home : Option Text). IsHome (held_by paths (slice_set nodes n (record old { entry = replaced bytes old.entry }))) k home) (ap (λ (m : Node). m.home) here.1)
-      (any_nodes paths nodes (slice_set nodes n (record old { entry = replaced bytes old.entry })) k old.home (homes k old (ap (slice_get nodes) here.0 ∙ at) (sym (alike_replaced bytes old.entry) ∙ ap (λ (m : Node). is_dir (Some m.entry)) here.1 ∙ d)))
+changed-homes : (f : Entry → Entry) (paths : Paths) (nodes : List Node) (n : ℕ) (o : Option Node) → ((it : Entry) → is_dir (Some (f it)) ≡ is_dir (Some it)) → slice_get nodes n ≡ o → HaveHomes (held_by paths nodes) nodes → HaveHomes (held_by paths (changed_node f nodes n o)) (changed_node f nodes n o)
+changed-homes f paths nodes n None alike at homes = homes
+changed-homes f paths nodes n (Some old) alike at homes = λ k it on d. elim (node_set nodes n old (record old { entry = f old.entry }) at k it on) [
+  | inl other ↦ any_nodes paths nodes (slice_set nodes n (record old { entry = f old.entry })) k it.home (homes k it other d)
+  | inr here ↦ subst (λ (home : Option Text). IsHome (held_by paths (slice_set nodes n (record old { entry = f old.entry }))) k home) (ap (λ (m : Node). m.home) here.1)
+      (any_nodes paths nodes (slice_set nodes n (record old { entry = f old.entry })) k old.home (homes k old (ap (slice_get nodes) here.0 ∙ at) (sym (alike old.entry) ∙ ap (λ (m : Node). is_dir (Some m.entry)) here.1 ∙ d)))
 ]
 
-pub bytes-kept : (paths : Paths) (before after : List Node) (held : Held) (n : ℕ) (bytes : List ℕ) → held_by paths before ≡ held → Kept paths before → after ≡ with_bytes before n bytes (slice_get before n) → Kept paths after
-bytes-kept paths before after held n bytes is kept put = (
-  subst IsWhole (sym (other_bytes paths before after held n bytes is put)) (bytes-whole held n bytes (subst IsWhole is kept.0)),
-  subst (λ (ns : List Node). HaveHomes (held_by paths ns) ns) (sym put) (bytes-homes paths before n bytes (slice_get before n) refl kept.1),
+pub changed-kept : (f : Entry → Entry) (paths : Paths) (before after : List Node) (held : Held) (n : ℕ) → ((it : Entry) → is_dir (Some (f it)) ≡ is_dir (Some it)) → ((it : Entry) → IsFit it → IsFit (f it)) → held_by paths before ≡ held → Kept paths before → after ≡ changed_node f before n (slice_get before n) → Kept paths after
+changed-kept f paths before after held n alike fits is kept put = (
+  subst IsWhole (sym (other_node f paths before after held n is put)) (changed-whole held n f alike fits (subst IsWhole is kept.0)),
+  subst (λ (ns : List Node). HaveHomes (held_by paths ns) ns) (sym put) (changed-homes f paths before n (slice_get before n) alike refl kept.1),
 )
 
 -- The root alone.

@@ -19,7 +19,7 @@ use Rattle.rk_base.specs.Text.{Text, text_cmp}
 use Rattle.rk_tree.specs.Rows.{map_of}
 use Rattle.rk_tree.proofs.TextLemmas.{exact_texts, told_apart, ties_itself}
 
-and_both : (a b : Bool) → T a → T b → T (a && b)
+pub and_both : (a b : Bool) → T a → T b → T (a && b)
 and_both true b h k = k
 and_both false b h k = absurd h
 

@@ -40,7 +40,7 @@ less Greater h = absurd h
 lt_less : (o : Ordering) → o ≡ Less → T (is_lt o)
 lt_less o e = subst (λ (p : Ordering). T (is_lt p)) (sym e) tt
 
-turned : (a b : Text) → text_cmp a b ≡ Less → text_cmp b a ≡ Greater
+pub turned : (a b : Text) → text_cmp a b ≡ Less → text_cmp b a ≡ Greater
 turned a b h = nat_list_cmp_total.antisymm b a ∙ ap ordering_reverse h
 
 turned_back : (a b : Text) → text_cmp a b ≡ Greater → text_cmp b a ≡ Less
@@ -48,7 +48,7 @@ turned_back a b h = nat_list_cmp_total.antisymm b a ∙ ap ordering_reverse h
 
 -- Pairs of rows.
 
-below_get : (x : Text) (rows : List Row) (j : ℕ) (row : Row) → T (below_all text_cmp x rows) → slice_get rows j ≡ Some row → text_cmp x row.0 ≡ Less
+pub below_get : (x : Text) (rows : List Row) (j : ℕ) (row : Row) → T (below_all text_cmp x rows) → slice_get rows j ≡ Some row → text_cmp x row.0 ≡ Less
 below_get x [] j row h at = cc
 below_get x (r ∷ rows) zero row h at = subst (λ (q : Row). text_cmp x q.0 ≡ Less) (same_row r row refl at) (less _ (and_first _ _ h))
 below_get x (r ∷ rows) (suc j) row h at = below_get x rows j row (and_second _ _ h) at
@@ -68,7 +68,7 @@ same_or_less zero (suc n) h = inr (omega arith)
 same_or_less (suc k) zero h = absurd (omega arith)
 same_or_less (suc k) (suc n) h = elim (same_or_less k n (omega arith)) [ inl e ↦ inl (ap suc e) | inr l ↦ inr (omega arith) ]
 
-same_or_more : (k n : ℕ) → n ≤ k → (k ≡ n) ⊎ (n < k)
+pub same_or_more : (k n : ℕ) → n ≤ k → (k ≡ n) ⊎ (n < k)
 same_or_more zero zero h = inl refl
 same_or_more zero (suc n) h = absurd (omega arith)
 same_or_more (suc k) zero h = inr (omega arith)
@@ -133,7 +133,7 @@ gap_none rows path place gap = none_ties rows path (λ k row at. elim (below_or_
   | inr m ↦ inr (gap.above k row m at)
 ])
 
-later_apart : (x path : Text) (rows : List Row) (place number : ℕ) → T (below_all text_cmp x rows) → slice_get rows place ≡ Some (path, number) → eq_by_cmp text_cmp path x ≡ false
+pub later_apart : (x path : Text) (rows : List Row) (place number : ℕ) → T (below_all text_cmp x rows) → slice_get rows place ≡ Some (path, number) → eq_by_cmp text_cmp path x ≡ false
 later_apart x path rows place number h at = untied _ (inr (turned x path (below_get x rows place (path, number) h at)))
 
 pub place_found : (rows : List Row) (path : Text) (place number : ℕ) → T (is_sorted text_cmp rows) → slice_get rows place ≡ Some (path, number) → find text_cmp path rows ≡ Some number

@@ -1,5 +1,5 @@
 -- What keeps a tree whole.
-use Rattle.std.proofs.Common.{◌≡◌, ◌<◌, ℕ, zero, suc, List, [], ◌∷◌, ◌++◌, length, Bool, true, false, Option, Some, None, ◌⊎◌, inl, inr, refl, sym, ap, subst, ◌∙◌, arith}
+use Rattle.std.proofs.Common.{◌≡◌, ◌<◌, ◌≤◌, ℕ, zero, suc, List, [], ◌∷◌, ◌++◌, length, Bool, true, false, Option, Some, None, ◌⊎◌, inl, inr, refl, sym, ap, subst, ◌∙◌, arith}
 use Rattle.std.specs.Prelude.{slice_get, slice_set}
 use Rattle.std.specs.Option.{option_and_then}
 use Rattle.std.proofs.lemmas.Option.{slice_get_within}
@@ -9,8 +9,8 @@ use Rattle.rk_base.specs.Canonical.{is_name, is_canonical}
 use Rattle.rk_tree.specs.declared.entry.Entry.{Entry}
 use Rattle.rk_tree.specs.declared.entry.Entry.TheVariants.{File, Dir, Link}
 use Rattle.rk_tree.specs.Entries.{is_dir, IsFit}
-use Rattle.rk_tree.specs.Held.{Held, Paths, top, node, number_at, path_of, child, with_node, added, with_path, set_node, replaced, replaced_at, set_bytes}
-use Rattle.rk_tree.specs.Whole.{IsPlaced, IsWhole, IsFree}
+use Rattle.rk_tree.specs.Held.{Held, Paths, top, node, number_at, path_of, child, with_node, linked, added, with_path, set_node, changed_at, change_node, replaced, with_mode}
+use Rattle.rk_tree.specs.Whole.{IsPlaced, IsWhole, MayHold}
 use Rattle.rk_tree.proofs.RowsLemmas.{insert_cases}
 use Rattle.rk_tree.proofs.TextLemmas.{parent-root, within-join, hidden-back, root_seen, name_at_root}
 use Rattle.rk_base.proofs.CanonicalLemmas.{root-canonical, join-canonical}
@@ -180,36 +180,56 @@ hidden_parent : parent (join root hidden) ≡ root
 unfolding parent join
 hidden_parent = refl
 
-unhidden : (held : Held) (dir : ℕ) (name path : Text) → IsWhole held → is_name name ≡ true → IsFree held dir name → number_at held path ≡ Some dir → is_within (join root hidden) (join path name) ≡ true → ⊥
-unhidden held dir name path whole named free at h = elim (within-join (join root hidden) path name hidden-back (whole.canonical path dir at) named h) [
+pub unhidden : (held : Held) (dir : ℕ) (name path : Text) → IsWhole held → is_name name ≡ true → MayHold held dir name → number_at held path ≡ Some dir → is_within (join root hidden) (join path name) ≡ true → ⊥
+unhidden held dir name path whole named may at h = elim (within-join (join root hidden) path name hidden-back (whole.canonical path dir at) named h) [
   | inl same ↦
       let at_root : path ≡ root = sym (parent-join path name (whole.canonical path dir at) named) ∙ ap parent same ∙ hidden_parent in
-      free.seen (same_number dir top at (ap (number_at held) at_root ∙ whole.root_at)) (name_at_root name (ap (λ (t : Text). join t name) (sym at_root) ∙ same))
+      may.seen (same_number dir top at (ap (number_at held) at_root ∙ whole.root_at)) (name_at_root name (ap (λ (t : Text). join t name) (sym at_root) ∙ same))
   | inr within ↦ none_some (whole.unseen path within) at
 ]
 
 -- a name in a directory may come to stand for a new node
-pub name-open : (held : Held) (dir : ℕ) (name path : Text) (it : Entry) → IsWhole held → is_name name ≡ true → IsFree held dir name → path_of held dir ≡ Some path → IsOpen (with_node held it) (join path name) (length held.nodes)
+pub name-open : (held : Held) (dir : ℕ) (name path : Text) (it : Entry) → IsWhole held → is_name name ≡ true → MayHold held dir name → child held dir name ≡ None → path_of held dir ≡ Some path → IsOpen (with_node held it) (join path name) (length held.nodes)
 unfolding child
-name-open held dir name path it whole named free at =
+name-open held dir name path it whole named may absent at =
     let stands = path_stands held dir path at in
     let canon = whole.canonical path dir stands in
     record {
       is_path = join-canonical path name canon named;
-      absent = ap (option_and_then (λ p. number_at held (join p name))) (sym at) ∙ free.absent;
-      placed = record { up = dir; stands = ap (number_at held) (parent-join path name canon named) ∙ stands; in_dir = kept_dir held.nodes it dir free.in_dir };
-      seen = unhidden held dir name path whole named free stands;
+      absent = ap (option_and_then (λ p. number_at held (join p name))) (sym at) ∙ absent;
+      placed = record { up = dir; stands = ap (number_at held) (parent-join path name canon named) ∙ stands; in_dir = kept_dir held.nodes it dir may.in_dir };
+      seen = unhidden held dir name path whole named may stands;
       has_node = (it, get-last held.nodes it);
       nowhere = λ d q on. new_nowhere held whole q _ refl on;
     }
 
-pub added-whole : (held : Held) (dir : ℕ) (name : Text) (it : Entry) → IsWhole held → is_name name ≡ true → IsFree held dir name → IsFit it → IsWhole (added held dir name it)
-added-whole held dir name it whole named free fits = elim (path_of held dir) as (λ (o : Option Text). path_of held dir ≡ o → IsWhole (record { paths = with_path o (λ path. insert held.paths (join path name) (length held.nodes)) held.paths; nodes = held.nodes ++ it ∷ [] })) [
+pub added-whole : (held : Held) (dir : ℕ) (name : Text) (it : Entry) → IsWhole held → is_name name ≡ true → MayHold held dir name → child held dir name ≡ None → IsFit it → IsWhole (added held dir name it)
+unfolding added linked
+added-whole held dir name it whole named may absent fits = elim (path_of held dir) as (λ (o : Option Text). path_of held dir ≡ o → IsWhole (record { paths = with_path o (λ path. insert held.paths (join path name) (length held.nodes)) held.paths; nodes = held.nodes ++ it ∷ [] })) [
   | None ↦ λ at. more-whole held it whole fits
-  | Some path ↦ λ at. opened-whole (with_node held it) (join path name) (length held.nodes) (more-whole held it whole fits) (name-open held dir name path it whole named free at)
+  | Some path ↦ λ at. opened-whole (with_node held it) (join path name) (length held.nodes) (more-whole held it whole fits) (name-open held dir name path it whole named may absent at)
 ] refl
 
--- Other bytes.
+-- A node under one name more.
+
+pub linked-whole : (held : Held) (dir : ℕ) (name : Text) (n : ℕ) (it : Entry) → IsWhole held → is_name name ≡ true → MayHold held dir name → child held dir name ≡ None → node held n ≡ Some it → is_dir (node held n) ≡ false → IsWhole (linked held dir name n)
+unfolding linked child
+linked-whole held dir name n it whole named may absent is file = elim (path_of held dir) as (λ (o : Option Text). path_of held dir ≡ o → IsWhole (record held { paths = with_path o (λ path. insert held.paths (join path name) n) held.paths })) [
+  | None ↦ λ at. whole
+  | Some path ↦ λ at.
+      let stands = path_stands held dir path at in
+      let canon = whole.canonical path dir stands in
+      opened-whole held (join path name) n whole (record {
+        is_path = join-canonical path name canon named;
+        absent = ap (option_and_then (λ p. number_at held (join p name))) (sym at) ∙ absent;
+        placed = record { up = dir; stands = ap (number_at held) (parent-join path name canon named) ∙ stands; in_dir = may.in_dir };
+        seen = unhidden held dir name path whole named may stands;
+        has_node = (it, is);
+        nowhere = λ d q on. clash _ d file;
+      })
+] refl
+
+-- Other nodes.
 
 pub set_cases : (xs : List Entry) (n : ℕ) (old new : Entry) → slice_get xs n ≡ Some old → (k : ℕ) → ((k ≡ n) × (slice_get (slice_set xs n new) k ≡ Some new)) ⊎ (slice_get (slice_set xs n new) k ≡ slice_get xs k)
 set_cases [] n old new at k = cc
@@ -245,18 +265,29 @@ set-whole held n old new whole at alike fits =
       ];
     }
 
-alike_replaced : (bytes : List ℕ) (it : Entry) → is_dir (Some (replaced bytes it)) ≡ is_dir (Some it)
+pub alike_replaced : (bytes : List ℕ) (it : Entry) → is_dir (Some (replaced bytes it)) ≡ is_dir (Some it)
 alike_replaced bytes (File mode old) = refl
 alike_replaced bytes (Dir mode) = refl
 alike_replaced bytes (Link text) = refl
 
-fit_replaced : (bytes : List ℕ) (it : Entry) → IsFit it → IsFit (replaced bytes it)
+pub alike_mode : (mode : ℕ) (it : Entry) → is_dir (Some (with_mode mode it)) ≡ is_dir (Some it)
+alike_mode mode (File old bytes) = refl
+alike_mode mode (Dir old) = refl
+alike_mode mode (Link text) = refl
+
+pub fit_replaced : (bytes : List ℕ) (it : Entry) → IsFit it → IsFit (replaced bytes it)
 fit_replaced bytes (File mode old) h = h
 fit_replaced bytes (Dir mode) h = h
 fit_replaced bytes (Link text) h = h
 
-pub bytes-whole : (held : Held) (n : ℕ) (bytes : List ℕ) → IsWhole held → IsWhole (set_bytes held n bytes)
-bytes-whole held n bytes whole = elim (node held n) as (λ (o : Option Entry). node held n ≡ o → IsWhole (record held { nodes = replaced_at held.nodes n bytes o })) [
+pub fit_mode : (mode : ℕ) (it : Entry) → mode ≤ 511 → IsFit it → IsFit (with_mode mode it)
+fit_mode mode (File old bytes) m h = m
+fit_mode mode (Dir old) m h = m
+fit_mode mode (Link text) m h = h
+
+-- a node that becomes another of its kind
+pub changed-whole : (held : Held) (n : ℕ) (f : Entry → Entry) → ((it : Entry) → is_dir (Some (f it)) ≡ is_dir (Some it)) → ((it : Entry) → IsFit it → IsFit (f it)) → IsWhole held → IsWhole (change_node held n f)
+changed-whole held n f alike fits whole = elim (node held n) as (λ (o : Option Entry). node held n ≡ o → IsWhole (record held { nodes = changed_at f held.nodes n o })) [
   | None ↦ λ at. whole
-  | Some it ↦ λ at. set-whole held n it (replaced bytes it) whole at (alike_replaced bytes it) (fit_replaced bytes it (whole.fit n it at))
+  | Some it ↦ λ at. set-whole held n it (f it) whole at (alike it) (fits it (whole.fit n it at))
 ] refl

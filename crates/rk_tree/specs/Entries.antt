@@ -4,8 +4,8 @@ use Rattle.std.specs.List.{list_any}
 use Rattle.std.specs.FinMap.{FinMap, get}
 use Rattle.rk_base.specs.Text.{Text, text_cmp, root, parent, join, hidden, is_within}
 use Rattle.rk_base.specs.Canonical.{is_canonical}
-use Rattle.rk_tree.specs.declared.entry.Kind.{Kind}
-use Rattle.rk_tree.specs.declared.entry.Kind.TheVariants as kind
+use Rattle.rk_base.specs.declared.kind.Kind.{Kind}
+use Rattle.rk_base.specs.declared.kind.Kind.TheVariants as kind
 use Rattle.rk_tree.specs.declared.entry.Entry.{Entry}
 use Rattle.rk_tree.specs.declared.entry.Entry.TheVariants.{File, Dir, Link}
 

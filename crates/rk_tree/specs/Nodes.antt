@@ -1,11 +1,11 @@
 -- The nodes as the code keeps them: with each directory its path.
-use Rattle.std.specs.Prelude.{◌≡◌, ℕ, List, true, map, Option, Some, None, slice_get, slice_set}
-use Rattle.rk_base.specs.Text.{Text}
+use Rattle.std.specs.Prelude.{◌≡◌, ℕ, List, [], ◌∷◌, true, if◌then◌else◌, map, Option, Some, None, slice_get, slice_set}
+use Rattle.rk_base.specs.Text.{Text, same_text, moved}
 use Rattle.rk_tree.specs.declared.entry.Entry.{Entry}
 use Rattle.rk_tree.specs.declared.entry.Entry.TheVariants.{File, Dir, Link}
 use Rattle.rk_tree.specs.declared.node.Node.{Node}
 use Rattle.rk_tree.specs.Entries.{is_dir}
-use Rattle.rk_tree.specs.Held.{Held, Paths, number_at, replaced}
+use Rattle.rk_tree.specs.Held.{Held, Paths, number_at}
 
 abbrev pub entries_of : List Node → List Entry
 entries_of nodes = map (λ n. n.entry) nodes
@@ -40,6 +40,26 @@ lost it = record { entry = it; home = None }
 abbrev pub placed_rows : List (Text × Entry) → List Node
 placed_rows rows = map (λ row. placed row.0 row.1) rows
 
-abbrev pub with_bytes : List Node → ℕ → List ℕ → Option Node → List Node
-with_bytes nodes n bytes None = nodes
-with_bytes nodes n bytes (Some it) = slice_set nodes n (record it { entry = replaced bytes it.entry })
+-- the node of this number, if there is one, becomes another, at its path
+abbrev pub changed_node : (Entry → Entry) → List Node → ℕ → Option Node → List Node
+changed_node f nodes n None = nodes
+changed_node f nodes n (Some it) = slice_set nodes n (record it { entry = f it.entry })
+
+-- the node of this number, if there is one, gets another path, or none
+abbrev pub with_home : Option Text → List Node → ℕ → Option Node → List Node
+with_home home nodes n None = nodes
+with_home home nodes n (Some it) = slice_set nodes n (record it { home = home })
+
+-- the first nodes get these paths
+abbrev pub with_homes : List Node → List (Option Text) → List Node
+with_homes nodes [] = nodes
+with_homes [] (home ∷ homes) = []
+with_homes (it ∷ nodes) (home ∷ homes) = record it { home = home } ∷ with_homes nodes homes
+
+-- the path of a node after all within `from` has gone to `to`; what stood at `to` has none
+abbrev pub moved_home : Text → Text → Option Text → Option Text
+moved_home from to None = None
+moved_home from to (Some path) = if same_text path to then None else Some (moved from to path)
+
+abbrev pub moved_homes : Text → Text → List Node → List (Option Text)
+moved_homes from to nodes = map (λ node. moved_home from to node.home) nodes

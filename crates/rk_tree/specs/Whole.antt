@@ -3,7 +3,7 @@ use Rattle.std.specs.Prelude.{◌≡◌, ℕ, true, Some, None}
 use Rattle.rk_base.specs.Text.{Text, root, parent, join, hidden, is_within}
 use Rattle.rk_base.specs.Canonical.{is_canonical}
 use Rattle.rk_tree.specs.Entries.{is_dir, IsFit}
-use Rattle.rk_tree.specs.Held.{Held, top, node, number_at, child}
+use Rattle.rk_tree.specs.Held.{Held, top, node, number_at}
 use Rattle.rk_tree.specs.declared.entry.Entry.{Entry}
 
 -- a path stands in a directory, by its parent's path
@@ -27,8 +27,7 @@ pub record IsWhole (held : Held) : Type 0 where
   -- modes and link texts
   pub fit : (n : ℕ) (it : Entry) → node held n ≡ Some it → IsFit it
 
--- a directory in which this name stands for nothing, and may stand for something
-pub record IsFree (held : Held) (dir : ℕ) (name : Text) : Type 0 where
+-- a directory in which this name may stand for something
+pub record MayHold (held : Held) (dir : ℕ) (name : Text) : Type 0 where
   pub in_dir : is_dir (node held dir) ≡ true
-  pub absent : child held dir name ≡ None
   pub seen : dir ≡ top → name ≡ hidden → ⊥

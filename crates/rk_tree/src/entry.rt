@@ -2,15 +2,7 @@
 ghost use Rattle.std.specs.Prelude.{◌≡◌, ◌↔◌, IsTrue, IfOk};
 ghost use Rattle.rk_tree.specs.Entries.{kind_of};
 
-use rk_base::{Bytes, NoMemory};
-
-/// A kind of node.
-#[derive(Clone, Copy, Debug)]
-pub enum Kind {
-    File,
-    Dir,
-    Link,
-}
+use rk_base::{Bytes, Kind, NoMemory};
 
 /// What stands at a path: a file with its mode and bytes, a directory with its mode, or a symbolic
 /// link with its text. It is a node of a tree and an entry of a snapshot.

@@ -4,13 +4,17 @@
 mod compare;
 mod copies;
 mod entry;
+mod listing;
+mod moving;
 mod node;
+mod refused;
 mod rows;
 mod snapshot;
 #[cfg(test)]
 mod tests;
 mod tree;
 
-pub use entry::{Entry, Kind};
+pub use entry::Entry;
+pub use refused::Refused;
 pub use snapshot::Snapshot;
 pub use tree::Tree;

@@ -3,7 +3,7 @@ ghost use Rattle.std.specs.Prelude.{◌≡◌, ◌++◌, ◌∷◌, [], IfOk, On
 ghost use Rattle.std.specs.Option.{option_and_then};
 ghost use Rattle.std.specs.FinMap.{get, insert};
 ghost use Rattle.rk_tree.specs.Held as held;
-ghost use Rattle.rk_tree.specs.Nodes.{entries_of, home_of, lost, placed, with_bytes};
+ghost use Rattle.rk_tree.specs.Nodes.{changed_node, entries_of, home_of, lost, placed, with_home};
 
 use crate::Entry;
 use crate::rows::Rows;
@@ -98,7 +98,7 @@ pub(crate) fn add_at(
 
 /// Replaces the bytes of a file; any other node stays as it is.
 pub(crate) fn replace_bytes(nodes: &mut Vec<Node>, n: usize, bytes: Bytes)
-    ensures { nodes.new.items ≡ with_bytes nodes.old.items n bytes (slice_get nodes.old.items n) }
+    ensures { nodes.new.items ≡ changed_node (held.replaced bytes) nodes.old.items n (slice_get nodes.old.items n) }
 {
     match nodes.get_mut(n) {
         None => {}
@@ -111,5 +111,35 @@ fn put_bytes(it: &mut Entry, bytes: Bytes)
 {
     if let Entry::File(_, old) = it {
         *old = bytes;
+    }
+}
+
+/// Replaces the mode of a file or a directory; a link stays as it is.
+pub(crate) fn replace_mode(nodes: &mut Vec<Node>, n: usize, mode: u16)
+    ensures { nodes.new.items ≡ changed_node (held.with_mode mode) nodes.old.items n (slice_get nodes.old.items n) }
+{
+    match nodes.get_mut(n) {
+        None => {}
+        Some(node) => put_mode(&mut node.entry, mode),
+    }
+}
+
+fn put_mode(it: &mut Entry, mode: u16)
+    ensures { it.new ≡ held.with_mode mode it.old }
+{
+    match it {
+        Entry::File(old, _) => *old = mode,
+        Entry::Dir(old) => *old = mode,
+        Entry::Link(_) => {}
+    }
+}
+
+/// A node gets another path, or none.
+pub(crate) fn put_home(nodes: &mut Vec<Node>, n: usize, home: Option<Path>)
+    ensures { nodes.new.items ≡ with_home home nodes.old.items n (slice_get nodes.old.items n) }
+{
+    match nodes.get_mut(n) {
+        None => {}
+        Some(node) => node.home = home,
     }
 }

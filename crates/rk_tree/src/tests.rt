@@ -1,6 +1,9 @@
 // What no clause says: that the calls which take memory succeed where there is enough.
-use crate::{Entry, Snapshot, Tree};
-use rk_base::{Bytes, NoMemory, Path, PathFault};
+ghost use Rattle.std.specs.Prelude.{IsTrue};
+ghost use Rattle.rk_tree.specs.Whole.{MayHold};
+
+use crate::{Entry, Refused, Snapshot, Tree};
+use rk_base::{Bytes, Errno, Name, NoMemory, Path, PathFault};
 use std::alloc::Global;
 use std::test::Fail;
 
@@ -58,5 +61,163 @@ fn roots(rt: HostRuntime) -> Result<(), Fail> {
     assert_eq!(rt; tree.child(0, b"g"), None);
     assert_eq!(rt; tree.parent(0), Some(0));
     assert_eq!(rt; tree.bytes(0).len(), 0);
+    Ok(())
+}
+
+fn name(alloc: Global, text: &[u8]) -> Result<Name, NoMemory> {
+    match Name::new(alloc, text) {
+        Ok(name) => Ok(name),
+        Err(_) => Err(NoMemory),
+    }
+}
+
+// The name, which isn't the hidden one, in a directory.
+fn may_hold(tree: &Tree, dir: usize, name: &Name) -> bool
+    ensures { IsTrue result → MayHold tree.now dir name.now }
+{
+    let text = name.as_slice();
+    tree.is_dir(dir) && text != b".rkr".as_slice()
+}
+
+fn adds(tree: &mut Tree, dir: usize, name: &Name, it: Entry) -> Option<usize> {
+    if !may_hold(tree, dir, name) {
+        return None;
+    }
+    match tree.add(dir, name, it) {
+        Ok(n) => Some(n),
+        Err(_) => None,
+    }
+}
+
+fn links(tree: &mut Tree, dir: usize, name: &Name, n: usize) -> Option<()> {
+    if !may_hold(tree, dir, name) {
+        return None;
+    }
+    match tree.link(dir, name, n) {
+        Ok(()) => Some(()),
+        Err(_) => None,
+    }
+}
+
+// The root with a directory `d` (node 1), in which a file `f` (node 2) stands.
+fn grown(alloc: Global) -> Result<Option<Tree>, NoMemory> {
+    let mut tree = Tree::new(alloc)?;
+    let d = name(alloc, b"d")?;
+    let f = name(alloc, b"f")?;
+    let one = Bytes::from_slice(alloc, b"1\n")?;
+    if adds(&mut tree, 0, &d, Entry::Dir(0o755)).is_none() {
+        return Ok(None);
+    }
+    if adds(&mut tree, 1, &f, Entry::File(0o644, one)).is_none() {
+        return Ok(None);
+    }
+    Ok(Some(tree))
+}
+
+#[test]
+fn additions(rt: HostRuntime) -> Result<(), Fail> {
+    let alloc = rt.alloc();
+    let tree = grown(alloc)?.ok_or("no tree")?;
+    let shown = tree.snapshot()?;
+    assert_eq!(rt; shown.len(), 3);
+    assert_eq!(rt; tree.mode(2), 0o644);
+    Ok(())
+}
+
+#[test]
+fn hard_links(rt: HostRuntime) -> Result<(), Fail> {
+    let alloc = rt.alloc();
+    let mut tree = grown(alloc)?.ok_or("no tree")?;
+    let g = name(alloc, b"g")?;
+    links(&mut tree, 0, &g, 2).ok_or("no link")?;
+    tree.set_bytes(2, Bytes::from_slice(alloc, b"two")?);
+    let shown = tree.snapshot()?;
+    let at = path(alloc, b"/g")?;
+    let it = shown.get(&at).ok_or("no file")?;
+    let want = Entry::File(0o644, Bytes::from_slice(alloc, b"two")?);
+    assert!(rt; it.same(&want));
+    Ok(())
+}
+
+#[test]
+fn removals(rt: HostRuntime) -> Result<(), Fail> {
+    let alloc = rt.alloc();
+    let mut tree = grown(alloc)?.ok_or("no tree")?;
+    let d = name(alloc, b"d")?;
+    let f = name(alloc, b"f")?;
+    assert!(rt; matches!(tree.remove(0, &d), Err(Refused::No(Errno::NotEmpty))));
+    assert!(rt; tree.remove(1, &f).is_ok());
+    assert!(rt; tree.remove(0, &d).is_ok());
+    assert!(rt; matches!(tree.remove(0, &d), Err(Refused::No(Errno::NoEntry))));
+    assert_eq!(rt; tree.bytes(2).len(), 2);
+    Ok(())
+}
+
+#[test]
+fn modes(rt: HostRuntime) -> Result<(), Fail> {
+    let alloc = rt.alloc();
+    let mut tree = Tree::new(alloc)?;
+    assert!(rt; tree.set_mode(0, 0o555).is_ok());
+    assert_eq!(rt; tree.mode(0), 0o555);
+    assert!(rt; matches!(tree.set_mode(0, 0o1000), Err(Refused::No(Errno::Invalid))));
+    Ok(())
+}
+
+fn renames(tree: &mut Tree, dir: usize, name: &Name, to: usize, new: &Name) -> bool {
+    may_hold(tree, to, new) && tree.rename(dir, name, to, new).is_ok()
+}
+
+fn stands(shown: &Snapshot, alloc: Global, text: &[u8]) -> Result<bool, NoMemory> {
+    let at = path(alloc, text)?;
+    Ok(shown.get(&at).is_some())
+}
+
+// A directory goes, and all below it; then a file goes over another one.
+#[test]
+fn renamings(rt: HostRuntime) -> Result<(), Fail> {
+    let alloc = rt.alloc();
+    let mut tree = grown(alloc)?.ok_or("no tree")?;
+    let d = name(alloc, b"d")?;
+    let e = name(alloc, b"e")?;
+    let f = name(alloc, b"f")?;
+    let g = name(alloc, b"g")?;
+    assert!(rt; renames(&mut tree, 0, &d, 0, &e));
+    let shown = tree.snapshot()?;
+    assert!(rt; stands(&shown, alloc, b"/e/f")?);
+    assert!(rt; !stands(&shown, alloc, b"/d")?);
+    adds(
+        &mut tree,
+        1,
+        &g,
+        Entry::File(0o600, Bytes::from_slice(alloc, b"g")?),
+    )
+    .ok_or("no file")?;
+    assert!(rt; renames(&mut tree, 1, &f, 1, &g));
+    let shown = tree.snapshot()?;
+    assert_eq!(rt; shown.len(), 3);
+    assert_eq!(rt; tree.bytes(3).len(), 1);
+    Ok(())
+}
+
+#[test]
+fn lists(rt: HostRuntime) -> Result<(), Fail> {
+    let alloc = rt.alloc();
+    let mut tree = grown(alloc)?.ok_or("no tree")?;
+    let c = name(alloc, b"c")?;
+    adds(
+        &mut tree,
+        0,
+        &c,
+        Entry::Link(Bytes::from_slice(alloc, b"d")?),
+    )
+    .ok_or("no link")?;
+    if !tree.is_dir(0) {
+        return Err(Fail::from("no root"));
+    }
+    let list = tree.list(0)?;
+    assert_eq!(rt; list.len(), 2);
+    let names = list.as_slice();
+    let first = names.first().ok_or("no name")?;
+    assert!(rt; first.as_slice() == b"c".as_slice());
     Ok(())
 }

@@ -1,17 +1,22 @@
 // The tree of a world.
-ghost use Rattle.std.specs.Prelude.{◌≡◌, slice_get, option_copied, IfOk, OnOk, OnErr, length, true, [], ◌∷◌};
+ghost use Rattle.std.specs.Prelude.{◌≡◌, slice_get, option_copied, IfOk, true, Some, [], ◌∷◌};
 ghost use Rattle.std.specs.FinMap.{empty, insert};
 ghost use Rattle.rk_base.specs.Text.{root};
 ghost use Rattle.rk_tree.specs.Copies.{snapshot_of, tree_of};
-ghost use Rattle.rk_tree.specs.Entries.{is_dir, IsFit, IsWholeSnapshot};
+ghost use Rattle.rk_tree.specs.Entries.{is_dir, IsWholeSnapshot};
 ghost use Rattle.rk_tree.specs.Held as held;
-ghost use Rattle.rk_tree.specs.Whole.{IsFree, IsWhole};
+ghost use Rattle.rk_tree.specs.Whole.{IsWhole};
 ghost use Rattle.rk_tree.specs.declared.entry.Entry.TheVariants.{Dir};
 
-use crate::node::{Node, add_at, entry_at, home_at, replace_bytes};
+mod changing;
+mod refusing;
+mod renaming;
+
+use crate::listing::names_in;
+use crate::node::{Node, entry_at, home_at, replace_bytes};
 use crate::rows::Rows;
 use crate::{Entry, Snapshot, copies};
-use rk_base::{Bytes, Name, NoMemory, Path};
+use rk_base::{Bytes, Name, NameList, NoMemory, Path};
 use std::alloc::Global;
 use std::marker::Model;
 
@@ -98,8 +103,8 @@ impl Tree {
         }
     }
 
-    // The path of a directory.
-    fn home(&self, dir: usize) -> Option<&Path>
+    /// The path of a directory; `None` for a directory that was removed.
+    pub fn home(&self, dir: usize) -> Option<&Path>
         requires { is_dir (held.node self.now dir) ≡ true }
         ensures { option_copied result ≡ held.path_of self.now dir }
     {
@@ -129,6 +134,47 @@ impl Tree {
         }
     }
 
+    // The names of a directory that stands at this path. Only those of the root are taken from all rows.
+    fn names_at(&self, path: &Path) -> Result<Vec<Name>, NoMemory>
+        ensures { IfOk result (λ names. names.items ≡ held.names_at self.now.paths (Some path.now)) }
+    {
+        let _root = self.node(0);
+        let alloc = *self.nodes.allocator();
+        if path.is_root() {
+            let names = names_in(alloc, self.rows.as_slice(), path)?;
+            Ok(names)
+        } else {
+            let names = names_in(alloc, self.rows.below(path.text()), path)?;
+            Ok(names)
+        }
+    }
+
+    fn names(&self, dir: usize) -> Result<Vec<Name>, NoMemory>
+        requires { is_dir (held.node self.now dir) ≡ true }
+        ensures { IfOk result (λ names. names.items ≡ held.names self.now dir) }
+    {
+        match self.home(dir) {
+            None => Ok(Vec::new(*self.nodes.allocator())),
+            Some(path) => {
+                let names = self.names_at(path)?;
+                Ok(names)
+            }
+        }
+    }
+
+    /// The names in a directory, ascending. It goes over the rows below the directory.
+    pub fn list(&self, dir: usize) -> Result<NameList, NoMemory>
+        requires { is_dir (held.node self.now dir) ≡ true }
+        ensures { IfOk result (λ list. list ≡ held.names self.now dir) }
+    {
+        let _root = self.node(0);
+        let names = self.names(dir)?;
+        match NameList::from_vec(names) {
+            None => unreachable!(),
+            Some(list) => Ok(list),
+        }
+    }
+
     /// Each path with what stands there. It is whole.
     pub fn snapshot(&self) -> Result<Snapshot, NoMemory>
         ensures snapshot { IfOk result (λ s. s ≡ snapshot_of self.now) }
@@ -151,29 +197,6 @@ impl Tree {
     {
         let (rows, nodes) = copies::rows_of(alloc, snapshot)?;
         Ok(Tree { rows, nodes })
-    }
-
-    /// A new node under a name in a directory, by its number.
-    pub fn add(&mut self, dir: usize, name: &Name, it: Entry) -> Result<usize, NoMemory>
-        requires free { IsFree self.old dir name.now }
-        requires fit { IsFit it }
-        ensures number { IfOk result (λ n. n ≡ length self.old.nodes) }
-        ensures added { OnOk result (self.new ≡ held.added self.old dir name.now it) }
-        ensures err { OnErr result (self.new ≡ self.old) }
-    {
-        let _name = name.as_slice();
-        match self.home(dir) {
-            Some(path) => {
-                let path = path.join(*self.nodes.allocator(), name)?;
-                let n = add_at(&mut self.rows, &mut self.nodes, path, it)?;
-                Ok(n)
-            }
-            None => {
-                let n = self.nodes.len();
-                self.nodes.push(Node::lost(it))?;
-                Ok(n)
-            }
-        }
     }
 
     /// A file's bytes are replaced; any other node stays as it is.

@@ -5,7 +5,7 @@ use Rattle.rk_base.specs.Text.{Text, is_slash, same_text, hidden, dot, dot_dot}
 use Rattle.rk_base.specs.Canonical.{is_empty, is_name}
 use Rattle.rk_tree.specs.Entries.{is_dir, is_nul}
 use Rattle.rk_tree.specs.Held.{Held, top, node, mode_of, has_x, child, parent_of}
-use Rattle.rk_tree.specs.Whole.{IsFree}
+use Rattle.rk_tree.specs.Whole.{MayHold}
 use Rattle.rk_tree.specs.declared.entry.Entry.{Entry}
 use Rattle.rk_tree.specs.declared.entry.Entry.TheVariants.{File, Dir, Link}
 use Rattle.rk_walk.specs.declared.step.Step.{Step}
@@ -112,10 +112,15 @@ abbrev pub resolve : Held → Text → Bool → Spot
 resolve held [] follow = Err NoEntry
 resolve held (b ∷ bs) follow = if not (is_slash b) || has_nul (b ∷ bs) then Err Invalid else leads 32 held follow top (b ∷ bs) []
 
--- where a place is absent, its name may be added there
+-- a directory that a path led through, and the name that it met there
+abbrev pub MayHoldUp : Held → Option (ℕ × Text) → Type 0
+MayHoldUp held None = Unit {0}
+MayHoldUp held (Some up) = MayHold held up.0 up.1
+
+-- the name of a place may stand for something in its directory
 abbrev pub IsFreePlace : Held → Place → Type 0
-IsFreePlace held (Found here) = Unit {0}
-IsFreePlace held (Absent dir name slash) = IsFree held dir name
+IsFreePlace held (Found here) = MayHoldUp held here.up
+IsFreePlace held (Absent dir name slash) = MayHold held dir name
 
 -- the texts that are left, the last one first
 abbrev pub joined : List Text → Text

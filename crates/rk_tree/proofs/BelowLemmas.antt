@@ -1,0 +1,244 @@
+-- What stands below a path.
+use Rattle.std.proofs.Common.{◌≡◌, ℕ, zero, suc, List, [], ◌∷◌, ◌++◌, Bool, true, false, cond, not, eqb, ◌⊎◌, inl, inr, Option, Some, None, refl, sym, ap, ◌∙◌}
+use Rattle.std.specs.Prelude.{IfSome, slice_get}
+use Rattle.std.specs.Option.{option_and_then}
+use Rattle.std.proofs.lemmas.List.{append_assoc}
+use Rattle.std.specs.List.{cons_option, filter_map, list_any}
+use Rattle.std.specs.FinMap.{entries, entries_sorted, find, get-entries}
+use Rattle.rk_base.specs.Text.{Text, text_cmp, root, is_root, parent, name_of, join, begins_with, is_in, is_within}
+use Rattle.rk_base.specs.Canonical.{is_empty, is_name, is_canonical}
+use Rattle.rk_base.proofs.CanonicalLemmas.{both, either}
+use Rattle.rk_base.proofs.PathLemmas.{path-is_cut, parent-join, is_in-join, join-is_in, join-not_root}
+use Rattle.rk_base.proofs.WithinLemmas.{one_of, by_steps, begins-front, below-within, within-down, within-itself, stem-below, is_the_root}
+use Rattle.rk_tree.specs.Entries.{is_dir}
+use Rattle.rk_tree.specs.declared.node.Node.{Node}
+use Rattle.rk_tree.specs.Moves.{IsBare}
+use Rattle.rk_tree.specs.Nodes.{held_by}
+use Rattle.rk_tree.specs.Rows.{is_row_below}
+use Rattle.rk_tree.specs.Held.{Held, Paths, top, node, number_at, path_of, child, names, names_at, name_in}
+use Rattle.rk_tree.specs.Whole.{IsWhole}
+use Rattle.rk_tree.proofs.HeldLemmas.{home-path, path_stands}
+use Rattle.rk_tree.proofs.SearchLemmas.{place_found}
+use Rattle.rk_tree.proofs.TextLemmas.{told_apart, parent-root}
+
+clash : (b : Bool) → b ≡ true → b ≡ false → ⊥
+clash b t f = cc
+
+pub none_some : {A : Type 0} {x : A} {o : Option A} → o ≡ None → o ≡ Some x → ⊥
+none_some n s = cc
+
+pub same_number : {o : Option ℕ} (a b : ℕ) → o ≡ Some a → o ≡ Some b → a ≡ b
+same_number a b p q = cc
+
+-- what stands is among the rows
+pub find_place : (rows : List (Text × ℕ)) (path : Text) (n : ℕ) → find text_cmp path rows ≡ Some n → (i : ℕ) × (slice_get rows i ≡ Some (path, n))
+find_place [] path n at = absurd (none_some refl at)
+find_place (row ∷ rows) path n at = elim (told_apart path row.0) [
+  | inl same ↦ (0, ap (λ (t : Text). Some (t, row.1)) (sym same.0) ∙ ap (λ (k : ℕ). Some (path, k)) (same_number {o = Some n} row.1 n (sym at ∙ ap (λ (b : Bool). cond b (Some row.1) (find text_cmp path rows)) same.1) refl))
+  | inr apart ↦
+      let later = find_place rows path n (sym (ap (λ (b : Bool). cond b (Some row.1) (find text_cmp path rows)) apart.1) ∙ at) in
+      (suc later.0, later.1)
+]
+
+pub row_of : (held : Held) (path : Text) (n : ℕ) → number_at held path ≡ Some n → (i : ℕ) × (slice_get (entries held.paths) i ≡ Some (path, n))
+row_of held path n at = find_place (entries held.paths) path n (sym (get-entries held.paths path) ∙ at)
+
+same_row : {o : Option (Text × ℕ)} (a b : Text × ℕ) → o ≡ Some a → o ≡ Some b → a ≡ b
+same_row a b p q = cc
+
+filled : (o : Option Text) (x : Text) (xs : List Text) → o ≡ Some x → cons_option o xs ≡ [] → ⊥
+filled None x xs e n = cc
+filled (Some y) x xs e n = cc
+
+unfilled : (o : Option Text) (xs : List Text) → cons_option o xs ≡ [] → xs ≡ []
+unfilled None xs n = n
+unfilled (Some y) xs n = cc
+
+-- what is taken is there
+taken_there : (f : Text × ℕ → Option Text) (rows : List (Text × ℕ)) (i : ℕ) (row : Text × ℕ) (x : Text) → slice_get rows i ≡ Some row → f row ≡ Some x → filter_map f rows ≡ [] → ⊥
+taken_there f [] i row x at is none = none_some refl at
+taken_there f (r ∷ rows) zero row x at is none = filled (f r) x (filter_map f rows) (ap f (same_row r row refl at) ∙ is) none
+taken_there f (r ∷ rows) (suc i) row x at is none = taken_there f rows i row x at is (unfilled (f r) (filter_map f rows) none)
+
+pub dir_path : (held : Held) (path : Text) (n : ℕ) → IsWhole held → number_at held path ≡ Some n → is_dir (node held n) ≡ true → path_of held n ≡ Some path
+dir_path held path n whole at d = sym (home-path held n (Some path) whole d at)
+
+pub names-at : (held : Held) (path : Text) (n : ℕ) → IsWhole held → number_at held path ≡ Some n → is_dir (node held n) ≡ true → names held n ≡ filter_map (name_in path) (entries held.paths)
+unfolding names
+names-at held path n whole at d = ap (names_at held.paths) (dir_path held path n whole at d)
+
+-- a name that stands for something is among the names
+pub named_there : (held : Held) (path name : Text) (n k : ℕ) → IsWhole held → number_at held path ≡ Some n → is_dir (node held n) ≡ true → is_name name ≡ true → number_at held (join path name) ≡ Some k → names held n ≡ [] → ⊥
+named_there held path name n k whole at d named there none =
+    let row = row_of held (join path name) k there in
+    taken_there (name_in path) (entries held.paths) row.0 (join path name, k) (name_of (join path name)) row.1
+    (ap (λ (b : Bool). cond b (Some (name_of (join path name))) None) (is_in-join path name (whole.canonical path n at) named)) (sym (names-at held path n whole at d) ∙ none)
+
+module _ (held : Held) (whole : IsWhole held) (above : Text) (c : is_canonical above ≡ true) (r : is_root above ≡ false) where
+  abbrev StandsOn : Text → Type 0
+  StandsOn path = (n : ℕ) → number_at held path ≡ Some n → (m : ℕ) × (number_at held above ≡ Some m) × ((path ≡ above) ⊎ (is_dir (node held m) ≡ true))
+
+  -- what stands within a path stands in a directory there
+  pub stands_on : (path : Text) → is_canonical path ≡ true → is_within above path ≡ true → StandsOn path
+  stands_on = by_steps StandsOn above c r (λ n at. (n, at, inl refl)) (λ dir name d named h is n at.
+      let p = whole.placed (join dir name) n at in
+      let up_at : number_at held dir ≡ Some p.up = ap (number_at held) (sym (parent-join dir name d named)) ∙ p.stands in
+      let m = is p.up up_at in (
+        m.0,
+        m.1,
+        inr (elim m.2 [
+          | inl same ↦ ap (λ (k : ℕ). is_dir (node held k)) (same_number m.0 p.up m.1 (ap (number_at held) (sym same) ∙ up_at)) ∙ p.in_dir
+          | inr dir ↦ dir
+        ]),
+      ))
+
+  pub bare_absent : number_at held above ≡ None → IsBare held above
+  bare_absent none q h apart = elim (number_at held q) as (λ (o : Option ℕ). number_at held q ≡ o → o ≡ None) [
+    | None ↦ λ at. refl
+    | Some n ↦ λ at. let m = stands_on q (whole.canonical q n at) h n at in absurd (none_some none m.1)
+  ] refl
+
+  pub bare_file : (m : ℕ) → number_at held above ≡ Some m → is_dir (node held m) ≡ false → IsBare held above
+  bare_file m there file q h apart = elim (number_at held q) as (λ (o : Option ℕ). number_at held q ≡ o → o ≡ None) [
+    | None ↦ λ at. refl
+    | Some n ↦ λ at. let k = stands_on q (whole.canonical q n at) h n at in elim k.2 [
+      | inl same ↦ absurd (apart same)
+      | inr dir ↦ absurd (clash _ dir (ap (λ (j : ℕ). is_dir (node held j)) (same_number k.0 m k.1 there) ∙ file))
+    ]
+  ] refl
+
+  pub bare_dir : (m : ℕ) → number_at held above ≡ Some m → is_dir (node held m) ≡ true → names held m ≡ [] → IsBare held above
+  bare_dir m there d none q h apart = elim (number_at held q) as (λ (o : Option ℕ). number_at held q ≡ o → o ≡ None) [
+    | None ↦ λ at. refl
+    | Some n ↦ λ at. elim (by_steps (λ path. (path ≡ above) ⊎ (number_at held path ≡ None)) above c r (inl refl) (λ dir name e named w is. inr (empty dir name e named is)) q (whole.canonical q n at) h) [
+      | inl same ↦ absurd (apart same)
+      | inr nothing ↦ absurd (none_some nothing at)
+    ]
+  ] refl where
+    empty : (dir name : Text) → is_canonical dir ≡ true → is_name name ≡ true → (dir ≡ above) ⊎ (number_at held dir ≡ None) → number_at held (join dir name) ≡ None
+    empty dir name e named is = elim (number_at held (join dir name)) as (λ (o : Option ℕ). number_at held (join dir name) ≡ o → o ≡ None) [
+      | None ↦ λ at. refl
+      | Some k ↦ λ at. elim is [
+        | inl same ↦ absurd (named_there held above name m k whole there d named (ap (λ (t : Text). number_at held (join t name)) (sym same) ∙ at) none)
+        | inr nothing ↦ absurd (none_some nothing (ap (number_at held) (sym (parent-join dir name e named)) ∙ (whole.placed (join dir name) k at).stands))
+      ]
+    ] refl
+
+-- the directory of what stands elsewhere isn't a path below which nothing stands
+pub not_above : (held : Held) (path q : Text) (k : ℕ) → IsWhole held → is_root path ≡ false → IsBare held path → (q ≡ path → ⊥) → number_at held q ≡ Some k → parent q ≡ path → ⊥
+not_above held path q k whole below bare apart at same = elim (is_root q) as (λ (b : Bool). is_root q ≡ b → ⊥) [
+  | true ↦ λ e. clash _ (ap is_root (sym same ∙ ap parent (is_the_root q e) ∙ parent-root)) below
+  | false ↦ λ e.
+      let it = path-is_cut q (whole.canonical q k at) e in
+      none_some (bare q (ap (is_within path) (sym it.whole) ∙ within-down path (parent q) (name_of q) (ap (is_within path) same ∙ within-itself path)) apart) at
+] refl
+
+-- What a name of a directory stands for.
+
+-- where a name stands
+pub child_at : (held : Held) (dir : ℕ) (path name : Text) → path_of held dir ≡ Some path → child held dir name ≡ number_at held (join path name)
+unfolding child
+child_at held dir path name at = ap (λ (o : Option Text). option_and_then (λ p. number_at held (join p name)) o) at
+
+pub child_nowhere : (held : Held) (dir : ℕ) (name : Text) → path_of held dir ≡ None → child held dir name ≡ None
+unfolding child
+child_nowhere held dir name at = ap (λ (o : Option Text). option_and_then (λ p. number_at held (join p name)) o) at
+
+pub child_stands : (held : Held) (dir : ℕ) (name : Text) (n : ℕ) → child held dir name ≡ Some n → (path : Text) × (path_of held dir ≡ Some path) × (number_at held (join path name) ≡ Some n)
+child_stands held dir name n is = elim (path_of held dir) as (λ (o : Option Text). path_of held dir ≡ o → (path : Text) × (path_of held dir ≡ Some path) × (number_at held (join path name) ≡ Some n)) [
+  | None ↦ λ at. absurd (none_some (child_nowhere held dir name at) is)
+  | Some path ↦ λ at. (path, at, sym (child_at held dir path name at) ∙ is)
+] refl
+
+-- only a directory has names
+pub child_dir : (held : Held) (dir : ℕ) (name : Text) (n : ℕ) → IsWhole held → is_name name ≡ true → child held dir name ≡ Some n → is_dir (node held dir) ≡ true
+child_dir held dir name n whole named is =
+    let at = child_stands held dir name n is in
+    let stands = path_stands held dir at.0 at.1 in
+    let p = whole.placed (join at.0 name) n at.2 in
+    ap (λ (k : ℕ). is_dir (node held k)) (same_number dir p.up stands (ap (number_at held) (sym (parent-join at.0 name (whole.canonical at.0 dir stands) named)) ∙ p.stands)) ∙ p.in_dir
+
+pub child_none : (held : Held) (dir : ℕ) (name : Text) → IsWhole held → is_name name ≡ true → is_dir (node held dir) ≡ false → child held dir name ≡ None
+child_none held dir name whole named file = elim (child held dir name) as (λ (o : Option ℕ). child held dir name ≡ o → o ≡ None) [
+  | None ↦ λ is. refl
+  | Some n ↦ λ is. absurd (clash _ (child_dir held dir name n whole named is) file)
+] refl
+
+-- no name stands for the root
+pub child_below : (held : Held) (dir : ℕ) (name : Text) (n : ℕ) → IsWhole held → is_name name ≡ true → child held dir name ≡ Some n → n ≡ top → ⊥
+child_below held dir name n whole named is same =
+    let at = child_stands held dir name n is in
+    clash _ (ap is_root (whole.once (join at.0 name) root top (at.2 ∙ ap (λ (k : ℕ). Some k) same) whole.root_at whole.root_dir)) (join-not_root at.0 name named)
+
+pub some_below : (held : Held) (dir : ℕ) (name : Text) (o : Option ℕ) → IsWhole held → is_name name ≡ true → o ≡ child held dir name → IfSome o (λ n. n ≡ top → ⊥)
+some_below held dir name None whole named is = tt
+some_below held dir name (Some n) whole named is = child_below held dir name n whole named (sym is)
+
+-- Whether names stand in a directory.
+
+none_taken : (f : Text × ℕ → Option Text) (rows : List (Text × ℕ)) → ((i : ℕ) (row : Text × ℕ) → slice_get rows i ≡ Some row → f row ≡ None) → filter_map f rows ≡ []
+none_taken f [] h = refl
+none_taken f (row ∷ rows) h = ap (λ (o : Option Text). cons_option o (filter_map f rows)) (h 0 row refl) ∙ none_taken f rows (λ i. h (suc i))
+
+any_row : (test : Text × ℕ → Bool) (rows : List (Text × ℕ)) → list_any test rows ≡ true → (i : ℕ) × (row : Text × ℕ) × (slice_get rows i ≡ Some row) × (test row ≡ true)
+any_row test [] h = absurd (clash _ h refl)
+any_row test (row ∷ rows) h = elim (one_of (test row) (list_any test rows) h) [
+  | inl here ↦ (0, row, refl, here)
+  | inr later ↦ let r = any_row test rows later in (suc r.0, r.1, r.2, r.3)
+]
+
+no_row : (test : Text × ℕ → Bool) (rows : List (Text × ℕ)) (i : ℕ) (row : Text × ℕ) → list_any test rows ≡ false → slice_get rows i ≡ Some row → test row ≡ false
+no_row test [] i row h at = absurd (none_some refl at)
+no_row test (r ∷ rows) zero row h at = ap test (sym (same_row r row refl at)) ∙ (either (test r) (list_any test rows) h).0
+no_row test (r ∷ rows) (suc i) row h at = no_row test rows i row (either (test r) (list_any test rows) h).1 at
+
+pub row_stands : (held : Held) (i : ℕ) (path : Text) (n : ℕ) → slice_get (entries held.paths) i ≡ Some (path, n) → number_at held path ≡ Some n
+row_stands held i path n at = get-entries held.paths path ∙ place_found (entries held.paths) path i n (entries_sorted held.paths) at
+
+apart_below : (path : Text) → begins_with path (path ++ 47 ∷ []) ≡ true → ⊥
+apart_below [] h = cc
+apart_below (b ∷ bs) h = apart_below bs (both (eqb b b) (begins_with bs (bs ++ 47 ∷ [])) h).1
+
+join-below : (path name : Text) → is_root path ≡ false → begins_with (join path name) (path ++ 47 ∷ []) ≡ true
+unfolding join
+join-below path name r =
+    ap (λ (t : Text). begins_with (t ++ 47 ∷ name) (path ++ 47 ∷ [])) (stem-below path r) ∙ ap (λ (t : Text). begins_with t (path ++ 47 ∷ [])) (sym (append_assoc path (47 ∷ []) name)) ∙ begins-front (path ++ 47 ∷ []) name
+
+filled_so : (xs : List Text) → (xs ≡ [] → ⊥) → true ≡ not (is_empty xs)
+filled_so [] h = absurd (h refl)
+filled_so (x ∷ xs) h = refl
+
+pub no_name : (path : Text) (row : Text × ℕ) → is_root path ≡ false → is_canonical row.0 ≡ true → is_row_below path row ≡ false → name_in path row ≡ None
+no_name path row r c h = elim (is_in path row.0) as (λ (b : Bool). is_in path row.0 ≡ b → cond b (Some (name_of row.0)) None ≡ None) [
+  | true ↦ λ e. absurd (clash _ (ap (λ (t : Text). begins_with t (path ++ 47 ∷ [])) (sym (join-is_in path row.0 c e).0) ∙ join-below path (name_of row.0) r) h)
+  | false ↦ λ e. refl
+] refl
+
+pub names-below : (held : Held) (path : Text) (n : ℕ) → IsWhole held → is_root path ≡ false → number_at held path ≡ Some n → is_dir (node held n) ≡ true → list_any (is_row_below path) (entries held.paths) ≡ not (is_empty (names held n))
+names-below held path n whole r at d = elim (list_any (is_row_below path) (entries held.paths)) as (λ (b : Bool). list_any (is_row_below path) (entries held.paths) ≡ b → b ≡ not (is_empty (names held n))) [
+  | true ↦ λ e.
+      let row = any_row (is_row_below path) (entries held.paths) e in
+      filled_so (names held n) (λ none. none_some
+      (bare_dir held whole path (whole.canonical path n at) r n at d none row.1.0 (below-within path row.1.0 r row.3) (λ same. apart_below path (ap (λ (t : Text). begins_with t (path ++ 47 ∷ [])) (sym same) ∙ row.3)))
+      (row_stands held row.0 row.1.0 row.1.1 row.2))
+  | false ↦ λ e. sym (ap (λ (xs : List Text). not (is_empty xs)) (names-at held path n whole at d ∙ none_taken (name_in path) (entries held.paths) (λ i row on.
+      no_name path row r (whole.canonical row.0 row.1 (row_stands held i row.0 row.1 on)) (no_row (is_row_below path) (entries held.paths) i row e on))))
+] refl
+
+-- only the root's number stands at the root
+pub not_at_root : (held : Held) (path : Text) (n : ℕ) → IsWhole held → number_at held path ≡ Some n → (n ≡ top → ⊥) → is_root path ≡ false
+not_at_root held path n whole at below = elim (is_root path) as (λ (b : Bool). is_root path ≡ b → b ≡ false) [
+  | true ↦ λ e. absurd (below (same_number n top at (ap (number_at held) (is_the_root path e) ∙ whole.root_at)))
+  | false ↦ λ e. refl
+] refl
+
+-- what the code makes of it
+pub told_names : (paths : Paths) (nodes : List Node) (held : Held) (n : ℕ) (path text : Text) (r : Bool) → held_by paths nodes ≡ held → IsWhole held → is_dir (node held n) ≡ true → (n ≡ top → ⊥) → Some path ≡ path_of held n → text ≡ path → r ≡ list_any (is_row_below text) (entries paths) → r ≡ not (is_empty (names held n))
+told_names paths nodes held n path text r is whole d below at named got =
+    let stands = path_stands held n path (sym at) in
+    got ∙ ap (λ (t : Text). list_any (is_row_below t) (entries paths)) named ∙ ap (λ (h : Held). list_any (is_row_below path) (entries h.paths)) is
+    ∙ names-below held path n whole (not_at_root held path n whole stands below) stands d
+
+pub no_names : (held : Held) (n : ℕ) → None ≡ path_of held n → false ≡ not (is_empty (names held n))
+unfolding names
+no_names held n at = ap (λ (o : Option Text). not (is_empty (names_at held.paths o))) at

@@ -1,0 +1,244 @@
+// When a change is refused.
+ghost use Rattle.std.specs.Prelude.{◌≡◌, [], ◌∷◌, IfSome, not, true, Some};
+ghost use Rattle.std.specs.List.{list_any};
+ghost use Rattle.rk_base.specs.Canonical.{is_empty};
+ghost use Rattle.rk_base.specs.declared.errno.Errno.TheVariants.{Exists, Denied};
+ghost use Rattle.rk_tree.specs.Entries.{is_dir, is_nul};
+ghost use Rattle.rk_tree.specs.Held as held;
+ghost use Rattle.rk_tree.specs.Refusals as refusals;
+
+use crate::{Entry, Tree};
+use rk_base::{Errno, Name};
+
+fn has_nul(text: &[u8]) -> bool
+    ensures { result ≡ list_any is_nul text.now }
+{
+    text.iter().any(|b| *b == 0)
+}
+
+fn has_w(mode: u16) -> bool
+    ensures { result ≡ held.has_w mode }
+{
+    mode / 128 % 2 == 1
+}
+
+fn mode_refusal(mode: u16) -> Option<Errno>
+    ensures { result ≡ refusals.first_of (refusals.mode_checks mode) }
+{
+    if mode > 0o777 {
+        Some(Errno::Invalid)
+    } else {
+        None
+    }
+}
+
+// What no node may be.
+fn entry_refusal(it: &Entry) -> Option<Errno>
+    ensures { result ≡ refusals.first_of (refusals.entry_checks it.now) }
+{
+    match it {
+        Entry::File(mode, _) => mode_refusal(*mode),
+        Entry::Dir(mode) => mode_refusal(*mode),
+        Entry::Link(text) => {
+            if text.is_empty() {
+                Some(Errno::NoEntry)
+            } else if has_nul(text.as_slice()) {
+                Some(Errno::Invalid)
+            } else {
+                None
+            }
+        }
+    }
+}
+
+impl Tree {
+    // What a name of a directory stands for; only a directory has names, and none of them stands for the root.
+    pub(super) fn found(&self, dir: usize, name: &Name) -> Option<usize>
+        ensures found { result ≡ held.child self.now dir name.now }
+        ensures in_dir { IfSome result (λ n. is_dir (held.node self.now dir) ≡ true) }
+        ensures below { IfSome result (λ n. n ≡ held.top → ⊥) }
+    {
+        let _root = self.node(0);
+        let bytes = name.as_slice();
+        if self.is_dir(dir) {
+            self.child(dir, bytes)
+        } else {
+            None
+        }
+    }
+
+    // Whether names stand in a directory, which isn't the root.
+    fn has_below(&self, dir: usize) -> bool
+        requires in_dir { is_dir (held.node self.now dir) ≡ true }
+        requires below { dir ≡ held.top → ⊥ }
+        ensures { result ≡ not (is_empty (held.names self.now dir)) }
+    {
+        let _root = self.node(0);
+        match self.home(dir) {
+            None => false,
+            Some(path) => self.rows.has_below(path.text()),
+        }
+    }
+
+    fn has_names(&self, n: usize) -> bool
+        requires { n ≡ held.top → ⊥ }
+        ensures { result ≡ refusals.has_names self.now n }
+    {
+        self.is_dir(n) && self.has_below(n)
+    }
+
+    fn lacks_w(&self, dir: usize) -> bool
+        ensures { result ≡ refusals.lacks_w self.now dir }
+    {
+        !has_w(self.mode(dir))
+    }
+
+    // A directory gains a name.
+    fn gain_refusal(&self, dir: usize, name: &Name) -> Option<Errno>
+        requires { is_dir (held.node self.now dir) ≡ true }
+        ensures { result ≡ refusals.first_of ((refusals.is_there (held.child self.now dir name.now), Exists) ∷ (refusals.lacks_w self.now dir, Denied) ∷ []) }
+    {
+        match self.child(dir, name.as_slice()) {
+            Some(_) => Some(Errno::Exists),
+            None => {
+                if self.lacks_w(dir) {
+                    Some(Errno::Denied)
+                } else {
+                    None
+                }
+            }
+        }
+    }
+
+    pub(super) fn add_refusal(&self, dir: usize, name: &Name, it: &Entry) -> Option<Errno>
+        requires { is_dir (held.node self.now dir) ≡ true }
+        ensures { result ≡ refusals.add_refusal self.now dir name.now it.now }
+    {
+        match entry_refusal(it) {
+            Some(e) => Some(e),
+            None => self.gain_refusal(dir, name),
+        }
+    }
+
+    // A node gains a name.
+    #[tactic(auto, unfolding(crate::specs::Refusals::link_refusal))]
+    pub(super) fn link_refusal(&self, dir: usize, name: &Name, n: usize) -> Option<Errno>
+        requires { is_dir (held.node self.now dir) ≡ true }
+        ensures { result ≡ refusals.link_refusal self.now dir name.now n }
+    {
+        match self.node(n) {
+            None => Some(Errno::NoEntry),
+            Some(Entry::Dir(_)) => Some(Errno::Denied),
+            Some(Entry::File(_, _)) => self.gain_refusal(dir, name),
+            Some(Entry::Link(_)) => self.gain_refusal(dir, name),
+        }
+    }
+
+    // A directory loses the name of a node.
+    pub(super) fn loss_refusal(&self, dir: usize, n: usize) -> Option<Errno>
+        requires { n ≡ held.top → ⊥ }
+        ensures { result ≡ refusals.remove_found self.now dir (Some n) }
+    {
+        if self.has_names(n) {
+            Some(Errno::NotEmpty)
+        } else if self.lacks_w(dir) {
+            Some(Errno::Denied)
+        } else {
+            None
+        }
+    }
+
+    #[tactic(auto, unfolding(crate::specs::Refusals::mode_refusal))]
+    pub(super) fn mode_refusal(&self, n: usize, mode: u16) -> Option<Errno>
+        ensures { result ≡ refusals.mode_refusal self.now n mode }
+    {
+        match mode_refusal(mode) {
+            Some(e) => Some(e),
+            None => match self.node(n) {
+                None => Some(Errno::NoEntry),
+                Some(_) => None,
+            },
+        }
+    }
+
+    // Whether a directory is this one or stands anywhere below it.
+    fn stands_within(&self, above: usize, dir: usize) -> bool
+        requires above { is_dir (held.node self.now above) ≡ true }
+        requires dir { is_dir (held.node self.now dir) ≡ true }
+        ensures { result ≡ held.stands_within self.now above dir }
+    {
+        match self.home(above) {
+            None => false,
+            Some(above) => match self.home(dir) {
+                None => false,
+                Some(dir) => dir.is_within(above),
+            },
+        }
+    }
+
+    fn goes_below(&self, n: usize, to: usize) -> bool
+        requires { is_dir (held.node self.now to) ≡ true }
+        ensures { result ≡ refusals.goes_below self.now n to }
+    {
+        self.is_dir(n) && self.stands_within(n, to)
+    }
+
+    // A node goes where another one stands.
+    fn onto_refusal(&self, n: usize, to: usize, over: usize) -> Option<Errno>
+        requires to { is_dir (held.node self.now to) ≡ true }
+        requires below { over ≡ held.top → ⊥ }
+        ensures { result ≡ refusals.first_of (refusals.over_checks self.now n to (Some over)) }
+    {
+        let dir = self.is_dir(n);
+        let over_dir = self.is_dir(over);
+        if dir && !over_dir {
+            Some(Errno::NotDir)
+        } else if !dir && over_dir {
+            Some(Errno::IsDir)
+        } else if self.goes_below(n, to) {
+            Some(Errno::Invalid)
+        } else if self.has_names(over) {
+            Some(Errno::NotEmpty)
+        } else {
+            None
+        }
+    }
+
+    fn over_refusal(&self, n: usize, to: usize, over: Option<usize>) -> Option<Errno>
+        requires to { is_dir (held.node self.now to) ≡ true }
+        requires below { IfSome over (λ m. m ≡ held.top → ⊥) }
+        ensures { result ≡ refusals.first_of (refusals.over_checks self.now n to over) }
+    {
+        match over {
+            Some(over) => self.onto_refusal(n, to, over),
+            None => {
+                if self.goes_below(n, to) {
+                    Some(Errno::Invalid)
+                } else {
+                    None
+                }
+            }
+        }
+    }
+
+    // A node leaves a directory for another one, where it takes the place of another node or of none.
+    pub(super) fn move_refusal(
+        &self,
+        dir: usize,
+        n: usize,
+        to: usize,
+        over: Option<usize>,
+    ) -> Option<Errno>
+        requires to { is_dir (held.node self.now to) ≡ true }
+        requires below { IfSome over (λ m. m ≡ held.top → ⊥) }
+        ensures { result ≡ refusals.first_of (refusals.rename_checks self.now dir n to over) }
+    {
+        if self.lacks_w(dir) {
+            Some(Errno::Denied)
+        } else if self.lacks_w(to) {
+            Some(Errno::Denied)
+        } else {
+            self.over_refusal(n, to, over)
+        }
+    }
+}
