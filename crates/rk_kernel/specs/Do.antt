@@ -1,5 +1,5 @@
 -- What the world answers to a call.
-use Rattle.std.specs.Prelude.{ℕ, [], ◌∷◌, not, true, if◌then◌else◌, Option, Some, None, slice_get}
+use Rattle.std.specs.Prelude.{ℕ, ◌+◌, [], ◌∷◌, length, not, true, false, if◌then◌else◌, Option, Some, None, slice_get}
 use Rattle.rk_base.specs.Text.{Text}
 use Rattle.rk_base.specs.Canonical.{is_empty}
 use Rattle.rk_base.specs.declared.errno.Errno.TheVariants.{BadRef, Invalid}
@@ -7,10 +7,12 @@ use Rattle.rk_calls.specs.declared.call.Call.{Call}
 use Rattle.rk_calls.specs.declared.call.Call.TheVariants as call
 use Rattle.rk_calls.specs.declared.answer.Answer.TheVariants as answer
 use Rattle.rk_calls.specs.Given.{Given}
-use Rattle.rk_calls.specs.Refs.{RefsHeld, ref_at}
-use Rattle.rk_walk.specs.Walk.{resolve}
-use Rattle.rk_kernel.specs.World.{World, rest_of, after_read, after_write}
-use Rattle.rk_kernel.specs.Rows.{refused, told, unless, open_at}
+use Rattle.rk_calls.specs.Refs.{RefsHeld, ref_at, with_opened}
+use Rattle.rk_walk.specs.Walk.{Spot, resolve}
+use Rattle.rk_kernel.specs.World.{World, rest_of, line_of, after_read, after_read_line, after_write, with_pipe}
+use Rattle.rk_kernel.specs.Changes.{mkdir_at, rmdir_at, unlink_at, rename_at, symlink_at, link_at, chmod_at}
+use Rattle.rk_kernel.specs.Questions.{found, met, stat_at, list_at, read_link_at, walk_at, same_at}
+use Rattle.rk_kernel.specs.Rows.{refused, told, unless, strict, open_at}
 use Rattle.rk_kernel.specs.declared.description.Description.{Description}
 
 -- Read
@@ -25,6 +27,17 @@ abbrev pub read_ref : World → RefsHeld → Option ℕ → Given World
 read_ref world refs None = refused world refs BadRef
 read_ref world refs (Some k) = read_by world refs k (slice_get world.opens k)
 
+-- ReadLine
+
+abbrev pub read_line_by : World → RefsHeld → ℕ → Option Description → Given World
+read_line_by world refs k None = refused world refs BadRef
+read_line_by world refs k (Some d) =
+    unless world refs ((not d.read, BadRef) ∷ []) (told (after_read_line world k d d.source) refs (answer.Content (line_of (rest_of world d.offset d.source))))
+
+abbrev pub read_line_ref : World → RefsHeld → Option ℕ → Given World
+read_line_ref world refs None = refused world refs BadRef
+read_line_ref world refs (Some k) = read_line_by world refs k (slice_get world.opens k)
+
 -- Write
 
 abbrev pub write_by : World → RefsHeld → Text → ℕ → Option Description → Given World
@@ -36,9 +49,36 @@ abbrev pub write_ref : World → RefsHeld → Text → Option ℕ → Given Worl
 write_ref world refs bytes None = refused world refs BadRef
 write_ref world refs bytes (Some k) = write_by world refs bytes k (slice_get world.opens k)
 
+-- Pipe: the command's next two numbers stand for its ends, the read end first
+
+abbrev pub piped : World → RefsHeld → Given World
+piped world refs = told (with_pipe world) (with_opened (with_opened refs (length world.opens)) (length world.opens + 1)) answer.Piped
+
+-- where a path leads, with its last link followed, or not
+
+abbrev pub followed : World → Text → Spot
+followed world path = strict (resolve world.tree path true)
+
+abbrev pub itself : World → Text → Spot
+itself world path = strict (resolve world.tree path false)
+
 -- by cases on the call; a launch is not the world's to answer
 abbrev pub answered : World → RefsHeld → Call → Given World
-answered world refs (call.Open path how) = open_at world refs how (resolve world.tree path true)
+answered world refs (call.Open path how) = open_at world refs how (followed world path)
 answered world refs (call.Read r) = read_ref world refs (ref_at refs r)
+answered world refs (call.ReadLine r) = read_line_ref world refs (ref_at refs r)
 answered world refs (call.Write r bytes) = write_ref world refs bytes (ref_at refs r)
+answered world refs (call.Stat path follow) = told world refs (stat_at world.tree (found (resolve world.tree path follow)))
+answered world refs (call.List path) = told world refs (list_at world.tree (found (resolve world.tree path true)))
+answered world refs (call.ReadLink path) = told world refs (read_link_at world.tree (found (resolve world.tree path false)))
+answered world refs (call.Walk path) = told world refs (walk_at world.tree (found (resolve world.tree path true)))
+answered world refs (call.Same a b) = told world refs (same_at (met (resolve world.tree a true)) (met (resolve world.tree b true)))
+answered world refs (call.Mkdir path mode) = mkdir_at world refs mode (resolve world.tree path false)
+answered world refs (call.Rmdir path) = rmdir_at world refs (itself world path)
+answered world refs (call.Unlink path) = unlink_at world refs (itself world path)
+answered world refs (call.Rename a b) = rename_at world refs (itself world a) (resolve world.tree b false)
+answered world refs (call.Symlink text path) = symlink_at world refs text (itself world path)
+answered world refs (call.Link a b) = link_at world refs (itself world a) (itself world b)
+answered world refs (call.Chmod path mode) = chmod_at world refs mode (followed world path)
+answered world refs call.Pipe = piped world refs
 answered world refs (call.Launch key map) = refused world refs Invalid

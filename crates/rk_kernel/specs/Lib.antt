@@ -1,5 +1,7 @@
+pub mod Changes
 pub mod Do
 pub mod Fitting
+pub mod Questions
 pub mod Rows
 pub mod Spot
 pub mod World

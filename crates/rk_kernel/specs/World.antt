@@ -1,5 +1,5 @@
 -- The world: a tree, the open descriptions, the pipes, the output and the error text.
-use Rattle.std.specs.Prelude.{ℕ, ◌+◌, ◌-◌, List, [], ◌∷◌, ◌++◌, length, take, drop, replicate, true, false, if◌then◌else◌, Option, Some, None, slice_get, slice_set, refl}
+use Rattle.std.specs.Prelude.{ℕ, ◌+◌, ◌-◌, List, [], ◌∷◌, ◌++◌, length, take, drop, position, replicate, Bool, true, false, ◌==◌, if◌then◌else◌, Option, Some, None, slice_get, slice_set, refl}
 use Rattle.std.specs.Coded.{Coded, code_by, coded×, coded_ℕ, coded_list}
 use Rattle.rk_base.specs.Text.{Text}
 use Rattle.rk_tree.specs.Entries.{Entries}
@@ -70,6 +70,43 @@ after_read world k d source.Output = world
 after_read world k d source.ErrorText = world
 after_read world k d source.Nothing = world
 
+-- Reading a line: up to and with the first newline, or all there is.
+
+abbrev pub is_newline : ℕ → Bool
+is_newline b = b == 10
+
+abbrev pub cut_after : Text → Option ℕ → Text
+cut_after text None = text
+cut_after text (Some i) = take (i + 1) text
+
+abbrev pub left_after : Text → Option ℕ → Text
+left_after text None = []
+left_after text (Some i) = drop (i + 1) text
+
+-- the first line of a text
+abbrev pub line_of : Text → Text
+line_of text = cut_after text (position is_newline text)
+
+-- what stands after it
+abbrev pub after_line : Text → Text
+after_line text = left_after text (position is_newline text)
+
+abbrev pub end_after : Text → ℕ → Option ℕ → ℕ
+end_after text offset None = length text
+end_after text offset (Some i) = offset + (i + 1)
+
+-- the offset after the line that begins at an offset; where no newline ends it, the end of the text
+abbrev pub line_end : Text → ℕ → ℕ
+line_end text offset = end_after text offset (position is_newline (drop offset text))
+
+-- the world after the description of this number has read a line
+abbrev pub after_read_line : World → ℕ → Description → Source → World
+after_read_line world k d (source.Node n) = with_offset world k d (line_end (file_bytes (node world.tree n)) d.offset)
+after_read_line world k d (source.Pipe p) = record world { pipes = slice_set world.pipes p (after_line (text_of (slice_get world.pipes p))) }
+after_read_line world k d source.Output = world
+after_read_line world k d source.ErrorText = world
+after_read_line world k d source.Nothing = world
+
 -- where a write begins
 abbrev pub place_in : Description → Text → ℕ
 place_in d old = if d.append then length old else d.offset
@@ -94,3 +131,19 @@ with_tree world tree = record world { tree = tree }
 -- a description more
 abbrev pub with_open : World → Description → World
 with_open world d = record world { opens = world.opens ++ d ∷ [] }
+
+-- Pipes.
+
+abbrev pub read_end : ℕ → Description
+read_end p = record { source = source.Pipe p; offset = 0; read = true; write = false; append = false }
+
+abbrev pub write_end : ℕ → Description
+write_end p = record { source = source.Pipe p; offset = 0; read = false; write = true; append = false }
+
+-- an empty pipe more, and a description for each of its ends, the read end's first
+abbrev pub with_pipe : World → World
+with_pipe world =
+    record world {
+      pipes = world.pipes ++ [] ∷ [];
+      opens = (world.opens ++ read_end (length world.pipes) ∷ []) ++ write_end (length world.pipes) ∷ [];
+    }

@@ -1,7 +1,7 @@
 // Open descriptions.
 ghost use Rattle.std.specs.Prelude.{◌≡◌};
 ghost use Rattle.rk_kernel.specs.Rows.{description};
-ghost use Rattle.rk_kernel.specs.World.{empty_input, output, error_text};
+ghost use Rattle.rk_kernel.specs.World.{empty_input, output, error_text, read_end, write_end};
 
 use rk_calls::How;
 
@@ -84,6 +84,37 @@ impl Description {
                 write: true,
                 append: false,
             },
+            How::Append => Description {
+                source: Source::Node(node),
+                offset: 0,
+                read: false,
+                write: true,
+                append: true,
+            },
+        }
+    }
+
+    pub(crate) fn read_end(pipe: usize) -> Description
+        ensures { result ≡ read_end pipe }
+    {
+        Description {
+            source: Source::Pipe(pipe),
+            offset: 0,
+            read: true,
+            write: false,
+            append: false,
+        }
+    }
+
+    pub(crate) fn write_end(pipe: usize) -> Description
+        ensures { result ≡ write_end pipe }
+    {
+        Description {
+            source: Source::Pipe(pipe),
+            offset: 0,
+            read: false,
+            write: true,
+            append: false,
         }
     }
 }

@@ -1,7 +1,9 @@
 // Where a path led, with a name of its own: a place borrows the tree, which a call then changes.
 ghost use Rattle.std.specs.Prelude.{◌≡◌, IfOk, Ok};
-ghost use Rattle.rk_walk.specs.Walk.{resolve};
+ghost use Rattle.rk_tree.specs.Held.{Held};
+ghost use Rattle.rk_walk.specs.Walk.{resolve, MayHoldUp};
 ghost use Rattle.rk_walk.specs.declared.place.Place.TheVariants.{Found};
+ghost use Rattle.rk_kernel.specs.Rows.{strict};
 ghost use Rattle.rk_kernel.specs.Spot.{spot_means, IsFreeSpot};
 
 use rk_base::{Errno, Name, NoMemory};
@@ -20,7 +22,7 @@ pub(crate) enum Spot {
 
 fn found(alloc: Global, here: &Here<'_>) -> Result<Spot, NoMemory>
     ensures means { IfOk result (λ s. spot_means s ≡ Ok (Found here.entry.now)) }
-    ensures free { IfOk result (λ s. (tree : _) → IsFreeSpot tree s) }
+    ensures free { IfOk result (λ s. (tree : Held) → MayHoldUp tree here.entry.now.up → IsFreeSpot tree s) }
 {
     match &here.up {
         None => Ok(Spot::Found(here.node, None, here.slash)),
@@ -54,4 +56,35 @@ pub(crate) fn spot_at(
             }
         },
     }
+}
+
+fn without_slash(spot: Spot) -> Spot
+    ensures means { spot_means result ≡ strict (spot_means spot) }
+    ensures free { (tree : Held) → IsFreeSpot tree spot → IsFreeSpot tree result }
+{
+    match spot {
+        Spot::Found(n, up, slash) => Spot::Found(n, up, slash),
+        Spot::Absent(dir, name, slash) => {
+            if slash {
+                Spot::Fails(Errno::NoEntry)
+            } else {
+                Spot::Absent(dir, name, slash)
+            }
+        }
+        Spot::Fails(e) => Spot::Fails(e),
+    }
+}
+
+// The same, where an absent name with a slash after it is no entry.
+pub(crate) fn strict_spot_at(
+    alloc: Global,
+    tree: &Tree,
+    path: &[u8],
+    follow: bool,
+) -> Result<Spot, NoMemory>
+    ensures means { IfOk result (λ s. spot_means s ≡ strict (resolve tree.now path.now follow)) }
+    ensures free { IfOk result (IsFreeSpot tree.now) }
+{
+    let spot = spot_at(alloc, tree, path, follow)?;
+    Ok(without_slash(spot))
 }

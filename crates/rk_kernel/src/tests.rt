@@ -1,4 +1,8 @@
-// What no clause says: that the calls which take memory succeed where there is enough.
+// What no clause says: that the calls which take memory succeed where there is enough. The table of refusals
+// and the rows on files that are renamed, linked and removed are shown as a command sees them.
+mod changes;
+mod refusals;
+
 use crate::World;
 use rk_base::{Bytes, Errno, NoMemory};
 use rk_calls::{Answer, Answerer, Call, How, Refs};
@@ -6,73 +10,175 @@ use rk_tree::Tree;
 use std::alloc::Global;
 use std::test::Fail;
 
-fn opens(
-    world: &mut World,
-    refs: &mut Refs,
+/// A call, by the texts of its paths.
+#[derive(Clone, Copy)]
+enum Ask<'a> {
+    Open(&'a [u8], How),
+    Read(u64),
+    ReadLine(u64),
+    Write(u64, &'a [u8]),
+    Stat(&'a [u8], bool),
+    List(&'a [u8]),
+    ReadLink(&'a [u8]),
+    Walk(&'a [u8]),
+    Same(&'a [u8], &'a [u8]),
+    Mkdir(&'a [u8], u16),
+    Rmdir(&'a [u8]),
+    Unlink(&'a [u8]),
+    Rename(&'a [u8], &'a [u8]),
+    Symlink(&'a [u8], &'a [u8]),
+    Link(&'a [u8], &'a [u8]),
+    Chmod(&'a [u8], u16),
+    Pipe,
+}
+
+/// A world and the descriptors of a command.
+#[derive(Drop)]
+struct Asked {
     alloc: Global,
-    path: &[u8],
-    how: How,
-) -> Result<Answer, NoMemory> {
-    let call = Call::Open(Bytes::from_slice(alloc, path)?, how);
-    let answer = world.answer(refs, &call)?;
-    Ok(answer)
+    world: World,
+    refs: Refs,
 }
 
-fn is_refused(answer: &Answer, errno: Errno) -> bool {
-    match answer {
-        Answer::No(e) => *e == errno,
-        _ => false,
+fn text(alloc: Global, bytes: &[u8]) -> Result<Bytes, NoMemory> {
+    Bytes::from_slice(alloc, bytes)
+}
+
+fn call_of(alloc: Global, ask: Ask<'_>) -> Result<Call, NoMemory> {
+    match ask {
+        Ask::Open(path, how) => Ok(Call::Open(text(alloc, path)?, how)),
+        Ask::Read(r) => Ok(Call::Read(r)),
+        Ask::ReadLine(r) => Ok(Call::ReadLine(r)),
+        Ask::Write(r, bytes) => Ok(Call::Write(r, text(alloc, bytes)?)),
+        Ask::Stat(path, follow) => Ok(Call::Stat(text(alloc, path)?, follow)),
+        Ask::List(path) => Ok(Call::List(text(alloc, path)?)),
+        Ask::ReadLink(path) => Ok(Call::ReadLink(text(alloc, path)?)),
+        Ask::Walk(path) => Ok(Call::Walk(text(alloc, path)?)),
+        Ask::Same(a, b) => Ok(Call::Same(text(alloc, a)?, text(alloc, b)?)),
+        Ask::Mkdir(path, mode) => Ok(Call::Mkdir(text(alloc, path)?, mode)),
+        Ask::Rmdir(path) => Ok(Call::Rmdir(text(alloc, path)?)),
+        Ask::Unlink(path) => Ok(Call::Unlink(text(alloc, path)?)),
+        Ask::Rename(a, b) => Ok(Call::Rename(text(alloc, a)?, text(alloc, b)?)),
+        Ask::Symlink(to, path) => Ok(Call::Symlink(text(alloc, to)?, text(alloc, path)?)),
+        Ask::Link(a, b) => Ok(Call::Link(text(alloc, a)?, text(alloc, b)?)),
+        Ask::Chmod(path, mode) => Ok(Call::Chmod(text(alloc, path)?, mode)),
+        Ask::Pipe => Ok(Call::Pipe),
     }
 }
 
-fn has(answer: &Answer, bytes: &[u8]) -> bool {
-    match answer {
-        Answer::Content(content) => content.as_slice() == bytes,
-        _ => false,
+impl Asked {
+    /// A world of an empty tree.
+    fn new(alloc: Global) -> Result<Asked, NoMemory> {
+        let world = World::new(alloc, Tree::new(alloc)?)?;
+        let refs = Refs::top(alloc)?;
+        Ok(Asked { alloc, world, refs })
     }
-}
 
-#[test]
-fn refusals(rt: HostRuntime) -> Result<(), Fail> {
-    let alloc = rt.alloc();
-    let mut world = World::new(alloc, Tree::new(alloc)?)?;
-    let mut refs = Refs::top(alloc)?;
-    let a = opens(&mut world, &mut refs, alloc, b"/f", How::Read)?;
-    assert!(rt; is_refused(&a, Errno::NoEntry));
-    let a = opens(&mut world, &mut refs, alloc, b"/..//.", How::Make)?;
-    assert!(rt; is_refused(&a, Errno::IsDir));
-    let a = opens(&mut world, &mut refs, alloc, b"/.rkr/db", How::Read)?;
-    assert!(rt; is_refused(&a, Errno::Denied));
-    let a = opens(&mut world, &mut refs, alloc, b"f", How::Make)?;
-    assert!(rt; is_refused(&a, Errno::Invalid));
-    Ok(())
+    fn answer(&mut self, ask: Ask<'_>) -> Result<Answer, NoMemory> {
+        let call = call_of(self.alloc, ask)?;
+        let answer = self.world.answer(&mut self.refs, &call)?;
+        Ok(answer)
+    }
+
+    /// Whether each of them is answered by its own word of success.
+    fn takes(&mut self, asks: &[Ask<'_>]) -> Result<bool, NoMemory> {
+        'asks: for ask in asks {
+            if let Answer::No(_) = self.answer(*ask)? {
+                return Ok(false);
+            }
+        }
+        Ok(true)
+    }
+
+    fn refuses(&mut self, ask: Ask<'_>, errno: Errno) -> Result<bool, NoMemory> {
+        let answer = self.answer(ask)?;
+        Ok(matches!(&answer, Answer::No(e) if *e == errno))
+    }
+
+    /// Whether each of them is refused so.
+    fn refuses_all(&mut self, rows: &[(Ask<'_>, Errno)]) -> Result<bool, NoMemory> {
+        'rows: for (ask, errno) in rows {
+            if !self.refuses(*ask, *errno)? {
+                return Ok(false);
+            }
+        }
+        Ok(true)
+    }
+
+    /// Whether a read or a link's text gives these bytes.
+    fn gives(&mut self, ask: Ask<'_>, bytes: &[u8]) -> Result<bool, NoMemory> {
+        let answer = self.answer(ask)?;
+        Ok(match &answer {
+            Answer::Content(it) => it.as_slice() == bytes,
+            Answer::Text(it) => it.as_slice() == bytes,
+            Answer::Place(it) => it.text() == bytes,
+            _ => false,
+        })
+    }
+
+    /// Whether a file holds these bytes; it is opened under this number.
+    fn holds(&mut self, path: &[u8], r: u64, bytes: &[u8]) -> Result<bool, NoMemory> {
+        let opened = self.takes(&[Ask::Open(path, How::Read)])?;
+        let read = self.gives(Ask::Read(r), bytes)?;
+        Ok(opened && read)
+    }
 }
 
 #[test]
 fn makes_writes_and_reads(rt: HostRuntime) -> Result<(), Fail> {
-    let alloc = rt.alloc();
-    let mut world = World::new(alloc, Tree::new(alloc)?)?;
-    let mut refs = Refs::top(alloc)?;
-    let a = opens(&mut world, &mut refs, alloc, b"/f", How::Make)?;
-    assert!(rt; matches!(&a, Answer::Opened));
-    let a = world.answer(
-        &mut refs,
-        &Call::Write(10, Bytes::from_slice(alloc, b"ab\n")?),
-    )?;
-    assert!(rt; matches!(&a, Answer::Done));
-    let a = world.answer(
-        &mut refs,
-        &Call::Write(1, Bytes::from_slice(alloc, b"out")?),
-    )?;
-    assert!(rt; matches!(&a, Answer::Done));
-    let a = opens(&mut world, &mut refs, alloc, b"/f", How::Read)?;
-    assert!(rt; matches!(&a, Answer::Opened));
-    let a = world.answer(&mut refs, &Call::Read(11))?;
-    assert!(rt; has(&a, b"ab\n"));
-    let a = world.answer(&mut refs, &Call::Read(11))?;
-    assert!(rt; has(&a, b""));
-    assert_eq!(rt; world.out().len(), 3);
-    assert_eq!(rt; world.err().len(), 0);
-    assert_eq!(rt; world.snapshot()?.len(), 2);
+    let mut w = Asked::new(rt.alloc())?;
+    assert!(rt;
+        w.takes(&[
+            Ask::Open(b"/f", How::Make),
+            Ask::Write(10, b"ab\n"),
+            Ask::Write(1, b"out")
+        ])?
+    );
+    assert!(rt; w.holds(b"/f", 11, b"ab\n")?);
+    assert!(rt; w.gives(Ask::Read(11), b"")?);
+    assert!(rt; w.gives(Ask::Read(0), b"")?);
+    assert_eq!(rt; w.world.out().len(), 3);
+    assert_eq!(rt; w.world.err().len(), 0);
+    assert_eq!(rt; w.world.snapshot()?.len(), 2);
+    Ok(())
+}
+
+#[test]
+fn reads_lines_and_appends(rt: HostRuntime) -> Result<(), Fail> {
+    let mut w = Asked::new(rt.alloc())?;
+    assert!(rt;
+        w.takes(&[
+            Ask::Open(b"/f", How::Make),
+            Ask::Write(10, b"a\nb"),
+            Ask::Open(b"/f", How::Read)
+        ])?
+    );
+    assert!(rt; w.gives(Ask::ReadLine(11), b"a\n")?);
+    assert!(rt; w.gives(Ask::ReadLine(11), b"b")?);
+    assert!(rt; w.gives(Ask::ReadLine(11), b"")?);
+    assert!(rt;
+        w.takes(&[
+            Ask::Open(b"/f", How::Append),
+            Ask::Write(12, b"c"),
+            Ask::Write(10, b"d")
+        ])?
+    );
+    assert!(rt; w.holds(b"/f", 13, b"a\nbd")?);
+    Ok(())
+}
+
+#[test]
+fn pipes(rt: HostRuntime) -> Result<(), Fail> {
+    let mut w = Asked::new(rt.alloc())?;
+    assert!(rt; w.takes(&[Ask::Pipe, Ask::Write(11, b"a\nb"), Ask::Write(11, b"c\n")])?);
+    assert!(rt; w.gives(Ask::ReadLine(10), b"a\n")?);
+    assert!(rt; w.gives(Ask::Read(10), b"bc\n")?);
+    assert!(rt; w.gives(Ask::Read(10), b"")?);
+    assert!(rt;
+        w.refuses_all(&[
+            (Ask::Read(11), Errno::BadRef),
+            (Ask::Write(10, b"x"), Errno::BadRef)
+        ])?
+    );
     Ok(())
 }

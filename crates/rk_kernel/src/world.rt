@@ -6,8 +6,12 @@ ghost use Rattle.rk_tree.specs.Whole.{IsWhole};
 ghost use Rattle.rk_kernel.specs.World.{fresh, with_offset};
 
 mod answering;
+mod asking;
+mod changing;
 mod opening;
+mod piping;
 mod reading;
+mod renaming;
 mod writing;
 
 use crate::Description;

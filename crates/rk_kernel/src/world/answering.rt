@@ -12,18 +12,23 @@ impl Answerer for World {
     // A launch is not the world's to answer: it is refused, and nothing changes.
     fn answer(&mut self, refs: &mut Refs, call: &Call) -> Result<Answer, NoMemory> {
         match call {
-            Call::Open(path, how) => {
-                let answer = self.open(refs, path, *how)?;
-                Ok(answer)
-            }
-            Call::Read(r) => {
-                let answer = self.read(refs, *r)?;
-                Ok(answer)
-            }
-            Call::Write(r, bytes) => {
-                let answer = self.write(refs, *r, bytes)?;
-                Ok(answer)
-            }
+            Call::Open(path, how) => self.open(refs, path, *how),
+            Call::Read(r) => self.read(refs, *r),
+            Call::ReadLine(r) => self.read_line(refs, *r),
+            Call::Write(r, bytes) => self.write(refs, *r, bytes),
+            Call::Stat(path, follow) => Ok(self.stat(path, *follow)),
+            Call::List(path) => self.list(path),
+            Call::ReadLink(path) => self.read_link(path),
+            Call::Walk(path) => self.walk(path),
+            Call::Same(a, b) => Ok(self.same(a, b)),
+            Call::Mkdir(path, mode) => self.mkdir(refs, path, *mode),
+            Call::Rmdir(path) => self.rmdir(refs, path),
+            Call::Unlink(path) => self.unlink(refs, path),
+            Call::Rename(a, b) => self.rename(refs, a, b),
+            Call::Symlink(text, path) => self.symlink(refs, text, path),
+            Call::Link(a, b) => self.link(refs, a, b),
+            Call::Chmod(path, mode) => self.chmod(refs, path, *mode),
+            Call::Pipe => self.pipe(refs),
             Call::Launch(_, _) => Ok(Answer::No(Errno::Invalid)),
         }
     }

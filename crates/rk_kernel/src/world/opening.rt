@@ -1,20 +1,19 @@
 // Open.
-ghost use Rattle.std.specs.Prelude.{◌≡◌, [], IfOk, length};
+ghost use Rattle.std.specs.Prelude.{◌≡◌, IfOk};
 ghost use Rattle.rk_calls.specs.declared.call.Call.TheVariants.{Open};
 ghost use Rattle.rk_tree.specs.Held as held;
-ghost use Rattle.rk_tree.specs.Whole.{IsFree};
-ghost use Rattle.rk_tree.specs.declared.entry.Entry.TheVariants.{File};
+ghost use Rattle.rk_tree.specs.Whole.{MayHold};
 ghost use Rattle.rk_kernel.specs.World.{with_tree};
 ghost use Rattle.rk_kernel.specs.Rows as rows;
 ghost use Rattle.rk_kernel.specs.Spot.{spot_means};
 ghost use Rattle.rk_kernel.specs.Do as all;
 ghost use Rattle.rk_kernel.specs.declared.spot.Spot.TheVariants.{Absent, Found};
 
-use crate::spot::{Spot, spot_at};
+use crate::spot::{Spot, strict_spot_at};
 use crate::{Description, World};
 use rk_base::{Bytes, Errno, Name, NoMemory};
 use rk_calls::{Answer, How, Refs};
-use rk_tree::Entry;
+use rk_tree::{Entry, Refused};
 
 fn is_read(how: How) -> bool
     ensures { result ≡ rows.is_read how }
@@ -22,16 +21,17 @@ fn is_read(how: How) -> bool
     match how {
         How::Read => true,
         How::Make => false,
+        How::Append => false,
     }
 }
 
-fn has_r(mode: u16) -> bool
+pub(super) fn has_r(mode: u16) -> bool
     ensures { result ≡ held.has_r mode }
 {
     mode / 256 % 2 == 1
 }
 
-fn has_w(mode: u16) -> bool
+pub(super) fn has_w(mode: u16) -> bool
     ensures { result ≡ held.has_w mode }
 {
     mode / 128 % 2 == 1
@@ -43,16 +43,11 @@ fn lacks(how: How, mode: u16) -> bool
     match how {
         How::Read => !has_r(mode),
         How::Make => !has_w(mode),
+        How::Append => !has_w(mode),
     }
 }
 
 impl World {
-    fn lacks_w(&self, dir: usize) -> bool
-        ensures { result ≡ rows.lacks_w self.now dir }
-    {
-        !has_w(self.tree.mode(dir))
-    }
-
     // A description more, under the command's next number.
     fn opens(&mut self, refs: &mut Refs, how: How, node: usize) -> Result<Answer, NoMemory>
         ensures { IfOk result (λ a. record { answer = a; refs = refs.new; world = self.new } ≡ rows.opened self.old refs.old self.old.tree how node) }
@@ -63,16 +58,6 @@ impl World {
         Ok(Answer::Opened)
     }
 
-    fn add_file(&mut self, dir: usize, name: &Name) -> Result<usize, NoMemory>
-        requires { IsFree self.old.tree dir name.now }
-        ensures number { IfOk result (λ n. n ≡ length self.old.tree.nodes) }
-        ensures added { IfOk result (λ n. self.new ≡ with_tree self.old (held.added self.old.tree dir name.now (File 420 []))) }
-    {
-        let bytes = Bytes::new(Vec::new(self.allocator()));
-        let n = self.tree.add(dir, name, Entry::File(0o644, bytes))?;
-        Ok(n)
-    }
-
     fn open_absent(
         &mut self,
         refs: &mut Refs,
@@ -81,18 +66,21 @@ impl World {
         name: Name,
         slash: bool,
     ) -> Result<Answer, NoMemory>
-        requires { IsFree self.old.tree dir name }
+        requires { MayHold self.old.tree dir name }
         ensures { IfOk result (λ a. record { answer = a; refs = refs.new; world = self.new } ≡ rows.open_at self.old refs.old how (spot_means (Absent dir name slash))) }
     {
-        if is_read(how) || slash {
+        if is_read(how) {
             return Ok(Answer::No(Errno::NoEntry));
         }
-        if self.lacks_w(dir) {
-            return Ok(Answer::No(Errno::Denied));
+        let none = Bytes::new(Vec::new(self.allocator()));
+        match self.tree.add(dir, &name, Entry::File(0o644, none)) {
+            Ok(n) => {
+                let answer = self.opens(refs, how, n)?;
+                Ok(answer)
+            }
+            Err(Refused::No(e)) => Ok(Answer::No(e)),
+            Err(Refused::NoMemory) => Err(NoMemory),
         }
-        let n = self.add_file(dir, &name)?;
-        let answer = self.opens(refs, how, n)?;
-        Ok(answer)
     }
 
     // Make empties what is there.
@@ -105,6 +93,7 @@ impl World {
                 let none = Bytes::new(Vec::new(self.allocator()));
                 self.tree.set_bytes(n, none);
             }
+            How::Append => {}
         }
     }
 
@@ -138,7 +127,7 @@ impl World {
     ) -> Result<Answer, NoMemory>
         ensures { IfOk result (λ a. record { answer = a; refs = refs.new; world = self.new } ≡ all.answered self.old refs.old (Open path.now how)) }
     {
-        let spot = spot_at(self.allocator(), &self.tree, path.as_slice(), true)?;
+        let spot = strict_spot_at(self.allocator(), &self.tree, path.as_slice(), true)?;
         match spot {
             Spot::Fails(e) => Ok(Answer::No(e)),
             Spot::Absent(dir, name, slash) => {

@@ -1,7 +1,7 @@
 // Read.
-ghost use Rattle.std.specs.Prelude.{◌≡◌, IfOk, drop, option_copied};
-ghost use Rattle.rk_calls.specs.declared.call.Call.TheVariants.{Read};
-ghost use Rattle.rk_kernel.specs.World.{after_read, rest_of, text_of};
+ghost use Rattle.std.specs.Prelude.{◌≡◌, ◌<◌, IfOk, OnOk, IfSome, drop, length, position, option_copied};
+ghost use Rattle.rk_calls.specs.declared.call.Call.TheVariants.{Read, ReadLine};
+ghost use Rattle.rk_kernel.specs.World.{after_line, after_read, after_read_line, is_newline, line_end, line_of, rest_of, text_of};
 ghost use Rattle.rk_kernel.specs.Do as all;
 
 use crate::{Description, Source, World};
@@ -27,6 +27,43 @@ pub(super) fn bytes_of(pipe: Option<&Bytes>) -> &[u8]
     match pipe {
         Some(bytes) => bytes.as_slice(),
         None => b"",
+    }
+}
+
+fn newline(text: &[u8]) -> Option<usize>
+    ensures place { result ≡ position is_newline text.now }
+    ensures within { IfSome result (λ i. i < length text.now) }
+{
+    text.iter().position(|b| *b == b'\n')
+}
+
+// The first line of a text, with its newline.
+fn line_of(text: &[u8]) -> &[u8]
+    ensures { result.now ≡ line_of text.now }
+{
+    match newline(text) {
+        None => text,
+        Some(i) => text.split_at(i + 1).0,
+    }
+}
+
+// What stands after the first line.
+fn after_line(text: &[u8]) -> &[u8]
+    ensures { result.now ≡ after_line text.now }
+{
+    match newline(text) {
+        None => b"",
+        Some(i) => text.split_at(i + 1).1,
+    }
+}
+
+// The offset after the line that begins at an offset.
+fn line_end(text: &[u8], offset: usize) -> usize
+    ensures { result ≡ line_end text.now offset }
+{
+    match newline(after(text, offset)) {
+        None => text.len(),
+        Some(i) => offset + (i + 1),
     }
 }
 
@@ -78,6 +115,61 @@ impl World {
                     let bytes = self.rest_of(self.allocator(), d.offset, d.source)?;
                     self.after_read(k, d);
                     Ok(Answer::Content(bytes))
+                }
+            },
+        }
+    }
+
+    // What there is to read up to and with the first newline.
+    fn next_line(&self, alloc: Global, offset: usize, source: Source) -> Result<Bytes, NoMemory>
+        ensures { IfOk result (λ b. b ≡ line_of (rest_of self.now offset source)) }
+    {
+        match source {
+            Source::Node(n) => Bytes::from_slice(alloc, line_of(after(self.tree.bytes(n), offset))),
+            Source::Pipe(p) => Bytes::from_slice(alloc, line_of(bytes_of(self.pipes.get(p)))),
+            Source::Output => Bytes::from_slice(alloc, b""),
+            Source::ErrorText => Bytes::from_slice(alloc, b""),
+            Source::Nothing => Bytes::from_slice(alloc, b""),
+        }
+    }
+
+    // The offset goes after the line, and the line leaves the pipe.
+    fn after_read_line(&mut self, k: usize, d: Description) -> Result<(), NoMemory>
+        ensures { OnOk result (self.new ≡ after_read_line self.old k d d.source) }
+    {
+        match d.source {
+            Source::Node(n) => {
+                let end = line_end(self.tree.bytes(n), d.offset);
+                self.set_offset(k, d, end);
+                Ok(())
+            }
+            Source::Pipe(p) => {
+                let rest = after_line(bytes_of(self.pipes.get(p)));
+                let rest = Bytes::from_slice(self.allocator(), rest)?;
+                self.set_pipe(p, rest);
+                Ok(())
+            }
+            Source::Output => Ok(()),
+            Source::ErrorText => Ok(()),
+            Source::Nothing => Ok(()),
+        }
+    }
+
+    /// Reads up to and with the first newline.
+    pub(super) fn read_line(&mut self, refs: &Refs, r: u64) -> Result<Answer, NoMemory>
+        ensures { IfOk result (λ a. record { answer = a; refs = refs.now; world = self.new } ≡ all.answered self.old refs.now (ReadLine r)) }
+    {
+        match refs.at(r) {
+            None => Ok(Answer::No(Errno::BadRef)),
+            Some(k) => match self.description(k) {
+                None => Ok(Answer::No(Errno::BadRef)),
+                Some(d) => {
+                    if !d.read {
+                        return Ok(Answer::No(Errno::BadRef));
+                    }
+                    let line = self.next_line(self.allocator(), d.offset, d.source)?;
+                    self.after_read_line(k, d)?;
+                    Ok(Answer::Content(line))
                 }
             },
         }
