@@ -39,7 +39,7 @@ struct Toys {
 impl Maker for Toys {
     type Made = Toy;
 
-    ghost use Rattle.rk_check.specs.Toy.{toy_says, toy_lasts};
+    ghost use Rattle.rk_check.specs.Toy.{toy_says, toy_lasts, toy_proper};
 
     ghost first = { λ key. toy_says };
 
@@ -51,6 +51,8 @@ impl Maker for Toys {
     }
 
     ghost lasts = { toy_lasts };
+
+    ghost proper = { toy_proper };
 }
 
 fn words(alloc: Global) -> Result<WordList, NoMemory>

@@ -7,6 +7,7 @@ pub mod Lasting
 pub mod Lines
 pub mod Options
 pub mod Places
+pub mod Properly
 pub mod Running
 pub mod Script
 pub mod ShellStages

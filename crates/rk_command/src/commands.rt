@@ -34,6 +34,7 @@ impl Commands {
 impl Maker for Commands {
     ghost use Rattle.rk_command.specs.First.{first_talk};
     ghost use Rattle.rk_command.specs.Lasting.{Lasts-first_talk};
+    ghost use Rattle.rk_command.specs.Properly.{proper-first_talk};
 
     type Made = Command;
 
@@ -48,4 +49,6 @@ impl Maker for Commands {
     }
 
     ghost lasts = { Lasts-first_talk };
+
+    ghost proper = { proper-first_talk };
 }
