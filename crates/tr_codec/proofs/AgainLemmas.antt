@@ -1,10 +1,10 @@
 -- What is spelt is read again.
 use Rattle.std.proofs.Common.{◌≡◌, ℕ, ◌^◌, ◌<◌, ◌≤◌, Bool, true, false, cond, ltb, List, [], ◌∷◌, ◌++◌, length, Option, Some, None, refl, sym, ap, subst, ◌∙◌, append_assoc, arith}
-use Rattle.std.specs.Int.{Width, w32, w64, byte_len, from_be_bytes, to_be_bytes}
+use Rattle.std.specs.Int.{Width, w16, w32, w64, byte_len, from_be_bytes, to_be_bytes}
 use Rattle.std.specs.List.{flat_map}
 use Rattle.std.proofs.lemmas.Bool.{le-ltb, lt-ltb}
 use Rattle.std.proofs.lemmas.List.{take_at, drop_at, length-append, append-nil}
-use Rattle.std.proofs.lemmas.Nat.{from_be_bytes-to_be_bytes_4, from_be_bytes-to_be_bytes_8}
+use Rattle.std.proofs.lemmas.Nat.{from_be_bytes-to_be_bytes_2, from_be_bytes-to_be_bytes_4, from_be_bytes-to_be_bytes_8}
 use Rattle.tr_codec.specs.Piece.{num}
 use Rattle.tr_codec.specs.Reading.{◌>>=◌, given, number_at, byte_at, count_at, many_at, counted_at}
 
@@ -63,6 +63,9 @@ number_again = wide_again w64 (2 ^ 64) (record { len = λ n. refl; again = λ n 
 
 pub cost_again : (n : ℕ) → n < 2 ^ 32 → Again (number_at w32) (to_be_bytes w32 n) n
 cost_again = wide_again w32 (2 ^ 32) (record { len = λ n. refl; again = λ n lt. from_be_bytes-to_be_bytes_4 n lt }) refl
+
+pub mode_again : (n : ℕ) → n < 2 ^ 16 → Again (number_at w16) (to_be_bytes w16 n) n
+mode_again = wide_again w16 (2 ^ 16) (record { len = λ n. refl; again = λ n lt. from_be_bytes-to_be_bytes_2 n lt }) refl
 
 pub byte_again : (n : ℕ) → n < 256 → Again byte_at (n ∷ []) n
 unfolding byte_at

@@ -1,23 +1,24 @@
 -- What is read has a spelling.
-use Rattle.std.proofs.Common.{◌≡◌, ℕ, zero, suc, ◌^◌, ◌<◌, Bool, true, false, ◌&&◌, cond, nat_lt, ltb, ◌==◌, List, [], ◌∷◌, ◌++◌, length, take, drop, Option, Some, None, refl, ap, subst, ◌∙◌, arith}
-use Rattle.std.specs.Int.{Width, w32, w64, byte_len, from_be_bytes}
+use Rattle.std.proofs.Common.{◌≡◌, ℕ, zero, suc, ◌^◌, ◌<◌, ◌≤◌, Bool, true, false, ◌&&◌, cond, nat_lt, nat_le, ltb, ◌==◌, List, [], ◌∷◌, ◌++◌, length, take, drop, Option, Some, None, refl, ap, subst, ◌∙◌, arith}
+use Rattle.std.specs.Int.{Width, w16, w32, w64, byte_len, from_be_bytes}
 use Rattle.std.specs.List.{AllByRecursion}
-use Rattle.std.proofs.lemmas.Bool.{ltb-true}
+use Rattle.std.proofs.lemmas.Bool.{ltb-true, leb-true}
 use Rattle.rk_base.specs.Text.{Text}
 use Rattle.rk_base.specs.Canonical.{is_canonical}
+use Rattle.rk_base.specs.Names.{are_names}
 use Rattle.rk_calls.specs.Keys.{KeyValue, is_key, are_variables}
 use Rattle.rk_calls.specs.RefMaps.{is_refmap}
 use Rattle.rk_calls.specs.declared.call.Call.{Call}
-use Rattle.rk_calls.specs.declared.call.Call.TheVariants.{Open, Read, Write, Launch}
+use Rattle.rk_calls.specs.declared.call.Call.TheVariants as call
 use Rattle.rk_calls.specs.declared.answer.Answer.{Answer}
-use Rattle.rk_calls.specs.declared.answer.Answer.TheVariants.{Done, Opened, Content, Joined, No}
+use Rattle.rk_calls.specs.declared.answer.Answer.TheVariants as answer
 use Rattle.tr_record.specs.Rec.{count_of}
 use Rattle.tr_record.specs.declared.steps.Step.{Step}
 use Rattle.tr_record.specs.declared.records.Record.{Record}
 use Rattle.tr_record.proofs.PlacesLemmas.{numbered_push}
 use Rattle.tr_codec.specs.declared.records.Row.{Row}
 use Rattle.tr_codec.specs.Fits.{FitsKey, FitsMap, FitsCall, FitsAnswer, FitsStep, FitsRecord, Fits, paid}
-use Rattle.tr_codec.specs.Reading.{◌>>=◌, given, number_at, byte_at, count_at, many_at, counted_at, string_at, blob_at, var_at, key_from, key_at, pair_at, map_at, how_of, errno_of, open_at, read_at, write_at, launch_at, call_at, content_at, joined_at, no_at, answer_at, step_at, row_at, next_rec, record_at, table_at}
+use Rattle.tr_codec.specs.Reading.{◌>>=◌, given, number_at, byte_at, mode_at, flag_at, count_at, many_at, counted_at, string_at, blob_at, var_at, key_from, key_at, pair_at, map_at, how_of, kind_of, errno_of, number_call_at, path_call_at, texts_call_at, mode_call_at, open_at, write_at, stat_at, launch_at, call_at, text_answer_at, found_at, name_at, names_at, place_at, same_at, joined_at, no_at, answer_at, step_at, row_at, next_rec, record_at, table_at}
 
 bind_inv : {A B : Type 0} (o : Option A) (f : A → Option B) (y : B) → (o >>= f) ≡ Some y → (x : A) × (o ≡ Some x) × (f x ≡ Some y)
 bind_inv None f y h = absurd cc
@@ -44,6 +45,13 @@ byte_inv [] p h = absurd cc
 byte_inv (b ∷ bytes) p h =
     let g = given_inv (ltb b 256) (b, bytes) p h in
     subst (λ (q : ℕ × List ℕ). q.0 < 256) g.1 (ltb-true b 256 g.0)
+
+mode_inv : (bytes : List ℕ) (p : ℕ × List ℕ) → mode_at bytes ≡ Some p → p.0 ≤ 511
+unfolding mode_at
+mode_inv bytes p h =
+    let a = bind_inv (number_at w16 bytes) _ p h in
+    let g = given_inv (nat_le a.0.0 511) a.0 p a.2 in
+    subst (λ (q : ℕ × List ℕ). q.0 ≤ 511) g.1 (leb-true a.0.0 511 g.0)
 
 -- one of two
 if_inv : {A : Type 0} (b : Bool) (x y : Option A) (p : A) (P : Type 0) → (x ≡ Some p → P) → (y ≡ Some p → P) → cond b x y ≡ Some p → P
@@ -114,37 +122,68 @@ map_fits bytes p h =
 abbrev GoodCall : Call × List ℕ → Type 0
 GoodCall p = FitsCall p.0
 
+number_call_fits : (make : ℕ → Call) → ((r : ℕ) → r < 2 ^ 64 → FitsCall (make r)) → (bytes : List ℕ) (p : Call × List ℕ) → number_call_at make bytes ≡ Some p → GoodCall p
+unfolding number_call_at
+number_call_fits make fits bytes p h =
+    let a = bind_inv (number_at w64 bytes) _ p h in
+    let last : Some (make a.0.0, a.0.1) ≡ Some p = a.2 in
+    subst GoodCall (let e : (make a.0.0, a.0.1) ≡ p = cc in e) (fits a.0.0 (number_inv w64 bytes a.0 a.1))
+
+path_call_fits : (make : Text → Call) → ((path : Text) → FitsCall (make path)) → (blobs : List Text) (bytes : List ℕ) (p : Call × List ℕ) → path_call_at make blobs bytes ≡ Some p → GoodCall p
+unfolding path_call_at
+path_call_fits make fits blobs bytes p h =
+    let a = bind_inv (blob_at blobs bytes) _ p h in
+    let last : Some (make a.0.0, a.0.1) ≡ Some p = a.2 in
+    subst GoodCall (let e : (make a.0.0, a.0.1) ≡ p = cc in e) (fits a.0.0)
+
+texts_call_fits : (make : Text → Text → Call) → ((a b : Text) → FitsCall (make a b)) → (blobs : List Text) (bytes : List ℕ) (p : Call × List ℕ) → texts_call_at make blobs bytes ≡ Some p → GoodCall p
+unfolding texts_call_at
+texts_call_fits make fits blobs bytes p h =
+    let a = bind_inv (blob_at blobs bytes) _ p h in
+    let b = bind_inv (blob_at blobs a.0.1) _ p a.2 in
+    let last : Some (make a.0.0 b.0.0, b.0.1) ≡ Some p = b.2 in
+    subst GoodCall (let e : (make a.0.0 b.0.0, b.0.1) ≡ p = cc in e) (fits a.0.0 b.0.0)
+
+mode_call_fits : (make : Text → ℕ → Call) → ((path : Text) (mode : ℕ) → mode ≤ 511 → FitsCall (make path mode)) → (blobs : List Text) (bytes : List ℕ) (p : Call × List ℕ) → mode_call_at make blobs bytes ≡ Some p → GoodCall p
+unfolding mode_call_at
+mode_call_fits make fits blobs bytes p h =
+    let a = bind_inv (blob_at blobs bytes) _ p h in
+    let b = bind_inv (mode_at a.0.1) _ p a.2 in
+    let last : Some (make a.0.0 b.0.0, b.0.1) ≡ Some p = b.2 in
+    subst GoodCall (let e : (make a.0.0 b.0.0, b.0.1) ≡ p = cc in e) (fits a.0.0 b.0.0 (mode_inv a.0.1 b.0 b.1))
+
 open_fits : (blobs : List Text) (bytes : List ℕ) (p : Call × List ℕ) → open_at blobs bytes ≡ Some p → GoodCall p
 unfolding open_at
 open_fits blobs bytes p h =
     let a = bind_inv (blob_at blobs bytes) _ p h in
     let b = bind_inv (byte_at a.0.1) _ p a.2 in
     let c = bind_inv (how_of b.0.0) _ p b.2 in
-    let last : Some (Open a.0.0 c.0, b.0.1) ≡ Some p = c.2 in
-    subst GoodCall (let e : (Open a.0.0 c.0, b.0.1) ≡ p = cc in e) tt
-
-read_fits : (bytes : List ℕ) (p : Call × List ℕ) → read_at bytes ≡ Some p → GoodCall p
-unfolding read_at
-read_fits bytes p h =
-    let a = bind_inv (number_at w64 bytes) _ p h in
-    let last : Some (Read a.0.0, a.0.1) ≡ Some p = a.2 in
-    subst GoodCall (let e : (Read a.0.0, a.0.1) ≡ p = cc in e) (number_inv w64 bytes a.0 a.1)
+    let last : Some (call.Open a.0.0 c.0, b.0.1) ≡ Some p = c.2 in
+    subst GoodCall (let e : (call.Open a.0.0 c.0, b.0.1) ≡ p = cc in e) tt
 
 write_fits : (blobs : List Text) (bytes : List ℕ) (p : Call × List ℕ) → write_at blobs bytes ≡ Some p → GoodCall p
 unfolding write_at
 write_fits blobs bytes p h =
     let a = bind_inv (number_at w64 bytes) _ p h in
     let b = bind_inv (blob_at blobs a.0.1) _ p a.2 in
-    let last : Some (Write a.0.0 b.0.0, b.0.1) ≡ Some p = b.2 in
-    subst GoodCall (let e : (Write a.0.0 b.0.0, b.0.1) ≡ p = cc in e) (number_inv w64 bytes a.0 a.1)
+    let last : Some (call.Write a.0.0 b.0.0, b.0.1) ≡ Some p = b.2 in
+    subst GoodCall (let e : (call.Write a.0.0 b.0.0, b.0.1) ≡ p = cc in e) (number_inv w64 bytes a.0 a.1)
+
+stat_fits : (blobs : List Text) (bytes : List ℕ) (p : Call × List ℕ) → stat_at blobs bytes ≡ Some p → GoodCall p
+unfolding stat_at
+stat_fits blobs bytes p h =
+    let a = bind_inv (blob_at blobs bytes) _ p h in
+    let b = bind_inv (flag_at a.0.1) _ p a.2 in
+    let last : Some (call.Stat a.0.0 b.0.0, b.0.1) ≡ Some p = b.2 in
+    subst GoodCall (let e : (call.Stat a.0.0 b.0.0, b.0.1) ≡ p = cc in e) tt
 
 launch_fits : (blobs : List Text) (bytes : List ℕ) (p : Call × List ℕ) → launch_at blobs bytes ≡ Some p → GoodCall p
 unfolding launch_at
 launch_fits blobs bytes p h =
     let a = bind_inv (key_at blobs bytes) _ p h in
     let b = bind_inv (map_at a.0.1) _ p a.2 in
-    let last : Some (Launch a.0.0 b.0.0, b.0.1) ≡ Some p = b.2 in
-    subst GoodCall (let e : (Launch a.0.0 b.0.0, b.0.1) ≡ p = cc in e) (key_fits blobs bytes a.0 a.1, map_fits a.0.1 b.0 b.1)
+    let last : Some (call.Launch a.0.0 b.0.0, b.0.1) ≡ Some p = b.2 in
+    subst GoodCall (let e : (call.Launch a.0.0 b.0.0, b.0.1) ≡ p = cc in e) (key_fits blobs bytes a.0 a.1, map_fits a.0.1 b.0 b.1)
 
 call_fits : (blobs : List Text) (bytes : List ℕ) (p : Call × List ℕ) → call_at blobs bytes ≡ Some p → GoodCall p
 unfolding call_at
@@ -153,9 +192,23 @@ call_fits blobs bytes p h =
     let kind = a.0.0 in
     let rest = a.0.1 in
     if_inv (kind == 1) _ _ p (GoodCall p) (open_fits blobs rest p)
-    (if_inv (kind == 2) _ _ p (GoodCall p) (read_fits rest p)
+    (if_inv (kind == 2) _ _ p (GoodCall p) (number_call_fits call.Read (λ r lt. lt) rest p)
+    (if_inv (kind == 3) _ _ p (GoodCall p) (number_call_fits call.ReadLine (λ r lt. lt) rest p)
     (if_inv (kind == 4) _ _ p (GoodCall p) (write_fits blobs rest p)
-    (if_inv (kind == 18) _ _ p (GoodCall p) (launch_fits blobs rest p) (λ e. absurd cc))))
+    (if_inv (kind == 5) _ _ p (GoodCall p) (stat_fits blobs rest p)
+    (if_inv (kind == 6) _ _ p (GoodCall p) (path_call_fits call.List (λ path. tt) blobs rest p)
+    (if_inv (kind == 7) _ _ p (GoodCall p) (path_call_fits call.ReadLink (λ path. tt) blobs rest p)
+    (if_inv (kind == 8) _ _ p (GoodCall p) (path_call_fits call.Walk (λ path. tt) blobs rest p)
+    (if_inv (kind == 9) _ _ p (GoodCall p) (texts_call_fits call.Same (λ a b. tt) blobs rest p)
+    (if_inv (kind == 10) _ _ p (GoodCall p) (mode_call_fits call.Mkdir (λ path mode le. le) blobs rest p)
+    (if_inv (kind == 11) _ _ p (GoodCall p) (path_call_fits call.Rmdir (λ path. tt) blobs rest p)
+    (if_inv (kind == 12) _ _ p (GoodCall p) (path_call_fits call.Unlink (λ path. tt) blobs rest p)
+    (if_inv (kind == 13) _ _ p (GoodCall p) (texts_call_fits call.Rename (λ a b. tt) blobs rest p)
+    (if_inv (kind == 14) _ _ p (GoodCall p) (texts_call_fits call.Symlink (λ a b. tt) blobs rest p)
+    (if_inv (kind == 15) _ _ p (GoodCall p) (texts_call_fits call.Link (λ a b. tt) blobs rest p)
+    (if_inv (kind == 16) _ _ p (GoodCall p) (mode_call_fits call.Chmod (λ path mode le. le) blobs rest p)
+    (if_inv (kind == 17) _ _ p (GoodCall p) (λ (last : Some (call.Pipe, rest) ≡ Some p). subst GoodCall (let e : (call.Pipe, rest) ≡ p = cc in e) tt)
+    (if_inv (kind == 18) _ _ p (GoodCall p) (launch_fits blobs rest p) (λ e. absurd cc))))))))))))))))))
     a.2
 
 -- ---- answers
@@ -163,27 +216,66 @@ call_fits blobs bytes p h =
 abbrev GoodAnswer : Answer × List ℕ → Type 0
 GoodAnswer p = FitsAnswer p.0
 
-content_fits : (blobs : List Text) (bytes : List ℕ) (p : Answer × List ℕ) → content_at blobs bytes ≡ Some p → GoodAnswer p
-unfolding content_at
-content_fits blobs bytes p h =
+text_answer_fits : (make : Text → Answer) → ((text : Text) → FitsAnswer (make text)) → (blobs : List Text) (bytes : List ℕ) (p : Answer × List ℕ) → text_answer_at make blobs bytes ≡ Some p → GoodAnswer p
+unfolding text_answer_at
+text_answer_fits make fits blobs bytes p h =
     let a = bind_inv (blob_at blobs bytes) _ p h in
-    let last : Some (Content a.0.0, a.0.1) ≡ Some p = a.2 in
-    subst GoodAnswer (let e : (Content a.0.0, a.0.1) ≡ p = cc in e) tt
+    let last : Some (make a.0.0, a.0.1) ≡ Some p = a.2 in
+    subst GoodAnswer (let e : (make a.0.0, a.0.1) ≡ p = cc in e) (fits a.0.0)
+
+found_fits : (bytes : List ℕ) (p : Answer × List ℕ) → found_at bytes ≡ Some p → GoodAnswer p
+unfolding found_at
+found_fits bytes p h =
+    let a = bind_inv (byte_at bytes) _ p h in
+    let b = bind_inv (kind_of a.0.0) _ p a.2 in
+    let c = bind_inv (mode_at a.0.1) _ p b.2 in
+    let d = bind_inv (flag_at c.0.1) _ p c.2 in
+    let last : Some (answer.Stat b.0 c.0.0 d.0.0, d.0.1) ≡ Some p = d.2 in
+    subst GoodAnswer (let e : (answer.Stat b.0 c.0.0 d.0.0, d.0.1) ≡ p = cc in e) (mode_inv a.0.1 c.0 c.1)
+
+names_fits : (blobs : List Text) (bytes : List ℕ) (p : Answer × List ℕ) → names_at blobs bytes ≡ Some p → GoodAnswer p
+unfolding names_at
+names_fits blobs bytes p h =
+    let a = bind_inv (counted_at (λ front. name_at blobs) bytes) _ p h in
+    let b = bind_inv (given (are_names a.0.0) a.0.0) _ p a.2 in
+    let g = given_inv (are_names a.0.0) a.0.0 b.0 b.1 in
+    let last : Some (answer.Names b.0, a.0.1) ≡ Some p = b.2 in
+    subst GoodAnswer (let e : (answer.Names b.0, a.0.1) ≡ p = cc in e) (subst (λ l. are_names l ≡ true) g.1 g.0)
+
+place_fits : (blobs : List Text) (bytes : List ℕ) (p : Answer × List ℕ) → place_at blobs bytes ≡ Some p → GoodAnswer p
+unfolding place_at
+place_fits blobs bytes p h =
+    let a = bind_inv (blob_at blobs bytes) _ p h in
+    let b = bind_inv (given (is_canonical a.0.0) a.0.0) _ p a.2 in
+    let g = given_inv (is_canonical a.0.0) a.0.0 b.0 b.1 in
+    let last : Some (answer.Place b.0, a.0.1) ≡ Some p = b.2 in
+    subst GoodAnswer (let e : (answer.Place b.0, a.0.1) ≡ p = cc in e) (subst (λ t. is_canonical t ≡ true) g.1 g.0)
+
+same_fits : (bytes : List ℕ) (p : Answer × List ℕ) → same_at bytes ≡ Some p → GoodAnswer p
+unfolding same_at
+same_fits bytes p h =
+    let a = bind_inv (flag_at bytes) _ p h in
+    let last : Some (answer.Same a.0.0, a.0.1) ≡ Some p = a.2 in
+    subst GoodAnswer (let e : (answer.Same a.0.0, a.0.1) ≡ p = cc in e) tt
 
 joined_fits : (bytes : List ℕ) (p : Answer × List ℕ) → joined_at bytes ≡ Some p → GoodAnswer p
 unfolding joined_at
 joined_fits bytes p h =
     let a = bind_inv (byte_at bytes) _ p h in
-    let last : Some (Joined a.0.0, a.0.1) ≡ Some p = a.2 in
-    subst GoodAnswer (let e : (Joined a.0.0, a.0.1) ≡ p = cc in e) (byte_inv bytes a.0 a.1)
+    let last : Some (answer.Joined a.0.0, a.0.1) ≡ Some p = a.2 in
+    subst GoodAnswer (let e : (answer.Joined a.0.0, a.0.1) ≡ p = cc in e) (byte_inv bytes a.0 a.1)
 
 no_fits : (bytes : List ℕ) (p : Answer × List ℕ) → no_at bytes ≡ Some p → GoodAnswer p
 unfolding no_at
 no_fits bytes p h =
     let a = bind_inv (byte_at bytes) _ p h in
     let b = bind_inv (errno_of a.0.0) _ p a.2 in
-    let last : Some (No b.0, a.0.1) ≡ Some p = b.2 in
-    subst GoodAnswer (let e : (No b.0, a.0.1) ≡ p = cc in e) tt
+    let last : Some (answer.No b.0, a.0.1) ≡ Some p = b.2 in
+    subst GoodAnswer (let e : (answer.No b.0, a.0.1) ≡ p = cc in e) tt
+
+-- a kind alone
+alone_fits : (it : Answer) → FitsAnswer it → (rest : List ℕ) (p : Answer × List ℕ) → Some (it, rest) ≡ Some p → GoodAnswer p
+alone_fits it fits rest p last = subst GoodAnswer (let e : (it, rest) ≡ p = cc in e) fits
 
 answer_fits : (blobs : List Text) (bytes : List ℕ) (p : Answer × List ℕ) → answer_at blobs bytes ≡ Some p → GoodAnswer p
 unfolding answer_at
@@ -191,11 +283,17 @@ answer_fits blobs bytes p h =
     let a = bind_inv (byte_at bytes) _ p h in
     let kind = a.0.0 in
     let rest = a.0.1 in
-    if_inv (kind == 1) _ _ p (GoodAnswer p) (λ (last : Some (Done, rest) ≡ Some p). subst GoodAnswer (let e : (Done, rest) ≡ p = cc in e) tt)
-    (if_inv (kind == 2) _ _ p (GoodAnswer p) (λ (last : Some (Opened, rest) ≡ Some p). subst GoodAnswer (let e : (Opened, rest) ≡ p = cc in e) tt)
-    (if_inv (kind == 4) _ _ p (GoodAnswer p) (content_fits blobs rest p)
+    if_inv (kind == 1) _ _ p (GoodAnswer p) (alone_fits answer.Done tt rest p)
+    (if_inv (kind == 2) _ _ p (GoodAnswer p) (alone_fits answer.Opened tt rest p)
+    (if_inv (kind == 3) _ _ p (GoodAnswer p) (alone_fits answer.Piped tt rest p)
+    (if_inv (kind == 4) _ _ p (GoodAnswer p) (text_answer_fits answer.Content (λ text. tt) blobs rest p)
+    (if_inv (kind == 5) _ _ p (GoodAnswer p) (found_fits rest p)
+    (if_inv (kind == 6) _ _ p (GoodAnswer p) (names_fits blobs rest p)
+    (if_inv (kind == 7) _ _ p (GoodAnswer p) (text_answer_fits answer.Text (λ text. tt) blobs rest p)
+    (if_inv (kind == 8) _ _ p (GoodAnswer p) (place_fits blobs rest p)
+    (if_inv (kind == 9) _ _ p (GoodAnswer p) (same_fits rest p)
     (if_inv (kind == 10) _ _ p (GoodAnswer p) (joined_fits rest p)
-    (if_inv (kind == 11) _ _ p (GoodAnswer p) (no_fits rest p) (λ e. absurd cc)))))
+    (if_inv (kind == 11) _ _ p (GoodAnswer p) (no_fits rest p) (λ e. absurd cc)))))))))))
     a.2
 
 -- ---- steps and records

@@ -1,5 +1,7 @@
 -- Reading one after the other, as a loop does.
-use Rattle.std.proofs.Common.{◌≡◌, ℕ, suc, ◌-◌, ◌+◌, ◌≤◌, ◌<◌, List, [], ◌∷◌, ◌++◌, Option, Some, None, refl, sym, ◌∙◌, arith}
+use Rattle.std.proofs.Common.{◌≡◌, ℕ, suc, ◌-◌, ◌+◌, ◌≤◌, ◌<◌, List, [], ◌∷◌, ◌++◌, Option, Some, None, length, drop, get_or, refl, sym, subst, ◌∙◌, arith}
+use Rattle.std.specs.List.{AllByRecursion}
+use Rattle.std.proofs.lemmas.List.{drop_more}
 use Rattle.tr_codec.specs.declared.fault.Odd.{Odd}
 use Rattle.tr_codec.specs.declared.fault.Odd.TheVariants.{Form, NoMemory}
 use Rattle.tr_codec.specs.Reads.{Fails}
@@ -32,3 +34,7 @@ module _ {A : Type 0} (one : List A → List ℕ → Option (A × List ℕ)) whe
       let k : count - i ≡ 0 = omega arith in
       let step : many_at one (count - i) front bytes ≡ Some (front, bytes) = rw k refl in
       sym so_far ∙ step
+
+-- what holds of an item and of all after it holds from the item on
+pub all_next : {X : Type 0} (P : X → Type 0) (xs : List X) (i : ℕ) (d x : X) → i < length xs → x ≡ get_or xs i d → P x → AllByRecursion P (drop (i + 1) xs) → AllByRecursion P (drop i xs)
+all_next P xs i d x lt e p h = subst (AllByRecursion P) (sym (drop_more xs i d lt)) (subst P e p, h)

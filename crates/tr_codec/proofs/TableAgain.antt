@@ -1,37 +1,41 @@
 -- The spelling of a table is read again.
-use Rattle.std.proofs.Common.{◌≡◌, ℕ, suc, ◌+◌, ◌^◌, ◌<◌, ◌≤◌, Bool, true, false, ◌||◌, ◌&&◌, cond, not, nat_lt, List, [], ◌∷◌, ◌++◌, length, take, drop, Option, Some, slice_get, refl, sym, ap, subst, ◌∙◌, append_assoc, arith}
-use Rattle.std.specs.Int.{w32, w64}
-use Rattle.std.specs.List.{flat_map, AllByRecursion}
+use Rattle.std.proofs.Common.{◌≡◌, ℕ, suc, ◌+◌, ◌^◌, ◌<◌, ◌≤◌, Bool, true, false, ◌||◌, ◌&&◌, cond, not, nat_lt, nat_le, List, [], ◌∷◌, ◌++◌, length, take, drop, Option, Some, slice_get, refl, sym, ap, subst, ◌∙◌, append_assoc, arith}
+use Rattle.std.specs.Int.{w16, w32, w64}
+use Rattle.std.specs.List.{flat_map, list_all, AllByRecursion}
 use Rattle.std.specs.Cmp.Lexicographic.{bytes_decides}
-use Rattle.std.proofs.lemmas.Bool.{le-ltb, lt-ltb, ltb-true}
+use Rattle.std.proofs.lemmas.Bool.{le-ltb, le-leb, lt-ltb, ltb-true}
 use Rattle.std.proofs.Math.Seq.{get_or-append_seam}
 use Rattle.std.proofs.lemmas.List.{take_at, drop_at, length-append, append-nil}
 use Rattle.rk_base.specs.Text.{Text, same_text}
+use Rattle.rk_base.specs.Canonical.{is_canonical, is_name}
+use Rattle.rk_base.specs.Names.{are_names, ascend}
 use Rattle.rk_base.specs.declared.errno.Errno.{Errno}
 use Rattle.rk_base.specs.declared.errno.Errno.TheVariants as errno
+use Rattle.rk_base.specs.declared.kind.Kind.{Kind}
+use Rattle.rk_base.specs.declared.kind.Kind.TheVariants.{File, Dir, Link}
 use Rattle.rk_calls.specs.Keys.{KeyValue}
 use Rattle.rk_calls.specs.RefMaps.{is_refmap, rise_from}
 use Rattle.rk_calls.specs.declared.vars.Var.{Var}
 use Rattle.rk_calls.specs.declared.call.How.{How}
 use Rattle.rk_calls.specs.declared.call.How.TheVariants as how
 use Rattle.rk_calls.specs.declared.call.Call.{Call}
-use Rattle.rk_calls.specs.declared.call.Call.TheVariants.{Open, Read, Write, Launch}
+use Rattle.rk_calls.specs.declared.call.Call.TheVariants as call
 use Rattle.rk_calls.specs.declared.answer.Answer.{Answer}
-use Rattle.rk_calls.specs.declared.answer.Answer.TheVariants.{Go, Done, Opened, Content, Joined, No}
+use Rattle.rk_calls.specs.declared.answer.Answer.TheVariants as answer
 use Rattle.tr_record.specs.Rec.{count_of, fresh_rec, no_key, rec_at, AreNumbered}
 use Rattle.tr_record.specs.declared.steps.Step.{Step}
 use Rattle.tr_record.specs.declared.records.Record.{Record}
 use Rattle.tr_codec.specs.declared.records.Row.{Row}
-use Rattle.tr_codec.specs.Piece.{Piece, plain, blob, ◌⊕◌, each, byte, cost, number, counted, num, string, has, number_of, with_use, with_uses}
-use Rattle.tr_codec.specs.Spelling.{var_piece, key_piece, pair_piece, how_code, call_piece, errno_code, answer_piece, step_piece, record_piece, table_piece, magic, body}
+use Rattle.tr_codec.specs.Piece.{Piece, plain, blob, ◌⊕◌, each, byte, mode, cost, number, counted, num, string, has, number_of, with_use, with_uses}
+use Rattle.tr_codec.specs.Spelling.{var_piece, key_piece, pair_piece, how_code, flag_code, call_piece, kind_code, errno_code, answer_piece, step_piece, record_piece, table_piece, magic, body}
 use Rattle.tr_codec.specs.Fits.{FitsKey, FitsMap, FitsCall, FitsAnswer, FitsStep, FitsRecord, Fits, paid}
-use Rattle.tr_codec.specs.Reading.{◌>>=◌, given, number_at, byte_at, counted_at, string_at, blob_at, var_at, key_from, key_at, pair_at, map_at, how_of, errno_of, open_at, read_at, write_at, launch_at, call_of, call_at, content_at, joined_at, no_at, answer_of, answer_at, step_at, row_at, next_rec, record_at, table_at}
-use Rattle.tr_codec.proofs.AgainLemmas.{Again, again_bind, again_last, again_check, again_given, number_again, cost_again, byte_again, Items, items_length, again_counted}
+use Rattle.tr_codec.specs.Reading.{◌>>=◌, given, number_at, byte_at, mode_at, flag_of, flag_at, counted_at, string_at, blob_at, var_at, key_from, key_at, pair_at, map_at, how_of, kind_of, errno_of, number_call_at, path_call_at, texts_call_at, mode_call_at, open_at, write_at, stat_at, launch_at, call_of, call_at, text_answer_at, found_at, name_at, names_at, place_at, same_at, joined_at, no_at, answer_of, answer_at, step_at, row_at, next_rec, record_at, table_at}
+use Rattle.tr_codec.proofs.AgainLemmas.{Again, again_bind, again_last, again_check, again_given, number_again, mode_again, cost_again, byte_again, Items, items_length, again_counted}
 use Rattle.tr_codec.proofs.PutsLemmas.{has_use, with_uses_adds}
 
 -- ---- the blobs themselves
 
-string_again : (text : Text) → Again string_at (string text) text
+pub string_again : (text : Text) → Again string_at (string text) text
 unfolding string_at
 string_again text rest small =
     let group : string text ++ rest ≡ num (length text) ++ (text ++ rest) = append_assoc (num (length text)) text rest in
@@ -145,6 +149,16 @@ map_bytes (p ∷ ps) h =
     let n = h.numbers in
     ((omega arith, n.0), rise_bytes p.0 ps a.1 n.1)
 
+-- ---- names
+
+names_of : (names : List Text) → list_all is_name names ≡ true → AllByRecursion (λ name. is_name name ≡ true) names
+names_of [] h = tt
+names_of (name ∷ names) h = let a = both (is_name name) (list_all is_name names) h in (a.0, names_of names a.1)
+
+each_name : (names : List Text) → are_names names ≡ true → AllByRecursion (λ name. is_name name ≡ true) names
+unfolding are_names
+each_name names h = names_of names (both (list_all is_name names) (ascend names) h).0
+
 -- ---- pieces are read again
 
 module _ (blobs : List Text) where
@@ -167,6 +181,18 @@ module _ (blobs : List Text) where
   back_byte : (n : ℕ) → n < 256 → Back byte_at (byte n) n
   unfolding plain
   back_byte n lt = byte_again n lt
+
+  back_mode : (n : ℕ) → n ≤ 511 → Back mode_at (mode n) n
+  unfolding mode_at plain
+  back_mode n le = again_given (number_at w16) (λ n. nat_le n 511) (λ n. n) ((mode n).spelt blobs) n (mode_again n (omega arith)) (le-leb n 511 le)
+
+  flag_back : (b : Bool) → (flag_code b < 256) × (flag_of (flag_code b) ≡ Some b)
+  flag_back false = (omega arith, refl)
+  flag_back true = (omega arith, refl)
+
+  back_flag : (b : Bool) → Back flag_at (byte (flag_code b)) b
+  unfolding flag_at
+  back_flag b = again_check byte_at flag_of (λ b. b) ((byte (flag_code b)).spelt blobs) (flag_code b) b (back_byte (flag_code b) (flag_back b).0) (flag_back b).1
 
   items_of : {X : Type 0} (one : List ℕ → Option (X × List ℕ)) (f : X → Piece) (P : X → Type 0) → ((x : X) → P x → Covers blobs (f x).uses → Back one (f x) x) → ((x : X) → Long blobs (f x))
       → (front xs : List X) → AllByRecursion P xs → Covers blobs (each f xs).uses → Items (λ before. one) (λ x. (f x).spelt blobs) front xs
@@ -252,49 +278,125 @@ module _ (blobs : List Text) where
     how_back : (h : How) → (how_code h < 256) × (how_of (how_code h) ≡ Some h)
     how_back how.Read = (omega arith, refl)
     how_back how.Make = (omega arith, refl)
+    how_back how.Append = (omega arith, refl)
 
-    back_open : (path : Text) (h : How) → Covers blobs (blob path ⊕ byte (how_code h)).uses → Back (open_at blobs) (blob path ⊕ byte (how_code h)) (Open path h)
+    back_number_call : (make : ℕ → Call) (r : ℕ) → r < 2 ^ 64 → Back (number_call_at make) (number r) (make r)
+    unfolding number_call_at
+    back_number_call make r lt = again_last (number_at w64) make ((number r).spelt blobs) r (back_number r lt)
+
+    back_path_call : (make : Text → Call) (path : Text) → Covers blobs (blob path).uses → Back (path_call_at make blobs) (blob path) (make path)
+    unfolding path_call_at
+    back_path_call make path covered = again_last (blob_at blobs) make ((blob path).spelt blobs) path (back_blob path covered)
+
+    back_texts_call : (make : Text → Text → Call) (a b : Text) → Covers blobs (blob a ⊕ blob b).uses → Back (texts_call_at make blobs) (blob a ⊕ blob b) (make a b)
+    unfolding texts_call_at
+    back_texts_call make a b covered =
+        let c = both_covered blobs (blob a) (blob b) covered in
+        back_bind (blob_at blobs) (λ a bytes. blob_at blobs bytes >>= λ b. Some (make a b.0, b.1)) (blob a) (blob b) a (make a b)
+        (back_blob a c.0)
+        (again_last (blob_at blobs) (make a) ((blob b).spelt blobs) b (back_blob b c.1))
+
+    back_mode_call : (make : Text → ℕ → Call) (path : Text) (n : ℕ) → n ≤ 511 → Covers blobs (blob path ⊕ mode n).uses → Back (mode_call_at make blobs) (blob path ⊕ mode n) (make path n)
+    unfolding mode_call_at
+    back_mode_call make path n le covered =
+        let c = both_covered blobs (blob path) (mode n) covered in
+        back_bind (blob_at blobs) (λ path bytes. mode_at bytes >>= λ n. Some (make path n.0, n.1)) (blob path) (mode n) path (make path n)
+        (back_blob path c.0)
+        (again_last mode_at (make path) ((mode n).spelt blobs) n (back_mode n le))
+
+    back_open : (path : Text) (h : How) → Covers blobs (blob path ⊕ byte (how_code h)).uses → Back (open_at blobs) (blob path ⊕ byte (how_code h)) (call.Open path h)
     unfolding open_at
     back_open path h covered =
         let c = both_covered blobs (blob path) (byte (how_code h)) covered in
-        back_bind (blob_at blobs) (λ path bytes. byte_at bytes >>= λ code. how_of code.0 >>= λ how. Some (Open path how, code.1)) (blob path) (byte (how_code h)) path (Open path h)
+        back_bind (blob_at blobs) (λ path bytes. byte_at bytes >>= λ code. how_of code.0 >>= λ how. Some (call.Open path how, code.1)) (blob path) (byte (how_code h)) path (call.Open path h)
         (back_blob path c.0)
-        (again_check byte_at how_of (Open path) ((byte (how_code h)).spelt blobs) (how_code h) h (back_byte (how_code h) (how_back h).0) (how_back h).1)
+        (again_check byte_at how_of (call.Open path) ((byte (how_code h)).spelt blobs) (how_code h) h (back_byte (how_code h) (how_back h).0) (how_back h).1)
 
-    back_read : (r : ℕ) → r < 2 ^ 64 → Back read_at (number r) (Read r)
-    unfolding read_at
-    back_read r lt = again_last (number_at w64) Read ((number r).spelt blobs) r (back_number r lt)
-
-    back_write : (r : ℕ) (bytes : Text) → r < 2 ^ 64 → Covers blobs (number r ⊕ blob bytes).uses → Back (write_at blobs) (number r ⊕ blob bytes) (Write r bytes)
+    back_write : (r : ℕ) (bytes : Text) → r < 2 ^ 64 → Covers blobs (number r ⊕ blob bytes).uses → Back (write_at blobs) (number r ⊕ blob bytes) (call.Write r bytes)
     unfolding write_at
     back_write r bytes lt covered =
         let c = both_covered blobs (number r) (blob bytes) covered in
-        back_bind (number_at w64) (λ r bytes. blob_at blobs bytes >>= λ text. Some (Write r text.0, text.1)) (number r) (blob bytes) r (Write r bytes)
+        back_bind (number_at w64) (λ r bytes. blob_at blobs bytes >>= λ text. Some (call.Write r text.0, text.1)) (number r) (blob bytes) r (call.Write r bytes)
         (back_number r lt)
-        (again_last (blob_at blobs) (Write r) ((blob bytes).spelt blobs) bytes (back_blob bytes c.1))
+        (again_last (blob_at blobs) (call.Write r) ((blob bytes).spelt blobs) bytes (back_blob bytes c.1))
 
-    back_launch : (key : KeyValue) (map : List (ℕ × ℕ)) → FitsKey key → FitsMap map → Covers blobs (key_piece key ⊕ counted pair_piece map).uses → Back (launch_at blobs) (key_piece key ⊕ counted pair_piece map) (Launch key map)
+    back_stat : (path : Text) (follow : Bool) → Covers blobs (blob path ⊕ byte (flag_code follow)).uses → Back (stat_at blobs) (blob path ⊕ byte (flag_code follow)) (call.Stat path follow)
+    unfolding stat_at
+    back_stat path follow covered =
+        let c = both_covered blobs (blob path) (byte (flag_code follow)) covered in
+        back_bind (blob_at blobs) (λ path bytes. flag_at bytes >>= λ follow. Some (call.Stat path follow.0, follow.1)) (blob path) (byte (flag_code follow)) path (call.Stat path follow)
+        (back_blob path c.0)
+        (again_last flag_at (call.Stat path) ((byte (flag_code follow)).spelt blobs) follow (back_flag follow))
+
+    back_launch : (key : KeyValue) (map : List (ℕ × ℕ)) → FitsKey key → FitsMap map → Covers blobs (key_piece key ⊕ counted pair_piece map).uses → Back (launch_at blobs) (key_piece key ⊕ counted pair_piece map) (call.Launch key map)
     unfolding launch_at
     back_launch key map f g covered =
         let c = both_covered blobs (key_piece key) (counted pair_piece map) covered in
-        back_bind (key_at blobs) (λ key bytes. map_at bytes >>= λ map. Some (Launch key map.0, map.1)) (key_piece key) (counted pair_piece map) key (Launch key map)
+        back_bind (key_at blobs) (λ key bytes. map_at bytes >>= λ map. Some (call.Launch key map.0, map.1)) (key_piece key) (counted pair_piece map) key (call.Launch key map)
         (back_key key f c.0)
-        (again_last map_at (Launch key) ((counted pair_piece map).spelt blobs) map (back_map map g c.1))
+        (again_last map_at (call.Launch key) ((counted pair_piece map).spelt blobs) map (back_map map g c.1))
 
-    back_call : (call : Call) → FitsCall call → Covers blobs (call_piece call).uses → Back (call_at blobs) (call_piece call) call
+    -- what stands after a kind has its blobs too
+    after_kind : (kind : ℕ) (p : Piece) → Covers blobs (byte kind ⊕ p).uses → Covers blobs p.uses
+    after_kind kind p covered = (both_covered blobs (byte kind) p covered).1
+
+    -- a kind, and the fields after it
+    back_fields : (kind : ℕ) (p : Piece) (c : Call) → kind < 256 → Back (call_of blobs kind) p c → Back (call_at blobs) (byte kind ⊕ p) c
     unfolding call_at
-    back_call (Open path h) fits covered =
-        let c = both_covered blobs (byte 1) (blob path ⊕ byte (how_code h)) covered in
-        back_bind byte_at (call_of blobs) (byte 1) (blob path ⊕ byte (how_code h)) 1 (Open path h) (back_byte 1 (omega arith)) (back_open path h c.1)
-    back_call (Read r) fits covered = back_bind byte_at (call_of blobs) (byte 2) (number r) 2 (Read r) (back_byte 2 (omega arith)) (back_read r fits)
-    back_call (Write r bytes) fits covered =
-        let c = both_covered blobs (byte 4) (number r ⊕ blob bytes) covered in
-        back_bind byte_at (call_of blobs) (byte 4) (number r ⊕ blob bytes) 4 (Write r bytes) (back_byte 4 (omega arith)) (back_write r bytes fits c.1)
-    back_call (Launch key map) fits covered =
-        let c = both_covered blobs (byte 18) (key_piece key ⊕ counted pair_piece map) covered in
-        back_bind byte_at (call_of blobs) (byte 18) (key_piece key ⊕ counted pair_piece map) 18 (Launch key map) (back_byte 18 (omega arith)) (back_launch key map fits.0 fits.1 c.1)
+    back_fields kind p c lt h = back_bind byte_at (call_of blobs) (byte kind) p kind c (back_byte kind lt) h
+
+    back_pipe : Back (call_at blobs) (byte 17) call.Pipe
+    unfolding call_at
+    back_pipe rest small =
+        let next : Option (ℕ × List ℕ) → Option (Call × List ℕ) = λ o. o >>= λ kind. call_of blobs kind.0 kind.1 in
+        ap next (back_byte 17 (omega arith) rest small)
+
+    back_call : (c : Call) → FitsCall c → Covers blobs (call_piece c).uses → Back (call_at blobs) (call_piece c) c
+    back_call (call.Open path h) fits covered =
+        let p = blob path ⊕ byte (how_code h) in
+        back_fields 1 p (call.Open path h) (omega arith) (back_open path h (after_kind 1 p covered))
+    back_call (call.Read r) fits covered = back_fields 2 (number r) (call.Read r) (omega arith) (back_number_call call.Read r fits)
+    back_call (call.ReadLine r) fits covered = back_fields 3 (number r) (call.ReadLine r) (omega arith) (back_number_call call.ReadLine r fits)
+    back_call (call.Write r bytes) fits covered =
+        let p = number r ⊕ blob bytes in
+        back_fields 4 p (call.Write r bytes) (omega arith) (back_write r bytes fits (after_kind 4 p covered))
+    back_call (call.Stat path follow) fits covered =
+        let p = blob path ⊕ byte (flag_code follow) in
+        back_fields 5 p (call.Stat path follow) (omega arith) (back_stat path follow (after_kind 5 p covered))
+    back_call (call.List path) fits covered = back_fields 6 (blob path) (call.List path) (omega arith) (back_path_call call.List path (after_kind 6 (blob path) covered))
+    back_call (call.ReadLink path) fits covered = back_fields 7 (blob path) (call.ReadLink path) (omega arith) (back_path_call call.ReadLink path (after_kind 7 (blob path) covered))
+    back_call (call.Walk path) fits covered = back_fields 8 (blob path) (call.Walk path) (omega arith) (back_path_call call.Walk path (after_kind 8 (blob path) covered))
+    back_call (call.Same a b) fits covered =
+        let p = blob a ⊕ blob b in
+        back_fields 9 p (call.Same a b) (omega arith) (back_texts_call call.Same a b (after_kind 9 p covered))
+    back_call (call.Mkdir path n) fits covered =
+        let p = blob path ⊕ mode n in
+        back_fields 10 p (call.Mkdir path n) (omega arith) (back_mode_call call.Mkdir path n fits (after_kind 10 p covered))
+    back_call (call.Rmdir path) fits covered = back_fields 11 (blob path) (call.Rmdir path) (omega arith) (back_path_call call.Rmdir path (after_kind 11 (blob path) covered))
+    back_call (call.Unlink path) fits covered = back_fields 12 (blob path) (call.Unlink path) (omega arith) (back_path_call call.Unlink path (after_kind 12 (blob path) covered))
+    back_call (call.Rename a b) fits covered =
+        let p = blob a ⊕ blob b in
+        back_fields 13 p (call.Rename a b) (omega arith) (back_texts_call call.Rename a b (after_kind 13 p covered))
+    back_call (call.Symlink text path) fits covered =
+        let p = blob text ⊕ blob path in
+        back_fields 14 p (call.Symlink text path) (omega arith) (back_texts_call call.Symlink text path (after_kind 14 p covered))
+    back_call (call.Link a b) fits covered =
+        let p = blob a ⊕ blob b in
+        back_fields 15 p (call.Link a b) (omega arith) (back_texts_call call.Link a b (after_kind 15 p covered))
+    back_call (call.Chmod path n) fits covered =
+        let p = blob path ⊕ mode n in
+        back_fields 16 p (call.Chmod path n) (omega arith) (back_mode_call call.Chmod path n fits (after_kind 16 p covered))
+    back_call call.Pipe fits covered = back_pipe
+    back_call (call.Launch key map) fits covered =
+        let p = key_piece key ⊕ counted pair_piece map in
+        back_fields 18 p (call.Launch key map) (omega arith) (back_launch key map fits.0 fits.1 (after_kind 18 p covered))
 
     -- ---- answers
+
+    kind_back : (k : Kind) → (kind_code k < 256) × (kind_of (kind_code k) ≡ Some k)
+    kind_back File = (omega arith, refl)
+    kind_back Dir = (omega arith, refl)
+    kind_back Link = (omega arith, refl)
 
     errno_back : (e : Errno) → (errno_code e < 256) × (errno_of (errno_code e) ≡ Some e)
     errno_back errno.NoEntry = (omega arith, refl)
@@ -307,17 +409,51 @@ module _ (blobs : List Text) where
     errno_back errno.BadRef = (omega arith, refl)
     errno_back errno.Invalid = (omega arith, refl)
 
-    back_content : (bytes : Text) → Covers blobs (blob bytes).uses → Back (content_at blobs) (blob bytes) (Content bytes)
-    unfolding content_at
-    back_content bytes covered = again_last (blob_at blobs) Content ((blob bytes).spelt blobs) bytes (back_blob bytes covered)
+    back_text_answer : (make : Text → Answer) (text : Text) → Covers blobs (blob text).uses → Back (text_answer_at make blobs) (blob text) (make text)
+    unfolding text_answer_at
+    back_text_answer make text covered = again_last (blob_at blobs) make ((blob text).spelt blobs) text (back_blob text covered)
 
-    back_joined : (status : ℕ) → status < 256 → Back joined_at (byte status) (Joined status)
+    back_found : (k : Kind) (n : ℕ) (empty : Bool) → n ≤ 511 → Back found_at (byte (kind_code k) ⊕ mode n ⊕ byte (flag_code empty)) (answer.Stat k n empty)
+    unfolding found_at
+    back_found k n empty le =
+        let later : Again (λ bytes. mode_at bytes >>= λ n. flag_at n.1 >>= λ empty. Some (answer.Stat k n.0 empty.0, empty.1)) ((mode n ⊕ byte (flag_code empty)).spelt blobs) (answer.Stat k n empty) =
+        back_bind mode_at (λ n bytes. flag_at bytes >>= λ empty. Some (answer.Stat k n empty.0, empty.1)) (mode n) (byte (flag_code empty)) n (answer.Stat k n empty)
+        (back_mode n le)
+        (again_last flag_at (answer.Stat k n) ((byte (flag_code empty)).spelt blobs) empty (back_flag empty))
+        in
+        let known : Again (λ bytes. kind_of (kind_code k) >>= λ k. mode_at bytes >>= λ n. flag_at n.1 >>= λ empty. Some (answer.Stat k n.0 empty.0, empty.1)) ((mode n ⊕ byte (flag_code empty)).spelt blobs) (answer.Stat k n empty) =
+        rw (kind_back k).1 later
+        in
+        back_bind byte_at (λ code bytes. kind_of code >>= λ k. mode_at bytes >>= λ n. flag_at n.1 >>= λ empty. Some (answer.Stat k n.0 empty.0, empty.1)) (byte (kind_code k)) (mode n ⊕ byte (flag_code empty)) (kind_code k) (answer.Stat k n empty)
+        (back_byte (kind_code k) (kind_back k).0) known
+
+    back_name : (name : Text) → is_name name ≡ true → Covers blobs (blob name).uses → Back (name_at blobs) (blob name) name
+    unfolding name_at
+    back_name name h covered = again_check (blob_at blobs) (λ (t : Text). given (is_name t) t) (λ (n : Text). n) ((blob name).spelt blobs) name name (back_blob name covered) (ap (λ b. given b name) h)
+
+    back_names : (names : List Text) → are_names names ≡ true → Covers blobs (counted blob names).uses → Back (names_at blobs) (counted blob names) (answer.Names names)
+    unfolding names_at
+    back_names names h covered =
+        let c = both_covered blobs (number (length names)) (each blob names) covered in
+        again_check (counted_at (λ front. name_at blobs)) (λ (l : List Text). given (are_names l) l) answer.Names ((counted blob names).spelt blobs) names names
+        (back_counted (λ front. name_at blobs) blob names (items_of (name_at blobs) blob (λ name. is_name name ≡ true) back_name (long_blob blobs) [] names (each_name names h) c.1))
+        (ap (λ b. given b names) h)
+
+    back_place : (path : Text) → is_canonical path ≡ true → Covers blobs (blob path).uses → Back (place_at blobs) (blob path) (answer.Place path)
+    unfolding place_at
+    back_place path h covered = again_check (blob_at blobs) (λ (t : Text). given (is_canonical t) t) answer.Place ((blob path).spelt blobs) path path (back_blob path covered) (ap (λ b. given b path) h)
+
+    back_same : (same : Bool) → Back same_at (byte (flag_code same)) (answer.Same same)
+    unfolding same_at
+    back_same same = again_last flag_at answer.Same ((byte (flag_code same)).spelt blobs) same (back_flag same)
+
+    back_joined : (status : ℕ) → status < 256 → Back joined_at (byte status) (answer.Joined status)
     unfolding joined_at
-    back_joined status lt = again_last byte_at Joined ((byte status).spelt blobs) status (back_byte status lt)
+    back_joined status lt = again_last byte_at answer.Joined ((byte status).spelt blobs) status (back_byte status lt)
 
-    back_no : (e : Errno) → Back no_at (byte (errno_code e)) (No e)
+    back_no : (e : Errno) → Back no_at (byte (errno_code e)) (answer.No e)
     unfolding no_at
-    back_no e = again_check byte_at errno_of No ((byte (errno_code e)).spelt blobs) (errno_code e) e (back_byte (errno_code e) (errno_back e).0) (errno_back e).1
+    back_no e = again_check byte_at errno_of answer.No ((byte (errno_code e)).spelt blobs) (errno_code e) e (back_byte (errno_code e) (errno_back e).0) (errno_back e).1
 
     -- a kind alone
     back_kind : (kind : ℕ) (a : Answer) → kind < 256 → ((rest : List ℕ) → answer_of blobs kind rest ≡ Some (a, rest)) → Back (answer_at blobs) (byte kind) a
@@ -326,16 +462,24 @@ module _ (blobs : List Text) where
         let next : Option (ℕ × List ℕ) → Option (Answer × List ℕ) = λ o. o >>= λ kind. answer_of blobs kind.0 kind.1 in
         ap next (back_byte kind lt rest small) ∙ e rest
 
-    back_answer : (a : Answer) → FitsAnswer a → Covers blobs (answer_piece a).uses → Back (answer_at blobs) (answer_piece a) a
+    -- a kind, and the fields after it
+    back_told : (kind : ℕ) (p : Piece) (a : Answer) → kind < 256 → Back (answer_of blobs kind) p a → Back (answer_at blobs) (byte kind ⊕ p) a
     unfolding answer_at
-    back_answer Go fits covered = absurd fits
-    back_answer Done fits covered = back_kind 1 Done (omega arith) (λ rest. refl)
-    back_answer Opened fits covered = back_kind 2 Opened (omega arith) (λ rest. refl)
-    back_answer (Content bytes) fits covered =
-        let c = both_covered blobs (byte 4) (blob bytes) covered in
-        back_bind byte_at (answer_of blobs) (byte 4) (blob bytes) 4 (Content bytes) (back_byte 4 (omega arith)) (back_content bytes c.1)
-    back_answer (Joined status) fits covered = back_bind byte_at (answer_of blobs) (byte 10) (byte status) 10 (Joined status) (back_byte 10 (omega arith)) (back_joined status fits)
-    back_answer (No e) fits covered = back_bind byte_at (answer_of blobs) (byte 11) (byte (errno_code e)) 11 (No e) (back_byte 11 (omega arith)) (back_no e)
+    back_told kind p a lt h = back_bind byte_at (answer_of blobs) (byte kind) p kind a (back_byte kind lt) h
+
+    back_answer : (a : Answer) → FitsAnswer a → Covers blobs (answer_piece a).uses → Back (answer_at blobs) (answer_piece a) a
+    back_answer answer.Go fits covered = absurd fits
+    back_answer answer.Done fits covered = back_kind 1 answer.Done (omega arith) (λ rest. refl)
+    back_answer answer.Opened fits covered = back_kind 2 answer.Opened (omega arith) (λ rest. refl)
+    back_answer answer.Piped fits covered = back_kind 3 answer.Piped (omega arith) (λ rest. refl)
+    back_answer (answer.Content bytes) fits covered = back_told 4 (blob bytes) (answer.Content bytes) (omega arith) (back_text_answer answer.Content bytes (after_kind 4 (blob bytes) covered))
+    back_answer (answer.Stat k n empty) fits covered = back_told 5 (byte (kind_code k) ⊕ mode n ⊕ byte (flag_code empty)) (answer.Stat k n empty) (omega arith) (back_found k n empty fits)
+    back_answer (answer.Names names) fits covered = back_told 6 (counted blob names) (answer.Names names) (omega arith) (back_names names fits (after_kind 6 (counted blob names) covered))
+    back_answer (answer.Text text) fits covered = back_told 7 (blob text) (answer.Text text) (omega arith) (back_text_answer answer.Text text (after_kind 7 (blob text) covered))
+    back_answer (answer.Place path) fits covered = back_told 8 (blob path) (answer.Place path) (omega arith) (back_place path fits (after_kind 8 (blob path) covered))
+    back_answer (answer.Same same) fits covered = back_told 9 (byte (flag_code same)) (answer.Same same) (omega arith) (back_same same)
+    back_answer (answer.Joined status) fits covered = back_told 10 (byte status) (answer.Joined status) (omega arith) (back_joined status fits)
+    back_answer (answer.No e) fits covered = back_told 11 (byte (errno_code e)) (answer.No e) (omega arith) (back_no e)
 
     -- ---- steps and records
 

@@ -1,13 +1,14 @@
 -- Which tables have a spelling.
-use Rattle.std.specs.Prelude.{◌≡◌, ℕ, ◌+◌, ◌<◌, ◌^◌, List, true, sum_by}
+use Rattle.std.specs.Prelude.{◌≡◌, ℕ, ◌+◌, ◌<◌, ◌≤◌, ◌^◌, List, true, sum_by}
 use Rattle.std.specs.List.{AllByRecursion}
 use Rattle.rk_base.specs.Canonical.{is_canonical}
+use Rattle.rk_base.specs.Names.{are_names}
 use Rattle.rk_calls.specs.Keys.{KeyValue, is_key, are_variables}
 use Rattle.rk_calls.specs.RefMaps.{is_refmap}
 use Rattle.rk_calls.specs.declared.call.Call.{Call}
-use Rattle.rk_calls.specs.declared.call.Call.TheVariants.{Open, Read, Write, Launch}
+use Rattle.rk_calls.specs.declared.call.Call.TheVariants as call
 use Rattle.rk_calls.specs.declared.answer.Answer.{Answer}
-use Rattle.rk_calls.specs.declared.answer.Answer.TheVariants.{Go, Done, Opened, Content, Joined, No}
+use Rattle.rk_calls.specs.declared.answer.Answer.TheVariants as answer
 use Rattle.tr_record.specs.Rec.{AreNumbered}
 use Rattle.tr_record.specs.declared.steps.Step.{Step}
 use Rattle.tr_record.specs.declared.records.Record.{Record}
@@ -23,20 +24,41 @@ pub record FitsMap (map : List (ℕ × ℕ)) : Type 0 where
   pub descriptors : is_refmap map ≡ true
   pub numbers : AllByRecursion (λ pair. pair.1 < 2 ^ 64) map
 
+-- numbers below 2^64, and modes of at most 0777
 abbrev pub FitsCall : Call → Type 0
-FitsCall (Open path how) = Unit {0}
-FitsCall (Read r) = r < 2 ^ 64
-FitsCall (Write r bytes) = r < 2 ^ 64
-FitsCall (Launch key map) = FitsKey key × FitsMap map
+FitsCall (call.Open path how) = Unit {0}
+FitsCall (call.Read r) = r < 2 ^ 64
+FitsCall (call.ReadLine r) = r < 2 ^ 64
+FitsCall (call.Write r bytes) = r < 2 ^ 64
+FitsCall (call.Stat path follow) = Unit {0}
+FitsCall (call.List path) = Unit {0}
+FitsCall (call.ReadLink path) = Unit {0}
+FitsCall (call.Walk path) = Unit {0}
+FitsCall (call.Same a b) = Unit {0}
+FitsCall (call.Mkdir path mode) = mode ≤ 511
+FitsCall (call.Rmdir path) = Unit {0}
+FitsCall (call.Unlink path) = Unit {0}
+FitsCall (call.Rename a b) = Unit {0}
+FitsCall (call.Symlink text path) = Unit {0}
+FitsCall (call.Link a b) = Unit {0}
+FitsCall (call.Chmod path mode) = mode ≤ 511
+FitsCall call.Pipe = Unit {0}
+FitsCall (call.Launch key map) = FitsKey key × FitsMap map
 
--- Go is never recorded
+-- Go is never recorded; a mode is at most 0777, names ascend, and a place is a canonical path
 abbrev pub FitsAnswer : Answer → Type 0
-FitsAnswer Go = ⊥
-FitsAnswer Done = Unit {0}
-FitsAnswer Opened = Unit {0}
-FitsAnswer (Content bytes) = Unit {0}
-FitsAnswer (Joined status) = status < 256
-FitsAnswer (No errno) = Unit {0}
+FitsAnswer answer.Go = ⊥
+FitsAnswer answer.Done = Unit {0}
+FitsAnswer answer.Opened = Unit {0}
+FitsAnswer answer.Piped = Unit {0}
+FitsAnswer (answer.Content bytes) = Unit {0}
+FitsAnswer (answer.Stat kind mode empty) = mode ≤ 511
+FitsAnswer (answer.Names names) = are_names names ≡ true
+FitsAnswer (answer.Text text) = Unit {0}
+FitsAnswer (answer.Place path) = is_canonical path ≡ true
+FitsAnswer (answer.Same same) = Unit {0}
+FitsAnswer (answer.Joined status) = status < 256
+FitsAnswer (answer.No errno) = Unit {0}
 
 pub record FitsStep (step : Step) : Type 0 where
   pub cost : step.cost < 2 ^ 32

@@ -5,5 +5,7 @@ pub mod Piece
 pub mod Puts
 pub mod Reading
 pub mod Reads
+pub mod RowReading
+pub mod Sound
 pub mod Spelling
 pub mod Whole

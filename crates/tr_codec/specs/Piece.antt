@@ -1,7 +1,7 @@
 -- Pieces of a spelling: which texts a piece uses, in order, and its bytes, in which a text stands as the number of its blob.
 use Rattle.std.specs.Prelude.{ℕ, Bool, List, [], ◌∷◌, ◌++◌, length, if◌then◌else◌}
 use Rattle.std.specs.List.{flat_map, list_any, position_or_len}
-use Rattle.std.specs.Int.{w32, w64, to_be_bytes}
+use Rattle.std.specs.Int.{w16, w32, w64, to_be_bytes}
 use Rattle.rk_base.specs.Text.{Text, same_text}
 
 -- a number has eight bytes, the greatest first
@@ -51,6 +51,10 @@ each f xs = record { uses = flat_map (λ x. (f x).uses) xs; spelt = λ blobs. fl
 
 abbrev pub byte : ℕ → Piece
 byte n = plain (n ∷ [])
+
+-- two bytes
+abbrev pub mode : ℕ → Piece
+mode n = plain (to_be_bytes w16 n)
 
 -- four bytes
 abbrev pub cost : ℕ → Piece

@@ -1,19 +1,22 @@
 -- Reading, as functions on bytes: a value and the rest, or none.
-use Rattle.std.specs.Prelude.{ℕ, zero, suc, ◌^◌, List, [], ◌∷◌, ◌++◌, length, take, drop, Option, Some, None, Bool, ◌&&◌, ◌==◌, nat_lt, if◌then◌else◌, slice_get}
-use Rattle.std.specs.Int.{Width, w32, w64, byte_len, from_be_bytes}
+use Rattle.std.specs.Prelude.{ℕ, zero, suc, ◌^◌, List, [], ◌∷◌, ◌++◌, length, take, drop, Option, Some, None, Bool, true, false, ◌&&◌, ◌==◌, nat_lt, nat_le, if◌then◌else◌, slice_get}
+use Rattle.std.specs.Int.{Width, w16, w32, w64, byte_len, from_be_bytes}
 use Rattle.rk_base.specs.Text.{Text}
-use Rattle.rk_base.specs.Canonical.{is_canonical}
+use Rattle.rk_base.specs.Canonical.{is_canonical, is_name}
+use Rattle.rk_base.specs.Names.{are_names}
 use Rattle.rk_base.specs.declared.errno.Errno.{Errno}
 use Rattle.rk_base.specs.declared.errno.Errno.TheVariants as errno
+use Rattle.rk_base.specs.declared.kind.Kind.{Kind}
+use Rattle.rk_base.specs.declared.kind.Kind.TheVariants.{File, Dir, Link}
 use Rattle.rk_calls.specs.Keys.{KeyValue, is_key, are_variables}
 use Rattle.rk_calls.specs.RefMaps.{is_refmap}
 use Rattle.rk_calls.specs.declared.vars.Var.{Var}
 use Rattle.rk_calls.specs.declared.call.How.{How}
 use Rattle.rk_calls.specs.declared.call.How.TheVariants as how
 use Rattle.rk_calls.specs.declared.call.Call.{Call}
-use Rattle.rk_calls.specs.declared.call.Call.TheVariants.{Open, Read, Write, Launch}
+use Rattle.rk_calls.specs.declared.call.Call.TheVariants as call
 use Rattle.rk_calls.specs.declared.answer.Answer.{Answer}
-use Rattle.rk_calls.specs.declared.answer.Answer.TheVariants.{Done, Opened, Content, Joined, No}
+use Rattle.rk_calls.specs.declared.answer.Answer.TheVariants as answer
 use Rattle.tr_record.specs.Rec.{count_of}
 use Rattle.tr_record.specs.declared.steps.Step.{Step}
 use Rattle.tr_record.specs.declared.records.Record.{Record}
@@ -38,6 +41,22 @@ number_at w bytes =
 unfoldable pub byte_at : List ℕ → Option (ℕ × List ℕ)
 byte_at [] = None
 byte_at (b ∷ bytes) = given (nat_lt b 256) (b, bytes)
+
+-- a mode: a number of two bytes, to 0777
+unfoldable pub mode_at : List ℕ → Option (ℕ × List ℕ)
+mode_at bytes = do
+  mode ← number_at w16 bytes
+  given (nat_le mode.0 511) mode
+
+abbrev pub flag_of : ℕ → Option Bool
+flag_of code = if code == 0 then Some false else if code == 1 then Some true else None
+
+-- a truth value
+unfoldable pub flag_at : List ℕ → Option (Bool × List ℕ)
+flag_at bytes = do
+  code ← byte_at bytes
+  flag ← flag_of code.0
+  Some (flag, code.1)
 
 -- a number that is no more than the bytes after it
 unfoldable pub count_at : List ℕ → Option (ℕ × List ℕ)
@@ -101,7 +120,16 @@ map_at bytes = do
   Some (map, pairs.1)
 
 abbrev pub how_of : ℕ → Option How
-how_of code = if code == 0 then Some how.Read else if code == 1 then Some how.Make else None
+how_of code =
+    if code == 0 then Some how.Read else
+    if code == 1 then Some how.Make else
+    if code == 2 then Some how.Append else None
+
+abbrev pub kind_of : ℕ → Option Kind
+kind_of code =
+    if code == 1 then Some File else
+    if code == 2 then Some Dir else
+    if code == 3 then Some Link else None
 
 abbrev pub errno_of : ℕ → Option Errno
 errno_of code =
@@ -115,35 +143,76 @@ errno_of code =
     if code == 8 then Some errno.BadRef else
     if code == 9 then Some errno.Invalid else None
 
+-- a call of a number
+unfoldable pub number_call_at : (ℕ → Call) → List ℕ → Option (Call × List ℕ)
+number_call_at make bytes = do
+  r ← number_at w64 bytes
+  Some (make r.0, r.1)
+
+-- a call of a path
+unfoldable pub path_call_at : (Text → Call) → List Text → List ℕ → Option (Call × List ℕ)
+path_call_at make blobs bytes = do
+  path ← blob_at blobs bytes
+  Some (make path.0, path.1)
+
+-- a call of two texts
+unfoldable pub texts_call_at : (Text → Text → Call) → List Text → List ℕ → Option (Call × List ℕ)
+texts_call_at make blobs bytes = do
+  a ← blob_at blobs bytes
+  b ← blob_at blobs a.1
+  Some (make a.0 b.0, b.1)
+
+-- a call of a path and a mode
+unfoldable pub mode_call_at : (Text → ℕ → Call) → List Text → List ℕ → Option (Call × List ℕ)
+mode_call_at make blobs bytes = do
+  path ← blob_at blobs bytes
+  mode ← mode_at path.1
+  Some (make path.0 mode.0, mode.1)
+
 unfoldable pub open_at : List Text → List ℕ → Option (Call × List ℕ)
 open_at blobs bytes = do
   path ← blob_at blobs bytes
   code ← byte_at path.1
   how ← how_of code.0
-  Some (Open path.0 how, code.1)
-
-unfoldable pub read_at : List ℕ → Option (Call × List ℕ)
-read_at bytes = do
-  r ← number_at w64 bytes
-  Some (Read r.0, r.1)
+  Some (call.Open path.0 how, code.1)
 
 unfoldable pub write_at : List Text → List ℕ → Option (Call × List ℕ)
 write_at blobs bytes = do
   r ← number_at w64 bytes
   text ← blob_at blobs r.1
-  Some (Write r.0 text.0, text.1)
+  Some (call.Write r.0 text.0, text.1)
+
+unfoldable pub stat_at : List Text → List ℕ → Option (Call × List ℕ)
+stat_at blobs bytes = do
+  path ← blob_at blobs bytes
+  follow ← flag_at path.1
+  Some (call.Stat path.0 follow.0, follow.1)
 
 unfoldable pub launch_at : List Text → List ℕ → Option (Call × List ℕ)
 launch_at blobs bytes = do
   key ← key_at blobs bytes
   map ← map_at key.1
-  Some (Launch key.0 map.0, map.1)
+  Some (call.Launch key.0 map.0, map.1)
 
 abbrev pub call_of : List Text → ℕ → List ℕ → Option (Call × List ℕ)
 call_of blobs kind bytes =
     if kind == 1 then open_at blobs bytes else
-    if kind == 2 then read_at bytes else
+    if kind == 2 then number_call_at call.Read bytes else
+    if kind == 3 then number_call_at call.ReadLine bytes else
     if kind == 4 then write_at blobs bytes else
+    if kind == 5 then stat_at blobs bytes else
+    if kind == 6 then path_call_at call.List blobs bytes else
+    if kind == 7 then path_call_at call.ReadLink blobs bytes else
+    if kind == 8 then path_call_at call.Walk blobs bytes else
+    if kind == 9 then texts_call_at call.Same blobs bytes else
+    if kind == 10 then mode_call_at call.Mkdir blobs bytes else
+    if kind == 11 then path_call_at call.Rmdir blobs bytes else
+    if kind == 12 then path_call_at call.Unlink blobs bytes else
+    if kind == 13 then texts_call_at call.Rename blobs bytes else
+    if kind == 14 then texts_call_at call.Symlink blobs bytes else
+    if kind == 15 then texts_call_at call.Link blobs bytes else
+    if kind == 16 then mode_call_at call.Chmod blobs bytes else
+    if kind == 17 then Some (call.Pipe, bytes) else
     if kind == 18 then launch_at blobs bytes else None
 
 unfoldable pub call_at : List Text → List ℕ → Option (Call × List ℕ)
@@ -151,27 +220,65 @@ call_at blobs bytes = do
   kind ← byte_at bytes
   call_of blobs kind.0 kind.1
 
-unfoldable pub content_at : List Text → List ℕ → Option (Answer × List ℕ)
-content_at blobs bytes = do
+-- an answer of a text
+unfoldable pub text_answer_at : (Text → Answer) → List Text → List ℕ → Option (Answer × List ℕ)
+text_answer_at make blobs bytes = do
   text ← blob_at blobs bytes
-  Some (Content text.0, text.1)
+  Some (make text.0, text.1)
+
+unfoldable pub found_at : List ℕ → Option (Answer × List ℕ)
+found_at bytes = do
+  code ← byte_at bytes
+  kind ← kind_of code.0
+  mode ← mode_at code.1
+  empty ← flag_at mode.1
+  Some (answer.Stat kind mode.0 empty.0, empty.1)
+
+unfoldable pub name_at : List Text → List ℕ → Option (Text × List ℕ)
+name_at blobs bytes = do
+  text ← blob_at blobs bytes
+  name ← given (is_name text.0) text.0
+  Some (name, text.1)
+
+unfoldable pub names_at : List Text → List ℕ → Option (Answer × List ℕ)
+names_at blobs bytes = do
+  names ← counted_at (λ front. name_at blobs) bytes
+  list ← given (are_names names.0) names.0
+  Some (answer.Names list, names.1)
+
+unfoldable pub place_at : List Text → List ℕ → Option (Answer × List ℕ)
+place_at blobs bytes = do
+  text ← blob_at blobs bytes
+  path ← given (is_canonical text.0) text.0
+  Some (answer.Place path, text.1)
+
+unfoldable pub same_at : List ℕ → Option (Answer × List ℕ)
+same_at bytes = do
+  same ← flag_at bytes
+  Some (answer.Same same.0, same.1)
 
 unfoldable pub joined_at : List ℕ → Option (Answer × List ℕ)
 joined_at bytes = do
   status ← byte_at bytes
-  Some (Joined status.0, status.1)
+  Some (answer.Joined status.0, status.1)
 
 unfoldable pub no_at : List ℕ → Option (Answer × List ℕ)
 no_at bytes = do
   code ← byte_at bytes
   errno ← errno_of code.0
-  Some (No errno, code.1)
+  Some (answer.No errno, code.1)
 
 abbrev pub answer_of : List Text → ℕ → List ℕ → Option (Answer × List ℕ)
 answer_of blobs kind bytes =
-    if kind == 1 then Some (Done, bytes) else
-    if kind == 2 then Some (Opened, bytes) else
-    if kind == 4 then content_at blobs bytes else
+    if kind == 1 then Some (answer.Done, bytes) else
+    if kind == 2 then Some (answer.Opened, bytes) else
+    if kind == 3 then Some (answer.Piped, bytes) else
+    if kind == 4 then text_answer_at answer.Content blobs bytes else
+    if kind == 5 then found_at bytes else
+    if kind == 6 then names_at blobs bytes else
+    if kind == 7 then text_answer_at answer.Text blobs bytes else
+    if kind == 8 then place_at blobs bytes else
+    if kind == 9 then same_at bytes else
     if kind == 10 then joined_at bytes else
     if kind == 11 then no_at bytes else None
 
@@ -183,9 +290,9 @@ answer_at blobs bytes = do
 unfoldable pub step_at : List Text → List ℕ → Option (Step × List ℕ)
 step_at blobs bytes = do
   cost ← number_at w32 bytes
-  call ← call_at blobs cost.1
-  answer ← answer_at blobs call.1
-  Some (record { cost = cost.0; call = call.0; answer = answer.0 }, answer.1)
+  asked ← call_at blobs cost.1
+  told ← answer_at blobs asked.1
+  Some (record { cost = cost.0; call = asked.0; answer = told.0 }, told.1)
 
 -- a record but for its ordinal; its costs together are below 2^64
 unfoldable pub row_at : List Text → List ℕ → Option (Row × List ℕ)

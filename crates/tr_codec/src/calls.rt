@@ -1,13 +1,14 @@
-// Calls and answers that are read.
+// Calls that are read.
 ghost use Rattle.std.specs.Prelude.{◌≡◌};
-ghost use Rattle.tr_codec.specs.Reading.{how_of, errno_of, open_at, read_at, write_at, launch_at, call_of, call_at, content_at, joined_at, no_at, answer_of, answer_at};
+ghost use Rattle.rk_calls.specs.declared.call.Call.TheVariants as call;
+ghost use Rattle.tr_codec.specs.Reading.{how_of, number_call_at, path_call_at, texts_call_at, mode_call_at, open_at, write_at, stat_at, launch_at, call_of, call_at};
 ghost use Rattle.tr_codec.specs.Reads.{Gives};
 
 use crate::fault::Odd;
 use crate::keys::{key_of, map_of};
-use crate::parts::{blob_of, byte_of, number_of};
-use rk_base::{Bytes, Errno};
-use rk_calls::{Answer, Call, How};
+use crate::parts::{blob_of, byte_of, flag_of, number_of, permissions_of};
+use rk_base::Bytes;
+use rk_calls::{Call, How};
 use std::alloc::Global;
 
 fn how_of(code: u8) -> Result<How, Odd>
@@ -16,6 +17,7 @@ fn how_of(code: u8) -> Result<How, Odd>
     match code {
         0 => Ok(How::Read),
         1 => Ok(How::Make),
+        2 => Ok(How::Append),
         _ => Err(Odd::Form),
     }
 }
@@ -30,12 +32,20 @@ fn open_of<'a>(blobs: &[Bytes], bytes: &'a [u8]) -> Result<(Call, &'a [u8]), Odd
     Ok((Call::Open(path, how), rest))
 }
 
-#[tactic(auto, unfolding(crate::specs::Reading::read_at))]
+#[tactic(auto, unfolding(crate::specs::Reading::number_call_at))]
 fn read_of(bytes: &[u8]) -> Result<(Call, &[u8]), Odd>
-    ensures { Gives (λ x. (x.0, x.1.now)) result (read_at bytes.now) }
+    ensures { Gives (λ x. (x.0, x.1.now)) result (number_call_at call.Read bytes.now) }
 {
     let (r, rest) = number_of(bytes)?;
     Ok((Call::Read(r), rest))
+}
+
+#[tactic(auto, unfolding(crate::specs::Reading::number_call_at))]
+fn read_line_of(bytes: &[u8]) -> Result<(Call, &[u8]), Odd>
+    ensures { Gives (λ x. (x.0, x.1.now)) result (number_call_at call.ReadLine bytes.now) }
+{
+    let (r, rest) = number_of(bytes)?;
+    Ok((Call::ReadLine(r), rest))
 }
 
 #[tactic(auto, unfolding(crate::specs::Reading::write_at))]
@@ -45,6 +55,109 @@ fn write_of<'a>(blobs: &[Bytes], bytes: &'a [u8]) -> Result<(Call, &'a [u8]), Od
     let (r, rest) = number_of(bytes)?;
     let (text, rest) = blob_of(blobs, rest)?;
     Ok((Call::Write(r, text), rest))
+}
+
+#[tactic(auto, unfolding(crate::specs::Reading::stat_at))]
+fn stat_of<'a>(blobs: &[Bytes], bytes: &'a [u8]) -> Result<(Call, &'a [u8]), Odd>
+    ensures { Gives (λ x. (x.0, x.1.now)) result (stat_at blobs.now bytes.now) }
+{
+    let (path, rest) = blob_of(blobs, bytes)?;
+    let (follow, rest) = flag_of(rest)?;
+    Ok((Call::Stat(path, follow), rest))
+}
+
+#[tactic(auto, unfolding(crate::specs::Reading::path_call_at))]
+fn list_of<'a>(blobs: &[Bytes], bytes: &'a [u8]) -> Result<(Call, &'a [u8]), Odd>
+    ensures { Gives (λ x. (x.0, x.1.now)) result (path_call_at call.List blobs.now bytes.now) }
+{
+    let (path, rest) = blob_of(blobs, bytes)?;
+    Ok((Call::List(path), rest))
+}
+
+#[tactic(auto, unfolding(crate::specs::Reading::path_call_at))]
+fn read_link_of<'a>(blobs: &[Bytes], bytes: &'a [u8]) -> Result<(Call, &'a [u8]), Odd>
+    ensures { Gives (λ x. (x.0, x.1.now)) result (path_call_at call.ReadLink blobs.now bytes.now) }
+{
+    let (path, rest) = blob_of(blobs, bytes)?;
+    Ok((Call::ReadLink(path), rest))
+}
+
+#[tactic(auto, unfolding(crate::specs::Reading::path_call_at))]
+fn walk_of<'a>(blobs: &[Bytes], bytes: &'a [u8]) -> Result<(Call, &'a [u8]), Odd>
+    ensures { Gives (λ x. (x.0, x.1.now)) result (path_call_at call.Walk blobs.now bytes.now) }
+{
+    let (path, rest) = blob_of(blobs, bytes)?;
+    Ok((Call::Walk(path), rest))
+}
+
+#[tactic(auto, unfolding(crate::specs::Reading::texts_call_at))]
+fn same_of<'a>(blobs: &[Bytes], bytes: &'a [u8]) -> Result<(Call, &'a [u8]), Odd>
+    ensures { Gives (λ x. (x.0, x.1.now)) result (texts_call_at call.Same blobs.now bytes.now) }
+{
+    let (a, rest) = blob_of(blobs, bytes)?;
+    let (b, rest) = blob_of(blobs, rest)?;
+    Ok((Call::Same(a, b), rest))
+}
+
+#[tactic(auto, unfolding(crate::specs::Reading::mode_call_at))]
+fn mkdir_of<'a>(blobs: &[Bytes], bytes: &'a [u8]) -> Result<(Call, &'a [u8]), Odd>
+    ensures { Gives (λ x. (x.0, x.1.now)) result (mode_call_at call.Mkdir blobs.now bytes.now) }
+{
+    let (path, rest) = blob_of(blobs, bytes)?;
+    let (mode, rest) = permissions_of(rest)?;
+    Ok((Call::Mkdir(path, mode), rest))
+}
+
+#[tactic(auto, unfolding(crate::specs::Reading::path_call_at))]
+fn rmdir_of<'a>(blobs: &[Bytes], bytes: &'a [u8]) -> Result<(Call, &'a [u8]), Odd>
+    ensures { Gives (λ x. (x.0, x.1.now)) result (path_call_at call.Rmdir blobs.now bytes.now) }
+{
+    let (path, rest) = blob_of(blobs, bytes)?;
+    Ok((Call::Rmdir(path), rest))
+}
+
+#[tactic(auto, unfolding(crate::specs::Reading::path_call_at))]
+fn unlink_of<'a>(blobs: &[Bytes], bytes: &'a [u8]) -> Result<(Call, &'a [u8]), Odd>
+    ensures { Gives (λ x. (x.0, x.1.now)) result (path_call_at call.Unlink blobs.now bytes.now) }
+{
+    let (path, rest) = blob_of(blobs, bytes)?;
+    Ok((Call::Unlink(path), rest))
+}
+
+#[tactic(auto, unfolding(crate::specs::Reading::texts_call_at))]
+fn rename_of<'a>(blobs: &[Bytes], bytes: &'a [u8]) -> Result<(Call, &'a [u8]), Odd>
+    ensures { Gives (λ x. (x.0, x.1.now)) result (texts_call_at call.Rename blobs.now bytes.now) }
+{
+    let (a, rest) = blob_of(blobs, bytes)?;
+    let (b, rest) = blob_of(blobs, rest)?;
+    Ok((Call::Rename(a, b), rest))
+}
+
+#[tactic(auto, unfolding(crate::specs::Reading::texts_call_at))]
+fn symlink_of<'a>(blobs: &[Bytes], bytes: &'a [u8]) -> Result<(Call, &'a [u8]), Odd>
+    ensures { Gives (λ x. (x.0, x.1.now)) result (texts_call_at call.Symlink blobs.now bytes.now) }
+{
+    let (text, rest) = blob_of(blobs, bytes)?;
+    let (path, rest) = blob_of(blobs, rest)?;
+    Ok((Call::Symlink(text, path), rest))
+}
+
+#[tactic(auto, unfolding(crate::specs::Reading::texts_call_at))]
+fn link_of<'a>(blobs: &[Bytes], bytes: &'a [u8]) -> Result<(Call, &'a [u8]), Odd>
+    ensures { Gives (λ x. (x.0, x.1.now)) result (texts_call_at call.Link blobs.now bytes.now) }
+{
+    let (a, rest) = blob_of(blobs, bytes)?;
+    let (b, rest) = blob_of(blobs, rest)?;
+    Ok((Call::Link(a, b), rest))
+}
+
+#[tactic(auto, unfolding(crate::specs::Reading::mode_call_at))]
+fn chmod_of<'a>(blobs: &[Bytes], bytes: &'a [u8]) -> Result<(Call, &'a [u8]), Odd>
+    ensures { Gives (λ x. (x.0, x.1.now)) result (mode_call_at call.Chmod blobs.now bytes.now) }
+{
+    let (path, rest) = blob_of(blobs, bytes)?;
+    let (mode, rest) = permissions_of(rest)?;
+    Ok((Call::Chmod(path, mode), rest))
 }
 
 #[tactic(auto, unfolding(crate::specs::Reading::launch_at))]
@@ -67,7 +180,21 @@ fn call_after<'a>(
     match kind {
         1 => open_of(blobs, bytes),
         2 => read_of(bytes),
+        3 => read_line_of(bytes),
         4 => write_of(blobs, bytes),
+        5 => stat_of(blobs, bytes),
+        6 => list_of(blobs, bytes),
+        7 => read_link_of(blobs, bytes),
+        8 => walk_of(blobs, bytes),
+        9 => same_of(blobs, bytes),
+        10 => mkdir_of(blobs, bytes),
+        11 => rmdir_of(blobs, bytes),
+        12 => unlink_of(blobs, bytes),
+        13 => rename_of(blobs, bytes),
+        14 => symlink_of(blobs, bytes),
+        15 => link_of(blobs, bytes),
+        16 => chmod_of(blobs, bytes),
+        17 => Ok((Call::Pipe, bytes)),
         18 => launch_of(alloc, blobs, bytes),
         _ => Err(Odd::Form),
     }
@@ -84,68 +211,4 @@ pub(crate) fn call_of<'a>(
     let (kind, rest) = byte_of(bytes)?;
     let (call, rest) = call_after(alloc, blobs, kind, rest)?;
     Ok((call, rest))
-}
-
-fn errno_of(code: u8) -> Result<Errno, Odd>
-    ensures { Gives (λ errno. errno) result (errno_of code) }
-{
-    match code {
-        1 => Ok(Errno::NoEntry),
-        2 => Ok(Errno::NotDir),
-        3 => Ok(Errno::IsDir),
-        4 => Ok(Errno::Exists),
-        5 => Ok(Errno::Denied),
-        6 => Ok(Errno::Loops),
-        7 => Ok(Errno::NotEmpty),
-        8 => Ok(Errno::BadRef),
-        9 => Ok(Errno::Invalid),
-        _ => Err(Odd::Form),
-    }
-}
-
-#[tactic(auto, unfolding(crate::specs::Reading::content_at))]
-fn content_of<'a>(blobs: &[Bytes], bytes: &'a [u8]) -> Result<(Answer, &'a [u8]), Odd>
-    ensures { Gives (λ x. (x.0, x.1.now)) result (content_at blobs.now bytes.now) }
-{
-    let (text, rest) = blob_of(blobs, bytes)?;
-    Ok((Answer::Content(text), rest))
-}
-
-#[tactic(auto, unfolding(crate::specs::Reading::joined_at))]
-fn joined_of(bytes: &[u8]) -> Result<(Answer, &[u8]), Odd>
-    ensures { Gives (λ x. (x.0, x.1.now)) result (joined_at bytes.now) }
-{
-    let (status, rest) = byte_of(bytes)?;
-    Ok((Answer::Joined(status), rest))
-}
-
-#[tactic(auto, unfolding(crate::specs::Reading::no_at))]
-fn no_of(bytes: &[u8]) -> Result<(Answer, &[u8]), Odd>
-    ensures { Gives (λ x. (x.0, x.1.now)) result (no_at bytes.now) }
-{
-    let (code, rest) = byte_of(bytes)?;
-    let errno = errno_of(code)?;
-    Ok((Answer::No(errno), rest))
-}
-
-fn answer_after<'a>(blobs: &[Bytes], kind: u8, bytes: &'a [u8]) -> Result<(Answer, &'a [u8]), Odd>
-    ensures { Gives (λ x. (x.0, x.1.now)) result (answer_of blobs.now kind bytes.now) }
-{
-    match kind {
-        1 => Ok((Answer::Done, bytes)),
-        2 => Ok((Answer::Opened, bytes)),
-        4 => content_of(blobs, bytes),
-        10 => joined_of(bytes),
-        11 => no_of(bytes),
-        _ => Err(Odd::Form),
-    }
-}
-
-#[tactic(auto, unfolding(crate::specs::Reading::answer_at))]
-pub(crate) fn answer_of<'a>(blobs: &[Bytes], bytes: &'a [u8]) -> Result<(Answer, &'a [u8]), Odd>
-    ensures { Gives (λ x. (x.0, x.1.now)) result (answer_at blobs.now bytes.now) }
-{
-    let (kind, rest) = byte_of(bytes)?;
-    let (answer, rest) = answer_after(blobs, kind, rest)?;
-    Ok((answer, rest))
 }

@@ -59,7 +59,7 @@ fn vars_of<'a>(alloc: Global, blobs: &[Bytes], bytes: &'a [u8]) -> Result<(Vec<V
     Ok((vars, rest))
 }
 
-fn path_of(alloc: Global, text: &[u8]) -> Result<Path, Odd>
+pub(crate) fn path_of(alloc: Global, text: &[u8]) -> Result<Path, Odd>
     ensures { Gives (λ p. p) result (given (is_canonical text.now) text.now) }
 {
     match Path::parse(alloc, text) {

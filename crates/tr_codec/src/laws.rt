@@ -3,9 +3,10 @@ ghost use Rattle.tr_codec.specs.Fits.{Fits};
 ghost use Rattle.tr_codec.specs.Laws.{OneTable, OneAttrs};
 ghost use Rattle.tr_codec.specs.Reads.{Finds};
 
+use crate::attrs::{read_attrs, write_attrs};
 use crate::fault::CodecErr;
 use crate::reading::read_db;
-use crate::rows::{Attrs, read_attrs, write_attrs};
+use crate::rows::Attrs;
 use crate::writing::write_db;
 use std::alloc::Global;
 use tr_record::Table;
@@ -34,6 +35,7 @@ pub fn read_back(alloc: Global, table: &Table) -> Result<Table, CodecErr>
 pub fn read_back_attrs(alloc: Global, attrs: &Attrs) -> Result<Attrs, CodecErr>
     ensures { Finds result attrs.now }
 {
+    let _rows = attrs.as_slice();
     match write_attrs(alloc, attrs) {
         Ok(bytes) => read_attrs(alloc, bytes.as_slice()),
         Err(_) => Err(CodecErr::NoMemory),

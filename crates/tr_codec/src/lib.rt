@@ -1,8 +1,13 @@
 //! The table of records, and the attributes of paths, as bytes: one spelling each.
 #![tactic(auto)]
 
+mod answer_pieces;
+mod answers;
+mod attrs;
+mod call_pieces;
 mod calls;
 mod fault;
+mod key_pieces;
 mod keys;
 mod laws;
 mod parts;
@@ -11,13 +16,16 @@ mod reading;
 mod records;
 mod rows;
 mod sealing;
+mod sound;
 mod writer;
 mod writing;
 
+pub use attrs::{read_attrs, write_attrs};
 pub use fault::{CodecErr, Damage};
 pub use laws::{one_attrs, one_table, read_back, read_back_attrs};
 pub use reading::read_db;
-pub use rows::{AttrRow, Attrs, read_attrs, write_attrs};
+pub use rows::{AttrRow, Attrs};
+pub use sound::has_spelling;
 pub use writing::write_db;
 
 #[cfg(test)]

@@ -1,7 +1,7 @@
 // Parts of what is read: numbers, strings and blobs.
 ghost use Rattle.std.specs.Prelude.{◌≡◌, ℕ, List, []};
-ghost use Rattle.std.specs.Int.{w32, w64};
-ghost use Rattle.tr_codec.specs.Reading.{number_at, byte_at, count_at, many_at, string_at, blob_at};
+ghost use Rattle.std.specs.Int.{w16, w32, w64};
+ghost use Rattle.tr_codec.specs.Reading.{number_at, byte_at, mode_at, flag_of, flag_at, count_at, many_at, string_at, blob_at};
 ghost use Rattle.tr_codec.specs.Reads.{Gives};
 
 use crate::fault::Odd;
@@ -35,6 +35,19 @@ pub(crate) fn cost_of(bytes: &[u8]) -> Result<(u32, &[u8]), Odd>
     Ok((number, rest))
 }
 
+/// A number of two bytes.
+#[tactic(auto, unfolding(crate::specs::Reading::number_at))]
+pub(crate) fn mode_of(bytes: &[u8]) -> Result<(u16, &[u8]), Odd>
+    ensures { Gives (λ x. (x.0, x.1.now)) result (number_at w16 bytes.now) }
+{
+    if bytes.len() < 2 {
+        return Err(Odd::Form);
+    }
+    let (front, rest) = bytes.split_at(2);
+    let number = u16::from_be_bytes([front[0], front[1]]);
+    Ok((number, rest))
+}
+
 #[tactic(auto, unfolding(crate::specs::Reading::byte_at))]
 pub(crate) fn byte_of(bytes: &[u8]) -> Result<(u8, &[u8]), Odd>
     ensures { Gives (λ x. (x.0, x.1.now)) result (byte_at bytes.now) }
@@ -43,6 +56,39 @@ pub(crate) fn byte_of(bytes: &[u8]) -> Result<(u8, &[u8]), Odd>
         [] => Err(Odd::Form),
         [b, rest @ ..] => Ok((*b, rest)),
     }
+}
+
+/// A mode, to 0777.
+#[tactic(auto, unfolding(crate::specs::Reading::mode_at))]
+pub(crate) fn permissions_of(bytes: &[u8]) -> Result<(u16, &[u8]), Odd>
+    ensures { Gives (λ x. (x.0, x.1.now)) result (mode_at bytes.now) }
+{
+    let (mode, rest) = mode_of(bytes)?;
+    if mode <= 0o777 {
+        Ok((mode, rest))
+    } else {
+        Err(Odd::Form)
+    }
+}
+
+fn flag_from(code: u8) -> Result<bool, Odd>
+    ensures { Gives (λ flag. flag) result (flag_of code) }
+{
+    match code {
+        0 => Ok(false),
+        1 => Ok(true),
+        _ => Err(Odd::Form),
+    }
+}
+
+/// A truth value.
+#[tactic(auto, unfolding(crate::specs::Reading::flag_at))]
+pub(crate) fn flag_of(bytes: &[u8]) -> Result<(bool, &[u8]), Odd>
+    ensures { Gives (λ x. (x.0, x.1.now)) result (flag_at bytes.now) }
+{
+    let (code, rest) = byte_of(bytes)?;
+    let flag = flag_from(code)?;
+    Ok((flag, rest))
 }
 
 /// How many there are: no more than the bytes after it, so that no memory is asked for more.
@@ -58,7 +104,7 @@ pub(crate) fn count_of(bytes: &[u8]) -> Result<(u64, &[u8]), Odd>
 }
 
 #[tactic(auto, unfolding(crate::specs::Reading::string_at))]
-fn string_of(alloc: Global, bytes: &[u8]) -> Result<(Bytes, &[u8]), Odd>
+pub(crate) fn string_of(alloc: Global, bytes: &[u8]) -> Result<(Bytes, &[u8]), Odd>
     ensures { Gives (λ x. (x.0, x.1.now)) result (string_at bytes.now) }
 {
     let (len, rest) = number_of(bytes)?;

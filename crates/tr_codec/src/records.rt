@@ -4,7 +4,8 @@ ghost use Rattle.tr_codec.specs.Fits.{paid};
 ghost use Rattle.tr_codec.specs.Reading.{step_at, row_at, record_at, table_at, many_at, counted_at};
 ghost use Rattle.tr_codec.specs.Reads.{Gives};
 
-use crate::calls::{answer_of, call_of};
+use crate::answers::answer_of;
+use crate::calls::call_of;
 use crate::fault::Odd;
 use crate::keys::key_of;
 use crate::parts::{byte_of, cost_of, count_of, strings_of};
@@ -28,7 +29,7 @@ fn step_of<'a>(alloc: Global, blobs: &[Bytes], bytes: &'a [u8]) -> Result<(Step,
 {
     let (cost, rest) = cost_of(bytes)?;
     let (call, rest) = call_of(alloc, blobs, rest)?;
-    let (answer, rest) = answer_of(blobs, rest)?;
+    let (answer, rest) = answer_of(alloc, blobs, rest)?;
     Ok((Step { cost, call, answer }, rest))
 }
 

@@ -2,6 +2,7 @@
 mod attrs;
 mod damage;
 mod forms;
+mod kinds;
 
 use crate::write_db;
 use rk_base::{Bytes, NoMemory, Path};

@@ -1,12 +1,12 @@
 // A writer of pieces.
 ghost use Rattle.std.specs.Prelude.{◌≡◌, ◌++◌, ◌∷◌, [], length, IfOk, OnOk};
-ghost use Rattle.std.specs.Int.{w32, to_be_bytes};
+ghost use Rattle.std.specs.Int.{w16, w32, to_be_bytes};
 ghost use Rattle.std.specs.List.{flat_map};
-ghost use Rattle.tr_codec.specs.Piece.{with_use, number_of, num, string, plain, blob, byte, cost, number};
+ghost use Rattle.tr_codec.specs.Piece.{with_use, number_of, num, string, plain, blob, byte, mode, cost, number};
 ghost use Rattle.tr_codec.specs.Puts.{Puts};
 
 use indexmap::IndexSet;
-use rk_base::{Bytes, NoMemory, Path};
+use rk_base::{Bytes, Name, NoMemory, Path};
 use std::alloc::Global;
 use std::marker::Model;
 
@@ -48,7 +48,15 @@ pub(crate) fn push_number(out: &mut Vec<u8>, n: u64) -> Result<(), NoMemory>
     Ok(())
 }
 
-fn push_string(out: &mut Vec<u8>, text: &[u8]) -> Result<(), NoMemory>
+/// Two bytes.
+pub(crate) fn push_mode(out: &mut Vec<u8>, mode: u16) -> Result<(), NoMemory>
+    ensures { OnOk result (out.new.items ≡ out.old.items ++ to_be_bytes w16 mode) }
+{
+    out.extend_from_slice(&mode.to_be_bytes())?;
+    Ok(())
+}
+
+pub(crate) fn push_string(out: &mut Vec<u8>, text: &[u8]) -> Result<(), NoMemory>
     ensures { OnOk result (out.new.items ≡ out.old.items ++ string text.now) }
 {
     push_number(out, text.len() as u64)?;
@@ -91,6 +99,14 @@ impl Writer {
         Ok(())
     }
 
+    /// Two bytes.
+    pub(crate) fn put_mode(&mut self, n: u16) -> Result<(), NoMemory>
+        ensures { OnOk result (Puts (mode n) self.old self.new) }
+    {
+        self.put_plain(&n.to_be_bytes())?;
+        Ok(())
+    }
+
     /// Four bytes.
     pub(crate) fn put_cost(&mut self, n: u32) -> Result<(), NoMemory>
         ensures { OnOk result (Puts (cost n) self.old self.new) }
@@ -123,6 +139,16 @@ impl Writer {
     {
         let alloc = *self.out.allocator();
         let text = Bytes::from_slice(alloc, path.text())?;
+        self.put_blob(&text)?;
+        Ok(())
+    }
+
+    /// The number of a name's blob.
+    pub(crate) fn put_name(&mut self, name: &Name) -> Result<(), NoMemory>
+        ensures { OnOk result (Puts (blob name.now) self.old self.new) }
+    {
+        let alloc = *self.out.allocator();
+        let text = Bytes::from_slice(alloc, name.as_slice())?;
         self.put_blob(&text)?;
         Ok(())
     }

@@ -6,7 +6,7 @@ use rk_base::NoMemory;
 use std::alloc::Global;
 use std::test::Fail;
 
-fn push_texts(out: &mut Vec<u8>, texts: &[&str]) -> Result<(), NoMemory> {
+pub(super) fn push_texts(out: &mut Vec<u8>, texts: &[&str]) -> Result<(), NoMemory> {
     push_number(out, texts.len() as u64)?;
     'texts: for text in texts {
         push_number(out, text.len() as u64)?;

@@ -1,0 +1,17 @@
+use Rattle.std.proofs.Common.{ℕ, List, []}
+use Rattle.std.proofs.lemmas.Result.{err_from_is_err_and}
+use Rattle.tr_codec.specs.Reading.{name_at, many_at}
+use Rattle.tr_codec.proofs.LoopLemmas.{goes_on, ends, is_done}
+use Rattle.tr_codec.proofs.answers.so_many_names.Goals as goal
+
+pub returns-in_err-name : goal.returns-in_err-name
+returns-in_err-name c =
+    let p = err_from_is_err_and c.from_residual.result c.from_residual.ensures.1 in
+    rw (p.1, p.2) (ends (λ (front : List (List ℕ)). name_at c.args.blobs.now) c.in_err-name.field-0.0 c.names.names.items c.args.count c.names.counter c.names.rest.now (many_at (λ (front : List (List ℕ)). name_at c.args.blobs.now) c.args.count [] c.args.bytes.now) c.names-test.true c.in_err-name.ensures c.names.invariant)
+
+pub names-preserved : goal.names-preserved
+names-preserved c =
+    rw c.in_ok-push.ensures.items (goes_on (λ (front : List (List ℕ)). name_at c.args.blobs.now) c.names.names.items c.args.count c.names.counter c.names.rest.now c.in_ok-name.name c.in_ok-name.after.now (many_at (λ (front : List (List ℕ)). name_at c.args.blobs.now) c.args.count [] c.args.bytes.now) c.names-test.true c.in_ok-name.ensures c.names.invariant)
+
+pub returns : goal.returns
+returns c = is_done (λ (front : List (List ℕ)). name_at c.args.blobs.now) c.names.names.items c.args.count c.names.counter c.names.rest.now (many_at (λ (front : List (List ℕ)). name_at c.args.blobs.now) c.args.count [] c.args.bytes.now) c.names-test.false c.names.invariant
