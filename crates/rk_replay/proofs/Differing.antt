@@ -1,11 +1,13 @@
 -- Answers compared, and the first step whose answers differ.
-use Rattle.std.proofs.Common.{◌≡◌, ◌≢◌, ℕ, zero, suc, ◌+◌, ◌<◌, Bool, true, false, eqb, if◌then◌else◌, List, [], ◌∷◌, ◌++◌, length, take, refl, sym, ◌∙◌, ap, arith, Option, Some, None}
-use Rattle.std.specs.Cmp.Lexicographic.{bytes_decides}
+use Rattle.std.proofs.Common.{◌≡◌, ◌≢◌, ℕ, zero, suc, ◌+◌, ◌<◌, Bool, true, false, ◌&&◌, eqb, if◌then◌else◌, List, [], ◌∷◌, ◌++◌, length, take, refl, sym, ◌∙◌, ap, arith, Option, Some, None}
+use Rattle.std.specs.Cmp.Lexicographic.{bytes_decides, pointwise_decides}
 use Rattle.std.proofs.lemmas.Bool.{eqb-true}
 use Rattle.rk_base.specs.declared.errno.Errno.{Errno}
 use Rattle.rk_base.specs.declared.errno.Errno.TheVariants.{NoEntry, NotDir, IsDir, Exists, Denied, Loops, NotEmpty, BadRef, Invalid}
+use Rattle.rk_base.specs.declared.kind.Kind.{Kind}
+use Rattle.rk_base.specs.declared.kind.Kind.TheVariants.{File, Dir, Link}
 use Rattle.rk_calls.specs.declared.answer.Answer.{Answer}
-use Rattle.rk_calls.specs.declared.answer.Answer.TheVariants.{Go, Done, Opened, Content, Joined, No}
+use Rattle.rk_calls.specs.declared.answer.Answer.TheVariants.{Go, Done, Opened, Piped, Content, Stat, Names, Text, Place, Same, Joined, No}
 use Rattle.tr_record.specs.declared.steps.Step.{Step}
 use Rattle.std.proofs.Common.{get_or}
 use Rattle.std.proofs.lemmas.List.{get_or_default}
@@ -13,7 +15,7 @@ use Rattle.rk_runs.specs.Spoken.{step_at, no_step}
 use Rattle.rk_check.specs.Differences.{IsFirstDifference, AnswerAlike}
 use Rattle.rk_replay.specs.declared.ran.Cause.{Cause}
 use Rattle.rk_replay.specs.declared.ran.Cause.TheVariants.{Differs}
-use Rattle.rk_replay.specs.Answers.{number_of, same_answer}
+use Rattle.rk_replay.specs.Answers.{number_of, same_flag, same_kind, same_answer}
 use Rattle.rk_replay.specs.Ran.{first_difference}
 
 -- the refusal of a number
@@ -39,11 +41,54 @@ same-errno e f h = sym (numbered e) ∙ ap errno_of h ∙ numbered f
 eqb-itself : (n : ℕ) → eqb n n ≡ true
 eqb-itself n = grind arith
 
+same-flag : (a b : Bool) → same_flag a b ≡ true → a ≡ b
+same-flag true true e = refl
+same-flag true false e = cc
+same-flag false true e = cc
+same-flag false false e = refl
+
+flag-itself : (a : Bool) → same_flag a a ≡ true
+flag-itself true = refl
+flag-itself false = refl
+
+same-kind : (a b : Kind) → same_kind a b ≡ true → a ≡ b
+same-kind File File e = refl
+same-kind Dir Dir e = refl
+same-kind Link Link e = refl
+same-kind a b e = cc
+
+kind-itself : (a : Kind) → same_kind a a ≡ true
+kind-itself File = refl
+kind-itself Dir = refl
+kind-itself Link = refl
+
+both : (a b : Bool) → (a && b) ≡ true → (a ≡ true) × (b ≡ true)
+both true b h = (refl, h)
+both false b h = cc
+
+same-stat : (k l : Kind) (m n : ℕ) (a b : Bool) → (same_kind k l && (eqb m n && same_flag a b)) ≡ true → Stat k m a ≡ Stat l n b
+same-stat k l m n a b h =
+    let x = both (same_kind k l) (eqb m n && same_flag a b) h in
+    let y = both (eqb m n) (same_flag a b) x.1 in
+    let ek = same-kind k l x.0 in
+    let em = eqb-true m n y.0 in
+    let ea = same-flag a b y.1 in
+    ap (λ k. Stat k m a) ek ∙ ap (λ m. Stat l m a) em ∙ ap (Stat l n) ea
+
+stat-itself : (k : Kind) (m : ℕ) (a : Bool) → (same_kind k k && (eqb m m && same_flag a a)) ≡ true
+stat-itself k m a = rw (kind-itself k, eqb-itself m) (flag-itself a)
+
 pub same-answer : (a b : Answer) → same_answer a b ≡ true → a ≡ b
 same-answer Go Go e = refl
 same-answer Done Done e = refl
 same-answer Opened Opened e = refl
+same-answer Piped Piped e = refl
 same-answer (Content x) (Content y) e = ap Content ((bytes_decides x y).0 e)
+same-answer (Stat k m a) (Stat l n b) e = same-stat k l m n a b e
+same-answer (Names x) (Names y) e = ap Names ((pointwise_decides bytes_decides x y).0 e)
+same-answer (Text x) (Text y) e = ap Text ((bytes_decides x y).0 e)
+same-answer (Place x) (Place y) e = ap Place ((bytes_decides x y).0 e)
+same-answer (Same x) (Same y) e = ap Same (same-flag x y e)
 same-answer (Joined s) (Joined t) e = ap Joined (eqb-true s t e)
 same-answer (No x) (No y) e = ap No (same-errno x y (eqb-true (number_of x) (number_of y) e))
 same-answer a b e = cc
@@ -52,7 +97,13 @@ pub same-itself : (a : Answer) → same_answer a a ≡ true
 same-itself Go = refl
 same-itself Done = refl
 same-itself Opened = refl
+same-itself Piped = refl
 same-itself (Content x) = (bytes_decides x x).1 refl
+same-itself (Stat k m a) = stat-itself k m a
+same-itself (Names x) = (pointwise_decides bytes_decides x x).1 refl
+same-itself (Text x) = (bytes_decides x x).1 refl
+same-itself (Place x) = (bytes_decides x x).1 refl
+same-itself (Same x) = flag-itself x
 same-itself (Joined s) = eqb-itself s
 same-itself (No x) = eqb-itself (number_of x)
 

@@ -1,4 +1,6 @@
 // Builds of a script of one line, again and after a change.
+mod recorded;
+
 ghost use Rattle.std.specs.Prelude.{◌≡◌, ◌<◌};
 
 use crate::{BuiltWorld, Cause, Ran, Stop, build_world, check};
