@@ -153,7 +153,7 @@ deep_enough path (row ∷ rows) stands = (elim (same_path path row.0) as (λ (b 
 pub within_reach : (path : Text) (held : Held) → is_nothing (standing held path) ≡ false → depth path ≤ reach_of held
 within_reach path held stands = deep_enough path (entries held.places) (sym (ap is_nothing (get-entries held.places path)) ∙ stands)
 
-dir_there : (o : Option Standing) → is_dir o ≡ true → is_nothing o ≡ false
+pub dir_there : (o : Option Standing) → is_dir o ≡ true → is_nothing o ≡ false
 dir_there None h = cc
 dir_there (Some (File bytes)) h = cc
 dir_there (Some Dir) h = refl

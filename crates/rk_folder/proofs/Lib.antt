@@ -1,6 +1,12 @@
+pub mod AttributesLemmas
+pub mod FirstLemmas
 pub mod HeldLemmas
-pub mod ImportedLemmas
+pub mod HiddenLemmas
 pub mod ListingLemmas
+pub mod OrderLemmas
 pub mod ReadingLemmas
 pub mod SnapshotLemmas
+pub mod SpecialLemmas
+pub mod TakenLemmas
 pub mod WholeLemmas
+pub mod WithinLemmas

@@ -15,7 +15,8 @@ use Rattle.rk_base.proofs.PathLemmas.{join-is_in, is_in-join, name_of-join}
 use Rattle.rk_tree.proofs.TextLemmas.{same_is, same_itself, ties_itself}
 use Rattle.rk_folder.specs.Told.{Held, standing, is_nothing, is_file, is_dir, item_in, item_of, items_of, is_odd, odd_in}
 use Rattle.rk_folder.specs.Whole.{IsWhole}
-use Rattle.rk_folder.specs.Steps.{agrees, is_special, is_named, item_named, is_odd_item}
+use Rattle.rk_folder.specs.Specials.{is_special}
+use Rattle.rk_folder.specs.Steps.{agrees, is_named, item_named, is_odd_item}
 use Rattle.rk_folder.specs.declared.folder.Item.{Item}
 use Rattle.rk_folder.specs.declared.folder.Item.TheVariants as item
 use Rattle.rk_folder.specs.declared.folder.Standing.{Standing}
@@ -28,7 +29,7 @@ abbrev pub EachStands : (Text → Option Standing) → List (Text × Standing) �
 EachStands at [] = Unit {0}
 EachStands at (row ∷ rows) = (at row.0 ≡ Some row.1) × EachStands at rows
 
-parted : (a b : Bool) → T (a && b) → T a × T b
+pub parted : (a b : Bool) → T (a && b) → T a × T b
 parted true b h = (tt, h)
 parted false b h = absurd h
 
@@ -76,7 +77,7 @@ agrees_row held dir true row its whole at here rest =
     ap (λ (b : Bool). b && list_all (agrees held dir) its) (agrees_item held dir (name_of row.0) row.1 j.1 (ap (standing held) j.0 ∙ at)) ∙ rest
 agrees_row held dir false row its whole at here rest = rest
 
-onto : (o : Option Item) (its more : List Item) → cons_option o its ++ more ≡ cons_option o (its ++ more)
+pub onto : (o : Option Item) (its more : List Item) → cons_option o its ++ more ≡ cons_option o (its ++ more)
 onto None its more = refl
 onto (Some it) its more = refl
 

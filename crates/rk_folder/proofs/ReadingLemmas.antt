@@ -1,20 +1,14 @@
 -- What the parts of an import tell, where the folder tells what it holds.
 use Rattle.std.proofs.Common.{◌≡◌, List, Bool, true, false, Option, Some, None, IfSome, option_map, refl, sym, ap, subst, ◌∙◌, cond}
-use Rattle.std.specs.List.{list_all, list_any}
-use Rattle.std.specs.Str.{is_utf8, chars}
-use lib.Utf8.{encode}
-use Rattle.rk_base.specs.Text.{Text, root, hidden, join, same_text}
-use Rattle.rk_base.specs.Canonical.{is_canonical, is_name}
-use Rattle.rk_base.proofs.CanonicalLemmas.{both, root-canonical, join-canonical}
-use Rattle.rk_base.proofs.PathLemmas.{parent-join}
-use Rattle.rk_tree.proofs.TextLemmas.{same_is}
-use Rattle.rk_tree.specs.Entries.{Entries}
-use Rattle.rk_folder.specs.Told.{Held, standing, is_nothing, is_dir, bytes_in, item_of, items_of, is_odd}
+use Rattle.std.specs.List.{list_all}
+use Rattle.rk_base.specs.Text.{Text, root, hidden}
+use Rattle.rk_base.proofs.CanonicalLemmas.{root-canonical}
+use Rattle.rk_folder.specs.Told.{Held, standing, is_dir, bytes_in, item_of, items_of}
 use Rattle.rk_folder.specs.Whole.{IsWhole, TellsWhole}
 use Rattle.rk_folder.specs.Hidden.{hidden_dir, attrs_name, db_name, attrs_file, db_file}
-use Rattle.rk_folder.specs.Specials.{or_else, state_fault, state_special, hidden_fault, hidden_special, first_fault, root_fault, first_special}
-use Rattle.rk_folder.specs.Import.{snapshot_of, state_of}
-use Rattle.rk_folder.specs.Steps.{agrees, is_special, item_named, is_odd_item, is_no_file, special_file, with_items, root_entry, nothing_special}
+use Rattle.rk_folder.specs.Specials.{or_else, state_fault, state_special, hidden_fault, hidden_special}
+use Rattle.rk_folder.specs.Import.{state_of}
+use Rattle.rk_folder.specs.Steps.{agrees, item_named, is_no_file, special_file, nothing_special}
 use Rattle.rk_folder.specs.declared.hidden_files.Hidden.{Hidden}
 use Rattle.rk_folder.specs.declared.importing.StateFile.{StateFile}
 use Rattle.rk_folder.specs.declared.importing.StateFile.TheVariants as state
@@ -22,8 +16,8 @@ use Rattle.rk_folder.specs.declared.folder.Item.{Item}
 use Rattle.rk_folder.specs.declared.folder.Item.TheVariants as item
 use Rattle.rk_folder.specs.declared.folder.Standing.{Standing}
 use Rattle.rk_folder.specs.declared.folder.Standing.TheVariants.{File, Dir, Special}
-use Rattle.rk_folder.proofs.ListingLemmas.{items-agree, item_named-is, odd_item-is}
-use Rattle.rk_folder.proofs.ImportedLemmas.{with_items-is}
+use Rattle.rk_folder.proofs.HiddenLemmas.{hidden-is_name, attrs-named, db-named, hidden-canonical, nothing_below}
+use Rattle.rk_folder.proofs.ListingLemmas.{items-agree, item_named-is}
 
 -- a directory's items, where the folder tells what it holds
 abbrev pub ToldItems : Option Held → Text → List Item → Type 0
@@ -44,33 +38,6 @@ moved-told P now told is h = subst (λ (t : Option Held). IfSome t P) is h
 pub told-agree-now : (told now : Option Held) (dir : Text) (items : List Item) → now ≡ told → TellsWhole told → ToldItems told dir items → IfSome now (λ held. list_all (agrees held dir) items ≡ true)
 told-agree-now told now dir items is whole listed = moved-told (λ held. list_all (agrees held dir) items ≡ true) told now (sym is) (told-agree told dir items whole listed)
 
--- The root.
-
-not_odd : (held : Held) (items : List Item) (b : Bool) → items ≡ items_of held root → list_any is_odd_item items ≡ b → is_odd root held.odd ≡ b
-not_odd held items b is odd = sym (odd_item-is held root) ∙ ap (list_any is_odd_item) (sym is) ∙ odd
-
-pub told-odd : (told : Option Held) (items : List Item) (path : Text) → ToldItems told root items → list_any is_odd_item items ≡ true → path ≡ root → IfSome told (λ held. first_special held ≡ Some path)
-told-odd None items path listed odd is = tt
-told-odd (Some held) items path listed odd is =
-    ap (λ (b : Bool). cond b (Some root) (first_fault (root_fault held) (items_of held root))) (not_odd held items true listed.1 odd) ∙ ap (λ (p : Text). Some p) (sym is)
-
-first_is : (held : Held) (items : List Item) (o : Option Text) → items ≡ items_of held root → list_any is_odd_item items ≡ false → first_fault (root_fault held) items ≡ o → first_special held ≡ o
-first_is held items o is odd fault =
-    ap (λ (b : Bool). cond b (Some root) (first_fault (root_fault held) (items_of held root))) (not_odd held items false is odd) ∙ ap (first_fault (root_fault held)) (sym is) ∙ fault
-
-pub told-snapshot : (told : Option Held) (items : List Item) (made : Entries) → TellsWhole told → ToldItems told root items → list_any is_odd_item items ≡ false → IfSome told (λ held. (first_fault (root_fault held) items ≡ None) × Unit {0}) → IfSome told (λ held. (nothing_special held ≡ None) × (made ≡ with_items held root_entry items))
-    → IfSome told (λ held. (first_special held ≡ None) × (made ≡ snapshot_of held))
-told-snapshot None items made whole listed odd fault taken = tt
-told-snapshot (Some held) items made whole listed odd fault taken =
-    (first_is held items None listed.1 odd fault.0, taken.1 ∙ ap (with_items held root_entry) listed.1 ∙ with_items-is held whole (ap (first_fault (root_fault held)) (sym listed.1) ∙ fault.0))
-
-pub told-snapshot-now : (told looked taken : Option Held) (items seen read : List Item) (made : Entries) → looked ≡ told → taken ≡ told → seen ≡ items → read ≡ items → TellsWhole told → ToldItems told root items → list_any is_odd_item items ≡ false → IfSome looked (λ held. (first_fault (root_fault held) seen ≡ None) × Unit {0})
-    → IfSome taken (λ held. (nothing_special held ≡ None) × (made ≡ with_items held root_entry read)) → IfSome told (λ held. (first_special held ≡ None) × (made ≡ snapshot_of held))
-told-snapshot-now told looked taken items seen read made l t s r whole listed odd fault take =
-    told-snapshot told items made whole listed odd
-    (subst (λ (i : List Item). IfSome told (λ held. (first_fault (root_fault held) i ≡ None) × Unit {0})) s (moved-told (λ held. (first_fault (root_fault held) seen ≡ None) × Unit {0}) looked told l fault))
-    (subst (λ (i : List Item). IfSome told (λ held. (nothing_special held ≡ None) × (made ≡ with_items held root_entry i))) r (moved-told (λ held. (nothing_special held ≡ None) × (made ≡ with_items held root_entry read)) taken told t take))
-
 -- The hidden directory.
 
 abbrev pub file_path : StateFile → Text
@@ -88,21 +55,6 @@ file_special None d = db_special d
 file_special (Some (File bytes)) d = db_special d
 file_special (Some Dir) d = refl
 file_special (Some Special) d = refl
-
-hidden-named : is_name hidden ≡ true
-unfolding is_name is_utf8 chars encode
-hidden-named = refl
-
-attrs-named : is_name attrs_name ≡ true
-unfolding is_name is_utf8 chars encode
-attrs-named = refl
-
-db-named : is_name db_name ≡ true
-unfolding is_name is_utf8 chars encode
-db-named = refl
-
-pub hidden-canonical : is_canonical hidden_dir ≡ true
-hidden-canonical = join-canonical root hidden root-canonical hidden-named
 
 state_is : (held : Held) (items : List Item) (o : Option StateFile) → IsWhole held → items ≡ items_of held hidden_dir → o ≡ special_file (item_named attrs_name items) (item_named db_name items) → state_special held ≡ option_map file_path o
 state_is held items o whole is file =
@@ -122,7 +74,7 @@ told-no_state (Some held) items o whole listed o_is none = (state_is held items 
 -- The state files.
 
 hidden_item : (held : Held) (items : List Item) → IsWhole held → items ≡ items_of held root → item_named hidden items ≡ option_map (item_of hidden) (standing held hidden_dir)
-hidden_item held items whole is = ap (item_named hidden) is ∙ item_named-is held root hidden whole root-canonical hidden-named
+hidden_item held items whole is = ap (item_named hidden) is ∙ item_named-is held root hidden whole root-canonical hidden-is_name
 
 no_item : (o : Option Standing) → option_map (item_of hidden) o ≡ None → o ≡ None
 no_item None h = refl
@@ -133,15 +85,6 @@ dir_item None name h = cc
 dir_item (Some (File bytes)) name h = cc
 dir_item (Some Dir) name h = refl
 dir_item (Some Special) name h = cc
-
--- below what doesn't stand nothing stands
-nothing_below : (held : Held) (name : Text) → IsWhole held → is_name name ≡ true → standing held hidden_dir ≡ None → standing held (join hidden_dir name) ≡ None
-nothing_below held name whole n none = (elim (standing held (join hidden_dir name)) as (λ (o : Option Standing). standing held (join hidden_dir name) ≡ o → o ≡ None) [
-  | None ↦ λ e. refl
-  | Some it ↦ λ e.
-      let dir : is_dir (standing held hidden_dir) ≡ true = ap (λ (p : Text). is_dir (standing held p)) (sym (parent-join hidden_dir name hidden-canonical n)) ∙ whole.parents (join hidden_dir name) (ap is_nothing e) in
-      let none : is_dir (standing held hidden_dir) ≡ false = ap is_dir none in cc
-]) refl
 
 abbrev pub found : Bool → Option Text → Option Text → Hidden
 found rkr db attrs = record { rkr = rkr; state = record { db = db; attrs = attrs } }
@@ -179,22 +122,3 @@ pub told-no_dir : (told : Option Held) (items : List Item) (it : Item) (path : T
 told-no_dir None items it path whole listed is d at = tt
 told-no_dir (Some held) items it path whole listed is d at =
     other_item (standing held hidden_dir) it (sym (hidden_item held items whole listed.1) ∙ is) d (state_special held) ∙ ap (λ (p : Text). Some p) (sym at)
-
--- One item of the root.
-
-special_is : (o : Option Standing) → is_special o ≡ true → o ≡ Some Special
-special_is None h = cc
-special_is (Some (File bytes)) h = cc
-special_is (Some Dir) h = cc
-special_is (Some Special) h = refl
-
-special_fault : (held : Held) (name : Text) (b : Bool) → same_text name hidden ≡ b → is_special (standing held (join root name)) ≡ true → cond b (hidden_special held) (Some (join root name)) ≡ Some (join root name)
-special_fault held name true s h =
-    let is : name ≡ hidden = same_is name hidden s in
-    ap (λ (o : Option Standing). hidden_fault o (state_special held)) (ap (λ (n : Text). standing held (join root n)) (sym is) ∙ special_is _ h) ∙ ap (λ (n : Text). Some (join root n)) (sym is)
-special_fault held name false s h = refl
-
-pub told-special_item : (told : Option Held) (it : Item) (name path : Text) → IfSome told (λ held. agrees held root it ≡ true) → it ≡ item.Special name → path ≡ join root name → IfSome told (λ held. root_fault held it ≡ Some path)
-told-special_item None it name path a is at = tt
-told-special_item (Some held) it name path a is at =
-    ap (root_fault held) is ∙ special_fault held name (same_text name hidden) refl (both (is_name name) _ (ap (agrees held root) (sym is) ∙ a)).1 ∙ ap (λ (p : Text). Some p) (sym at)

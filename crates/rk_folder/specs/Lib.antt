@@ -1,7 +1,9 @@
+pub mod Attributes
 pub mod Calls
 pub mod Counts
 pub mod Hidden
 pub mod Import
+pub mod Listing
 pub mod Memory
 pub mod Sinks
 pub mod Specials

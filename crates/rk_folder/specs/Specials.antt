@@ -1,12 +1,50 @@
--- What of a folder can be no part of a build, in the order of its listings.
-use Rattle.std.specs.Prelude.{List, [], ◌∷◌, Option, Some, None, if◌then◌else◌}
-use Rattle.rk_base.specs.Text.{Text, root, join, hidden, same_text}
-use Rattle.rk_folder.specs.Told.{Held, standing, items_of, is_odd}
+-- What of a folder can be no part of a build, and the first of it in the order of the listings.
+use Rattle.std.specs.Prelude.{List, map, Bool, true, false, ◌&&◌, ◌||◌, Option, Some, None, if◌then◌else◌}
+use Rattle.std.specs.List.{filter}
+use Rattle.std.specs.FinMap.{entries}
+use Rattle.rk_base.specs.Text.{Text, is_within, same_text}
+use Rattle.rk_folder.specs.Told.{Held, standing, is_dir, is_odd}
 use Rattle.rk_folder.specs.Hidden.{hidden_dir, attrs_file, db_file}
-use Rattle.rk_folder.specs.declared.folder.Item.{Item}
-use Rattle.rk_folder.specs.declared.folder.Item.TheVariants as item
+use Rattle.rk_folder.specs.Listing.{first_listed}
 use Rattle.rk_folder.specs.declared.folder.Standing.{Standing}
 use Rattle.rk_folder.specs.declared.folder.Standing.TheVariants.{File, Dir, Special}
+
+abbrev pub is_special : Option Standing → Bool
+is_special None = false
+is_special (Some (File bytes)) = false
+is_special (Some Dir) = false
+is_special (Some Special) = true
+
+-- something stands, and it is no directory, or no file
+abbrev pub is_other_than_dir : Option Standing → Bool
+is_other_than_dir None = false
+is_other_than_dir (Some (File bytes)) = true
+is_other_than_dir (Some Dir) = false
+is_other_than_dir (Some Special) = true
+
+abbrev pub is_other_than_file : Option Standing → Bool
+is_other_than_file None = false
+is_other_than_file (Some (File bytes)) = false
+is_other_than_file (Some Dir) = true
+is_other_than_file (Some Special) = true
+
+-- `.rkr` is to be a directory, and each state file in it a file
+abbrev pub is_hidden_fault : Text → Option Standing → Bool
+is_hidden_fault path it = same_text path hidden_dir && is_other_than_dir it || (same_text path attrs_file || same_text path db_file) && is_other_than_file it
+
+-- elsewhere nothing is to be special, and no directory is to hold a name which is none
+unfoldable pub is_fault : Held → Text → Bool
+is_fault held path =
+    if is_within hidden_dir path then is_hidden_fault path (standing held path) else is_special (standing held path) || is_dir (standing held path) && is_odd path held.odd
+
+-- the paths at which something stands
+abbrev pub paths_of : Held → List Text
+paths_of held = map (λ row. row.0) (entries held.places)
+
+unfoldable pub first_special : Held → Option Text
+first_special held = first_listed (filter (is_fault held) (paths_of held))
+
+-- What the state files alone are told by.
 
 -- the first of two paths that is there
 abbrev pub or_else : Option Text → Option Text → Option Text
@@ -33,20 +71,3 @@ hidden_fault (Some Special) state = Some hidden_dir
 -- `.rkr` where it is no directory, else the first state file in it that is special
 abbrev pub hidden_special : Held → Option Text
 hidden_special held = hidden_fault (standing held hidden_dir) (state_special held)
-
--- in the root are files, and `.rkr`
-abbrev pub root_fault : Held → Item → Option Text
-root_fault held (item.File name) = if same_text name hidden then hidden_special held else None
-root_fault held (item.Dir name) = if same_text name hidden then hidden_special held else Some (join root name)
-root_fault held (item.Special name) = if same_text name hidden then hidden_special held else Some (join root name)
-root_fault held item.Odd = None
-
--- the first that the test gives
-abbrev pub first_fault : (Item → Option Text) → List Item → Option Text
-first_fault test [] = None
-first_fault test (it ∷ its) = or_else (test it) (first_fault test its)
-
--- The first special in the order of the listings: a directory with an odd name comes before what is
--- in it, and what is in `.rkr` comes before the next name.
-abbrev pub first_special : Held → Option Text
-first_special held = if is_odd root held.odd then Some root else first_fault (root_fault held) (items_of held root)

@@ -1,16 +1,20 @@
 -- What the parts of an import work on.
 use Rattle.std.specs.Prelude.{◌≡◌, List, [], ◌∷◌, Bool, true, false, not, ◌&&◌, Option, Some, None, IfSome, if◌then◌else◌}
-use Rattle.std.specs.FinMap.{empty, get, insert}
-use Rattle.rk_base.specs.Text.{Text, root, join, hidden, same_text}
+use Rattle.std.specs.FinMap.{empty, entries, get, insert}
+use Rattle.std.specs.List.{filter, filter_map}
+use Rattle.rk_base.specs.Text.{Text, root, join, is_within, same_text}
 use Rattle.rk_base.specs.Canonical.{is_name}
 use Rattle.rk_tree.specs.Entries as tree
 use Rattle.rk_tree.specs.Entries.{Entries}
+use Rattle.rk_tree.specs.declared.entry.Entry.{Entry}
 use Rattle.rk_tree.specs.declared.entry.Entry.TheVariants as entry
-use Rattle.rk_folder.specs.Told.{Held, standing, is_dir, is_file, bytes_in}
+use Rattle.rk_folder.specs.Told.{Held, standing, is_dir, is_file}
+use Rattle.rk_folder.specs.Listing.{first_listed}
+use Rattle.rk_folder.specs.Specials.{is_special, is_fault, paths_of, or_else}
+use Rattle.rk_folder.specs.Import.{imported}
 use Rattle.rk_folder.specs.declared.folder.Item.{Item}
 use Rattle.rk_folder.specs.declared.folder.Item.TheVariants as item
 use Rattle.rk_folder.specs.declared.folder.Standing.{Standing}
-use Rattle.rk_folder.specs.declared.folder.Standing.TheVariants.{File, Dir, Special}
 use Rattle.rk_folder.specs.declared.folder.FolderErr.{FolderErr}
 use Rattle.rk_folder.specs.declared.folder.FolderErr.TheVariants as folder
 use Rattle.rk_folder.specs.declared.importing.StateFile.{StateFile}
@@ -39,12 +43,6 @@ is_odd_item (item.Dir n) = false
 is_odd_item (item.Special n) = false
 is_odd_item item.Odd = true
 
-abbrev pub is_special : Option Standing → Bool
-is_special None = false
-is_special (Some (File bytes)) = false
-is_special (Some Dir) = false
-is_special (Some Special) = true
-
 -- what an item tells is so
 abbrev pub agrees : Held → Text → Item → Bool
 agrees held dir (item.File name) = is_name name && is_file (standing held (join dir name))
@@ -52,27 +50,51 @@ agrees held dir (item.Dir name) = is_name name && is_dir (standing held (join di
 agrees held dir (item.Special name) = is_name name && is_special (standing held (join dir name))
 agrees held dir item.Odd = true
 
--- in the root are files, and `.rkr`, which is a directory
-abbrev pub is_plain : Item → Bool
-is_plain (item.File name) = not (same_text name hidden)
-is_plain (item.Dir name) = same_text name hidden
-is_plain (item.Special name) = false
-is_plain item.Odd = true
-
 abbrev pub content_in : Option Text → Text
 content_in None = []
 content_in (Some bytes) = bytes
 
--- a file in the root is put in the snapshot
-abbrev pub with_item : Held → Entries → Item → Entries
-with_item held snapshot (item.File name) = insert snapshot (join root name) (entry.File 420 (content_in (bytes_in (standing held (join root name)))))
-with_item held snapshot (item.Dir name) = snapshot
-with_item held snapshot (item.Special name) = snapshot
-with_item held snapshot item.Odd = snapshot
+-- the first special at a path or below it
+unfoldable pub first_within : Held → Text → Option Text
+first_within held dir = first_listed (filter (λ q. is_within dir q && is_fault held q) (paths_of held))
 
-abbrev pub with_items : Held → Entries → List Item → Entries
-with_items held snapshot [] = snapshot
-with_items held snapshot (it ∷ its) = with_items held (with_item held snapshot it) its
+-- the first special at an item of a directory or below it
+abbrev pub special_in : Held → Text → Item → Option Text
+special_in held dir (item.File name) = first_within held (join dir name)
+special_in held dir (item.Dir name) = first_within held (join dir name)
+special_in held dir (item.Special name) = first_within held (join dir name)
+special_in held dir item.Odd = None
+
+-- the first that the test gives
+abbrev pub first_fault : (Item → Option Text) → List Item → Option Text
+first_fault test [] = None
+first_fault test (it ∷ its) = or_else (test it) (first_fault test its)
+
+-- What is made of what stands within a directory.
+
+-- an entry is put where no directory stands
+unfoldable pub laid : Text → Entry → Entries → Entries
+laid path it snapshot = if tree.is_dir (get snapshot path) then snapshot else insert snapshot path it
+
+abbrev pub lay_all : List (Text × Entry) → Entries → Entries
+lay_all [] snapshot = snapshot
+lay_all (row ∷ rows) snapshot = lay_all rows (laid row.0 row.1 snapshot)
+
+abbrev pub imported_in : Text → Text × Standing → Option (Text × Entry)
+imported_in dir row = if is_within dir row.0 then imported row else None
+
+unfoldable pub with_within : Held → Text → Entries → Entries
+with_within held dir snapshot = lay_all (filter_map (imported_in dir) (entries held.places)) snapshot
+
+abbrev pub with_item : Held → Text → Entries → Item → Entries
+with_item held dir snapshot (item.File name) = with_within held (join dir name) snapshot
+with_item held dir snapshot (item.Dir name) = with_within held (join dir name) snapshot
+with_item held dir snapshot (item.Special name) = with_within held (join dir name) snapshot
+with_item held dir snapshot item.Odd = snapshot
+
+abbrev pub with_items : Held → Text → Entries → List Item → Entries
+with_items held dir snapshot [] = snapshot
+with_items held dir snapshot (it ∷ its) = with_items held dir (with_item held dir snapshot it) its
 
 -- the root, with nothing in it
 abbrev pub root_entry : Entries
@@ -84,10 +106,6 @@ nothing_special held = None
 abbrev pub import_err : FolderErr → ImportErr
 import_err folder.Failed = err.ReadFault
 import_err folder.NoMemory = err.NoMemory
-
--- the root is the one directory
-abbrev pub IsRootAlone : Entries → Type 0
-IsRootAlone snapshot = (path : Text) → tree.is_dir (get snapshot path) ≡ true → path ≡ root
 
 abbrev pub is_file_item : Item → Bool
 is_file_item (item.File name) = true

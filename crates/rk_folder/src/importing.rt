@@ -1,18 +1,22 @@
 // What a folder holds for a build.
-ghost use Rattle.std.specs.Prelude.{◌≡◌, ℕ, IfOk, OnOk, IfSome, option_copied, option_map, true};
+ghost use Rattle.std.specs.Prelude.{◌≡◌, ◌≤◌, ◌+◌, IfOk, OnOk, option_copied, true, false};
+ghost use Rattle.std.specs.FinMap.{get};
 ghost use Rattle.std.specs.List.{list_all, list_any};
 ghost use Rattle.rk_base.specs.Text as text;
-ghost use Rattle.rk_base.specs.Canonical.{is_name};
+ghost use Rattle.rk_base.specs.Text.{depth, is_within, join, same_text};
+ghost use Rattle.rk_base.specs.Canonical.{is_canonical, is_name};
+ghost use Rattle.rk_tree.specs.Entries as tree;
 ghost use Rattle.rk_tree.specs.Entries.{IsWholeSnapshot};
 ghost use Rattle.rk_folder.specs.Told as told;
 ghost use Rattle.rk_folder.specs.Hidden.{hidden_dir, attrs_name, db_name};
-ghost use Rattle.rk_folder.specs.Specials.{first_fault, first_special, root_fault, state_special};
+ghost use Rattle.rk_folder.specs.Specials.{first_special, state_special};
 ghost use Rattle.rk_folder.specs.Import.{Tells, ReadCaused, snapshot_of};
 ghost use Rattle.rk_folder.specs.Steps as steps;
-ghost use Rattle.rk_folder.specs.Steps.{MayCall, IsRootAlone};
+ghost use Rattle.rk_folder.specs.Steps.{MayCall};
+ghost use Rattle.rk_folder.specs.declared.folder.Item.TheVariants as item;
 ghost use Rattle.rk_folder.specs.declared.importing.ImportErr.TheVariants as err;
 
-use crate::hidden_files::{ATTRS, DB, HIDDEN, attrs_file, db_file, hidden_dir};
+use crate::hidden_files::{ATTRS, DB, attrs_file, db_file, hidden_dir};
 use crate::{Folder, FolderErr, Got, Item};
 use rk_base::{Bytes, Name, NoMemory, Path};
 use rk_tree::{Entry, Snapshot};
@@ -60,9 +64,11 @@ pub(crate) fn list<F: Folder>(
 ) -> Result<Vec<Item>, ImportErr>
     requires { MayCall (F.told folder.old) (told.can_list dir.now) }
     ensures items { Tells (F.told folder.old) steps.nothing_special (λ held items. items.items ≡ told.items_of held dir.now) result }
+    ensures within { OnOk result (depth dir.now ≤ F.reach folder.old) }
     ensures cause { ReadCaused (F.read_faults folder.old) (F.read_faults folder.new) result }
     ensures held { F.told folder.new ≡ F.told folder.old }
     ensures writes { F.write_faults folder.new ≡ F.write_faults folder.old }
+    ensures reach { F.reach folder.new ≡ F.reach folder.old }
 {
     let items = folder.list(alloc, dir)?;
     Ok(items)
@@ -93,6 +99,7 @@ fn content<F: Folder>(alloc: Global, folder: &mut F, file: &Path) -> Result<Byte
     ensures cause { ReadCaused (F.read_faults folder.old) (F.read_faults folder.new) result }
     ensures held { F.told folder.new ≡ F.told folder.old }
     ensures writes { F.write_faults folder.new ≡ F.write_faults folder.old }
+    ensures reach { F.reach folder.new ≡ F.reach folder.old }
 {
     match folder.read(alloc, file)? {
         Got::Content(bytes) => Ok(bytes),
@@ -167,6 +174,7 @@ pub(crate) fn look_at_state<F: Folder>(alloc: Global, folder: &mut F) -> Result<
     ensures cause { ReadCaused (F.read_faults folder.old) (F.read_faults folder.new) result }
     ensures held { F.told folder.new ≡ F.told folder.old }
     ensures writes { F.write_faults folder.new ≡ F.write_faults folder.old }
+    ensures reach { F.reach folder.new ≡ F.reach folder.old }
 {
     let items = list(alloc, folder, &hidden_dir(alloc)?)?;
     match special_state(&items) {
@@ -176,117 +184,210 @@ pub(crate) fn look_at_state<F: Folder>(alloc: Global, folder: &mut F) -> Result<
     }
 }
 
-// Looks at one item of the root.
-fn look_at<F: Folder>(alloc: Global, folder: &mut F, item: &Item) -> Result<(), ImportErr>
-    requires { MayCall (F.told folder.old) (λ held. steps.agrees held text.root item.now) }
-    ensures look { Tells (F.told folder.old) (λ held. root_fault held item.now) (λ held it. Unit {0}) result }
-    ensures plain { OnOk result (steps.is_plain item.now ≡ true) }
+// Whether it is the path of `.rkr`.
+#[tactic(auto, unfolding(rk_base::specs::Text::join))]
+fn is_hidden(path: &Path) -> bool
+    ensures { result ≡ same_text path.now hidden_dir }
+{
+    path.text() == b"/.rkr".as_slice()
+}
+
+// The path of a name in a directory.
+fn path_in(alloc: Global, dir: &Path, name: &Name) -> Result<Path, NoMemory>
+    ensures path { IfOk result (λ p. p ≡ join dir.now name.now) }
+    ensures name { is_name name.now ≡ true }
+    ensures dir { is_canonical dir.now ≡ true }
+    ensures deeper { depth (join dir.now name.now) ≡ depth dir.now + 1 }
+{
+    let _text = dir.text();
+    let _name = name.as_slice();
+    let path = dir.join(alloc, name)?;
+    Ok(path)
+}
+
+fn is_dir(it: Option<&Entry>) -> bool
+    ensures { result ≡ tree.is_dir (option_copied it.entry) }
+{
+    match it {
+        Some(Entry::Dir(_)) => true,
+        Some(Entry::File(_, _)) => false,
+        Some(Entry::Link(_)) => false,
+        None => false,
+    }
+}
+
+// Puts an entry where no directory stands. A folder lists no name twice, but only one that tells what
+// it holds is held to that.
+#[tactic(auto, unfolding(crate::specs::Steps::laid))]
+fn lay(snapshot: &mut Snapshot, path: Path, it: Entry) -> Result<(), NoMemory>
+    ensures { OnOk result (snapshot.new ≡ steps.laid path it snapshot.old) }
+{
+    if is_dir(snapshot.get(&path)) {
+        return Ok(());
+    }
+    snapshot.put(path, it)?;
+    Ok(())
+}
+
+// A file of a directory, put in the snapshot.
+fn take_file<F: Folder>(
+    alloc: Global,
+    folder: &mut F,
+    dir: &Path,
+    name: &Name,
+    snapshot: &mut Snapshot,
+) -> Result<(), ImportErr>
+    requires agrees { MayCall (F.told folder.old) (λ held. steps.agrees held dir.now (item.File name.now)) }
+    requires seen { is_within hidden_dir dir.now ≡ false }
+    requires whole { IsWholeSnapshot snapshot.old }
+    requires placed { tree.is_dir (get snapshot.old dir.now) ≡ true }
+    ensures whole { OnOk result (IsWholeSnapshot snapshot.new) }
+    ensures placed { OnOk result (tree.is_dir (get snapshot.new dir.now) ≡ true) }
+    ensures taken { Tells (F.told folder.old) (λ held. steps.first_within held (join dir.now name.now)) (λ held it. snapshot.new ≡ steps.with_within held (join dir.now name.now) snapshot.old) result }
     ensures cause { ReadCaused (F.read_faults folder.old) (F.read_faults folder.new) result }
     ensures held { F.told folder.new ≡ F.told folder.old }
     ensures writes { F.write_faults folder.new ≡ F.write_faults folder.old }
+    ensures reach { F.reach folder.new ≡ F.reach folder.old }
+{
+    let path = path_in(alloc, dir, name)?;
+    if is_hidden(&path) {
+        return Err(ImportErr::Special(path));
+    }
+    let bytes = content(alloc, folder, &path)?;
+    lay(snapshot, path, Entry::File(FILE_MODE, bytes))?;
+    Ok(())
+}
+
+// A directory of a directory, and all that is in it, put in the snapshot; of `.rkr` only the state
+// files are looked at.
+#[cycle(descent)]
+fn take_dir<F: Folder>(
+    alloc: Global,
+    folder: &mut F,
+    dir: &Path,
+    name: &Name,
+    snapshot: &mut Snapshot,
+) -> Result<(), ImportErr>
+    requires agrees { MayCall (F.told folder.old) (λ held. steps.agrees held dir.now (item.Dir name.now)) }
+    requires seen { is_within hidden_dir dir.now ≡ false }
+    requires deep { depth dir.now ≤ F.reach folder.old }
+    requires whole { IsWholeSnapshot snapshot.old }
+    requires placed { tree.is_dir (get snapshot.old dir.now) ≡ true }
+    ensures whole { OnOk result (IsWholeSnapshot snapshot.new) }
+    ensures placed { OnOk result (tree.is_dir (get snapshot.new dir.now) ≡ true) }
+    ensures taken { Tells (F.told folder.old) (λ held. steps.first_within held (join dir.now name.now)) (λ held it. snapshot.new ≡ steps.with_within held (join dir.now name.now) snapshot.old) result }
+    ensures cause { ReadCaused (F.read_faults folder.old) (F.read_faults folder.new) result }
+    ensures held { F.told folder.new ≡ F.told folder.old }
+    ensures writes { F.write_faults folder.new ≡ F.write_faults folder.old }
+    ensures reach { F.reach folder.new ≡ F.reach folder.old }
+{
+    let path = path_in(alloc, dir, name)?;
+    if is_hidden(&path) {
+        return look_at_state(alloc, folder);
+    }
+    lay(snapshot, path.copy()?, Entry::Dir(DIR_MODE))?;
+    take_all(alloc, folder, &path, snapshot)
+}
+
+// What a listing of a directory tells of one name, put in the snapshot.
+#[cycle(descent)]
+fn take_item<F: Folder>(
+    alloc: Global,
+    folder: &mut F,
+    dir: &Path,
+    item: &Item,
+    snapshot: &mut Snapshot,
+) -> Result<(), ImportErr>
+    requires agrees { MayCall (F.told folder.old) (λ held. steps.agrees held dir.now item.now) }
+    requires seen { is_within hidden_dir dir.now ≡ false }
+    requires deep { depth dir.now ≤ F.reach folder.old }
+    requires whole { IsWholeSnapshot snapshot.old }
+    requires placed { tree.is_dir (get snapshot.old dir.now) ≡ true }
+    ensures whole { OnOk result (IsWholeSnapshot snapshot.new) }
+    ensures placed { OnOk result (tree.is_dir (get snapshot.new dir.now) ≡ true) }
+    ensures taken { Tells (F.told folder.old) (λ held. steps.special_in held dir.now item.now) (λ held it. snapshot.new ≡ steps.with_item held dir.now snapshot.old item.now) result }
+    ensures cause { ReadCaused (F.read_faults folder.old) (F.read_faults folder.new) result }
+    ensures held { F.told folder.new ≡ F.told folder.old }
+    ensures writes { F.write_faults folder.new ≡ F.write_faults folder.old }
+    ensures reach { F.reach folder.new ≡ F.reach folder.old }
 {
     match item {
-        Item::File(name) => {
-            if name.as_slice() == HIDDEN {
-                return Err(ImportErr::Special(hidden_dir(alloc)?));
-            }
-            Ok(())
-        }
-        Item::Dir(name) => {
-            if name.as_slice() == HIDDEN {
-                return look_at_state(alloc, folder);
-            }
-            Err(ImportErr::Special(in_root(alloc, name)?))
-        }
-        Item::Special(name) => Err(ImportErr::Special(in_root(alloc, name)?)),
+        Item::File(name) => take_file(alloc, folder, dir, name, snapshot),
+        Item::Dir(name) => take_dir(alloc, folder, dir, name, snapshot),
+        Item::Special(name) => Err(ImportErr::Special(path_in(alloc, dir, name)?)),
         Item::Odd => Ok(()),
     }
 }
 
-fn in_root(alloc: Global, name: &Name) -> Result<Path, NoMemory>
-    ensures path { IfOk result (λ p. p ≡ text.join text.root name.now) }
-    ensures name { is_name name.now ≡ true }
-{
-    let _name = name.as_slice();
-    let path = Path::root(alloc)?.join(alloc, name)?;
-    Ok(path)
-}
-
-// Looks at what is listed in the root, one after another.
-fn look<F: Folder>(alloc: Global, folder: &mut F, items: &[Item]) -> Result<(), ImportErr>
-    requires { MayCall (F.told folder.old) (λ held. list_all (steps.agrees held text.root) items.now) }
-    ensures look { Tells (F.told folder.old) (λ held. first_fault (root_fault held) items.now) (λ held it. Unit {0}) result }
-    ensures plain { OnOk result (list_all steps.is_plain items.now ≡ true) }
+// What a listing of a directory tells, put in the snapshot, one name after another.
+#[cycle(descent)]
+fn take_items<F: Folder>(
+    alloc: Global,
+    folder: &mut F,
+    dir: &Path,
+    items: &[Item],
+    snapshot: &mut Snapshot,
+) -> Result<(), ImportErr>
+    requires agrees { MayCall (F.told folder.old) (λ held. list_all (steps.agrees held dir.now) items.now) }
+    requires seen { is_within hidden_dir dir.now ≡ false }
+    requires deep { depth dir.now ≤ F.reach folder.old }
+    requires whole { IsWholeSnapshot snapshot.old }
+    requires placed { tree.is_dir (get snapshot.old dir.now) ≡ true }
+    ensures whole { OnOk result (IsWholeSnapshot snapshot.new) }
+    ensures placed { OnOk result (tree.is_dir (get snapshot.new dir.now) ≡ true) }
+    ensures taken { Tells (F.told folder.old) (λ held. steps.first_fault (steps.special_in held dir.now) items.now) (λ held it. snapshot.new ≡ steps.with_items held dir.now snapshot.old items.now) result }
     ensures cause { ReadCaused (F.read_faults folder.old) (F.read_faults folder.new) result }
     ensures held { F.told folder.new ≡ F.told folder.old }
     ensures writes { F.write_faults folder.new ≡ F.write_faults folder.old }
+    ensures reach { F.reach folder.new ≡ F.reach folder.old }
 {
     for item in items {
-        look_at(alloc, folder, item)?;
+        take_item(alloc, folder, dir, item, snapshot)?;
     }
     Ok(())
 }
 
-// Puts a file of the root in the snapshot.
-fn take_item<F: Folder>(
+// All that is in a directory, put in the snapshot.
+#[cycle(descent)]
+fn take_all<F: Folder>(
     alloc: Global,
     folder: &mut F,
-    item: &Item,
+    dir: &Path,
     snapshot: &mut Snapshot,
 ) -> Result<(), ImportErr>
-    requires agrees { MayCall (F.told folder.old) (λ held. steps.agrees held text.root item.now) }
-    requires plain { steps.is_plain item.now ≡ true }
+    requires lists { MayCall (F.told folder.old) (told.can_list dir.now) }
+    requires canonical { is_canonical dir.now ≡ true }
+    requires seen { is_within hidden_dir dir.now ≡ false }
     requires whole { IsWholeSnapshot snapshot.old }
-    requires lone { IsRootAlone snapshot.old }
-    ensures whole { IsWholeSnapshot snapshot.new }
-    ensures lone { IsRootAlone snapshot.new }
-    ensures taken { Tells (F.told folder.old) steps.nothing_special (λ held it. snapshot.new ≡ steps.with_item held snapshot.old item.now) result }
+    requires placed { tree.is_dir (get snapshot.old dir.now) ≡ true }
+    ensures whole { OnOk result (IsWholeSnapshot snapshot.new) }
+    ensures placed { OnOk result (tree.is_dir (get snapshot.new dir.now) ≡ true) }
+    ensures taken { Tells (F.told folder.old) (λ held. steps.first_within held dir.now) (λ held it. snapshot.new ≡ steps.with_within held dir.now snapshot.old) result }
     ensures cause { ReadCaused (F.read_faults folder.old) (F.read_faults folder.new) result }
     ensures held { F.told folder.new ≡ F.told folder.old }
     ensures writes { F.write_faults folder.new ≡ F.write_faults folder.old }
+    ensures reach { F.reach folder.new ≡ F.reach folder.old }
 {
-    match item {
-        Item::File(name) => {
-            let path = in_root(alloc, name)?;
-            let bytes = content(alloc, folder, &path)?;
-            snapshot.put(path, Entry::File(FILE_MODE, bytes))?;
-            Ok(())
-        }
-        Item::Dir(_) => Ok(()),
-        Item::Special(_) => Ok(()),
-        Item::Odd => Ok(()),
+    let items = list(alloc, folder, dir)?;
+    if has_odd(&items) {
+        return Err(ImportErr::Special(dir.copy()?));
     }
+    take_items(alloc, folder, dir, &items, snapshot)
 }
 
 fn root_entry(alloc: Global) -> Result<Snapshot, NoMemory>
     ensures entry { IfOk result (λ s. s ≡ steps.root_entry) }
     ensures whole { IfOk result IsWholeSnapshot }
-    ensures lone { IfOk result IsRootAlone }
+    ensures placed { IfOk result (λ s. tree.is_dir (get s text.root) ≡ true) }
 {
     let mut snapshot = Snapshot::new(alloc);
     snapshot.put(Path::root(alloc)?, Entry::Dir(DIR_MODE))?;
     Ok(snapshot)
 }
 
-// Reads the files of the root, one after another.
-fn take<F: Folder>(alloc: Global, folder: &mut F, items: &[Item]) -> Result<Snapshot, ImportErr>
-    requires agrees { MayCall (F.told folder.old) (λ held. list_all (steps.agrees held text.root) items.now) }
-    requires plain { list_all steps.is_plain items.now ≡ true }
-    ensures taken { Tells (F.told folder.old) steps.nothing_special (λ held s. s ≡ steps.with_items held steps.root_entry items.now) result }
-    ensures whole { IfOk result IsWholeSnapshot }
-    ensures cause { ReadCaused (F.read_faults folder.old) (F.read_faults folder.new) result }
-    ensures held { F.told folder.new ≡ F.told folder.old }
-    ensures writes { F.write_faults folder.new ≡ F.write_faults folder.old }
-{
-    let mut snapshot = root_entry(alloc)?;
-    for item in items {
-        take_item(alloc, folder, item, &mut snapshot)?;
-    }
-    Ok(snapshot)
-}
-
 /// The files and directories of a folder outside `.rkr`, a file with the mode 0644 and a directory with
-/// 0755. All that is special is told before any file is read.
+/// 0755. It is listed and read name by name, ascending, a directory's contents before the next name,
+/// and what is special is told where it is met.
 pub fn import<F: Folder>(alloc: Global, folder: &mut F) -> Result<Snapshot, ImportErr>
     ensures told { Tells (F.told folder.old) first_special (λ held s. s ≡ snapshot_of held) result }
     ensures whole { IfOk result IsWholeSnapshot }
@@ -297,11 +398,9 @@ pub fn import<F: Folder>(alloc: Global, folder: &mut F) -> Result<Snapshot, Impo
     ensures held { F.told folder.new ≡ F.told folder.old }
     ensures writes { F.write_faults folder.new ≡ F.write_faults folder.old }
 {
-    let items = list(alloc, folder, &Path::root(alloc)?)?;
-    if has_odd(&items) {
-        return Err(ImportErr::Special(Path::root(alloc)?));
+    let mut snapshot = root_entry(alloc)?;
+    match take_all(alloc, folder, &Path::root(alloc)?, &mut snapshot) {
+        Ok(()) => Ok(snapshot),
+        Err(e) => Err(e),
     }
-    look(alloc, folder, &items)?;
-    let snapshot = take(alloc, folder, &items)?;
-    Ok(snapshot)
 }

@@ -1,6 +1,7 @@
 //! The folder and the sinks that the build works on, behind traits, and the import of a folder.
 #![tactic(auto)]
 
+mod attributes;
 mod folder;
 mod held;
 mod hidden_files;
@@ -8,14 +9,17 @@ mod importing;
 mod memory;
 mod real;
 mod sink;
+mod specials;
 mod state_files;
 
+pub use attributes::{rows_apply, tree_of};
 pub use folder::{Folder, FolderErr, Got, Item, Standing};
 pub use hidden_files::{Hidden, State};
 pub use importing::{ImportErr, import};
 pub use memory::{Change, MemFolder};
 pub use real::RealFolder;
 pub use sink::{MemSink, RealSink, Sink, SinkErr};
+pub use specials::special_is_first;
 pub use state_files::state;
 
 #[cfg(test)]

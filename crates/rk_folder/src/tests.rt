@@ -1,8 +1,11 @@
 // Each call that takes memory, once where there is enough, and what no clause says of a real folder.
+mod attributes;
+
 use crate::{
     Folder, FolderErr, Got, Item, MemFolder, MemSink, RealFolder, RealSink, Sink, SinkErr, import,
 };
 use rk_base::{NoMemory, Path};
+use rk_tree::{Entry, Snapshot};
 use std::alloc::Global;
 use std::test::Fail;
 
@@ -110,7 +113,42 @@ fn imports_files(rt: HostRuntime) -> Result<(), Fail> {
     let alloc = rt.alloc();
     let mut folder = MemFolder::new(alloc)?;
     folder.set_file(alloc, &at(alloc, b"/a")?, b"1")?;
+    folder.set_dir(&at(alloc, b"/d")?)?;
+    folder.set_file(alloc, &at(alloc, b"/d/a")?, b"2")?;
     let snapshot = import(alloc, &mut folder)?;
-    assert_eq!(rt; snapshot.len(), 2);
+    assert_eq!(rt; snapshot.len(), 4);
     Ok(())
+}
+
+// A directory in a directory, with a file in each.
+fn fill<F: Folder>(alloc: Global, folder: &mut F) -> Result<(), Fail> {
+    folder.make_dir(alloc, &at(alloc, b"/d")?)?;
+    folder.make_dir(alloc, &at(alloc, b"/d/e")?)?;
+    folder.write(alloc, &at(alloc, b"/d/a")?, b"1\n")?;
+    folder.write(alloc, &at(alloc, b"/d/e/b")?, b"2\n")?;
+    Ok(())
+}
+
+fn is_entry(snapshot: &Snapshot, path: &Path, bytes: &[u8]) -> bool {
+    matches!(snapshot.get(path), Some(Entry::File(0o644, it)) if it.as_slice() == bytes)
+}
+
+fn clear<F: Folder>(alloc: Global, folder: &mut F) -> Result<(), Fail> {
+    folder.remove_file(alloc, &at(alloc, b"/d/e/b")?)?;
+    folder.remove_file(alloc, &at(alloc, b"/d/a")?)?;
+    folder.remove_dir(alloc, &at(alloc, b"/d/e")?)?;
+    folder.remove_dir(alloc, &at(alloc, b"/d")?)?;
+    Ok(())
+}
+
+#[test]
+fn imports_real_directories(rt: HostRuntime) -> Result<(), Fail> {
+    let alloc = rt.alloc();
+    let mut folder = RealFolder::new(rt, String::from_str(alloc, ".")?);
+    fill(alloc, &mut folder)?;
+    let snapshot = import(alloc, &mut folder)?;
+    assert!(rt; matches!(snapshot.get(&at(alloc, b"/d/e")?), Some(Entry::Dir(0o755))));
+    assert!(rt; is_entry(&snapshot, &at(alloc, b"/d/a")?, b"1\n"));
+    assert!(rt; is_entry(&snapshot, &at(alloc, b"/d/e/b")?, b"2\n"));
+    clear(alloc, &mut folder)
 }

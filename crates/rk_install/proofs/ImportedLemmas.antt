@@ -19,7 +19,7 @@ use Rattle.rk_install.specs.Holdings.{hidden_dir, db_file, attrs_file, placed, d
 use Rattle.rk_install.specs.Imported.{holding_of}
 use Rattle.rk_install.proofs.HiddenLemmas.{attrs_parent, db_parent}
 use Rattle.rk_install.proofs.OrderLemmas.{InOrder, in_order_first, in_order_rest, find_below, find_first, find_other}
-use Rattle.rk_install.proofs.SeenLemmas.{no_fault, stands-outside, hidden-not_special, odd-within}
+use Rattle.rk_install.proofs.SeenLemmas.{no_fault, stands-outside, hidden-plain, odd-within}
 
 -- What is imported of what stands at a path.
 
@@ -90,16 +90,16 @@ shown_dir (Some Special) h = cc
 faulty : (path : Text) → Some path ≡ None → ⊥
 faulty path h = cc
 
-dir_held : (o : Option Standing) (state : Option Text) → (is_nothing o ≡ false → hidden_fault o state ≡ None) → o ≡ dir_where (is_dir o)
+dir_held : (o : Option Standing) (state : Option Text) → hidden_fault o state ≡ None → o ≡ dir_where (is_dir o)
 dir_held None state h = refl
-dir_held (Some (File bytes)) state h = absurd (faulty hidden_dir (h refl))
+dir_held (Some (File bytes)) state h = absurd (faulty hidden_dir h)
 dir_held (Some Dir) state h = refl
-dir_held (Some Special) state h = absurd (faulty hidden_dir (h refl))
+dir_held (Some Special) state h = absurd (faulty hidden_dir h)
 
-dir_state : (o : Option Standing) (state : Option Text) → is_dir o ≡ true → (is_nothing o ≡ false → hidden_fault o state ≡ None) → state ≡ None
+dir_state : (o : Option Standing) (state : Option Text) → is_dir o ≡ true → hidden_fault o state ≡ None → state ≡ None
 dir_state None state d h = cc
 dir_state (Some (File bytes)) state d h = cc
-dir_state (Some Dir) state d h = h refl
+dir_state (Some Dir) state d h = h
 dir_state (Some Special) state d h = cc
 
 state_held : (path : Text) (o : Option Standing) → (is_nothing o ≡ false → state_fault path o ≡ None) → o ≡ option_map File (bytes_in o)
@@ -113,7 +113,7 @@ module _ (held : Held) (whole : IsWhole held) (plain : first_special held ≡ No
   shown_outside path out = elim (is_nothing (standing held path)) as (λ (b : Bool). is_nothing (standing held path) ≡ b → standing held path ≡ placed (shown (standing held path) false)) [
     | true ↦ λ none. shown_nothing (standing held path) none
     | false ↦ λ stands. elim (stands-outside held whole plain path stands out) [
-      | inl e ↦ shown_dir (standing held path) (ap (λ (p : Text). is_dir (standing held p)) e ∙ whole.root_dir)
+      | inl dir ↦ shown_dir (standing held path) dir
       | inr file ↦ shown_file (standing held path) file
     ]
   ] refl
@@ -121,14 +121,14 @@ module _ (held : Held) (whole : IsWhole held) (plain : first_special held ≡ No
   -- in the hidden directory nothing is special
   in_hidden : (path : Text) → parent path ≡ hidden_dir → is_nothing (standing held path) ≡ false → state_special held ≡ None
   in_hidden path e stands =
-      dir_state (standing held hidden_dir) (state_special held) (ap (λ (p : Text). is_dir (standing held p)) (sym e) ∙ whole.parents path stands) (hidden-not_special held whole plain)
+      dir_state (standing held hidden_dir) (state_special held) (ap (λ (p : Text). is_dir (standing held p)) (sym e) ∙ whole.parents path stands) (hidden-plain held whole plain)
 
   -- the folder holds just what is imported of it
   pub holds-imported : Holds held (holding_of held)
   holds-imported = record {
     unseen = λ path within. get-imported held path ∙ ap (shown (standing held path)) within ∙ shown_hidden (standing held path);
     outside = λ path out. shown_outside path out ∙ ap placed (sym (get-imported held path ∙ ap (shown (standing held path)) out));
-    rkr = dir_held (standing held hidden_dir) (state_special held) (hidden-not_special held whole plain);
+    rkr = dir_held (standing held hidden_dir) (state_special held) (hidden-plain held whole plain);
     db = state_held db_file (standing held db_file) (λ stands. (no_fault (state_fault attrs_file (standing held attrs_file)) _ (in_hidden db_file db_parent stands)).1);
     attrs = state_held attrs_file (standing held attrs_file) (λ stands. (no_fault (state_fault attrs_file (standing held attrs_file)) _ (in_hidden attrs_file attrs_parent stands)).0);
   }

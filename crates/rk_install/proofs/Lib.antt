@@ -1,3 +1,4 @@
+pub mod AttributesLemmas
 pub mod HiddenLemmas
 pub mod OrderLemmas
 pub mod SeenLemmas

@@ -1,3 +1,4 @@
+pub mod Attributes
 pub mod Changes
 pub mod Holdings
 pub mod Imported

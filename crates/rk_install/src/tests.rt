@@ -1,7 +1,9 @@
 // Plans of small folders, and calls made in a real one.
+mod attributes;
+
 use crate::{Holding, InstallErr, Op, Plan, install, plan};
 use rk_base::{Bytes, NoMemory, Path, PathFault};
-use rk_folder::{Folder, Got, RealFolder, State};
+use rk_folder::{Folder, FolderErr, Got, RealFolder, State};
 use rk_tree::{Entry, Snapshot};
 use std::alloc::{AllocError, Global};
 use std::str;
@@ -110,29 +112,31 @@ fn first_build(alloc: Global) -> Result<String, NoMemory> {
 }
 
 // Files and directories change their kinds, attrs goes, and db stays.
+fn deep(alloc: Global, attrs: Option<&str>, db: Option<&str>) -> Result<Holding, NoMemory> {
+    let rows = [
+        ("/", None),
+        ("/d", None),
+        ("/d/f", Some("1")),
+        ("/d/h", None),
+        ("/d/h/i", Some("5")),
+        ("/e", Some("2")),
+    ];
+    holding(alloc, &rows, attrs, db)
+}
+
+fn other_kinds(alloc: Global, db: Option<&str>) -> Result<Holding, NoMemory> {
+    let rows = [
+        ("/", None),
+        ("/d", Some("3")),
+        ("/e", None),
+        ("/e/g", Some("4")),
+    ];
+    holding(alloc, &rows, None, db)
+}
+
 fn changed_kinds(alloc: Global) -> Result<String, NoMemory> {
-    let before = holding(
-        alloc,
-        &[
-            ("/", None),
-            ("/d", None),
-            ("/d/f", Some("1")),
-            ("/e", Some("2")),
-        ],
-        Some("A"),
-        Some("DB"),
-    )?;
-    let after = holding(
-        alloc,
-        &[
-            ("/", None),
-            ("/d", Some("3")),
-            ("/e", None),
-            ("/e/g", Some("4")),
-        ],
-        None,
-        Some("DB"),
-    )?;
+    let before = deep(alloc, Some("A"), Some("DB"))?;
+    let after = other_kinds(alloc, Some("DB"))?;
     let text = lines(alloc, &plan(alloc, &before, &after)?)?;
     Ok(text)
 }
@@ -147,7 +151,7 @@ fn plans_what_differs(rt: HostRuntime) -> Result<(), Fail> {
     let changed = changed_kinds(rt.alloc())?;
     assert_eq!(rt;
         changed.as_str(),
-        "remove_file /e;remove_file /d/f;remove_dir /d;make_dir /e;write /d 3;write /e/g 4;remove_file /.rkr/attrs;"
+        "remove_file /e;remove_file /d/h/i;remove_dir /d/h;remove_file /d/f;remove_dir /d;make_dir /e;write /d 3;write /e/g 4;remove_file /.rkr/attrs;"
     );
     Ok(())
 }
@@ -179,5 +183,26 @@ fn makes_the_calls(rt: HostRuntime) -> Result<(), Fail> {
     assert!(rt; install(alloc, &mut folder, &later_calls(alloc)?) == Err(InstallErr::WriteFault));
     let dir = path(alloc, "/d")?;
     assert!(rt; matches!(folder.read(alloc, &dir), Ok(Got::Absent)));
+    Ok(())
+}
+
+fn is_content(got: Result<Got, FolderErr>, text: &str) -> bool {
+    matches!(got, Ok(Got::Content(bytes)) if bytes.as_slice() == text.as_bytes())
+}
+
+#[test]
+fn changes_a_real_folder(rt: HostRuntime) -> Result<(), Fail> {
+    let alloc = rt.alloc();
+    let mut folder = RealFolder::new(rt, String::from_str(alloc, ".")?);
+    let empty = holding(alloc, &[("/", None)], None, None)?;
+    let before = deep(alloc, None, None)?;
+    let after = other_kinds(alloc, None)?;
+    assert!(rt; install(alloc, &mut folder, &plan(alloc, &empty, &before)?) == Ok(()));
+    assert!(rt; install(alloc, &mut folder, &plan(alloc, &before, &after)?) == Ok(()));
+    let file = path(alloc, "/d")?;
+    assert!(rt; is_content(folder.read(alloc, &file), "3"));
+    let below = path(alloc, "/e/g")?;
+    assert!(rt; is_content(folder.read(alloc, &below), "4"));
+    assert!(rt; install(alloc, &mut folder, &plan(alloc, &after, &empty)?) == Ok(()));
     Ok(())
 }

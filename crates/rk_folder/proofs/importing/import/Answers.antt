@@ -1,28 +1,13 @@
-use Rattle.std.proofs.Common.{sym, ◌∙◌}
-use Rattle.rk_base.specs.Text.{root}
-use Rattle.rk_folder.proofs.ReadingLemmas.{told-same, told-agree-now, told-odd, told-snapshot-now}
+use Rattle.std.proofs.Common.{◌≡◌}
+use Rattle.rk_tree.specs.Entries.{Entries}
+use Rattle.rk_folder.specs.Import.{snapshot_of}
+use Rattle.rk_folder.specs.Steps.{with_within}
+use Rattle.rk_folder.proofs.TakenLemmas.{told-whole, told-stop}
 use Rattle.rk_folder.proofs.importing.import.Goals as goal
 
-pub returns-then-has_odd-clause-told : goal.returns-then-has_odd-clause-told
-returns-then-has_odd-clause-told g c =
-    told-odd _ c.deref.result.now c.in_ok-root-2.field-0
-    (told-same _ c.in_ok-root.field-0 root c.in_ok-items.items.items c.deref.result.now c.in_ok-items.ensures.items c.in_ok-root.ensures c.deref.ensures.value)
-    (sym c.has_odd.ensures ∙ c.if-has_odd.true) c.in_ok-root-2.ensures
+pub returns-in-Ok-clause-told : goal.returns-in-Ok-clause-told
+returns-in-Ok-clause-told g c = told-whole _ c.in_ok-root.field-0 c.in_ok-snapshot.snapshot c.take_all-2.new.snapshot (g.met.F.Folder.whole c.args.folder.now) c.in_ok-root.ensures c.in_ok-snapshot.ensures.entry c.in-Ok.ensures.taken
 
-pub look-requires : goal.look-requires
-look-requires g c =
-    told-agree-now _ _ root c.deref-2.result.now c.in_ok-items.ensures.held (g.met.F.Folder.whole c.args.folder.now)
-    (told-same _ c.in_ok-root.field-0 root c.in_ok-items.items.items c.deref-2.result.now c.in_ok-items.ensures.items c.in_ok-root.ensures c.deref-2.ensures.value)
-
-pub take-requires-clause-agrees : goal.take-requires-clause-agrees
-take-requires-clause-agrees g c =
-    told-agree-now _ _ root c.deref-3.result.now (c.in_ok-look.ensures.held ∙ c.in_ok-items.ensures.held) (g.met.F.Folder.whole c.args.folder.now)
-    (told-same _ c.in_ok-root.field-0 root c.in_ok-items.items.items c.deref-3.result.now c.in_ok-items.ensures.items c.in_ok-root.ensures c.deref-3.ensures.value)
-
-pub returns-clause-told : goal.returns-clause-told
-returns-clause-told g c =
-    told-snapshot-now _ _ _ c.deref.result.now c.deref-2.result.now c.deref-3.result.now c.in_ok-snapshot.snapshot
-    c.in_ok-items.ensures.held (c.in_ok-look.ensures.held ∙ c.in_ok-items.ensures.held) (c.deref-2.ensures.value ∙ sym c.deref.ensures.value) (c.deref-3.ensures.value ∙ sym c.deref.ensures.value)
-    (g.met.F.Folder.whole c.args.folder.now)
-    (told-same _ c.in_ok-root.field-0 root c.in_ok-items.items.items c.deref.result.now c.in_ok-items.ensures.items c.in_ok-root.ensures c.deref.ensures.value)
-    (sym c.has_odd.ensures ∙ c.if-has_odd.false) c.in_ok-look.ensures.look c.in_ok-snapshot.ensures.taken
+pub returns-in-Err-clause-told : goal.returns-in-Err-clause-told
+returns-in-Err-clause-told g c =
+    told-stop {A = Unit {0}} {B = Entries} _ c.in_ok-root.field-0 (λ held it. c.take_all-2.new.snapshot ≡ with_within held c.in_ok-root.field-0 c.in_ok-snapshot.snapshot) (λ held s. s ≡ snapshot_of held) c.in-Err.e (g.met.F.Folder.whole c.args.folder.now) c.in_ok-root.ensures c.in-Err.ensures.taken

@@ -1,10 +1,11 @@
 use Rattle.std.proofs.Common.{◌≡◌, sym, ap, subst, ◌∙◌}
-use Rattle.std.specs.FinMap.{empty, insert}
-use Rattle.rk_base.specs.Text.{Text}
+use Rattle.std.specs.FinMap.{empty, get, insert}
+use Rattle.rk_base.specs.Text.{Text, root}
+use Rattle.rk_tree.specs.Entries as tree
 use Rattle.rk_tree.specs.Entries.{Entries, IsWholeSnapshot}
 use Rattle.rk_tree.specs.declared.entry.Entry.TheVariants.{Dir}
-use Rattle.rk_folder.specs.Steps.{IsRootAlone, root_entry}
-use Rattle.rk_folder.proofs.SnapshotLemmas.{root_entry-whole, root_entry-root_alone}
+use Rattle.rk_folder.specs.Steps.{root_entry}
+use Rattle.rk_folder.proofs.SnapshotLemmas.{root_entry-whole, root_entry-dir}
 use Rattle.rk_folder.proofs.importing.root_entry.Goals as goal
 
 pub returns-clause-whole : goal.returns-clause-whole
@@ -12,7 +13,7 @@ returns-clause-whole c =
     let is : c.put.new.self ≡ root_entry = c.in_ok-put.ensures.ok ∙ ap (λ (s : Entries). insert s c.in_ok-root.field-0 (Dir 493)) c.new-snapshot.ensures ∙ ap (λ (p : Text). insert empty p (Dir 493)) c.in_ok-root.ensures in
     subst IsWholeSnapshot (sym is) root_entry-whole
 
-pub returns-clause-lone : goal.returns-clause-lone
-returns-clause-lone c =
+pub returns-clause-placed : goal.returns-clause-placed
+returns-clause-placed c =
     let is : c.put.new.self ≡ root_entry = c.in_ok-put.ensures.ok ∙ ap (λ (s : Entries). insert s c.in_ok-root.field-0 (Dir 493)) c.new-snapshot.ensures ∙ ap (λ (p : Text). insert empty p (Dir 493)) c.in_ok-root.ensures in
-    subst IsRootAlone (sym is) root_entry-root_alone
+    ap (λ (s : Entries). tree.is_dir (get s root)) is ∙ root_entry-dir

@@ -1,0 +1,70 @@
+use Rattle.std.proofs.Common.{List, rules, refl, ap, ◌∙◌}
+use Rattle.std.specs.List.{list_any}
+use Rattle.rk_folder.specs.Steps.{is_odd_item}
+use Rattle.rk_folder.specs.declared.folder.Item.{Item}
+use Rattle.rk_folder.proofs.ReadingLemmas.{told-same, told-agree-now}
+use Rattle.rk_folder.proofs.TakenLemmas.{not_hidden, entered-canonical, entered-seen, laid_dir-whole, laid_dir-placed, told-lists, told-special_item, told-odd, told-items, told-state_taken, told-dir, placed-on}
+use Rattle.rk_folder.proofs.importing.+descent.Goals as goal
+
+pub take_item-returns-in_ok-path_in-in-Special-clause-taken :
+    goal.take_item-returns-in_ok-path_in-in-Special-clause-taken
+take_item-returns-in_ok-path_in-in-Special-clause-taken g t c =
+    told-special_item _ c.args.dir.now c.args.item.now c.in-Special.name c.in_ok-path_in-in-Special.field-0 c.requires.agrees c.in-Special.is c.in_ok-path_in-in-Special.ensures.dir c.requires.seen c.in_ok-path_in-in-Special.ensures.path
+
+pub take_all-returns-then-has_odd-clause-taken : goal.take_all-returns-then-has_odd-clause-taken
+take_all-returns-then-has_odd-clause-taken g t c =
+    told-odd _ c.args.dir.now c.in_ok-copy.field-0 c.in_ok-items.items.items _ c.requires.lists c.requires.seen c.in_ok-items.ensures.items (c.has_odd.ensures ∙ ap (λ (xs : List Item). list_any is_odd_item xs) c.deref.ensures.value) c.if-has_odd.true c.in_ok-copy.ensures
+
+pub take_all-take_items-requires : goal.take_all-take_items-requires
+take_all-take_items-requires g t c κs within = (
+  search rules,
+  (
+    search rules,
+    (
+      told-agree-now _ _ c.args.dir.now c.deref-2.result.now c.in_ok-items.ensures.held (g.met.F.Folder.whole c.args.folder.now)
+          (told-same _ c.args.dir.now c.args.dir.now c.in_ok-items.items.items c.deref-2.result.now c.in_ok-items.ensures.items refl c.deref-2.ensures.value),
+      (search rules, (search rules, (search rules, search rules))),
+    ),
+  ),
+)
+
+pub take_all-returns-clause-taken : goal.take_all-returns-clause-taken
+take_all-returns-clause-taken g t c =
+    told-items _ _ c.args.dir.now c.in_ok-items.items.items c.deref-2.result.now _ c.args.snapshot.now c.take_items.new.snapshot c.take_items.result c.in_ok-items.ensures.held c.deref-2.ensures.value (g.met.F.Folder.whole c.args.folder.now) c.requires.canonical c.requires.lists c.requires.seen c.requires.placed c.in_ok-items.ensures.items
+    (c.has_odd.ensures ∙ ap (λ (xs : List Item). list_any is_odd_item xs) c.deref.ensures.value) c.if-has_odd.false c.take_items.ensures.taken
+
+pub take_dir-returns-then-is_hidden-clause-taken :
+    goal.take_dir-returns-then-is_hidden-clause-taken
+take_dir-returns-then-is_hidden-clause-taken g t c =
+    told-state_taken _ c.args.dir.now c.args.name.now c.in_ok-path.path _ _ c.look_at_state.result (g.met.F.Folder.whole c.args.folder.now) c.requires.agrees c.in_ok-path.ensures.path c.is_hidden.ensures c.if-is_hidden.true c.look_at_state.ensures.look
+
+pub take_dir-take_all-requires : goal.take_dir-take_all-requires
+take_dir-take_all-requires g t c κs within =
+    let other = not_hidden c.in_ok-path.path c.args.dir.now c.args.name.now _ c.in_ok-path.ensures.path c.is_hidden.ensures c.if-is_hidden.false in (
+      search rules,
+      (
+        search rules,
+        (
+          told-lists _ _ c.args.dir.now c.args.name.now c.in_ok-path.path refl c.requires.agrees c.in_ok-path.ensures.path,
+          (
+            entered-canonical c.in_ok-path.path c.args.dir.now c.args.name.now c.in_ok-path.ensures.path c.in_ok-path.ensures.dir c.in_ok-path.ensures.name,
+            (
+              entered-seen c.in_ok-path.path c.args.dir.now c.args.name.now c.in_ok-path.ensures.path c.in_ok-path.ensures.dir c.in_ok-path.ensures.name c.requires.seen other,
+              (
+                laid_dir-whole c.args.snapshot.now c.lay.new.snapshot c.in_ok-copy.field-0 c.args.dir.now c.args.name.now c.requires.whole c.requires.placed c.in_ok-path.ensures.dir c.in_ok-path.ensures.name c.requires.seen other (c.in_ok-copy.ensures ∙ c.in_ok-path.ensures.path) c.in_ok-lay.ensures,
+                laid_dir-placed c.args.snapshot.now c.lay.new.snapshot c.in_ok-copy.field-0 c.in_ok-path.path c.in_ok-copy.ensures c.in_ok-lay.ensures,
+              ),
+            ),
+          ),
+        ),
+      ),
+    )
+
+pub take_dir-returns-clause-placed : goal.take_dir-returns-clause-placed
+take_dir-returns-clause-placed g t c =
+    placed-on c.take_all.new.snapshot c.args.dir.now c.args.name.now c.in_ok-path.path c.take_all.result c.in_ok-path.ensures.dir c.in_ok-path.ensures.name c.in_ok-path.ensures.path c.take_all.ensures.whole c.take_all.ensures.placed
+
+pub take_dir-returns-clause-taken : goal.take_dir-returns-clause-taken
+take_dir-returns-clause-taken g t c =
+    told-dir _ _ c.args.dir.now c.args.name.now c.in_ok-path.path c.in_ok-copy.field-0 c.args.snapshot.now c.lay.new.snapshot c.take_all.new.snapshot c.take_all.result refl c.requires.seen c.in_ok-path.ensures.dir c.in_ok-path.ensures.name c.requires.agrees c.in_ok-path.ensures.path c.in_ok-copy.ensures
+    (not_hidden c.in_ok-path.path c.args.dir.now c.args.name.now _ c.in_ok-path.ensures.path c.is_hidden.ensures c.if-is_hidden.false) c.in_ok-lay.ensures c.take_all.ensures.taken

@@ -1,0 +1,133 @@
+// The tree of a folder, with its attributes.
+ghost use Rattle.std.specs.Prelude.{◌≡◌, IfOk, OnOk, option_copied};
+ghost use Rattle.std.specs.FinMap.{get};
+ghost use Rattle.rk_base.specs.Text.{parent};
+ghost use Rattle.rk_tree.specs.Copies as tree;
+ghost use Rattle.rk_tree.specs.Entries.{is_dir, IsWholeSnapshot};
+ghost use Rattle.rk_folder.specs.Attributes.{file_with, dir_with, link_in, put_by, with_row, with_rows, RowsApply};
+
+use rk_base::{Bytes, NoMemory, Path};
+use rk_tree::{Entry, Snapshot, Tree};
+use std::alloc::Global;
+use tr_codec::{AttrRow, Attrs};
+
+// The file with this mode, where one stands.
+fn file_with(mode: u16, it: Option<&Entry>) -> Result<Option<Entry>, NoMemory>
+    ensures { IfOk result (λ e. e ≡ file_with mode (option_copied it.entry)) }
+{
+    match it {
+        None => Ok(None),
+        Some(Entry::File(_, bytes)) => {
+            let bytes = bytes.copy()?;
+            Ok(Some(Entry::File(mode, bytes)))
+        }
+        Some(Entry::Dir(_)) => Ok(None),
+        Some(Entry::Link(_)) => Ok(None),
+    }
+}
+
+// The directory with this mode, where one stands.
+fn dir_with(mode: u16, it: Option<&Entry>) -> Option<Entry>
+    ensures { result ≡ dir_with mode (option_copied it.entry) }
+{
+    match it {
+        None => None,
+        Some(Entry::File(_, _)) => None,
+        Some(Entry::Dir(_)) => Some(Entry::Dir(mode)),
+        Some(Entry::Link(_)) => None,
+    }
+}
+
+// The link, where nothing stands in a directory.
+fn link_in(text: &Bytes, in_dir: bool, it: Option<&Entry>) -> Result<Option<Entry>, NoMemory>
+    ensures { IfOk result (λ e. e ≡ link_in text.now in_dir (option_copied it.entry)) }
+{
+    match it {
+        None => {
+            if !in_dir {
+                return Ok(None);
+            }
+            let text = text.copy()?;
+            Ok(Some(Entry::Link(text)))
+        }
+        Some(_) => Ok(None),
+    }
+}
+
+// What a row puts at its path.
+fn put_by(row: &AttrRow, in_dir: bool, it: Option<&Entry>) -> Result<Option<Entry>, NoMemory>
+    ensures { IfOk result (λ e. e ≡ put_by row.now in_dir (option_copied it.entry)) }
+{
+    match row {
+        AttrRow::FileMode(mode) => {
+            let it = file_with(*mode, it)?;
+            Ok(it)
+        }
+        AttrRow::DirMode(mode) => Ok(dir_with(*mode, it)),
+        AttrRow::Link(text) => {
+            let it = link_in(text, in_dir, it)?;
+            Ok(it)
+        }
+    }
+}
+
+fn is_dir(it: Option<&Entry>) -> bool
+    ensures { result ≡ is_dir (option_copied it.entry) }
+{
+    match it {
+        None => false,
+        Some(Entry::File(_, _)) => false,
+        Some(Entry::Dir(_)) => true,
+        Some(Entry::Link(_)) => false,
+    }
+}
+
+// Whether a path is in a directory.
+fn in_dir(snapshot: &Snapshot, path: &Path) -> Result<bool, NoMemory>
+    ensures { IfOk result (λ b. b ≡ is_dir (get snapshot.now (parent path.now))) }
+{
+    let parent = path.parent()?;
+    Ok(is_dir(snapshot.get(&parent)))
+}
+
+fn put_row(snapshot: &mut Snapshot, path: &Path, row: &AttrRow) -> Result<(), NoMemory>
+    ensures { OnOk result (snapshot.new ≡ with_row snapshot.old (path.now, row.now)) }
+{
+    let in_dir = in_dir(snapshot, path)?;
+    match put_by(row, in_dir, snapshot.get(path))? {
+        None => Ok(()),
+        Some(it) => {
+            snapshot.put(path.copy()?, it)?;
+            Ok(())
+        }
+    }
+}
+
+fn put_rows(snapshot: &mut Snapshot, rows: &[(Path, AttrRow)]) -> Result<(), NoMemory>
+    ensures { OnOk result (snapshot.new ≡ with_rows snapshot.old rows.now) }
+{
+    'rows: for (path, row) in rows {
+        put_row(snapshot, path, row)?;
+    }
+    Ok(())
+}
+
+/// The tree of a folder with the rows of its attributes. A mode is applied where a file or directory stands, as its
+/// row says, and a link stands where nothing else does, in a directory; any other row is dropped.
+pub fn tree_of(alloc: Global, snapshot: Snapshot, attrs: &Attrs) -> Result<Tree, NoMemory>
+    requires { IsWholeSnapshot snapshot }
+    ensures tree { IfOk result (λ t. t ≡ tree.tree_of (with_rows snapshot attrs.now)) }
+    // Its snapshot is what the folder holds with the rows, which is whole.
+    ensures again { IfOk result (λ t. tree.snapshot_of t ≡ with_rows snapshot attrs.now) }
+    ensures whole { IsWholeSnapshot (with_rows snapshot attrs.now) }
+{
+    let mut entries = snapshot;
+    put_rows(&mut entries, attrs.as_slice())?;
+    let tree = Tree::of_snapshot(alloc, &entries)?;
+    Ok(tree)
+}
+
+/// Each row alone says what stands at its path. It does nothing.
+pub fn rows_apply()
+    ensures { RowsApply }
+{}
