@@ -1,25 +1,15 @@
 -- What a folder holds for a build.
-use Rattle.std.proofs.Common.{◌≡◌, Option, Some, None, false, Ok, Err, refl, subst}
+use Rattle.std.proofs.Common.{◌≡◌, Option, Some, None, Ok, Err, subst}
 use Rattle.rk_base.specs.Text.{Text}
 use Rattle.rk_tree.specs.Entries.{Entries}
-use Rattle.rk_folder.specs.Told.{Held, standing, is_nothing}
-use Rattle.rk_folder.specs.Whole.{IsWhole, TellsWhole}
-use Rattle.rk_folder.specs.Hidden.{hidden_dir}
+use Rattle.rk_folder.specs.Told.{Held}
+use Rattle.rk_folder.specs.Whole.{TellsWhole}
 use Rattle.rk_folder.specs.Import.{Tells}
-use Rattle.rk_folder.specs.Specials.{first_special, hidden_special, hidden_fault, state_special}
-use Rattle.rk_folder.specs.declared.folder.Standing.{Standing}
+use Rattle.rk_folder.specs.Specials.{first_special, hidden_special}
 use Rattle.rk_folder.specs.declared.importing.ImportErr.{ImportErr}
 use Rattle.rk_folder.specs.declared.importing.ImportErr.TheVariants as import
-use Rattle.rk_install.proofs.SeenLemmas.{hidden-not_special}
+use Rattle.rk_install.proofs.SeenLemmas.{hidden-plain}
 use Rattle.rk_top.specs.Stages.{LooksSo, stop_of}
-
-unstanding : (o : Option Standing) (state : Option Text) → (is_nothing o ≡ false → hidden_fault o state ≡ None) → hidden_fault o state ≡ None
-unstanding None state h = refl
-unstanding (Some it) state h = h refl
-
--- where nothing is special, nothing in the hidden directory is
-hidden-plain : (held : Held) → IsWhole held → first_special held ≡ None → hidden_special held ≡ None
-hidden-plain held whole plain = unstanding (standing held hidden_dir) (state_special held) (hidden-not_special held whole plain)
 
 never : (o : Option Text) (path : Text) → o ≡ None → o ≡ Some path → ⊥
 never o path none some = cc

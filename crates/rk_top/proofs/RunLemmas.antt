@@ -1,10 +1,15 @@
 -- The run that was made is the fresh run.
-use Rattle.std.proofs.Common.{◌≡◌, ℕ, List, sym, ap, subst, ◌∙◌, arith}
+use Rattle.std.proofs.Common.{◌≡◌, ℕ, List, [], sym, ap, subst, ◌∙◌, arith}
 use Rattle.rk_base.specs.Paid.{Paid}
 use Rattle.rk_calls.specs.Refs.{top_refs}
 use Rattle.rk_tree.specs.Entries.{Entries}
 use Rattle.rk_tree.specs.Held.{Held}
 use Rattle.rk_tree.specs.Copies.{tree_of}
+use Rattle.rk_tree.specs.Rows.{map_of}
+use Rattle.rk_tree.specs.declared.entry.Entry.{Entry}
+use Rattle.rk_tree.proofs.RowsLemmas.{get-found, puts, puts-map_of, same_maps}
+use Rattle.rk_base.specs.Text.{Text}
+use Rattle.std.specs.FinMap.{empty, entries, entries_sorted, get-entries}
 use Rattle.rk_kernel.specs.World.{World, fresh as fresh_of}
 use Rattle.rk_kernel.specs.Do.{answered}
 use Rattle.rk_command.specs.First.{first_talk}
@@ -30,3 +35,9 @@ fresh_run-is steps entries budget tree world o limit used is_tree is_world run =
 -- where the build's budget was spent
 pub spent-is : {W : Type 0} (g : Game W) (old : List Record) (o : Outcome W) (e : Stop) → e ≡ stop.Spent → Stops g old o e → AreSpoken g.first old × (o ≡ Spent)
 spent-is g old o e is stops = subst (Stops g old o) is stops
+
+-- what is put in turn is the whole
+pub copied : (copy it : Entries) (left : List (Text × Entry)) → puts copy left ≡ puts empty (entries it) → left ≡ [] → copy ≡ it
+copied copy it left so_far done =
+    sym (ap (λ (rows : List (Text × Entry)). puts copy rows) done) ∙ so_far ∙ puts-map_of (entries it) (entries_sorted it)
+    ∙ same_maps (map_of (entries it)) it (λ q. get-found (entries it) q ∙ sym (get-entries it q))

@@ -3,6 +3,7 @@ use Rattle.std.proofs.Common.{◌≡◌, ◌<◌, ◌≤◌, ℕ, List, length, 
 use Rattle.rk_base.specs.Text.{Text}
 use Rattle.tr_record.specs.declared.records.Record.{Record}
 use Rattle.tr_codec.specs.Reads.{IsDamage}
+use Rattle.tr_codec.specs.RowReading.{rows_read}
 use Rattle.tr_codec.specs.declared.fault.Damage.{Damage}
 use Rattle.tr_codec.specs.declared.fault.Damage.TheVariants as damage
 use Rattle.rk_command.specs.First.{first_talk}
@@ -27,7 +28,7 @@ use Rattle.rk_top.specs.declared.stop.Refusal.TheVariants as refusal
 
 attrs-clash : (o : Option Text) (d : Damage) → IsAttrs o → IsDamagedAttrs o d → ⊥
 attrs-clash None d a h = h
-attrs-clash (Some bytes) d a h = h.1 a.0 a.1
+attrs-clash (Some bytes) d a h = h.1 (rows_read bytes) a.0 a.1
 
 db-clash : (o : Option Text) (table : List Record) (d : Damage) → IsTable o table → IsDamagedDb o d → ⊥
 db-clash None table d t h = h

@@ -1,17 +1,21 @@
 -- What the state files of a folder keep, and which damage they have.
-use Rattle.std.specs.Prelude.{◌≡◌, ◌≢◌, List, [], Option, Some, None, Result, Ok, Err}
+use Rattle.std.specs.Prelude.{◌≡◌, ◌≢◌, true, List, [], Option, Some, None, Result, Ok, Err}
 use Rattle.rk_base.specs.Text.{Text}
 use Rattle.tr_record.specs.declared.records.Record.{Record}
-use Rattle.tr_codec.specs.Attrs.{attrs_spelling}
+use Rattle.tr_codec.specs.Attrs.{are_rows, attrs_spelling}
+use Rattle.tr_codec.specs.RowReading.{rows_read}
 use Rattle.tr_codec.specs.Fits.{Fits}
 use Rattle.tr_codec.specs.Reads.{IsDamage}
 use Rattle.tr_codec.specs.Spelling.{db_spelling}
 use Rattle.tr_codec.specs.declared.fault.Damage.{Damage}
 use Rattle.tr_codec.specs.declared.rows.AttrRow.{AttrRow}
 use Rattle.rk_folder.specs.Told.{Held}
-use Rattle.rk_folder.specs.Import.{state_of}
+use Rattle.rk_folder.specs.Import.{snapshot_of, state_of}
+use Rattle.rk_folder.specs.Attributes.{with_rows}
+use Rattle.rk_tree.specs.Entries.{Entries}
 use Rattle.rk_folder.specs.Specials.{first_special}
 use Rattle.rk_folder.specs.declared.hidden_files.State.{State}
+use Rattle.rk_top.specs.declared.kept.KeptState.{KeptState}
 use Rattle.rk_top.specs.declared.outcome.StateFile.{StateFile}
 use Rattle.rk_top.specs.declared.outcome.StateFile.TheVariants as file
 use Rattle.rk_top.specs.declared.stop.Refusal.{Refusal}
@@ -19,10 +23,15 @@ use Rattle.rk_top.specs.declared.stop.Refusal.TheVariants as refusal
 use Rattle.rk_top.specs.declared.stop.Stop.{Stop}
 use Rattle.rk_top.specs.declared.stop.Stop.TheVariants as stop
 
--- attrs doesn't stand, or is the spelling of rows
+-- the rows of attributes; none where attrs doesn't stand
+abbrev pub rows_of : Option Text → List (Text × AttrRow)
+rows_of None = []
+rows_of (Some bytes) = rows_read bytes
+
+-- attrs doesn't stand, or is the spelling of its rows
 abbrev pub IsAttrs : Option Text → Type 0
 IsAttrs None = Unit {0}
-IsAttrs (Some bytes) = (rows : List AttrRow) × (bytes ≡ attrs_spelling rows)
+IsAttrs (Some bytes) = (are_rows (rows_read bytes) ≡ true) × (bytes ≡ attrs_spelling (rows_read bytes))
 
 -- these are the records that the database spells; where it doesn't stand there are none
 abbrev pub Spells : Option Text → List Record → Type 0
@@ -40,7 +49,7 @@ IsKept state table = IsAttrs state.attrs × IsTable state.db table
 -- attrs stands, and is no spelling
 abbrev pub IsDamagedAttrs : Option Text → Damage → Type 0
 IsDamagedAttrs None damage = ⊥
-IsDamagedAttrs (Some bytes) damage = IsDamage 44 bytes damage × ((rows : List AttrRow) → bytes ≢ attrs_spelling rows)
+IsDamagedAttrs (Some bytes) damage = IsDamage 44 bytes damage × ((rows : List (Text × AttrRow)) → are_rows rows ≡ true → bytes ≢ attrs_spelling rows)
 
 -- the database stands, and is no spelling
 abbrev pub IsDamagedDb : Option Text → Damage → Type 0
@@ -56,6 +65,13 @@ IsDamaged state file.Db damage = IsAttrs state.attrs × IsDamagedDb state.db dam
 abbrev pub state_in : Held → State
 state_in held = (state_of held).state
 
+-- its rows of attributes, and what it holds with them
+abbrev pub rows_in : Held → List (Text × AttrRow)
+rows_in held = rows_of (state_in held).attrs
+
+abbrev pub entries_in : Held → Entries
+entries_in held = with_rows (snapshot_of held) (rows_in held)
+
 -- nothing of the folder is special, its state files are well, and this is so of the records that they keep
 abbrev pub Keeping : Held → (List Record → Type 0) → Type 0
 Keeping held P = (first_special held ≡ None) × ((old : List Record) × IsKept (state_in held) old × P old)
@@ -67,8 +83,8 @@ Refuses held (refusal.Damaged file damage) = (first_special held ≡ None) × Is
 
 -- What reading tells.
 
-abbrev pub ReadsAttrs : {T : Type 0} → Option Text → Result T Stop → Type 0
-ReadsAttrs attrs (Ok it) = IsAttrs attrs
+abbrev pub ReadsAttrs : Option Text → Result (List (Text × AttrRow)) Stop → Type 0
+ReadsAttrs attrs (Ok rows) = IsAttrs attrs × (rows ≡ rows_of attrs)
 ReadsAttrs attrs (Err (stop.Refused (refusal.Special path))) = ⊥
 ReadsAttrs attrs (Err (stop.Refused (refusal.Damaged file.Attrs damage))) = IsDamagedAttrs attrs damage
 ReadsAttrs attrs (Err (stop.Refused (refusal.Damaged file.Db damage))) = ⊥
@@ -89,8 +105,8 @@ ReadsDb db (Err stop.ReadFault) = ⊥
 ReadsDb db (Err stop.WriteFault) = ⊥
 ReadsDb db (Err stop.NoMemory) = Unit {0}
 
-abbrev pub ReadsState : State → Result (List Record) Stop → Type 0
-ReadsState state (Ok table) = IsKept state table
+abbrev pub ReadsState : State → Result KeptState Stop → Type 0
+ReadsState state (Ok kept) = IsKept state kept.old × (kept.attrs ≡ rows_of state.attrs)
 ReadsState state (Err (stop.Refused (refusal.Special path))) = ⊥
 ReadsState state (Err (stop.Refused (refusal.Damaged file damage))) = IsDamaged state file damage
 ReadsState state (Err (stop.Forged rec step)) = ⊥

@@ -3,7 +3,6 @@ pub mod Kept
 pub mod Laws
 pub mod Lines
 pub mod Outcomes
-pub mod ReadBack
 pub mod Run
 pub mod Shown
 pub mod Stages

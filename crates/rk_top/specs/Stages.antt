@@ -14,10 +14,9 @@ use Rattle.rk_install.specs.declared.ops.Op.{Op}
 use Rattle.rk_install.specs.declared.installation.InstallErr.TheVariants as install
 use Rattle.tr_record.specs.declared.records.Record.{Record}
 use Rattle.rk_runs.specs.Run.{Spent}
-use Rattle.rk_folder.specs.Import.{snapshot_of}
 use Rattle.rk_top.specs.Run.{IsRun, IsSpokenTable, IsForged}
 use Rattle.rk_top.specs.Fresh.{fresh_in, held_after}
-use Rattle.rk_top.specs.Kept.{IsKept, Keeping, Refuses, state_in}
+use Rattle.rk_top.specs.Kept.{IsKept, Keeping, Refuses, state_in, rows_in, entries_in}
 use Rattle.rk_top.specs.declared.stop.Refusal.TheVariants as refusal
 use Rattle.rk_top.specs.declared.found.Found.{Found}
 use Rattle.rk_top.specs.declared.prepare.Prepared.{Prepared}
@@ -45,9 +44,10 @@ abbrev pub ReadsCounted : {T : Type 0} → ℕ → ℕ → Result T Stop → Typ
 ReadsCounted before now (Err stop.ReadFault) = Rose before now
 ReadsCounted before now other = now ≡ before
 
--- nothing is special, this is what the folder holds, and these are the records that it keeps; or why it is refused
+-- nothing is special, this is what the folder holds, and these are the records and the rows that it keeps; or why it is
+-- refused
 abbrev pub FindsSo : Option Held → Result Found Stop → Type 0
-FindsSo told (Ok found) = IfSome told (λ held. (first_special held ≡ None) × (found.holding ≡ holding_of held) × IsKept (state_in held) found.old)
+FindsSo told (Ok found) = IfSome told (λ held. (first_special held ≡ None) × (found.holding ≡ holding_of held) × IsKept (state_in held) found.old × (found.attrs ≡ rows_in held))
 FindsSo told (Err (stop.Refused refusal)) = IfSome told (λ held. Refuses held refusal)
 FindsSo told (Err stop.ReadFault) = Unit {0}
 FindsSo told (Err stop.NoMemory) = Unit {0}
@@ -70,12 +70,12 @@ abbrev pub WritesCounted : {T : Type 0} → ℕ → ℕ → Result T Stop → Ty
 WritesCounted before now (Err stop.WriteFault) = Rose before now
 WritesCounted before now other = now ≡ before
 
--- the run on what the folder holds, over the records that it keeps, has ended so, and the plan leads to what it leaves
+-- the run on what the folder holds with its rows, over the records that it keeps, has ended so, and the plan leads to what it leaves
 pub record IsPrepared (steps : ℕ) (held : Held) (before now : ℕ) (p : Prepared) : Type 0 where
   pub none : first_special held ≡ None
   pub old : List Record
   pub kept : IsKept (state_in held) old
-  pub run : IsRun steps (snapshot_of held) old before now p.finished
+  pub run : IsRun steps (entries_in held) old before now p.finished
   pub plan : p.plan ≡ planned (holding_of held) (held_after p.finished.world p.finished.table)
   pub allowed : AllowsAll p.plan held
   pub leads : IsAfter held (after_all p.plan held) (held_after p.finished.world p.finished.table)

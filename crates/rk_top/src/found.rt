@@ -3,18 +3,20 @@ ghost use Rattle.std.specs.Prelude.{◌≡◌, IfOk};
 ghost use Rattle.rk_tree.specs.Entries.{IsWholeSnapshot};
 ghost use Rattle.rk_top.specs.Stages.{FindsSo, ReadsCounted};
 
-use crate::kept::kept;
+use crate::kept::{KeptState, kept};
 use crate::look::look;
 use crate::stop::Stop;
 use rk_folder::Folder;
 use rk_install::Holding;
 use std::alloc::Global;
+use tr_codec::Attrs;
 use tr_record::Table;
 
-/// What the folder holds, and the records that its state files keep.
+/// What the folder holds, and the rows of attributes and the records that its state files keep.
 #[derive(Drop)]
 pub(crate) struct Found {
     pub holding: Holding,
+    pub attrs: Attrs,
     pub old: Table,
 }
 
@@ -27,6 +29,10 @@ pub(crate) fn find<F: Folder>(alloc: Global, folder: &mut F) -> Result<Found, St
     ensures whole { IfOk result (λ found. IsWholeSnapshot found.holding.entries) }
 {
     let holding = look(alloc, folder)?;
-    let old = kept(alloc, &holding.state)?;
-    Ok(Found { holding, old })
+    let KeptState { attrs, old } = kept(alloc, &holding.state)?;
+    Ok(Found {
+        holding,
+        attrs,
+        old,
+    })
 }

@@ -1,4 +1,4 @@
-// The records that the state files keep.
+// What the state files keep.
 ghost use Rattle.std.specs.Prelude.{◌≡◌};
 ghost use Rattle.rk_top.specs.Kept.{ReadsAttrs, ReadsDb, ReadsState};
 ghost use Rattle.rk_top.specs.declared.stop.Refusal.TheVariants as refusal;
@@ -9,8 +9,15 @@ use crate::stop::{Refusal, Stop};
 use rk_base::Bytes;
 use rk_folder::State;
 use std::alloc::Global;
-use tr_codec::{CodecErr, Damage, read_attrs, read_db};
+use tr_codec::{Attrs, CodecErr, Damage, read_attrs, read_db};
 use tr_record::Table;
+
+/// The rows of attributes and the records.
+#[derive(Drop)]
+pub(crate) struct KeptState {
+    pub attrs: Attrs,
+    pub old: Table,
+}
 
 fn damaged(file: StateFile, damage: Damage) -> Stop
     ensures { result ≡ stop.Refused (refusal.Damaged file damage) }
@@ -18,13 +25,13 @@ fn damaged(file: StateFile, damage: Damage) -> Stop
     Stop::Refused(Refusal::Damaged(file, damage))
 }
 
-fn look_at_attrs(alloc: Global, attrs: &Option<Bytes>) -> Result<(), Stop>
+fn attrs_in(alloc: Global, attrs: &Option<Bytes>) -> Result<Attrs, Stop>
     ensures { ReadsAttrs attrs.now result }
 {
     match attrs {
-        None => Ok(()),
+        None => Ok(Attrs::new(alloc)),
         Some(bytes) => match read_attrs(alloc, bytes.as_slice()) {
-            Ok(_) => Ok(()),
+            Ok(attrs) => Ok(attrs),
             Err(CodecErr::Damaged(damage)) => Err(damaged(StateFile::Attrs, damage)),
             Err(CodecErr::NoMemory) => Err(Stop::NoMemory),
         },
@@ -44,11 +51,11 @@ fn table_in(alloc: Global, db: &Option<Bytes>) -> Result<Table, Stop>
     }
 }
 
-/// Reads the state files, attrs before the database, and gives the records that they keep.
-pub(crate) fn kept(alloc: Global, state: &State) -> Result<Table, Stop>
+/// Reads the state files, attrs before the database, and gives what they keep.
+pub(crate) fn kept(alloc: Global, state: &State) -> Result<KeptState, Stop>
     ensures { ReadsState state.now result }
 {
-    look_at_attrs(alloc, &state.attrs)?;
-    let table = table_in(alloc, &state.db)?;
-    Ok(table)
+    let attrs = attrs_in(alloc, &state.attrs)?;
+    let old = table_in(alloc, &state.db)?;
+    Ok(KeptState { attrs, old })
 }

@@ -10,7 +10,6 @@ mod lines;
 mod look;
 mod outcome;
 mod prepare;
-mod read_back;
 mod run;
 mod shown;
 mod stop;
@@ -20,7 +19,7 @@ mod texts;
 mod top;
 
 pub use exits::exit_code;
-pub use laws::{refused_settle, spoken_settle};
+pub use laws::{refused_settle, spoken_settle, tree_kept};
 pub use outcome::{Outcome, StateFile};
 pub use rk_words::{Request, RequestErr, request};
 pub use top::rkr;

@@ -1,18 +1,21 @@
 // What is to be done once the script has run.
 ghost use Rattle.std.specs.Prelude.{◌≡◌, ◌<◌, IfOk};
+ghost use Rattle.rk_tree.specs.Entries.{IsWholeSnapshot};
+ghost use Rattle.rk_install.specs.Attributes.{attrs_of};
 ghost use Rattle.rk_install.specs.Holdings.{IsBuilt};
 ghost use Rattle.rk_top.specs.Stages.{PreparesSo, ReadsCounted};
-ghost use Rattle.rk_top.specs.Fresh.{held_after};
+ghost use Rattle.rk_top.specs.Fresh.{attrs_bytes, held_after};
 
 use crate::found::{Found, find};
 use crate::run::{Finished, run};
 use crate::stop::Stop;
-use rk_base::{NoMemory, Steps};
+use rk_base::{Bytes, NoMemory, Steps};
 use rk_folder::{Folder, State};
-use rk_install::{Holding, Plan, plan};
+use rk_install::{Holding, Plan, attrs_of, plan};
+use rk_tree::Snapshot;
 use std::alloc::Global;
 use std::sync::ledger::Ledger;
-use tr_codec::write_db;
+use tr_codec::{write_attrs, write_db};
 
 /// A run that ended, and the calls that lead the folder to what it leaves.
 #[derive(Drop)]
@@ -21,19 +24,35 @@ pub(crate) struct Prepared {
     pub plan: Plan,
 }
 
+// attrs as it is to stand beside these entries; nothing where they have no rows.
+fn attrs_bytes(alloc: Global, entries: &Snapshot) -> Result<Option<Bytes>, NoMemory>
+    requires { IsWholeSnapshot entries.now }
+    ensures { IfOk result (λ bytes. bytes ≡ attrs_bytes (attrs_of entries.now)) }
+{
+    let attrs = attrs_of(alloc, entries)?;
+    match attrs.as_slice() {
+        [] => Ok(None),
+        [_, ..] => {
+            let bytes = write_attrs(alloc, &attrs)?;
+            Ok(Some(bytes))
+        }
+    }
+}
+
 // What the folder is to hold after the run.
 fn held_after(alloc: Global, finished: &Finished) -> Result<Holding, NoMemory>
     ensures holding { IfOk result (λ holding. holding ≡ held_after finished.now.world finished.now.table) }
     ensures built { IfOk result IsBuilt }
 {
     let entries = finished.world.snapshot()?;
+    let attrs = attrs_bytes(alloc, &entries)?;
     let db = write_db(alloc, &finished.table)?;
     Ok(Holding {
         entries,
         rkr: true,
         state: State {
             db: Some(db),
-            attrs: None,
+            attrs,
         },
     })
 }
@@ -53,9 +72,10 @@ pub(crate) fn prepare<F: Folder, L: Ledger>(
 {
     let Found {
         holding: before,
+        attrs,
         old,
     } = find(alloc, folder)?;
-    let finished = run(alloc, &before.entries, &old, steps, live)?;
+    let finished = run(alloc, &before.entries, &attrs, &old, steps, live)?;
     let after = held_after(alloc, &finished)?;
     let plan = plan(alloc, &before, &after)?;
     Ok(Prepared { finished, plan })

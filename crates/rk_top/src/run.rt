@@ -1,16 +1,18 @@
 // The run of the script.
-ghost use Rattle.std.specs.Prelude.{◌≡◌, ◌+◌, ◌<◌, ◌≤◌};
+ghost use Rattle.std.specs.Prelude.{◌≡◌, ◌+◌, ◌<◌, ◌≤◌, IfOk};
 ghost use Rattle.rk_tree.specs.Entries.{IsWholeSnapshot};
+ghost use Rattle.rk_folder.specs.Attributes.{with_rows};
 ghost use Rattle.rk_top.specs.Run.{Runs};
 
-use crate::read_back::read_back;
 use crate::stop::Stop;
-use rk_base::{Budget, Steps};
+use rk_base::{Budget, NoMemory, Steps};
+use rk_folder::tree_of;
 use rk_kernel::World;
 use rk_replay::{BuiltWorld, build_world};
-use rk_tree::{Snapshot, Tree};
+use rk_tree::Snapshot;
 use std::alloc::Global;
 use std::sync::ledger::Ledger;
+use tr_codec::{Attrs, has_spelling};
 use tr_record::Table;
 
 /// A run that ended: the world that it left, the script's status, the records of its commands, and how many of them
@@ -32,22 +34,34 @@ fn budget(steps: u32) -> Budget
     Budget::new(steps).unwrap()
 }
 
-/// Runs the script on a tree of these entries, within so many turns. The commands of the old table whose answers
+fn copy_of(alloc: Global, entries: &Snapshot) -> Result<Snapshot, NoMemory>
+    ensures { IfOk result (λ copy. copy ≡ entries.now) }
+{
+    let mut copy = Snapshot::new(alloc);
+    for (path, it) in entries.rows() {
+        copy.put(path.copy()?, it.copy()?)?;
+    }
+    Ok(copy)
+}
+
+/// Runs the script on a tree of these entries with these rows, within so many turns. The commands of the old table whose answers
 /// still hold don't run.
 #[tactic(auto, unfolding(crate::specs::Run::fresh_run))]
 pub(crate) fn run<L: Ledger>(
     alloc: Global,
     entries: &Snapshot,
+    attrs: &Attrs,
     old: &Table,
     steps: u32,
     live: &mut Steps<L>,
 ) -> Result<Finished, Stop>
     requires whole { IsWholeSnapshot entries.now }
     requires some { 0 < steps }
-    ensures runs { Runs steps entries.now old.now live.old live.new result }
+    ensures runs { Runs steps (with_rows entries.now attrs.now) old.now live.old live.new result }
     ensures at_most { live.new ≤ live.old + steps }
 {
-    let tree = Tree::of_snapshot(alloc, entries)?;
+    let copy = copy_of(alloc, entries)?;
+    let tree = tree_of(alloc, copy, attrs)?;
     let world = World::new(alloc, tree)?;
     let mut budget = budget(steps);
     match build_world(alloc, world, old, &mut budget, live) {
@@ -60,7 +74,7 @@ pub(crate) fn run<L: Ledger>(
             },
         ) => {
             let _paid = budget.used();
-            read_back(&table);
+            has_spelling(&table);
             let ran = ran.len() as u64;
             Ok(Finished {
                 world,

@@ -1,4 +1,6 @@
 // The top call over folders in memory.
+mod attributes;
+mod directories;
 mod rebuilds;
 
 ghost use Rattle.std.specs.Prelude.{◌≡◌, ◌<◌};
@@ -186,13 +188,6 @@ fn refuses_dir(alloc: Global, path: &[u8], line: &[u8]) -> Result<bool, Fail> {
     folder.set_dir(&at(alloc, b"/.rkr")?)?;
     folder.set_dir(&at(alloc, path)?)?;
     refuses(alloc, &mut folder, path, line)
-}
-
-#[test]
-fn refuses_a_directory(rt: HostRuntime) -> Result<(), Fail> {
-    let line = b"rkr: /d: not a file or directory\n";
-    assert!(rt; refuses_dir(rt.alloc(), b"/d", line)?);
-    Ok(())
 }
 
 #[test]

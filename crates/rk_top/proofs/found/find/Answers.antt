@@ -7,10 +7,10 @@ returns-in_err-holding-clause-finds g c =
     let p = err_from_is_err_and c.from_residual.result c.from_residual.ensures.1 in
     rw (p.1, p.2) (look-stops _ _ c.in_err-holding.ensures.look)
 
-pub returns-in_err-old-clause-finds : goal.returns-in_err-old-clause-finds
-returns-in_err-old-clause-finds g c =
-    let p = err_from_is_err_and c.from_residual-in_err-old.result c.from_residual-in_err-old.ensures.1 in
-    rw (p.1, p.2) (kept-stops _ c.in_ok-holding.holding _ c.in_ok-holding.ensures.look c.in_err-old.ensures)
+pub returns-in_err-attrs-clause-finds : goal.returns-in_err-attrs-clause-finds
+returns-in_err-attrs-clause-finds g c =
+    let p = err_from_is_err_and c.from_residual-in_err-attrs.result c.from_residual-in_err-attrs.ensures.1 in
+    rw (p.1, p.2) (kept-stops _ c.in_ok-holding.holding _ c.in_ok-holding.ensures.look c.in_err-attrs.ensures)
 
 pub returns-clause-finds : goal.returns-clause-finds
-returns-clause-finds g c = is_found _ (record { holding = c.in_ok-holding.holding; old = c.in_ok-old.old }) c.in_ok-holding.ensures.look c.in_ok-old.ensures
+returns-clause-finds g c = is_found _ (record { holding = c.in_ok-holding.holding; attrs = c.in_ok-attrs.field-0.attrs; old = c.in_ok-attrs.field-0.old }) c.in_ok-holding.ensures.look c.in_ok-attrs.ensures

@@ -1,4 +1,7 @@
-use Rattle.std.proofs.Common.{◌∙◌, ap, length}
+use Rattle.std.proofs.Common.{◌∙◌, sym, ap, subst, length}
+use Rattle.rk_folder.specs.Attributes.{with_rows}
+use Rattle.rk_tree.specs.Copies.{tree_of}
+use Rattle.rk_tree.specs.Entries.{Entries, IsWholeSnapshot}
 use Rattle.rk_command.specs.First.{first_talk}
 use Rattle.rk_kernel.specs.Do.{answered}
 use Rattle.rk_runs.specs.Purse.{left}
@@ -7,13 +10,16 @@ use Rattle.rk_top.proofs.ReadBackLemmas.{sound, small}
 use Rattle.rk_top.proofs.RunLemmas.{fresh_run-is, spent-is}
 use Rattle.rk_top.proofs.run.run.Goals as goal
 
+pub tree_of-requires : goal.tree_of-requires
+tree_of-requires g c = subst IsWholeSnapshot (sym c.in_ok-copy.ensures) c.requires.whole
+
 pub returns-in-Ok-clause-runs : goal.returns-in-Ok-clause-runs
 returns-in-Ok-clause-runs g c =
     let e = c.in-Ok.ensures in
     record {
-      ends = λ spoken. (left c.build_world.new.budget, fresh_run-is _ _ _ _ _ _ c.budget-budget.ensures.limit c.budget-budget.ensures.used c.in_ok-tree.ensures.tree c.in_ok-world.ensures (e.done spoken));
+      ends = λ spoken. (left c.build_world.new.budget, fresh_run-is _ _ _ _ _ _ c.budget-budget.ensures.limit c.budget-budget.ensures.used (c.in_ok-tree.ensures.tree ∙ ap (λ (s : Entries). tree_of (with_rows s c.args.attrs.now)) c.in_ok-copy.ensures) c.in_ok-world.ensures (e.done spoken));
       spoken = e.spoken;
-      fits = λ spoken. c.read_back.ensures (sound _ (e.spoken spoken) (small _ _ _ _ _ _ e.paid c.budget-budget.ensures.used c.used-paid.ensures.used c.used-paid.ensures.within (e.limit ∙ c.budget-budget.ensures.limit) c.ranges.steps.fits));
+      fits = λ spoken. c.has_spelling.ensures (sound _ (e.spoken spoken) (small _ _ _ _ _ _ e.paid c.budget-budget.ensures.used c.used-paid.ensures.used c.used-paid.ensures.within (e.limit ∙ c.budget-budget.ensures.limit) c.ranges.steps.fits));
       ran = c.len-ran.ensures ∙ ap length e.ran;
       ticked = e.live;
     }
@@ -21,4 +27,4 @@ returns-in-Ok-clause-runs g c =
 pub returns-in-Err-Spent-clause-runs : goal.returns-in-Err-Spent-clause-runs
 returns-in-Err-Spent-clause-runs g c =
     let s = spent-is (game first_talk answered) _ _ _ c.in-Err-Spent.field-0-is c.in-Err-Spent.ensures.stops in
-    (s.0, fresh_run-is _ _ _ _ _ _ c.budget-budget.ensures.limit c.budget-budget.ensures.used c.in_ok-tree.ensures.tree c.in_ok-world.ensures s.1)
+    (s.0, fresh_run-is _ _ _ _ _ _ c.budget-budget.ensures.limit c.budget-budget.ensures.used (c.in_ok-tree.ensures.tree ∙ ap (λ (s : Entries). tree_of (with_rows s c.args.attrs.now)) c.in_ok-copy.ensures) c.in_ok-world.ensures s.1)
