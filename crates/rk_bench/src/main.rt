@@ -1,0 +1,199 @@
+//! Asks a world the same calls many times over. It prints nothing: `bench/calls` runs it and takes the time.
+#![tactic(auto)]
+
+use rk_base::{Bytes, NoMemory};
+use rk_calls::{Answerer, Call, How, Refs};
+use rk_kernel::World;
+use rk_tree::Tree;
+use std::alloc::Global;
+use std::env;
+use std::process::ExitCode;
+
+/// What is asked, each with what undoes it.
+#[derive(Clone, Copy)]
+enum Asked {
+    Stat,
+    Open,
+    List,
+    Chmod,
+    Mkdir,
+    Link,
+    RenameFile,
+    RenameDir,
+}
+
+fn named(word: &str) -> Option<Asked> {
+    match word {
+        "stat" => Some(Asked::Stat),
+        "open" => Some(Asked::Open),
+        "list" => Some(Asked::List),
+        "chmod" => Some(Asked::Chmod),
+        "mkdir" => Some(Asked::Mkdir),
+        "link" => Some(Asked::Link),
+        "rename" => Some(Asked::RenameFile),
+        "rename_dir" => Some(Asked::RenameDir),
+        _ => None,
+    }
+}
+
+// A number below 1000 as three digits.
+fn push_digits(text: &mut Vec<u8>, n: u32) -> Result<(), NoMemory> {
+    'units: for unit in [100u32, 10, 1] {
+        text.push(digit(n / unit % 10))?;
+    }
+    Ok(())
+}
+
+fn digit(n: u32) -> u8 {
+    b'0' + (n % 10) as u8
+}
+
+// `/dIII`
+fn dir(alloc: Global, i: u32) -> Result<Vec<u8>, NoMemory> {
+    let mut text = Vec::from_slice(alloc, b"/d")?;
+    push_digits(&mut text, i)?;
+    Ok(text)
+}
+
+// `/dIII/fJJJ`
+fn file(alloc: Global, i: u32, j: u32) -> Result<Bytes, NoMemory> {
+    let mut text = dir(alloc, i)?;
+    text.extend_from_slice(b"/f")?;
+    push_digits(&mut text, j)?;
+    Ok(Bytes::new(text))
+}
+
+#[derive(Drop)]
+struct Bench {
+    alloc: Global,
+    world: World,
+    refs: Refs,
+}
+
+impl Bench {
+    fn new(alloc: Global) -> Result<Bench, NoMemory> {
+        let world = World::new(alloc, Tree::new(alloc)?)?;
+        let refs = Refs::top(alloc)?;
+        Ok(Bench { alloc, world, refs })
+    }
+
+    fn ask(&mut self, call: &Call) -> Result<(), NoMemory> {
+        let _answer = self.world.answer(&mut self.refs, call)?;
+        Ok(())
+    }
+
+    // A directory with a hundred files.
+    fn fill(&mut self, i: u32) -> Result<(), NoMemory> {
+        let dir = Bytes::new(dir(self.alloc, i)?);
+        self.ask(&Call::Mkdir(dir, 0o755))?;
+        'files: for j in 0..100 {
+            let file = file(self.alloc, i, j)?;
+            self.ask(&Call::Open(file, How::Make))?;
+        }
+        Ok(())
+    }
+
+    fn rename(&mut self, from: Bytes, to: Bytes) -> Result<(), NoMemory> {
+        let back = Call::Rename(to.copy()?, from.copy()?);
+        self.ask(&Call::Rename(from, to))?;
+        self.ask(&back)
+    }
+
+    fn stat(&mut self, i: u32) -> Result<(), NoMemory> {
+        let here = file(self.alloc, i, 50)?;
+        self.ask(&Call::Stat(here, true))
+    }
+
+    fn open(&mut self, i: u32) -> Result<(), NoMemory> {
+        let here = file(self.alloc, i, 50)?;
+        self.ask(&Call::Open(here, How::Append))
+    }
+
+    fn list(&mut self, i: u32) -> Result<(), NoMemory> {
+        let dir = Bytes::new(dir(self.alloc, i)?);
+        self.ask(&Call::List(dir))
+    }
+
+    fn chmod(&mut self, i: u32) -> Result<(), NoMemory> {
+        let here = file(self.alloc, i, 50)?;
+        self.ask(&Call::Chmod(here, 0o600))
+    }
+
+    fn mkdir(&mut self, i: u32) -> Result<(), NoMemory> {
+        let new = file(self.alloc, i, 999)?;
+        self.ask(&Call::Mkdir(new, 0o755))?;
+        let new = file(self.alloc, i, 999)?;
+        self.ask(&Call::Rmdir(new))
+    }
+
+    fn link(&mut self, i: u32) -> Result<(), NoMemory> {
+        let here = file(self.alloc, i, 50)?;
+        let new = file(self.alloc, i, 999)?;
+        self.ask(&Call::Link(here, new))?;
+        let new = file(self.alloc, i, 999)?;
+        self.ask(&Call::Unlink(new))
+    }
+
+    fn rename_file(&mut self, i: u32) -> Result<(), NoMemory> {
+        let from = file(self.alloc, i, 50)?;
+        let to = file(self.alloc, i, 999)?;
+        self.rename(from, to)
+    }
+
+    fn rename_dir(&mut self, i: u32) -> Result<(), NoMemory> {
+        let from = Bytes::new(dir(self.alloc, i)?);
+        let to = Bytes::from_slice(self.alloc, b"/e")?;
+        self.rename(from, to)
+    }
+
+    // Asks once, in the directory of this number.
+    fn turn(&mut self, asked: Asked, i: u32) -> Result<(), NoMemory> {
+        match asked {
+            Asked::Stat => self.stat(i),
+            Asked::Open => self.open(i),
+            Asked::List => self.list(i),
+            Asked::Chmod => self.chmod(i),
+            Asked::Mkdir => self.mkdir(i),
+            Asked::Link => self.link(i),
+            Asked::RenameFile => self.rename_file(i),
+            Asked::RenameDir => self.rename_dir(i),
+        }
+    }
+}
+
+// So many entries, and then so many turns.
+fn run(alloc: Global, asked: Asked, entries: u32, turns: u32) -> Result<(), NoMemory> {
+    let mut bench = Bench::new(alloc)?;
+    let dirs = entries / 100;
+    'dirs: for i in 0..dirs {
+        bench.fill(i)?;
+    }
+    'turns: for _ in 0..turns {
+        bench.turn(asked, dirs / 2)?;
+    }
+    Ok(())
+}
+
+fn main(rt: HostRuntime) -> ExitCode {
+    let words: Vec<String> = match env::args(&rt) {
+        Ok(words) => match words.collect(rt.alloc()) {
+            Ok(words) => words,
+            Err(_) => return ExitCode::from(1),
+        },
+        Err(_) => return ExitCode::from(1),
+    };
+    match words.as_slice() {
+        [_, word, entries, turns] => match (
+            named(word),
+            entries.parse::<u32>(),
+            turns.parse::<u32>(),
+        ) {
+            (Some(asked), Ok(entries), Ok(turns)) => match run(rt.alloc(), asked, entries, turns) {
+                Ok(()) => ExitCode::SUCCESS,
+                Err(_) => ExitCode::from(1),
+            },
+            _ => ExitCode::from(2),
+        },
+        _ => ExitCode::SUCCESS,
+    }
+}
