@@ -5,6 +5,7 @@ pub mod Hidden
 pub mod Import
 pub mod Listing
 pub mod Memory
+pub mod Schedule
 pub mod Sinks
 pub mod Specials
 pub mod Steps

@@ -1,7 +1,8 @@
 -- What a folder in memory tells.
-use Rattle.std.specs.Prelude.{◌≡◌, Bool, List, Option, Some, Result, Ok, Err, if◌then◌else◌}
+use Rattle.std.specs.Prelude.{◌≡◌, ℕ, Bool, List, Option, Some, Result, Ok, Err, if◌then◌else◌}
 use Rattle.rk_base.specs.Canonical.{is_empty}
 use Rattle.rk_folder.specs.Told.{Held}
+use Rattle.rk_folder.specs.Schedule.{Failing, Schedule}
 use Rattle.rk_folder.specs.declared.memory.Change.{Change}
 use Rattle.rk_folder.specs.declared.memory.MemFolder.{MemFolder}
 
@@ -12,13 +13,24 @@ held_by folder = folder.held
 abbrev pub told_by : MemFolder → Option Held
 told_by folder = Some (held_by folder)
 
+-- What it keeps beside: the calls that are to fail, how many calls there were, the changes that were
+-- called for, how many lists and reads were faults, and how many of the other calls.
+pub record Kept : Type 0 where
+  pub failing : List Failing
+  pub calls : ℕ
+  pub changes : List Change
+  pub read_faults : ℕ
+  pub write_faults : ℕ
+
+abbrev pub kept_by : MemFolder → Kept
+kept_by folder = record { failing = folder.failing.items; calls = folder.calls; changes = folder.changes.items; read_faults = folder.read_faults; write_faults = folder.write_faults }
+
 -- no call is to fail
 abbrev pub is_steady : MemFolder → Bool
 is_steady folder = is_empty folder.failing.items
 
--- the changes that were called for
-abbrev pub changes_of : MemFolder → List Change
-changes_of folder = folder.changes.items
+abbrev pub schedule_of : MemFolder → Schedule
+schedule_of folder = record { failing = folder.failing.items; calls = folder.calls }
 
 -- what is to stand somewhere does so where it may, and else nothing changes
 abbrev pub Sets : {E : Type 0} → (Held → Bool) → (Held → Held) → Held → Held → Result Bool E → Type 0

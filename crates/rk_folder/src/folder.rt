@@ -4,6 +4,7 @@ ghost use Rattle.rk_base.specs.Text.{depth};
 ghost use Rattle.rk_folder.specs.Told.{Held, can_list, can_read, can_write, can_make_dir, can_remove_file, can_remove_dir, can_rename, with_standing, without, renamed};
 ghost use Rattle.rk_folder.specs.Whole.{TellsWhole};
 ghost use Rattle.rk_folder.specs.Calls.{allows, Caused, Lists, Reads, Changes, Writes, Steadily};
+ghost use Rattle.rk_folder.specs.Schedule.{Schedule, OnSchedule, Leaves};
 ghost use Rattle.rk_folder.specs.declared.folder.Standing.TheVariants.{Dir};
 ghost use Rattle.rk_folder.specs.declared.folder.FolderErr.TheVariants as err;
 
@@ -72,8 +73,8 @@ impl<T: Drop> From<AllocFailed<T>> for FolderErr {
 /// Files and directories that are listed, read and changed.
 ///
 /// A call that what the folder holds doesn't allow is `Failed` and is no fault. Every other
-/// `Failed` is a fault and raises the count for its kind, up to 2^64 - 1. Want of memory changes
-/// nothing.
+/// `Failed` is a fault and raises the count for its kind, up to 2^64 - 1. Want of memory is no fault,
+/// and changes nothing that it holds.
 pub trait Folder {
     /// What it holds, where it tells that.
     ghost told: { Self → Option Held };
@@ -90,12 +91,16 @@ pub trait Folder {
     /// Whether no call that it allows is a fault.
     ghost steady: { Self → Bool };
 
+    /// Which calls are to be faults, where it tells that.
+    ghost schedule: { Self → Option Schedule };
+
     /// What stands in a directory, ascending by name.
     fn list(&mut self, alloc: Global, dir: &Path) -> Result<Vec<Item>, FolderErr>
         ensures items { IfOk result (λ items. Lists (told self.old) dir.now items.items) }
         ensures within { OnOk result (depth dir.now ≤ reach self.old) }
         ensures cause { Caused (read_faults self.old) (read_faults self.new) (allows (told self.old) (can_list dir.now)) result }
         ensures steady { Steadily (steady self.old) (steady self.new) (allows (told self.old) (can_list dir.now)) result }
+        ensures schedule { OnSchedule (schedule self.old) (schedule self.new) (allows (told self.old) (can_list dir.now)) result }
 
         ensures held { told self.new ≡ told self.old }
         ensures other { write_faults self.new ≡ write_faults self.old }
@@ -106,6 +111,7 @@ pub trait Folder {
         ensures got { IfOk result (Reads (told self.old) file.now) }
         ensures cause { Caused (read_faults self.old) (read_faults self.new) (allows (told self.old) (can_read file.now)) result }
         ensures steady { Steadily (steady self.old) (steady self.new) (allows (told self.old) (can_read file.now)) result }
+        ensures schedule { OnSchedule (schedule self.old) (schedule self.new) (allows (told self.old) (can_read file.now)) result }
 
         ensures held { told self.new ≡ told self.old }
         ensures other { write_faults self.new ≡ write_faults self.old }
@@ -117,6 +123,8 @@ pub trait Folder {
         ensures held { Writes file.now bytes.now (allows (told self.old) (can_write file.now)) (told self.old) (told self.new) result }
         ensures cause { Caused (write_faults self.old) (write_faults self.new) (allows (told self.old) (can_write file.now)) result }
         ensures steady { Steadily (steady self.old) (steady self.new) (allows (told self.old) (can_write file.now)) result }
+        ensures schedule { OnSchedule (schedule self.old) (schedule self.new) (allows (told self.old) (can_write file.now)) result }
+        ensures left { Leaves file.now (schedule self.old) (allows (told self.old) (can_write file.now)) (told self.old) (told self.new) result }
         ensures other { read_faults self.new ≡ read_faults self.old };
 
     /// Makes a directory where nothing stands.
@@ -124,6 +132,7 @@ pub trait Folder {
         ensures held { Changes (with_standing dir.now Dir) (told self.old) (told self.new) result }
         ensures cause { Caused (write_faults self.old) (write_faults self.new) (allows (told self.old) (can_make_dir dir.now)) result }
         ensures steady { Steadily (steady self.old) (steady self.new) (allows (told self.old) (can_make_dir dir.now)) result }
+        ensures schedule { OnSchedule (schedule self.old) (schedule self.new) (allows (told self.old) (can_make_dir dir.now)) result }
         ensures other { read_faults self.new ≡ read_faults self.old };
 
     /// Removes a file.
@@ -131,6 +140,7 @@ pub trait Folder {
         ensures held { Changes (without file.now) (told self.old) (told self.new) result }
         ensures cause { Caused (write_faults self.old) (write_faults self.new) (allows (told self.old) (can_remove_file file.now)) result }
         ensures steady { Steadily (steady self.old) (steady self.new) (allows (told self.old) (can_remove_file file.now)) result }
+        ensures schedule { OnSchedule (schedule self.old) (schedule self.new) (allows (told self.old) (can_remove_file file.now)) result }
         ensures other { read_faults self.new ≡ read_faults self.old };
 
     /// Removes an empty directory, which isn't the root.
@@ -138,6 +148,7 @@ pub trait Folder {
         ensures held { Changes (without dir.now) (told self.old) (told self.new) result }
         ensures cause { Caused (write_faults self.old) (write_faults self.new) (allows (told self.old) (can_remove_dir dir.now)) result }
         ensures steady { Steadily (steady self.old) (steady self.new) (allows (told self.old) (can_remove_dir dir.now)) result }
+        ensures schedule { OnSchedule (schedule self.old) (schedule self.new) (allows (told self.old) (can_remove_dir dir.now)) result }
         ensures other { read_faults self.new ≡ read_faults self.old };
 
     /// Gives a file another path, at which a file stands, or nothing.
@@ -145,6 +156,7 @@ pub trait Folder {
         ensures held { Changes (renamed from.now to.now) (told self.old) (told self.new) result }
         ensures cause { Caused (write_faults self.old) (write_faults self.new) (allows (told self.old) (can_rename from.now to.now)) result }
         ensures steady { Steadily (steady self.old) (steady self.new) (allows (told self.old) (can_rename from.now to.now)) result }
+        ensures schedule { OnSchedule (schedule self.old) (schedule self.new) (allows (told self.old) (can_rename from.now to.now)) result }
         ensures other { read_faults self.new ≡ read_faults self.old };
 
     /// The root is a directory, and so is what each other path stands in.

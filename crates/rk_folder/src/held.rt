@@ -7,6 +7,7 @@ ghost use Rattle.rk_base.specs.Canonical.{is_canonical};
 ghost use Rattle.rk_tree.specs.Rows.{map_of};
 ghost use Rattle.rk_folder.specs.Told as told;
 ghost use Rattle.rk_folder.specs.Calls.{Damages};
+ghost use Rattle.rk_folder.specs.Schedule.{damaged};
 ghost use Rattle.rk_folder.specs.Whole.{IsWhole};
 ghost use Rattle.rk_folder.specs.declared.folder.Standing.TheVariants.{File, Dir, Special};
 
@@ -257,7 +258,8 @@ impl HeldRows {
         requires whole { IsWhole self.old }
         requires allowed { told.can_write file.now self.old ≡ true }
         ensures whole { IsWhole self.new }
-        ensures ok { OnOk result (Damages file.now true (Some self.old) (Some self.new)) }
+        ensures ok { OnOk result (Some self.new ≡ damaged file.now (option_copied left.entry) (Some self.old)) }
+        ensures damage { OnOk result (Damages file.now true (Some self.old) (Some self.new)) }
         ensures err { OnErr result (self.new ≡ self.old) }
     {
         match left {

@@ -1,6 +1,6 @@
 // A folder in memory. Calls of given numbers fail.
-ghost use Rattle.std.specs.Prelude.{◌≡◌, IfOk, OnOk, OnErr, IsNone, [], option_copied, Some, true, false, nat_lt};
-ghost use Rattle.rk_base.specs.Canonical.{is_empty};
+ghost use Rattle.std.specs.Prelude.{◌≡◌, ◌++◌, ◌∷◌, IfOk, OnOk, OnErr, [], option_copied, Some, None, true, false, nat_lt};
+ghost use Rattle.rk_folder.specs.Schedule.{one_more, failing_at};
 ghost use Rattle.rk_folder.specs.Told as told;
 ghost use Rattle.rk_folder.specs.Whole.{IsWhole};
 ghost use Rattle.rk_folder.specs.declared.folder.Standing.TheVariants.{File, Dir, Special};
@@ -20,19 +20,13 @@ pub enum Change {
     Rename(Path, Path),
 }
 
-// A call that is to fail, and what it leaves in its file if it is a write.
-#[derive(Drop)]
-struct Fault {
-    call: u64,
-    left: Option<Bytes>,
-}
-
 /// A folder in memory, with the numbers of the calls that are to fail, the changes that were called
 /// for, and its counts.
 #[derive(Drop)]
 pub struct MemFolder {
     held: HeldRows,
-    failing: Vec<Fault>,
+    // the numbers of the calls that are to fail, and what each leaves in its file if it is a write
+    failing: Vec<(u64, Option<Bytes>)>,
     calls: u64,
     changes: Vec<Change>,
     read_faults: u64,
@@ -41,26 +35,31 @@ pub struct MemFolder {
 }
 
 // Counts a call, and finds how it is to fail.
-fn counted<'a>(calls: &mut u64, failing: &'a [Fault]) -> Option<&'a Fault>
-    ensures { is_empty failing.now ≡ true → IsNone result }
+fn counted<'a>(
+    calls: &mut u64,
+    failing: &'a [(u64, Option<Bytes>)],
+) -> Option<&'a (u64, Option<Bytes>)>
+    ensures calls { calls.new ≡ one_more calls.old }
+    ensures fault { option_copied result ≡ failing_at failing.now (one_more calls.old) }
 {
     *calls = calls.saturating_add(1);
-    for fault in failing {
-        if fault.call == *calls {
-            return Some(fault);
+    let call = *calls;
+    for it in failing {
+        if it.0 == call {
+            return Some(it);
         }
     }
     None
 }
 
 impl MemFolder {
-    ghost use Rattle.rk_folder.specs.Memory.{held_by, is_steady, changes_of, Sets};
+    ghost use Rattle.rk_folder.specs.Memory.{held_by, kept_by, is_steady, Sets};
 
     /// A folder with nothing in its root, in which no call fails that it allows.
     pub fn new(alloc: Global) -> Result<MemFolder, NoMemory>
         ensures held { IfOk result (λ f. held_by f ≡ told.root_alone) }
         ensures steady { IfOk result (λ f. is_steady f ≡ true) }
-        ensures changes { IfOk result (λ f. changes_of f ≡ []) }
+        ensures kept { IfOk result (λ f. kept_by f ≡ record { failing = []; calls = 0; changes = []; read_faults = 0; write_faults = 0 }) }
     {
         let held = HeldRows::new(alloc)?;
         Ok(MemFolder {
@@ -85,7 +84,7 @@ impl MemFolder {
     /// Puts a file where a file stands, or nothing in a directory; else it is false.
     pub fn set_file(&mut self, alloc: Global, file: &Path, bytes: &[u8]) -> Result<bool, NoMemory>
         ensures set { Sets (told.can_write file.now) (told.with_standing file.now (File bytes.now)) (held_by self.old) (held_by self.new) result }
-        ensures steady { is_steady self.new ≡ is_steady self.old }
+        ensures kept { kept_by self.new ≡ kept_by self.old }
     {
         if !self.held.can_write(file)? {
             return Ok(false);
@@ -97,7 +96,7 @@ impl MemFolder {
     /// Makes a directory where nothing stands in a directory; else it is false.
     pub fn set_dir(&mut self, dir: &Path) -> Result<bool, NoMemory>
         ensures set { Sets (told.can_make_dir dir.now) (told.with_standing dir.now Dir) (held_by self.old) (held_by self.new) result }
-        ensures steady { is_steady self.new ≡ is_steady self.old }
+        ensures kept { kept_by self.new ≡ kept_by self.old }
     {
         if !self.held.can_make_dir(dir)? {
             return Ok(false);
@@ -109,7 +108,7 @@ impl MemFolder {
     /// Puts what is special where a file stands, or nothing in a directory; else it is false.
     pub fn set_special(&mut self, path: &Path) -> Result<bool, NoMemory>
         ensures set { Sets (told.can_write path.now) (told.with_standing path.now Special) (held_by self.old) (held_by self.new) result }
-        ensures steady { is_steady self.new ≡ is_steady self.old }
+        ensures kept { kept_by self.new ≡ kept_by self.old }
     {
         if !self.held.can_write(path)? {
             return Ok(false);
@@ -121,7 +120,7 @@ impl MemFolder {
     /// Lets a directory hold an odd name; where none stands it is false.
     pub fn set_odd(&mut self, dir: &Path) -> Result<bool, NoMemory>
         ensures set { Sets (told.can_list dir.now) (told.with_odd dir.now) (held_by self.old) (held_by self.new) result }
-        ensures steady { is_steady self.new ≡ is_steady self.old }
+        ensures kept { kept_by self.new ≡ kept_by self.old }
     {
         if !self.held.can_list(dir) {
             return Ok(false);
@@ -130,65 +129,66 @@ impl MemFolder {
         Ok(true)
     }
 
-    /// Lets the call of this number, from 1 on, be a fault that leaves all as it was.
+    /// Lets the call of this number, from 1 on, be a fault that leaves all as it was. Where calls are
+    /// told to fail under one number, the first counts.
     pub fn fail_at(&mut self, call: u64) -> Result<(), NoMemory>
+        ensures ok { OnOk result (kept_by self.new ≡ record (kept_by self.old) { failing = (kept_by self.old).failing ++ (call, None) ∷ [] }) }
+        ensures err { OnErr result (kept_by self.new ≡ kept_by self.old) }
         ensures held { held_by self.new ≡ held_by self.old }
-        ensures changes { changes_of self.new ≡ changes_of self.old }
     {
-        self.failing.push(Fault { call, left: None })?;
+        self.failing.push((call, None))?;
         Ok(())
     }
 
     /// Lets the call of this number be a fault that leaves these bytes, if it is a write.
     pub fn fail_write_at(&mut self, call: u64, left: Bytes) -> Result<(), NoMemory>
+        ensures ok { OnOk result (kept_by self.new ≡ record (kept_by self.old) { failing = (kept_by self.old).failing ++ (call, Some left) ∷ [] }) }
+        ensures err { OnErr result (kept_by self.new ≡ kept_by self.old) }
         ensures held { held_by self.new ≡ held_by self.old }
-        ensures changes { changes_of self.new ≡ changes_of self.old }
     {
-        let left = Some(left);
-        self.failing.push(Fault { call, left })?;
+        self.failing.push((call, Some(left)))?;
         Ok(())
     }
 
     /// How many calls there were.
     pub fn calls(&self) -> u64
-        ensures { result ≡ self.now.calls }
+        ensures { result ≡ (kept_by self.now).calls }
     {
         self.calls
     }
 
     /// The changes that were called for, in their order, those that failed as well.
     pub fn changes(&self) -> &[Change]
-        ensures { result.now ≡ changes_of self.now }
+        ensures { result.now ≡ (kept_by self.now).changes }
     {
         &self.changes
     }
 
     /// Forgets the changes that were called for.
     pub fn clear_changes(&mut self)
-        ensures changes { changes_of self.new ≡ [] }
+        ensures kept { kept_by self.new ≡ record (kept_by self.old) { changes = [] } }
         ensures held { held_by self.new ≡ held_by self.old }
-        ensures steady { is_steady self.new ≡ is_steady self.old }
     {
         self.changes.clear();
     }
 
     /// How many lists and reads were faults.
     pub fn read_faults(&self) -> u64
-        ensures { result ≡ self.now.read_faults }
+        ensures { result ≡ (kept_by self.now).read_faults }
     {
         self.read_faults
     }
 
     /// How many of the other calls were faults.
     pub fn write_faults(&self) -> u64
-        ensures { result ≡ self.now.write_faults }
+        ensures { result ≡ (kept_by self.now).write_faults }
     {
         self.write_faults
     }
 }
 
 impl Folder for MemFolder {
-    ghost use Rattle.rk_folder.specs.Memory.{told_by, is_steady};
+    ghost use Rattle.rk_folder.specs.Memory.{told_by, is_steady, schedule_of};
 
     ghost told = { told_by };
 
@@ -199,6 +199,8 @@ impl Folder for MemFolder {
     ghost reach = { λ m. told.reach_of m.held };
 
     ghost steady = { is_steady };
+
+    ghost schedule = { λ m. Some (schedule_of m) };
 
     ghost whole = { λ m. m.whole };
 
@@ -230,15 +232,15 @@ impl Folder for MemFolder {
     }
 
     fn write(&mut self, alloc: Global, file: &Path, bytes: &[u8]) -> Result<(), FolderErr> {
-        self.changes.push(Change::Write(file.copy()?))?;
         let fault = counted(&mut self.calls, &self.failing);
+        self.changes.push(Change::Write(file.copy()?))?;
         if !self.held.can_write(file)? {
             return Err(FolderErr::Failed);
         }
         match fault {
             None => Ok(self.held.put_file(alloc, file, bytes)?),
             Some(fault) => {
-                self.held.spoil(alloc, file, fault.left.as_ref())?;
+                self.held.spoil(alloc, file, fault.1.as_ref())?;
                 self.write_faults = self.write_faults.saturating_add(1);
                 Err(FolderErr::Failed)
             }
@@ -246,8 +248,8 @@ impl Folder for MemFolder {
     }
 
     fn make_dir(&mut self, alloc: Global, dir: &Path) -> Result<(), FolderErr> {
-        self.changes.push(Change::MakeDir(dir.copy()?))?;
         let fault = counted(&mut self.calls, &self.failing);
+        self.changes.push(Change::MakeDir(dir.copy()?))?;
         if !self.held.can_make_dir(dir)? {
             return Err(FolderErr::Failed);
         }
@@ -259,8 +261,8 @@ impl Folder for MemFolder {
     }
 
     fn remove_file(&mut self, alloc: Global, file: &Path) -> Result<(), FolderErr> {
-        self.changes.push(Change::RemoveFile(file.copy()?))?;
         let fault = counted(&mut self.calls, &self.failing);
+        self.changes.push(Change::RemoveFile(file.copy()?))?;
         if !self.held.can_remove_file(file) {
             return Err(FolderErr::Failed);
         }
@@ -273,8 +275,8 @@ impl Folder for MemFolder {
     }
 
     fn remove_dir(&mut self, alloc: Global, dir: &Path) -> Result<(), FolderErr> {
-        self.changes.push(Change::RemoveDir(dir.copy()?))?;
         let fault = counted(&mut self.calls, &self.failing);
+        self.changes.push(Change::RemoveDir(dir.copy()?))?;
         if !self.held.can_remove_dir(alloc, dir)? {
             return Err(FolderErr::Failed);
         }
@@ -287,8 +289,8 @@ impl Folder for MemFolder {
     }
 
     fn rename(&mut self, alloc: Global, from: &Path, to: &Path) -> Result<(), FolderErr> {
-        self.changes.push(Change::Rename(from.copy()?, to.copy()?))?;
         let fault = counted(&mut self.calls, &self.failing);
+        self.changes.push(Change::Rename(from.copy()?, to.copy()?))?;
         if !self.held.can_rename(from, to)? {
             return Err(FolderErr::Failed);
         }

@@ -214,6 +214,8 @@ impl<R: Files + AllocGlobal + Drop> Folder for RealFolder<R> {
 
     ghost steady = { λ _. false };
 
+    ghost schedule = { λ _. None };
+
     ghost whole = { λ _. tt };
 
     fn list(&mut self, alloc: Global, dir: &Path) -> Result<Vec<Item>, FolderErr> {
