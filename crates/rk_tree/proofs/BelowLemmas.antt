@@ -1,24 +1,19 @@
 -- What stands below a path.
-use Rattle.std.proofs.Common.{◌≡◌, ℕ, zero, suc, List, [], ◌∷◌, ◌++◌, Bool, true, false, cond, not, eqb, ◌⊎◌, inl, inr, Option, Some, None, refl, sym, ap, ◌∙◌}
-use Rattle.std.specs.Prelude.{IfSome, slice_get}
+use Rattle.std.proofs.Common.{◌≡◌, ℕ, zero, suc, List, [], ◌∷◌, Bool, true, false, cond, ◌⊎◌, inl, inr, Option, Some, None, refl, sym, ap, ◌∙◌}
+use Rattle.std.specs.Prelude.{slice_get}
 use Rattle.std.specs.Option.{option_and_then}
-use Rattle.std.proofs.lemmas.List.{append_assoc}
-use Rattle.std.specs.List.{cons_option, filter_map, list_any}
+use Rattle.std.specs.List.{cons_option, filter_map}
 use Rattle.std.specs.FinMap.{entries, entries_sorted, find, get-entries}
-use Rattle.rk_base.specs.Text.{Text, text_cmp, root, is_root, parent, name_of, join, begins_with, is_in, is_within}
-use Rattle.rk_base.specs.Canonical.{is_empty, is_name, is_canonical}
-use Rattle.rk_base.proofs.CanonicalLemmas.{both, either}
-use Rattle.rk_base.proofs.PathLemmas.{path-is_cut, parent-join, is_in-join, join-is_in, join-not_root}
-use Rattle.rk_base.proofs.WithinLemmas.{one_of, by_steps, begins-front, below-within, within-down, within-itself, stem-below, is_the_root}
+use Rattle.rk_base.specs.Text.{Text, text_cmp, is_root, parent, name_of, join, is_within}
+use Rattle.rk_base.specs.Canonical.{is_name, is_canonical}
+use Rattle.rk_base.proofs.PathLemmas.{path-is_cut, parent-join, is_in-join}
+use Rattle.rk_base.proofs.WithinLemmas.{by_steps, within-down, within-itself, is_the_root}
 use Rattle.rk_tree.specs.Entries.{is_dir}
-use Rattle.rk_tree.specs.declared.node.Node.{Node}
 use Rattle.rk_tree.specs.Moves.{IsBare}
-use Rattle.rk_tree.specs.Nodes.{held_by}
-use Rattle.rk_tree.specs.Rows.{is_row_below}
-use Rattle.rk_tree.specs.Held.{Held, Paths, top, node, number_at, path_of, child, names, names_at, name_in}
+use Rattle.rk_tree.specs.Held.{Held, top, node, number_at, path_of, child, names, names_at, name_in}
 use Rattle.rk_tree.specs.Whole.{IsWhole}
-use Rattle.rk_tree.proofs.HeldLemmas.{home-path, path_stands}
-use Rattle.rk_tree.proofs.SearchLemmas.{place_found}
+use Rattle.rk_tree.proofs.HeldLemmas.{dir_path, path_stands}
+use Rattle.rk_tree.proofs.RowsLemmas.{place_found}
 use Rattle.rk_tree.proofs.TextLemmas.{told_apart, parent-root}
 
 clash : (b : Bool) → b ≡ true → b ≡ false → ⊥
@@ -60,12 +55,9 @@ taken_there f [] i row x at is none = none_some refl at
 taken_there f (r ∷ rows) zero row x at is none = filled (f r) x (filter_map f rows) (ap f (same_row r row refl at) ∙ is) none
 taken_there f (r ∷ rows) (suc i) row x at is none = taken_there f rows i row x at is (unfilled (f r) (filter_map f rows) none)
 
-pub dir_path : (held : Held) (path : Text) (n : ℕ) → IsWhole held → number_at held path ≡ Some n → is_dir (node held n) ≡ true → path_of held n ≡ Some path
-dir_path held path n whole at d = sym (home-path held n (Some path) whole d at)
-
 pub names-at : (held : Held) (path : Text) (n : ℕ) → IsWhole held → number_at held path ≡ Some n → is_dir (node held n) ≡ true → names held n ≡ filter_map (name_in path) (entries held.paths)
 unfolding names
-names-at held path n whole at d = ap (names_at held.paths) (dir_path held path n whole at d)
+names-at held path n whole at d = ap (names_at held.paths) (dir_path held path n whole d at)
 
 -- a name that stands for something is among the names
 pub named_there : (held : Held) (path name : Text) (n k : ℕ) → IsWhole held → number_at held path ≡ Some n → is_dir (node held n) ≡ true → is_name name ≡ true → number_at held (join path name) ≡ Some k → names held n ≡ [] → ⊥
@@ -136,18 +128,30 @@ not_above held path q k whole below bare apart at same = elim (is_root q) as (λ
 -- What a name of a directory stands for.
 
 -- where a name stands
-pub child_at : (held : Held) (dir : ℕ) (path name : Text) → path_of held dir ≡ Some path → child held dir name ≡ number_at held (join path name)
+pub child_at : (held : Held) (dir : ℕ) (path name : Text) → is_name name ≡ true → path_of held dir ≡ Some path → child held dir name ≡ number_at held (join path name)
 unfolding child
-child_at held dir path name at = ap (λ (o : Option Text). option_and_then (λ p. number_at held (join p name)) o) at
+child_at held dir path name named at =
+    ap (λ (b : Bool). cond b (option_and_then (λ p. number_at held (join p name)) (path_of held dir)) None) named ∙ ap (λ (o : Option Text). option_and_then (λ p. number_at held (join p name)) o) at
 
 pub child_nowhere : (held : Held) (dir : ℕ) (name : Text) → path_of held dir ≡ None → child held dir name ≡ None
 unfolding child
-child_nowhere held dir name at = ap (λ (o : Option Text). option_and_then (λ p. number_at held (join p name)) o) at
+child_nowhere held dir name at = ap (λ (o : Option Text). cond (is_name name) (option_and_then (λ p. number_at held (join p name)) o) None) at ∙ either (is_name name) where
+  either : (b : Bool) → ◌≡◌ {A = Option ℕ} (cond b None None) None
+  either true = refl
+  either false = refl
+
+-- only a name stands for something
+pub child_named : (held : Held) (dir : ℕ) (name : Text) (n : ℕ) → child held dir name ≡ Some n → is_name name ≡ true
+unfolding child
+child_named held dir name n is = by (is_name name) (option_and_then (λ p. number_at held (join p name)) (path_of held dir)) is where
+  by : (b : Bool) (o : Option ℕ) → cond b o None ≡ Some n → b ≡ true
+  by true o e = refl
+  by false o e = cc
 
 pub child_stands : (held : Held) (dir : ℕ) (name : Text) (n : ℕ) → child held dir name ≡ Some n → (path : Text) × (path_of held dir ≡ Some path) × (number_at held (join path name) ≡ Some n)
 child_stands held dir name n is = elim (path_of held dir) as (λ (o : Option Text). path_of held dir ≡ o → (path : Text) × (path_of held dir ≡ Some path) × (number_at held (join path name) ≡ Some n)) [
   | None ↦ λ at. absurd (none_some (child_nowhere held dir name at) is)
-  | Some path ↦ λ at. (path, at, sym (child_at held dir path name at) ∙ is)
+  | Some path ↦ λ at. (path, at, sym (child_at held dir path name (child_named held dir name n is) at) ∙ is)
 ] refl
 
 -- only a directory has names
@@ -164,66 +168,8 @@ child_none held dir name whole named file = elim (child held dir name) as (λ (o
   | Some n ↦ λ is. absurd (clash _ (child_dir held dir name n whole named is) file)
 ] refl
 
--- no name stands for the root
-pub child_below : (held : Held) (dir : ℕ) (name : Text) (n : ℕ) → IsWhole held → is_name name ≡ true → child held dir name ≡ Some n → n ≡ top → ⊥
-child_below held dir name n whole named is same =
-    let at = child_stands held dir name n is in
-    clash _ (ap is_root (whole.once (join at.0 name) root top (at.2 ∙ ap (λ (k : ℕ). Some k) same) whole.root_at whole.root_dir)) (join-not_root at.0 name named)
-
-pub some_below : (held : Held) (dir : ℕ) (name : Text) (o : Option ℕ) → IsWhole held → is_name name ≡ true → o ≡ child held dir name → IfSome o (λ n. n ≡ top → ⊥)
-some_below held dir name None whole named is = tt
-some_below held dir name (Some n) whole named is = child_below held dir name n whole named (sym is)
-
--- Whether names stand in a directory.
-
-none_taken : (f : Text × ℕ → Option Text) (rows : List (Text × ℕ)) → ((i : ℕ) (row : Text × ℕ) → slice_get rows i ≡ Some row → f row ≡ None) → filter_map f rows ≡ []
-none_taken f [] h = refl
-none_taken f (row ∷ rows) h = ap (λ (o : Option Text). cons_option o (filter_map f rows)) (h 0 row refl) ∙ none_taken f rows (λ i. h (suc i))
-
-any_row : (test : Text × ℕ → Bool) (rows : List (Text × ℕ)) → list_any test rows ≡ true → (i : ℕ) × (row : Text × ℕ) × (slice_get rows i ≡ Some row) × (test row ≡ true)
-any_row test [] h = absurd (clash _ h refl)
-any_row test (row ∷ rows) h = elim (one_of (test row) (list_any test rows) h) [
-  | inl here ↦ (0, row, refl, here)
-  | inr later ↦ let r = any_row test rows later in (suc r.0, r.1, r.2, r.3)
-]
-
-no_row : (test : Text × ℕ → Bool) (rows : List (Text × ℕ)) (i : ℕ) (row : Text × ℕ) → list_any test rows ≡ false → slice_get rows i ≡ Some row → test row ≡ false
-no_row test [] i row h at = absurd (none_some refl at)
-no_row test (r ∷ rows) zero row h at = ap test (sym (same_row r row refl at)) ∙ (either (test r) (list_any test rows) h).0
-no_row test (r ∷ rows) (suc i) row h at = no_row test rows i row (either (test r) (list_any test rows) h).1 at
-
 pub row_stands : (held : Held) (i : ℕ) (path : Text) (n : ℕ) → slice_get (entries held.paths) i ≡ Some (path, n) → number_at held path ≡ Some n
 row_stands held i path n at = get-entries held.paths path ∙ place_found (entries held.paths) path i n (entries_sorted held.paths) at
-
-apart_below : (path : Text) → begins_with path (path ++ 47 ∷ []) ≡ true → ⊥
-apart_below [] h = cc
-apart_below (b ∷ bs) h = apart_below bs (both (eqb b b) (begins_with bs (bs ++ 47 ∷ [])) h).1
-
-join-below : (path name : Text) → is_root path ≡ false → begins_with (join path name) (path ++ 47 ∷ []) ≡ true
-unfolding join
-join-below path name r =
-    ap (λ (t : Text). begins_with (t ++ 47 ∷ name) (path ++ 47 ∷ [])) (stem-below path r) ∙ ap (λ (t : Text). begins_with t (path ++ 47 ∷ [])) (sym (append_assoc path (47 ∷ []) name)) ∙ begins-front (path ++ 47 ∷ []) name
-
-filled_so : (xs : List Text) → (xs ≡ [] → ⊥) → true ≡ not (is_empty xs)
-filled_so [] h = absurd (h refl)
-filled_so (x ∷ xs) h = refl
-
-pub no_name : (path : Text) (row : Text × ℕ) → is_root path ≡ false → is_canonical row.0 ≡ true → is_row_below path row ≡ false → name_in path row ≡ None
-no_name path row r c h = elim (is_in path row.0) as (λ (b : Bool). is_in path row.0 ≡ b → cond b (Some (name_of row.0)) None ≡ None) [
-  | true ↦ λ e. absurd (clash _ (ap (λ (t : Text). begins_with t (path ++ 47 ∷ [])) (sym (join-is_in path row.0 c e).0) ∙ join-below path (name_of row.0) r) h)
-  | false ↦ λ e. refl
-] refl
-
-pub names-below : (held : Held) (path : Text) (n : ℕ) → IsWhole held → is_root path ≡ false → number_at held path ≡ Some n → is_dir (node held n) ≡ true → list_any (is_row_below path) (entries held.paths) ≡ not (is_empty (names held n))
-names-below held path n whole r at d = elim (list_any (is_row_below path) (entries held.paths)) as (λ (b : Bool). list_any (is_row_below path) (entries held.paths) ≡ b → b ≡ not (is_empty (names held n))) [
-  | true ↦ λ e.
-      let row = any_row (is_row_below path) (entries held.paths) e in
-      filled_so (names held n) (λ none. none_some
-      (bare_dir held whole path (whole.canonical path n at) r n at d none row.1.0 (below-within path row.1.0 r row.3) (λ same. apart_below path (ap (λ (t : Text). begins_with t (path ++ 47 ∷ [])) (sym same) ∙ row.3)))
-      (row_stands held row.0 row.1.0 row.1.1 row.2))
-  | false ↦ λ e. sym (ap (λ (xs : List Text). not (is_empty xs)) (names-at held path n whole at d ∙ none_taken (name_in path) (entries held.paths) (λ i row on.
-      no_name path row r (whole.canonical row.0 row.1 (row_stands held i row.0 row.1 on)) (no_row (is_row_below path) (entries held.paths) i row e on))))
-] refl
 
 -- only the root's number stands at the root
 pub not_at_root : (held : Held) (path : Text) (n : ℕ) → IsWhole held → number_at held path ≡ Some n → (n ≡ top → ⊥) → is_root path ≡ false
@@ -231,14 +177,3 @@ not_at_root held path n whole at below = elim (is_root path) as (λ (b : Bool). 
   | true ↦ λ e. absurd (below (same_number n top at (ap (number_at held) (is_the_root path e) ∙ whole.root_at)))
   | false ↦ λ e. refl
 ] refl
-
--- what the code makes of it
-pub told_names : (paths : Paths) (nodes : List Node) (held : Held) (n : ℕ) (path text : Text) (r : Bool) → held_by paths nodes ≡ held → IsWhole held → is_dir (node held n) ≡ true → (n ≡ top → ⊥) → Some path ≡ path_of held n → text ≡ path → r ≡ list_any (is_row_below text) (entries paths) → r ≡ not (is_empty (names held n))
-told_names paths nodes held n path text r is whole d below at named got =
-    let stands = path_stands held n path (sym at) in
-    got ∙ ap (λ (t : Text). list_any (is_row_below t) (entries paths)) named ∙ ap (λ (h : Held). list_any (is_row_below path) (entries h.paths)) is
-    ∙ names-below held path n whole (not_at_root held path n whole stands below) stands d
-
-pub no_names : (held : Held) (n : ℕ) → None ≡ path_of held n → false ≡ not (is_empty (names held n))
-unfolding names
-no_names held n at = ap (λ (o : Option Text). not (is_empty (names_at held.paths o))) at

@@ -7,7 +7,6 @@ use Rattle.std.specs.FinMap.{entries, find, is_sorted, get-entries, entries_sort
 use Rattle.rk_base.specs.Text.{Text, text_cmp}
 use Rattle.rk_tree.specs.Held.{Held, node, number_at, first_path, path_of}
 use Rattle.rk_tree.specs.Entries.{is_dir}
-use Rattle.rk_tree.specs.Nodes.{IsHome}
 use Rattle.rk_tree.specs.Whole.{IsWhole}
 use Rattle.rk_tree.proofs.RowsLemmas.{find_head, find_later, and_second}
 use Rattle.rk_tree.proofs.TextLemmas.{told_apart}
@@ -46,12 +45,15 @@ some_path : (held : Held) (n : ℕ) (path : Text) → number_at held path ≡ So
 unfolding path_of
 some_path held n path at = first_some n (entries held.paths) path (sym (get-entries held.paths path) ∙ at)
 
--- the path that is kept with a directory is its path
-pub home-path : (held : Held) (n : ℕ) (home : Option Text) → IsWhole held → is_dir (node held n) ≡ true → IsHome held n home → home ≡ path_of held n
-home-path held n None whole dir h = sym (nothing (path_of held n) (λ path at. h path (path_stands held n path at))) where
+-- a directory has one path
+pub dir_path : (held : Held) (path : Text) (n : ℕ) → IsWhole held → is_dir (node held n) ≡ true → number_at held path ≡ Some n → path_of held n ≡ Some path
+dir_path held path n whole d at =
+    let first = some_path held n path at in
+    first.1 ∙ sym (ap (λ (t : Text). Some t) (whole.once path first.0 n at (path_stands held n first.0 first.1) d))
+
+-- what stands nowhere has none
+pub no_path : (held : Held) (n : ℕ) → ((path : Text) → number_at held path ≡ Some n → ⊥) → path_of held n ≡ None
+no_path held n h = nothing (path_of held n) (λ path at. h path (path_stands held n path at)) where
   nothing : (o : Option Text) → ((path : Text) → o ≡ Some path → ⊥) → o ≡ None
   nothing None h = refl
   nothing (Some path) h = absurd (h path refl)
-home-path held n (Some path) whole dir h =
-    let first = some_path held n path h in
-    ap (λ (t : Text). Some t) (whole.once path first.0 n h (path_stands held n first.0 first.1) dir) ∙ sym first.1

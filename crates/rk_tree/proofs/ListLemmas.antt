@@ -1,51 +1,30 @@
 -- The names in a directory.
-use Rattle.std.proofs.Common.{◌≡◌, ℕ, suc, List, [], ◌∷◌, ◌++◌, Bool, true, false, cond, ◌&&◌, Option, Some, None, refl, sym, ap, subst, ◌∙◌, append-nil}
+use Rattle.std.proofs.Common.{◌≡◌, inl, inr, ℕ, suc, List, [], ◌∷◌, Bool, true, false, cond, if◌then◌else◌, ◌&&◌, Option, Some, None, refl, sym, ap, subst, ◌∙◌, map}
 use lib.Dec.{T}
-use Rattle.std.specs.Prelude.{slice_get, option_to_list}
+use Rattle.std.specs.Prelude.{slice_get}
 use Rattle.std.specs.List.{cons_option, filter_map, list_all}
-use Rattle.std.specs.Ordering.{is_lt}
-use Rattle.std.specs.FinMap.Entries.{below_all}
-use Rattle.std.specs.FinMap.{entries, entries_sorted, is_sorted}
-use Rattle.rk_base.specs.Text.{Text, text_cmp, stem, name_of, last_of, join, is_in, is_root}
-use Rattle.rk_base.specs.Canonical.{is_name, is_canonical}
+use Rattle.std.specs.Option.{option_and_then}
+use Rattle.std.specs.declared.cmp.Ordering.{Ordering}
+use Rattle.std.specs.Ordering.{eq_by_cmp, is_eq, is_lt}
+use Rattle.std.specs.Cmp.Lexicographic.{nat_list_cmp_total}
+use Rattle.std.specs.FinMap.Entries.{below_all, same_entries}
+use Rattle.std.specs.FinMap.{entries, entries_sorted, find, get, get-entries, is_sorted, keys}
+use Rattle.rk_base.specs.Text.{Text, text_cmp, stem, name_of, join, is_in}
+use Rattle.rk_base.specs.Canonical.{is_empty, is_name, is_canonical}
 use Rattle.rk_base.specs.Names.{ascend, ascend_from, are_names}
-use Rattle.rk_base.proofs.PathLemmas.{is_in-is, join-is_in}
+use Rattle.rk_base.proofs.PathLemmas.{is_in-join, join-is_in}
 use Rattle.rk_tree.specs.declared.node.Node.{Node}
-use Rattle.rk_tree.specs.Held.{Held, Paths, path_of, names, names_at, name_in}
-use Rattle.rk_tree.specs.Nodes.{held_by}
-use Rattle.rk_tree.specs.Rows.{GiveBelow}
+use Rattle.rk_tree.specs.Entries.{is_dir}
+use Rattle.rk_tree.specs.Held.{Held, Paths, node, path_of, names, names_at, name_in}
+use Rattle.rk_tree.specs.Nodes.{names_in, under, held_by, AreAttached}
 use Rattle.rk_tree.specs.Whole.{IsWhole}
-use Rattle.rk_tree.proofs.BelowLemmas.{no_name, row_stands}
+use Rattle.rk_tree.proofs.BelowLemmas.{none_some, row_stands}
 use Rattle.rk_tree.proofs.CompareLemmas.{cmp-front}
-use Rattle.rk_tree.proofs.RowsLemmas.{and_first, and_second}
-use Rattle.rk_tree.proofs.SearchLemmas.{is_yes}
-
--- Row by row.
-
-last_in : (dir path : Text) (o : Option Text) → is_in dir path ≡ true → o ≡ last_of path → o ≡ name_in dir (path, 0)
-last_in dir path o h is = is ∙ ap (λ (b : Bool). cond b None (Some (name_of path))) (is_in-is dir path h).0 ∙ sym (ap (λ (b : Bool). cond b (Some (name_of path)) None) h)
-
--- what stands in a directory has a last name
-pub last_none : (dir path : Text) (names : List Text) (o : Option Text) → is_in dir path ≡ true → o ≡ last_of path → o ≡ None → names ≡ names ++ option_to_list (name_in dir (path, 0))
-last_none dir path names o h is none = sym (append-nil names) ∙ ap (λ (p : Option Text). names ++ option_to_list p) (sym none ∙ last_in dir path o h is)
-
--- What the code makes of it.
-
-pub listed_all : (paths : Paths) (nodes : List Node) (held : Held) (path : Text) (rows : List (Text × ℕ)) (made : List Text) → held_by paths nodes ≡ held → rows ≡ entries paths → made ≡ filter_map (name_in path) rows → made ≡ names_at held.paths (Some path)
-listed_all paths nodes held path rows made is same got = got ∙ ap (filter_map (name_in path)) same ∙ ap (λ (h : Held). filter_map (name_in path) (entries h.paths)) is
-
-pub listed_below : (paths : Paths) (nodes : List Node) (held : Held) (path text : Text) (rows : List (Text × ℕ)) (made : List Text) → held_by paths nodes ≡ held → IsWhole held → is_root path ≡ false → text ≡ path → GiveBelow text rows (entries paths) → made ≡ filter_map (name_in path) rows → made ≡ names_at held.paths (Some path)
-listed_below paths nodes held path text rows made is whole r named give got =
-    let here : GiveBelow path rows (entries held.paths) = subst (λ (h : Held). GiveBelow path rows (entries h.paths)) is (subst (λ (t : Text). GiveBelow t rows (entries paths)) named give) in
-    got ∙ here (name_in path) (λ i row at h. no_name path row r (whole.canonical row.0 row.1 (row_stands held i row.0 row.1 at)) h)
-
-pub listed_some : (held : Held) (dir : ℕ) (path : Text) (made : List Text) → Some path ≡ path_of held dir → made ≡ names_at held.paths (Some path) → made ≡ names held dir
-unfolding names
-listed_some held dir path made at got = got ∙ ap (names_at held.paths) at
-
-pub listed_none : (held : Held) (dir : ℕ) (made : List Text) → None ≡ path_of held dir → made ≡ [] → made ≡ names held dir
-unfolding names
-listed_none held dir made at got = got ∙ ap (names_at held.paths) at
+use Rattle.rk_tree.proofs.HeldLemmas.{dir_path, path_stands}
+use Rattle.rk_tree.proofs.RowsLemmas.{and_both, and_first, and_second, is_yes}
+use Rattle.rk_tree.proofs.ShownLemmas.{Steps}
+use Rattle.rk_tree.proofs.TextLemmas.{exact_texts, told_apart}
+use Rattle.rk_tree.proofs.UnderLemmas.{none_of}
 
 -- They are names, and ascend.
 
@@ -98,3 +77,95 @@ pub no_list : (given : List Text) (held : Held) (dir : ℕ) → IsWhole held →
 no_list given held dir whole is none = nothing (none ∙ ap (λ (b : Bool). cond b (Some given) None) (ap are_names is ∙ names-are held dir whole)) where
   nothing : ◌≡◌ {A = Option (List Text)} None (Some given) → ⊥
   nothing e = cc
+
+-- They are what the directory's node has.
+
+abbrev row_in : Text → Text × ℕ → Option (Text × ℕ)
+row_in dir row = if is_in dir row.0 then Some (name_of row.0, row.1) else None
+
+abbrev rows_in : Text → List (Text × ℕ) → List (Text × ℕ)
+rows_in dir rows = filter_map (row_in dir) rows
+
+names_of_rows : (dir : Text) (rows : List (Text × ℕ)) → map (λ (row : Text × ℕ). row.0) (rows_in dir rows) ≡ filter_map (name_in dir) rows
+names_of_rows dir [] = refl
+names_of_rows dir (row ∷ rows) = elim (is_in dir row.0) as (λ (b : Bool). map (λ (row : Text × ℕ). row.0) (cons_option (cond b (Some (name_of row.0, row.1)) None) (rows_in dir rows)) ≡ cons_option (cond b (Some (name_of row.0)) None) (filter_map (name_in dir) rows)) [
+  | true ↦ ap (λ (names : List Text). name_of row.0 ∷ names) (names_of_rows dir rows)
+  | false ↦ names_of_rows dir rows
+]
+
+below_in : (dir last : Text) (rows : List (Text × ℕ)) → T (below_all text_cmp (join dir last) rows) → AreCanonical rows → T (below_all text_cmp last (rows_in dir rows))
+below_in dir last [] below c = tt
+below_in dir last (row ∷ rows) below c = (elim (is_in dir row.0) as (λ (b : Bool). is_in dir row.0 ≡ b → T (below_all text_cmp last (cons_option (cond b (Some (name_of row.0, row.1)) None) (rows_in dir rows)))) [
+  | true ↦ λ e. and_both _ _
+      (subst (λ (o : Ordering). T (is_lt o)) (ap (text_cmp (join dir last)) (sym (join-is_in dir row.0 (c 0 row refl) e).0) ∙ cmp-join dir last (name_of row.0)) (and_first _ _ below))
+      (below_in dir last rows (and_second _ _ below) (λ i. c (suc i)))
+  | false ↦ λ e. below_in dir last rows (and_second _ _ below) (λ i. c (suc i))
+]) refl
+
+sorted_in : (dir : Text) (rows : List (Text × ℕ)) → T (is_sorted text_cmp rows) → AreCanonical rows → T (is_sorted text_cmp (rows_in dir rows))
+sorted_in dir [] h c = tt
+sorted_in dir (row ∷ rows) h c = (elim (is_in dir row.0) as (λ (b : Bool). is_in dir row.0 ≡ b → T (is_sorted text_cmp (cons_option (cond b (Some (name_of row.0, row.1)) None) (rows_in dir rows)))) [
+  | true ↦ λ e. and_both _ _
+      (below_in dir (name_of row.0) rows (subst (λ (t : Text). T (below_all text_cmp t rows)) (sym (join-is_in dir row.0 (c 0 row refl) e).0) (and_first _ _ h)) (λ i. c (suc i)))
+      (sorted_in dir rows (and_second _ _ h) (λ i. c (suc i)))
+  | false ↦ λ e. sorted_in dir rows (and_second _ _ h) (λ i. c (suc i))
+]) refl
+
+clash : (b : Bool) → b ≡ true → b ≡ false → ⊥
+clash b t f = cc
+
+-- a name is found as its path is
+found_in : (dir q : Text) (rows : List (Text × ℕ)) → is_canonical dir ≡ true → is_name q ≡ true → AreCanonical rows → find text_cmp q (rows_in dir rows) ≡ find text_cmp (join dir q) rows
+found_in dir q [] d n c = refl
+found_in dir q (row ∷ rows) d n c = (elim (is_in dir row.0) as (λ (b : Bool). is_in dir row.0 ≡ b → find text_cmp q (cons_option (cond b (Some (name_of row.0, row.1)) None) (rows_in dir rows)) ≡ cond (eq_by_cmp text_cmp (join dir q) row.0) (Some row.1) (find text_cmp (join dir q) rows)) [
+  | true ↦ λ e. ap (λ (o : Option ℕ). cond (eq_by_cmp text_cmp q (name_of row.0)) (Some row.1) o) (found_in dir q rows d n (λ i. c (suc i)))
+      ∙ ap (λ (o : Ordering). cond (is_eq o) (Some row.1) (find text_cmp (join dir q) rows)) (sym (cmp-join dir q (name_of row.0)) ∙ ap (text_cmp (join dir q)) (join-is_in dir row.0 (c 0 row refl) e).0)
+  | false ↦ λ e. elim (told_apart (join dir q) row.0) [
+    | inl same ↦ absurd (clash _ (ap (is_in dir) (sym same.0) ∙ is_in-join dir q d n) e)
+    | inr apart ↦ found_in dir q rows d n (λ i. c (suc i)) ∙ sym (ap (λ (b : Bool). cond b (Some row.1) (find text_cmp (join dir q) rows)) apart.1)
+  ]
+]) refl
+
+-- what is no name isn't found
+unnamed_in : (dir q : Text) (rows : List (Text × ℕ)) → is_name q ≡ false → AreCanonical rows → find text_cmp q (rows_in dir rows) ≡ None
+unnamed_in dir q [] n c = refl
+unnamed_in dir q (row ∷ rows) n c = (elim (is_in dir row.0) as (λ (b : Bool). is_in dir row.0 ≡ b → find text_cmp q (cons_option (cond b (Some (name_of row.0, row.1)) None) (rows_in dir rows)) ≡ None) [
+  | true ↦ λ e. elim (told_apart q (name_of row.0)) [
+    | inl same ↦ absurd (clash _ (ap is_name same.0 ∙ (join-is_in dir row.0 (c 0 row refl) e).1) n)
+    | inr apart ↦ ap (λ (b : Bool). cond b (Some row.1) (find text_cmp q (rows_in dir rows))) apart.1 ∙ unnamed_in dir q rows n (λ i. c (suc i))
+  ]
+  | false ↦ λ e. unnamed_in dir q rows n (λ i. c (suc i))
+]) refl
+
+empty_names : (rows : List (Text × ℕ)) → is_empty rows ≡ is_empty (map (λ (row : Text × ℕ). row.0) rows)
+empty_names [] = refl
+empty_names (row ∷ rows) = refl
+
+module _ (paths : Paths) (nodes : List Node) (whole : IsWhole (held_by paths nodes)) (step : Steps nodes paths) (attached : AreAttached paths nodes) (n : ℕ) (d : is_dir (node (held_by paths nodes) n) ≡ true) where
+  rows_are : (path : Text) → get paths path ≡ Some n → rows_in path (entries paths) ≡ entries (names_in (slice_get nodes n))
+  rows_are path at =
+      let canon : AreCanonical (entries paths) = λ i row at. whole.canonical row.0 row.1 (row_stands (held_by paths nodes) i row.0 row.1 at) in
+      same_entries text_cmp nat_list_cmp_total exact_texts (rows_in path (entries paths)) (entries (names_in (slice_get nodes n))) (sorted_in path (entries paths) (entries_sorted paths) canon) (entries_sorted (names_in (slice_get nodes n)))
+      (λ q. (elim (is_name q) as (λ (b : Bool). is_name q ≡ b → find text_cmp q (rows_in path (entries paths)) ≡ find text_cmp q (entries (names_in (slice_get nodes n)))) [
+        | true ↦ λ e. found_in path q (entries paths) (whole.canonical path n at) e canon ∙ sym (get-entries paths (join path q)) ∙ step path q (whole.canonical path n at) e
+            ∙ ap (option_and_then (λ k. under nodes k q)) at ∙ get-entries (names_in (slice_get nodes n)) q
+        | false ↦ λ e. unnamed_in path q (entries paths) e canon ∙ sym (none_of (under nodes n q) (λ m is. clash _ (attached n q m is).0 e)) ∙ get-entries (names_in (slice_get nodes n)) q
+      ]) refl)
+
+  none_are : path_of (held_by paths nodes) n ≡ None → [] ≡ entries (names_in (slice_get nodes n))
+  none_are nowhere = same_entries text_cmp nat_list_cmp_total exact_texts [] (entries (names_in (slice_get nodes n))) tt (entries_sorted (names_in (slice_get nodes n)))
+      (λ q. sym (none_of (under nodes n q) (λ m is. none_some nowhere (dir_path (held_by paths nodes) (attached n q m is).1 n whole d (attached n q m is).2))) ∙ get-entries (names_in (slice_get nodes n)) q)
+
+  names-under : names (held_by paths nodes) n ≡ keys (names_in (slice_get nodes n))
+  unfolding names
+  names-under = (elim (path_of (held_by paths nodes) n) as (λ (o : Option Text). path_of (held_by paths nodes) n ≡ o → names_at paths o ≡ keys (names_in (slice_get nodes n))) [
+    | None ↦ λ nowhere. ap (map (λ (row : Text × ℕ). row.0)) (none_are nowhere)
+    | Some path ↦ λ at. sym (names_of_rows path (entries paths)) ∙ ap (map (λ (row : Text × ℕ). row.0)) (rows_are path (path_stands (held_by paths nodes) n path at))
+  ]) refl
+
+  -- the nodes are read, and show a tree
+  pub names-read : (read : List Node) (held : Held) → read ≡ nodes → held_by paths nodes ≡ held → keys (names_in (slice_get read n)) ≡ names held n
+  names-read read held is view = ap (λ (ns : List Node). keys (names_in (slice_get ns n))) is ∙ sym names-under ∙ ap (λ (h : Held). names h n) view
+
+  pub none-read : (read : List Node) (held : Held) → read ≡ nodes → held_by paths nodes ≡ held → is_empty (entries (names_in (slice_get read n))) ≡ is_empty (names held n)
+  none-read read held is view = empty_names (entries (names_in (slice_get read n))) ∙ ap (λ (ts : List Text). is_empty ts) (names-read read held is view)

@@ -1,24 +1,18 @@
 -- Where what stands goes when all within a path goes to another place.
-use Rattle.std.proofs.Common.{◌≡◌, ◌<◌, ◌≤◌, ◌+◌, ℕ, zero, suc, List, [], ◌∷◌, ◌++◌, append-nil, map, length, drop, drop-cons, get_or, arith, Bool, true, false, cond, ◌⊎◌, inl, inr, Option, Some, None, refl, sym, ap, subst, ◌∙◌}
+use Rattle.std.proofs.Common.{◌≡◌, ℕ, zero, suc, List, [], ◌∷◌, Bool, true, false, cond, ◌⊎◌, inl, inr, Option, Some, None, refl, sym, ap, subst, ◌∙◌}
 use Rattle.std.specs.Prelude.{slice_get}
-use Rattle.std.specs.BTreeMap.{is_at}
 use Rattle.std.specs.List.{fold}
-use Rattle.std.specs.List.Sorted.{IsStrictlySortedBy}
-use Rattle.std.specs.FinMap.{empty, entries, get, insert, remove, get-empty, is_sorted}
-use Rattle.rk_base.specs.Text.{Text, text_cmp, same_text, root, is_root, parent, name_of, join, hidden, is_within, moved}
+use Rattle.std.specs.FinMap.{empty, entries, get, insert, get-empty}
+use Rattle.rk_base.specs.Text.{Text, same_text, root, is_root, parent, name_of, join, hidden, is_within, moved}
 use Rattle.rk_base.specs.Canonical.{is_canonical}
 use Rattle.rk_base.proofs.PathLemmas.{path-is_cut, parent-join}
 use Rattle.rk_base.proofs.MovedLemmas.{moved-out, moved-from, moved-join, moved-canonical, moved-within, moved-apart, moved-outside, within-canonical}
-use Rattle.rk_base.proofs.WithinLemmas.{within-itself, within-down, within-join, within-not_root, stem-back, is_the_root}
+use Rattle.rk_base.proofs.WithinLemmas.{within-down, within-join, within-not_root, stem-back, is_the_root}
 use Rattle.rk_tree.specs.Held.{Held, Paths, top, number_at, moves, moved_paths}
-use Rattle.rk_tree.specs.Moves.{IsBare, Moves}
-use Rattle.rk_tree.specs.Rows.{map_of}
+use Rattle.rk_tree.specs.Moves.{Moves}
 use Rattle.rk_tree.specs.Whole.{IsPlaced, IsWhole}
 use Rattle.rk_tree.proofs.BelowLemmas.{none_some, same_number, not_above, row_of, row_stands}
-use Rattle.rk_tree.proofs.RemovedLemmas.{stays_there, stood_there}
-use Rattle.rk_tree.proofs.RowsLemmas.{insert_cases, same_maps, row_at, map_of-put, empty_rows, ordered}
-use Rattle.rk_tree.proofs.SearchLemmas.{is_yes}
-use Rattle.rk_tree.proofs.CopiesLemmas.{drop_past}
+use Rattle.rk_tree.proofs.RowsLemmas.{insert_cases}
 use Rattle.rk_tree.proofs.TextLemmas.{told_apart, same_is, same_itself, hidden-back, parent-root}
 
 clash : (b : Bool) → b ≡ true → b ≡ false → ⊥
@@ -104,11 +98,8 @@ module _ (held : Held) (whole : IsWhole held) (from to : Text) (n : ℕ) (m : Mo
   abbrev now : Held
   now = record held { paths = moved_paths from to held.paths }
 
-  from_is : is_canonical from ≡ true
+  pub from_is : is_canonical from ≡ true
   from_is = whole.canonical from n m.stands
-
-  not_same : from ≡ to → ⊥
-  not_same same = clash _ (ap (is_within from) (sym same) ∙ within-itself from) m.outside
 
   -- what stands below the new place was moved there
   not_below : (q : Text) (k : ℕ) → number_at held q ≡ Some k → (q ≡ to → ⊥) → is_within to q ≡ true → ⊥
@@ -146,7 +137,7 @@ module _ (held : Held) (whole : IsWhole held) (from to : Text) (n : ℕ) (m : Mo
     | false ↦ λ h. refl
   ] refl
 
-  up_outside : (path : Text) → is_canonical path ≡ true → is_within from path ≡ false → is_within from (parent path) ≡ false
+  pub up_outside : (path : Text) → is_canonical path ≡ true → is_within from path ≡ false → is_within from (parent path) ≡ false
   up_outside path c out = elim (is_root path) as (λ (b : Bool). is_root path ≡ b → is_within from (parent path) ≡ false) [
     | true ↦ λ r. ap (λ (t : Text). is_within from (parent t)) (is_the_root path r) ∙ ap (is_within from) parent-root ∙ root_outside
     | false ↦ λ r. elim (is_within from (parent path)) as (λ (b : Bool). is_within from (parent path) ≡ b → b ≡ false) [
@@ -156,7 +147,7 @@ module _ (held : Held) (whole : IsWhole held) (from to : Text) (n : ℕ) (m : Mo
   ] refl
 
   -- the directory of what goes, goes with it
-  up_goes : (key : Text) (k : ℕ) → number_at held key ≡ Some k → is_within from key ≡ true → (key ≡ from → ⊥) → (is_within from (parent key) ≡ true) × (parent (moved from to key) ≡ moved from to (parent key))
+  pub up_goes : (key : Text) (k : ℕ) → number_at held key ≡ Some k → is_within from key ≡ true → (key ≡ from → ⊥) → (is_within from (parent key) ≡ true) × (parent (moved from to key) ≡ moved from to (parent key))
   up_goes key k at h apart =
       let c = whole.canonical key k at in
       let it = path-is_cut key c (within-not_root from key from_is m.from_below h) in
@@ -219,73 +210,3 @@ module _ (held : Held) (whole : IsWhole held) (from to : Text) (n : ℕ) (m : Mo
     unseen = λ q h. no_hidden q h (number_at now q) refl;
     fit = whole.fit;
   }
-
-  -- What stands alone.
-
-  same_option : (o p : Option ℕ) → ((k : ℕ) → o ≡ Some k → p ≡ Some k) → ((k : ℕ) → p ≡ Some k → o ≡ Some k) → o ≡ p
-  same_option None None a b = refl
-  same_option None (Some k) a b = b k refl
-  same_option (Some k) p a b = sym (a k refl)
-
-  -- where nothing stands below a path, one row goes
-  pub moved_alone : IsBare held from → remove (insert held.paths to n) from ≡ moved_paths from to held.paths
-  moved_alone alone = same_maps _ _ (λ q. same_option _ _ (λ k. goes q k) (λ k. comes q k)) where
-    goes : (q : Text) (k : ℕ) → get (remove (insert held.paths to n) from) q ≡ Some k → number_at now q ≡ Some k
-    goes q k at =
-        let s = stood_there (insert held.paths to n) from q k at in
-        elim (insert_cases held.paths to n q) [
-          | inl here ↦ ap (number_at now) (here.0 ∙ sym (moved-from from to)) ∙ there from n m.stands not_same ∙ sym here.1 ∙ s.1
-          | inr other ↦
-              let stood : number_at held q ≡ Some k = sym other.1 ∙ s.1 in
-              (elim (is_within from q) as (λ (b : Bool). is_within from q ≡ b → number_at now q ≡ Some k) [
-                | true ↦ λ h. absurd (none_some (alone q h s.0) stood)
-                | false ↦ λ h. stays q k stood other.0 h
-              ]) refl
-        ]
-
-    comes : (q : Text) (k : ℕ) → number_at now q ≡ Some k → get (remove (insert held.paths to n) from) q ≡ Some k
-    comes q k at =
-        let b = back q k at in
-        (elim (is_within from b.0) as (λ (s : Bool). is_within from b.0 ≡ s → get (remove (insert held.paths to n) from) q ≡ Some k) [
-          | true ↦ λ h. elim (told_apart b.0 from) [
-            | inl same ↦
-                let place : q ≡ to = sym b.3 ∙ ap (moved from to) same.0 ∙ moved-from from to in
-                stays_there (insert held.paths to n) from q k (λ e. not_same (sym e ∙ place))
-                (elim (insert_cases held.paths to n q) [
-                  | inl here ↦ here.1 ∙ sym m.stands ∙ ap (number_at held) (sym same.0) ∙ b.1
-                  | inr other ↦ absurd (other.0 place)
-                ])
-            | inr other ↦ absurd (none_some (alone b.0 h other.0) b.1)
-          ]
-          | false ↦ λ h.
-              let place : b.0 ≡ q = sym (moved-out from to b.0 h) ∙ b.3 in
-              stays_there (insert held.paths to n) from q k (λ e. clash _ (ap (is_within from) (place ∙ e) ∙ within-itself from) h)
-              (elim (insert_cases held.paths to n q) [
-                | inl here ↦ absurd (b.2 (place ∙ here.0))
-                | inr other ↦ other.1 ∙ ap (number_at held) (sym place) ∙ b.1
-              ])
-        ]) refl
-
--- What the code makes of the rows.
-
-pub row_put : (from to path at : Text) (n : ℕ) (rows more : List (Text × ℕ)) → same_text path to ≡ false → at ≡ moved from to path → ((q : Text) → row_at more q ≡ cond (is_at (text_cmp at) q) (Some n) (row_at rows q)) → map_of more ≡ moves from to (map_of rows) (path, n)
-row_put from to path at n rows more apart is put =
-    map_of-put rows more at n put ∙ ap (λ (t : Text). insert (map_of rows) t n) is ∙ sym (ap (λ (b : Bool). cond b (map_of rows) (insert (map_of rows) (moved from to path) n)) apart)
-
-pub none_moved : (from to : Text) (made items : List (Text × ℕ)) → made ≡ [] → fold (moves from to) (map_of made) items ≡ fold (moves from to) empty items
-none_moved from to made items none = ap (λ (m : Paths). fold (moves from to) m items) (empty_rows made none)
-
-pub moved_step : (from to : Text) (before after : Paths) (items : List (Text × ℕ)) (i : ℕ) (row : Text × ℕ) → fold (moves from to) before (drop i items) ≡ fold (moves from to) empty items → i < length items → row ≡ get_or items i row → after ≡ moves from to before row → fold (moves from to) after (drop (i + 1) items) ≡ fold (moves from to) empty items
-moved_step from to before after items i row so_far lt is put =
-    ap (λ (m : Paths). fold (moves from to) m (drop (i + 1) items)) put
-    ∙ sym (ap (fold (moves from to) before) (drop-cons items i row lt ∙ ap (λ (r : Text × ℕ). r ∷ drop (suc i) items) (sym is) ∙ ap (λ (k : ℕ). row ∷ drop k items) (one_up i))) ∙ so_far where
-      one_up : (i : ℕ) → suc i ≡ i + 1
-      one_up i = omega arith
-
-pub moved_all : (from to : Text) (made : Paths) (items : List (Text × ℕ)) (paths : Paths) (i : ℕ) → fold (moves from to) made (drop i items) ≡ fold (moves from to) empty items → length items ≤ i → items ≡ entries paths → made ≡ moved_paths from to paths
-unfolding moved_paths
-moved_all from to made items paths i so_far past is =
-    sym (ap (fold (moves from to) made) (drop_past items i past)) ∙ so_far ∙ ap (fold (moves from to) empty) is
-
-pub all_sorted : (rows left all : List (Text × ℕ)) → rows ++ left ≡ all → left ≡ [] → IsStrictlySortedBy text_cmp (map (λ (row : Text × ℕ). row.0) all) → is_sorted text_cmp rows ≡ true
-all_sorted rows left all so_far done h = ap (is_sorted text_cmp) (sym (append-nil rows) ∙ sym (ap (λ (r : List (Text × ℕ)). rows ++ r) done) ∙ so_far) ∙ is_yes _ (ordered all h)

@@ -1,6 +1,5 @@
 -- Where a renamed node may go.
-use Rattle.std.proofs.Common.{◌≡◌, ℕ, [], ◌∷◌, Bool, true, false, cond, not, ◌&&◌, inl, inr, Option, Some, None, refl, sym, ap, subst, ◌∙◌, arith, ◌+◌}
-use Rattle.std.specs.Option.{option_map}
+use Rattle.std.proofs.Common.{◌≡◌, ℕ, [], ◌∷◌, Bool, true, false, cond, not, ◌&&◌, inl, inr, Option, Some, None, refl, sym, ap, ◌∙◌, arith, ◌+◌}
 use Rattle.std.proofs.lemmas.Bool.{eq-eqb}
 use Rattle.rk_base.specs.Text.{Text, root, parent, join, hidden, depth, is_within}
 use Rattle.rk_base.specs.Canonical.{is_name, is_canonical}
@@ -9,12 +8,12 @@ use Rattle.rk_base.proofs.CanonicalLemmas.{join-canonical}
 use Rattle.rk_base.proofs.PathLemmas.{parent-join, join-not_root, depth-join}
 use Rattle.rk_base.proofs.WithinLemmas.{within-join, stem-back}
 use Rattle.rk_tree.specs.Entries.{is_dir}
-use Rattle.rk_tree.specs.Held.{Held, node, number_at, path_of, path_in, child, within, stands_within, is_same, with_path, moved_paths, renamed}
+use Rattle.rk_tree.specs.Held.{Held, node, number_at, path_of, child, within, stands_within, is_same, with_path, moved_paths, renamed}
 use Rattle.rk_tree.specs.Moves.{IsBare, Moves}
 use Rattle.rk_tree.specs.Refusals.{first_of, is_there, lacks_w, has_names, goes_below, over_checks, rename_checks, rename_found, rename_refusal}
 use Rattle.rk_tree.specs.Whole.{IsWhole, MayHold}
-use Rattle.rk_tree.proofs.BelowLemmas.{none_some, same_number, bare_absent, stands_on, child_at, child_stands, dir_path}
-use Rattle.rk_tree.proofs.HeldLemmas.{path_stands}
+use Rattle.rk_tree.proofs.BelowLemmas.{none_some, same_number, bare_absent, stands_on, child_at, child_stands}
+use Rattle.rk_tree.proofs.HeldLemmas.{dir_path, path_stands}
 use Rattle.rk_tree.proofs.RefusalLemmas.{passed, not_there}
 use Rattle.rk_tree.proofs.RemovedLemmas.{bare_path}
 use Rattle.rk_tree.proofs.WholeLemmas.{unhidden}
@@ -65,10 +64,10 @@ module _ (held : Held) (whole : IsWhole held) (dir n to : ℕ) (name new from_di
   onto = join onto_dir new
 
   from_stands : number_at held from ≡ Some n
-  from_stands = sym (child_at held dir from_dir name from_at) ∙ found
+  from_stands = sym (child_at held dir from_dir name named from_at) ∙ found
 
   onto_stands : number_at held onto ≡ over
-  onto_stands = sym (child_at held to onto_dir new onto_at) ∙ is_over
+  onto_stands = sym (child_at held to onto_dir new renew onto_at) ∙ is_over
 
   dir_stands : number_at held onto_dir ≡ Some to
   dir_stands = path_stands held to onto_dir onto_at
@@ -91,7 +90,7 @@ module _ (held : Held) (whole : IsWhole held) (dir n to : ℕ) (name new from_di
   -- the directory that it goes to isn't within it
   dir_outside : is_within from onto_dir ≡ false
   dir_outside = (elim (is_dir (node held n)) as (λ (b : Bool). is_dir (node held n) ≡ b → is_within from onto_dir ≡ false) [
-    | true ↦ λ d. apart_dirs held n to from onto_dir (dir_path held from n whole from_stands d) onto_at d (not_below held n to over (checks_over held dir n to over allowed))
+    | true ↦ λ d. apart_dirs held n to from onto_dir (dir_path held from n whole d from_stands) onto_at d (not_below held n to over (checks_over held dir n to over allowed))
     | false ↦ λ d. (elim (is_within from onto_dir) as (λ (b : Bool). is_within from onto_dir ≡ b → b ≡ false) [
       | false ↦ λ w. refl
       | true ↦ λ w. let s = stands_on held whole from from_is (join-not_root from_dir name named) onto_dir dir_is w to dir_stands in absurd (elim s.2 [
@@ -144,25 +143,7 @@ module _ (held : Held) (whole : IsWhole held) (dir n to : ℕ) (name new from_di
     alike = kinds over onto_stands (checks_over held dir n to over allowed);
   }
 
--- What the code makes of it.
-
-pub in_path : (held : Held) (dir : ℕ) (name path joined : Text) → Some path ≡ path_of held dir → joined ≡ join path name → Some joined ≡ path_in held dir name
-unfolding path_in
-in_path held dir name path joined at is = ap (λ (t : Text). Some t) is ∙ ap (option_map (λ (p : Text). join p name)) at
-
-path_in-is : (held : Held) (dir : ℕ) (name joined : Text) → Some joined ≡ path_in held dir name → (path : Text) × (path_of held dir ≡ Some path) × (joined ≡ join path name)
-unfolding path_in
-path_in-is held dir name joined is = elim (path_of held dir) as (λ (o : Option Text). path_of held dir ≡ o → Some joined ≡ option_map (λ (p : Text). join p name) o → (path : Text) × (path_of held dir ≡ Some path) × (joined ≡ join path name)) [
-  | None ↦ λ at e. absurd (none_some refl (sym e))
-  | Some path ↦ λ at e. (path, at, same_text_of {o = Some joined} joined (join path name) refl e)
-] refl is
-
-pub moves_there : (held : Held) (dir n to : ℕ) (name new from onto : Text) (over : Option ℕ) → IsWhole held → is_name name ≡ true → is_name new ≡ true → MayHold held to new → Some from ≡ path_in held dir name → Some onto ≡ path_in held to new → Some n ≡ child held dir name → over ≡ child held to new → is_same (Some n) over ≡ false → first_of (rename_checks held dir n to over) ≡ None → Moves held from onto n
-moves_there held dir n to name new from onto over whole named renew may from_at onto_at found is_over apart allowed =
-    let a = path_in-is held dir name from from_at in
-    let b = path_in-is held to new onto onto_at in
-    subst (λ (t : Text). Moves held t onto n) (sym a.2) (subst (λ (t : Text). Moves held (join a.0 name) t n) (sym b.2)
-    (may_move held whole dir n to name new a.0 b.0 named renew may a.1 b.1 (sym found) over (sym is_over) apart allowed))
+-- What it makes.
 
 renamed_apart : (held : Held) (dir n to : ℕ) (name new : Text) (over : Option ℕ) → Some n ≡ child held dir name → over ≡ child held to new → is_same (Some n) over ≡ false → renamed held dir name to new ≡ record held { paths = with_path (path_of held dir) (λ from. with_path (path_of held to) (λ onto. moved_paths (join from name) (join onto new) held.paths) held.paths) held.paths }
 unfolding renamed
@@ -170,14 +151,11 @@ renamed_apart held dir n to name new over found is_over apart =
     ap (λ (b : Bool). cond b held (record held { paths = with_path (path_of held dir) (λ from. with_path (path_of held to) (λ onto. moved_paths (join from name) (join onto new) held.paths) held.paths) held.paths }))
     (sym (ap (is_same (Some n)) is_over ∙ ap (λ (o : Option ℕ). is_same o (child held to new)) found) ∙ apart)
 
-pub renamed_there : (held : Held) (dir n to : ℕ) (name new from onto : Text) (over : Option ℕ) → Some from ≡ path_in held dir name → Some onto ≡ path_in held to new → Some n ≡ child held dir name → over ≡ child held to new → is_same (Some n) over ≡ false → record held { paths = moved_paths from onto held.paths } ≡ renamed held dir name to new
-renamed_there held dir n to name new from onto over from_at onto_at found is_over apart =
-    let a = path_in-is held dir name from from_at in
-    let b = path_in-is held to new onto onto_at in
-    ap (λ (t : Text). record held { paths = moved_paths t onto held.paths }) a.2 ∙ ap (λ (t : Text). record held { paths = moved_paths (join a.0 name) t held.paths }) b.2
-    ∙ sym (renamed_apart held dir n to name new over found is_over apart
-    ∙ ap (λ (o : Option Text). record held { paths = with_path o (λ p. with_path (path_of held to) (λ q. moved_paths (join p name) (join q new) held.paths) held.paths) held.paths }) a.1
-    ∙ ap (λ (o : Option Text). record held { paths = with_path o (λ q. moved_paths (join a.0 name) (join q new) held.paths) held.paths }) b.1)
+pub renamed_there : (held : Held) (dir n to : ℕ) (name new from_up onto_up : Text) (over : Option ℕ) → path_of held dir ≡ Some from_up → path_of held to ≡ Some onto_up → Some n ≡ child held dir name → over ≡ child held to new → is_same (Some n) over ≡ false → record held { paths = moved_paths (join from_up name) (join onto_up new) held.paths } ≡ renamed held dir name to new
+renamed_there held dir n to name new from_up onto_up over at too found is_over apart =
+    sym (renamed_apart held dir n to name new over found is_over apart
+    ∙ ap (λ (o : Option Text). record held { paths = with_path o (λ p. with_path (path_of held to) (λ q. moved_paths (join p name) (join q new) held.paths) held.paths) held.paths }) at
+    ∙ ap (λ (o : Option Text). record held { paths = with_path o (λ q. moved_paths (join from_up name) (join q new) held.paths) held.paths }) too)
 
 pub renamed_nowhere : (held : Held) (dir n to : ℕ) (name new : Text) (over : Option ℕ) → is_there (path_of held to) ≡ false → Some n ≡ child held dir name → over ≡ child held to new → is_same (Some n) over ≡ false → held ≡ renamed held dir name to new
 renamed_nowhere held dir n to name new over at found is_over apart =
@@ -185,9 +163,6 @@ renamed_nowhere held dir n to name new over at found is_over apart =
     sym (renamed_apart held dir n to name new over found is_over apart
     ∙ ap (λ (o : Option Text). record held { paths = with_path o (λ p. with_path (path_of held to) (λ q. moved_paths (join p name) (join q new) held.paths) held.paths) held.paths }) a.1
     ∙ ap (λ (o : Option Text). record held { paths = with_path o (λ q. moved_paths (join a.0 name) (join q new) held.paths) held.paths }) (not_there (path_of held to) at))
-
-pub has_path : (held : Held) (dir n : ℕ) (name : Text) → Some n ≡ child held dir name → is_there (path_of held dir) ≡ true
-has_path held dir n name found = let a = child_stands held dir name n (sym found) in ap (λ (o : Option Text). is_there o) a.1
 
 pub renamed_same : (held : Held) (dir n to : ℕ) (name new : Text) (over : Option ℕ) → Some n ≡ child held dir name → over ≡ child held to new → is_same (Some n) over ≡ true → (rename_refusal held dir name to new ≡ None) × (held ≡ renamed held dir name to new)
 unfolding renamed rename_refusal
@@ -210,15 +185,3 @@ rename_refusal-is held dir n to name new over found is_over apart = sym (checks 
 pub rename_absent : (held : Held) (dir to : ℕ) (name new : Text) → None ≡ child held dir name → rename_refusal held dir name to new ≡ rename_found held dir to None (child held to new)
 unfolding rename_refusal
 rename_absent held dir to name new none = ap (λ (o : Option ℕ). rename_found held dir to o (child held to new)) (sym none)
-
-pub within_some : (held : Held) (above dir : ℕ) (a b : Text) → Some a ≡ path_of held above → Some b ≡ path_of held dir → is_within a b ≡ stands_within held above dir
-unfolding stands_within
-within_some held above dir a b at too = ap (λ (o : Option Text). within o (Some b)) at ∙ ap (within (path_of held above)) too
-
-pub within_none : (held : Held) (above dir : ℕ) → None ≡ path_of held above → false ≡ stands_within held above dir
-unfolding stands_within
-within_none held above dir at = ap (λ (o : Option Text). within o (path_of held dir)) at
-
-pub within_nowhere : (held : Held) (above dir : ℕ) (a : Text) → Some a ≡ path_of held above → None ≡ path_of held dir → false ≡ stands_within held above dir
-unfolding stands_within
-within_nowhere held above dir a at none = ap (λ (o : Option Text). within o None) at ∙ ap (within (path_of held above)) none

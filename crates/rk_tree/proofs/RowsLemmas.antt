@@ -1,5 +1,5 @@
 -- What the map that rows make has, by the words of a `BTreeMap`.
-use Rattle.std.proofs.Common.{◌≡◌, ◌⊎◌, inl, inr, List, [], ◌∷◌, Option, Some, None, Bool, true, false, ◌&&◌, length, refl, map, sym, ap, subst, ◌∙◌, cond}
+use Rattle.std.proofs.Common.{◌≡◌, ◌⊎◌, ℕ, zero, suc, inl, inr, List, [], ◌∷◌, Option, Some, None, Bool, true, false, ◌&&◌, length, refl, map, sym, ap, subst, ◌∙◌, cond}
 use Rattle.std.specs.Ordering.{eq_by_cmp, is_lt, is_eq}
 use Rattle.std.specs.declared.cmp.Ordering.{Ordering}
 use Rattle.std.specs.declared.cmp.Ordering.TheVariants.{Less, Equal, Greater}
@@ -12,12 +12,17 @@ use Rattle.std.specs.BTreeMap.{is_at}
 use Rattle.std.specs.Map.{lookup}
 use Rattle.std.specs.FinMap.Entries.{below_all}
 use Rattle.std.specs.FinMap.{FinMap, empty, get, insert, find, is_sorted, entries, from_entries, from_sorted, get-from_sorted, entries-from_sorted, get-from_entries, get-insert, same_map, len, len-entries}
+use Rattle.std.specs.Prelude.{slice_get}
 use Rattle.std.specs.List.{fold}
 use Rattle.std.specs.Option.{option_or}
 use Rattle.std.specs.FinMap.{get-empty}
 use Rattle.rk_base.specs.Text.{Text, text_cmp}
 use Rattle.rk_tree.specs.Rows.{map_of}
 use Rattle.rk_tree.proofs.TextLemmas.{exact_texts, told_apart, ties_itself}
+
+pub is_yes : (b : Bool) → T b → b ≡ true
+is_yes true h = refl
+is_yes false h = absurd h
 
 pub and_both : (a b : Bool) → T a → T b → T (a && b)
 and_both true b h k = k
@@ -141,3 +146,12 @@ module _ {X : Type 0} where
 
   pub ordered : (rows : List (Text × X)) → IsStrictlySortedBy text_cmp (map (λ (row : Text × X). row.0) rows) → T (is_sorted text_cmp rows)
   ordered = sorted_rows
+
+  same_row : {o : Option (Text × X)} (a b : Text × X) → o ≡ Some a → o ≡ Some b → a ≡ b
+  same_row a b p q = cc
+
+  -- what is among rows in order has its row's value
+  pub place_found : (rows : List (Text × X)) (path : Text) (place : ℕ) (x : X) → T (is_sorted text_cmp rows) → slice_get rows place ≡ Some (path, x) → find text_cmp path rows ≡ Some x
+  place_found [] path place x h at = cc
+  place_found (row ∷ rows) path zero x h at = find_head path row rows (ap (λ (r : Text × X). r.0) (same_row (path, x) row at refl)) ∙ ap (λ (r : Text × X). Some r.1) (same_row row (path, x) refl at)
+  place_found (row ∷ rows) path (suc place) x h at = find_later path row rows x h (place_found rows path place x (and_second _ _ h) at)

@@ -1,7 +1,6 @@
 -- What keeps a tree whole.
 use Rattle.std.proofs.Common.{◌≡◌, ◌<◌, ◌≤◌, ℕ, zero, suc, List, [], ◌∷◌, ◌++◌, length, Bool, true, false, Option, Some, None, ◌⊎◌, inl, inr, refl, sym, ap, subst, ◌∙◌, arith}
 use Rattle.std.specs.Prelude.{slice_get, slice_set}
-use Rattle.std.specs.Option.{option_and_then}
 use Rattle.std.proofs.lemmas.Option.{slice_get_within}
 use Rattle.std.specs.FinMap.{get, empty, insert, get-empty}
 use Rattle.rk_base.specs.Text.{Text, text_cmp, root, parent, join, hidden, is_within}
@@ -15,6 +14,7 @@ use Rattle.rk_tree.proofs.RowsLemmas.{insert_cases}
 use Rattle.rk_tree.proofs.TextLemmas.{parent-root, within-join, hidden-back, root_seen, name_at_root}
 use Rattle.rk_base.proofs.CanonicalLemmas.{root-canonical, join-canonical}
 use Rattle.rk_base.proofs.PathLemmas.{parent-join}
+use Rattle.rk_tree.proofs.BelowLemmas.{child_at}
 use Rattle.rk_tree.proofs.HeldLemmas.{path_stands}
 
 clash : (b : Bool) → b ≡ true → b ≡ false → ⊥
@@ -54,12 +54,12 @@ root_stands = elim (insert_cases none root 0 root) [
   | inr other ↦ absurd (other.0 refl)
 ]
 
-pub root-whole : IsWhole (record { paths = root_row; nodes = Dir 493 ∷ [] })
-root-whole = record {
+pub root-whole : (mode : ℕ) → mode ≤ 511 → IsWhole (record { paths = root_row; nodes = Dir mode ∷ [] })
+root-whole mode fits = record {
   root_at = root_stands;
   root_dir = refl;
   canonical = λ q n at. ap is_canonical (alone q n at).0 ∙ root-canonical;
-  known = λ q n at. (Dir 493, ap (slice_get (Dir 493 ∷ [])) (alone q n at).1);
+  known = λ q n at. (Dir mode, ap (slice_get (Dir mode ∷ [])) (alone q n at).1);
   placed = λ q n at. record {
     up = 0;
     stands = ap (λ (t : Text). get root_row (parent t)) (alone q n at).0 ∙ ap (get root_row) parent-root ∙ root_stands;
@@ -72,8 +72,8 @@ root-whole = record {
   ];
   fit = λ n it at. only n it at;
 } where
-  only : (n : ℕ) (it : Entry) → slice_get (Dir 493 ∷ []) n ≡ Some it → IsFit it
-  only zero it at = subst IsFit (same_entry (Dir 493) it refl at) (omega arith)
+  only : (n : ℕ) (it : Entry) → slice_get (Dir mode ∷ []) n ≡ Some it → IsFit it
+  only zero it at = subst IsFit (same_entry (Dir mode) it refl at) fits
   only (suc n) it at = cc
 
 -- A node more.
@@ -196,7 +196,7 @@ name-open held dir name path it whole named may absent at =
     let canon = whole.canonical path dir stands in
     record {
       is_path = join-canonical path name canon named;
-      absent = ap (option_and_then (λ p. number_at held (join p name))) (sym at) ∙ absent;
+      absent = sym (child_at held dir path name named at) ∙ absent;
       placed = record { up = dir; stands = ap (number_at held) (parent-join path name canon named) ∙ stands; in_dir = kept_dir held.nodes it dir may.in_dir };
       seen = unhidden held dir name path whole named may stands;
       has_node = (it, get-last held.nodes it);
@@ -221,7 +221,7 @@ linked-whole held dir name n it whole named may absent is file = elim (path_of h
       let canon = whole.canonical path dir stands in
       opened-whole held (join path name) n whole (record {
         is_path = join-canonical path name canon named;
-        absent = ap (option_and_then (λ p. number_at held (join p name))) (sym at) ∙ absent;
+        absent = sym (child_at held dir path name named at) ∙ absent;
         placed = record { up = dir; stands = ap (number_at held) (parent-join path name canon named) ∙ stands; in_dir = may.in_dir };
         seen = unhidden held dir name path whole named may stands;
         has_node = (it, is);

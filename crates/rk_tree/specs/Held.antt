@@ -1,10 +1,11 @@
 -- What a tree holds: the number of the node that stands at each path, and the nodes. Directories are spoken of by their numbers.
 use Rattle.std.specs.Prelude.{ℕ, ◌/◌, ◌%◌, List, [], ◌∷◌, ◌++◌, length, Bool, false, ◌==◌, if◌then◌else◌, Option, Some, None, slice_get, slice_set, refl}
 use Rattle.std.specs.Coded.{Coded, code_by, coded×, coded_ℕ, coded_list}
-use Rattle.std.specs.Option.{option_map, option_and_then}
+use Rattle.std.specs.Option.{option_and_then}
 use Rattle.std.specs.List.{fold, filter_map}
 use Rattle.std.specs.FinMap.{FinMap, empty, entries, get, insert, remove, code}
 use Rattle.rk_base.specs.Text.{Text, text_cmp, same_text, parent, name_of, join, is_in, is_within, moved}
+use Rattle.rk_base.specs.Canonical.{is_name}
 use Rattle.rk_tree.specs.declared.entry.Entry.{Entry}
 use Rattle.rk_tree.specs.declared.entry.Entry.TheVariants.{File, Dir, Link}
 
@@ -61,13 +62,9 @@ first_path n (row ∷ rows) = if row.1 == n then Some row.0 else first_path n ro
 unfoldable pub path_of : Held → ℕ → Option Text
 path_of held n = first_path n (entries held.paths)
 
--- the path of a name in a directory
-unfoldable pub path_in : Held → ℕ → Text → Option Text
-path_in held dir name = option_map (λ path. join path name) (path_of held dir)
-
 -- the node of this name in a directory
 unfoldable pub child : Held → ℕ → Text → Option ℕ
-child held dir name = option_and_then (λ path. number_at held (join path name)) (path_of held dir)
+child held dir name = if is_name name then option_and_then (λ path. number_at held (join path name)) (path_of held dir) else None
 
 -- the directory that a directory stands in; the root's is the root
 unfoldable pub parent_of : Held → ℕ → Option ℕ

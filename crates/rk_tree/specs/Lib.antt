@@ -2,7 +2,9 @@ pub mod Copies
 pub mod Entries
 pub mod Held
 pub mod Moves
+pub mod Names
 pub mod Nodes
 pub mod Refusals
 pub mod Rows
+pub mod Shown
 pub mod Whole

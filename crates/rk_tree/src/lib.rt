@@ -1,14 +1,10 @@
 //! The tree of a world, which node stands at each path, and snapshots of it.
 #![tactic(auto)]
 
-mod compare;
-mod copies;
 mod entry;
-mod listing;
-mod moving;
+mod names;
 mod node;
 mod refused;
-mod rows;
 mod snapshot;
 #[cfg(test)]
 mod tests;

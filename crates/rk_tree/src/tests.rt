@@ -124,6 +124,21 @@ fn additions(rt: HostRuntime) -> Result<(), Fail> {
     Ok(())
 }
 
+// What is no name stands for nothing, though something stands at the path that it would make: at
+// `/d/f`, and at `/`.
+#[test]
+fn no_names(rt: HostRuntime) -> Result<(), Fail> {
+    let alloc = rt.alloc();
+    let tree = grown(alloc)?.ok_or("no tree")?;
+    if !tree.is_dir(0) {
+        return Err(Fail::from("no root"));
+    }
+    assert_eq!(rt; tree.child(0, b"d"), Some(1));
+    assert_eq!(rt; tree.child(0, b"d/f"), None);
+    assert_eq!(rt; tree.child(0, b""), None);
+    Ok(())
+}
+
 #[test]
 fn hard_links(rt: HostRuntime) -> Result<(), Fail> {
     let alloc = rt.alloc();

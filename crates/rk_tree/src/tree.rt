@@ -1,31 +1,32 @@
 // The tree of a world.
-ghost use Rattle.std.specs.Prelude.{◌≡◌, slice_get, option_copied, IfOk, true, Some, [], ◌∷◌};
+ghost use Rattle.std.specs.Prelude.{◌≡◌, ◌≤◌, option_copied, IfOk, true, [], ◌∷◌};
 ghost use Rattle.std.specs.FinMap.{empty, insert};
 ghost use Rattle.rk_base.specs.Text.{root};
-ghost use Rattle.rk_tree.specs.Copies.{snapshot_of, tree_of};
-ghost use Rattle.rk_tree.specs.Entries.{is_dir, IsWholeSnapshot};
+ghost use Rattle.rk_tree.specs.Entries.{is_dir};
 ghost use Rattle.rk_tree.specs.Held as held;
+ghost use Rattle.rk_tree.specs.Shown.{Shown, Shown-prop};
 ghost use Rattle.rk_tree.specs.Whole.{IsWhole};
 ghost use Rattle.rk_tree.specs.declared.entry.Entry.TheVariants.{Dir};
 
 mod changing;
+mod climbing;
+mod copying;
 mod refusing;
 mod renaming;
 
-use crate::listing::names_in;
-use crate::node::{Node, entry_at, home_at, replace_bytes};
-use crate::rows::Rows;
-use crate::{Entry, Snapshot, copies};
-use rk_base::{Bytes, Name, NameList, NoMemory, Path};
+use crate::Entry;
+use crate::node::{Node, entry_at, names_of, number_under, place_at, replace_bytes};
+use rk_base::{Bytes, Name, NameList, NoMemory};
 use std::alloc::Global;
 use std::marker::Model;
 
-/// Which node stands at each path. The root, node 0, stands in every tree. Nodes are spoken of by
-/// their numbers; a new node's number is the count of nodes so far.
+/// Which node stands at each path: nodes, each with the numbers of those under its names. The root,
+/// node 0, stands in every tree. Nodes are spoken of by their numbers; a new node's number is the
+/// count of nodes so far.
 #[derive(Drop)]
 pub struct Tree {
-    rows: Rows,
     nodes: Vec<Node>,
+    ghost shown: { Shown nodes.items } by { Shown-prop nodes.items },
 }
 
 impl Model for Tree {
@@ -37,31 +38,29 @@ impl Model for Tree {
 
     ghost coded = { held_code it.the_row.coded };
 
-    ghost use Rattle.rk_tree.specs.Nodes.{held_by, HaveHomes};
+    ghost use Rattle.rk_tree.specs.Nodes.{held_by, AreAttached, HavePlaces};
     ghost use Rattle.rk_tree.specs.Whole.{IsWhole};
 
-    ghost view = { λ t. held_by t.rows t.nodes.items };
+    ghost view = { λ t. held_by t.shown.paths t.nodes.items };
 
-    ghost invariant = { λ t. IsWhole (held_by t.rows t.nodes.items) × HaveHomes (held_by t.rows t.nodes.items) t.nodes.items };
+    ghost invariant = { λ t. IsWhole (held_by t.shown.paths t.nodes.items) × HavePlaces t.shown.paths t.nodes.items × AreAttached t.shown.paths t.nodes.items };
 }
 
 impl Tree {
+    // The root alone.
+    fn of_root(alloc: Global, mode: u16) -> Result<Tree, NoMemory>
+        requires { mode ≤ 511 }
+        ensures { IfOk result (λ t. t ≡ record { paths = insert empty root 0; nodes = Dir mode ∷ [] }) }
+    {
+        let nodes = vec![in alloc; Node::lost(alloc, Entry::Dir(mode))]?;
+        Ok(Tree { nodes })
+    }
+
     /// The root alone, with the mode 0755.
     pub fn new(alloc: Global) -> Result<Tree, NoMemory>
         ensures { IfOk result (λ t. t ≡ record { paths = insert empty root 0; nodes = Dir 493 ∷ [] }) }
     {
-        let home = Path::root(alloc)?;
-        let path = Path::root(alloc)?;
-        let rows = vec![in alloc; (path, 0)]?;
-        let node = Node {
-            entry: Entry::Dir(0o755),
-            home: Some(home),
-        };
-        let nodes = vec![in alloc; node]?;
-        Ok(Tree {
-            rows: Rows::new(rows),
-            nodes,
-        })
+        Tree::of_root(alloc, 0o755)
     }
 
     /// The node of this number.
@@ -103,23 +102,12 @@ impl Tree {
         }
     }
 
-    /// The path of a directory; `None` for a directory that was removed.
-    pub fn home(&self, dir: usize) -> Option<&Path>
-        requires { is_dir (held.node self.now dir) ≡ true }
-        ensures { option_copied result ≡ held.path_of self.now dir }
-    {
-        home_at(self.nodes.as_slice(), dir)
-    }
-
     /// The entry of this name in a directory; `None` exactly where there is none. It takes no memory.
     pub fn child(&self, dir: usize, name: &[u8]) -> Option<usize>
         requires { is_dir (held.node self.now dir) ≡ true }
         ensures { result ≡ held.child self.now dir name.now }
     {
-        match self.home(dir) {
-            None => None,
-            Some(path) => self.rows.at_joined(path.text(), name),
-        }
+        number_under(self.nodes.as_slice(), dir, name)
     }
 
     /// The directory that a directory stands in: the root for the root, and `None` for a directory
@@ -128,24 +116,13 @@ impl Tree {
         requires { is_dir (held.node self.now dir) ≡ true }
         ensures { result ≡ held.parent_of self.now dir }
     {
-        match self.home(dir) {
-            None => None,
-            Some(path) => self.rows.at(path.parent_text()),
-        }
-    }
-
-    // The names of a directory that stands at this path. Only those of the root are taken from all rows.
-    fn names_at(&self, path: &Path) -> Result<Vec<Name>, NoMemory>
-        ensures { IfOk result (λ names. names.items ≡ held.names_at self.now.paths (Some path.now)) }
-    {
         let _root = self.node(0);
-        let alloc = *self.nodes.allocator();
-        if path.is_root() {
-            let names = names_in(alloc, self.rows.as_slice(), path)?;
-            Ok(names)
-        } else {
-            let names = names_in(alloc, self.rows.below(path.text()), path)?;
-            Ok(names)
+        if dir == 0 {
+            return Some(0);
+        }
+        match place_at(self.nodes.as_slice(), dir) {
+            None => None,
+            Some((up, _)) => Some(*up),
         }
     }
 
@@ -153,16 +130,10 @@ impl Tree {
         requires { is_dir (held.node self.now dir) ≡ true }
         ensures { IfOk result (λ names. names.items ≡ held.names self.now dir) }
     {
-        match self.home(dir) {
-            None => Ok(Vec::new(*self.nodes.allocator())),
-            Some(path) => {
-                let names = self.names_at(path)?;
-                Ok(names)
-            }
-        }
+        names_of(*self.nodes.allocator(), self.nodes.as_slice(), dir)
     }
 
-    /// The names in a directory, ascending. It goes over the rows below the directory.
+    /// The names in a directory, ascending.
     pub fn list(&self, dir: usize) -> Result<NameList, NoMemory>
         requires { is_dir (held.node self.now dir) ≡ true }
         ensures { IfOk result (λ list. list ≡ held.names self.now dir) }
@@ -173,30 +144,6 @@ impl Tree {
             None => unreachable!(),
             Some(list) => Ok(list),
         }
-    }
-
-    /// Each path with what stands there. It is whole.
-    pub fn snapshot(&self) -> Result<Snapshot, NoMemory>
-        ensures snapshot { IfOk result (λ s. s ≡ snapshot_of self.now) }
-        ensures whole { IfOk result IsWholeSnapshot }
-    {
-        let snapshot = copies::snapshot_of(
-            *self.nodes.allocator(),
-            &self.rows,
-            self.nodes.as_slice(),
-        )?;
-        Ok(snapshot)
-    }
-
-    /// The tree of a snapshot: a node for each path, numbered in the order of the paths. Its snapshot
-    /// is the same again.
-    pub fn of_snapshot(alloc: Global, snapshot: &Snapshot) -> Result<Tree, NoMemory>
-        requires { IsWholeSnapshot snapshot.now }
-        ensures tree { IfOk result (λ t. t ≡ tree_of snapshot.now) }
-        ensures again { IfOk result (λ t. snapshot_of t ≡ snapshot.now) }
-    {
-        let (rows, nodes) = copies::rows_of(alloc, snapshot)?;
-        Ok(Tree { rows, nodes })
     }
 
     /// A file's bytes are replaced; any other node stays as it is.

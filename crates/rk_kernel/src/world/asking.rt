@@ -139,9 +139,9 @@ impl World {
         if !has_x(self.tree.mode(n)) {
             return Ok(Answer::No(Errno::Denied));
         }
-        match self.tree.home(n) {
+        match self.tree.path_of(n)? {
             None => Ok(Answer::No(Errno::NoEntry)),
-            Some(path) => Ok(Answer::Place(path.copy()?)),
+            Some(path) => Ok(Answer::Place(path)),
         }
     }
 

@@ -5,13 +5,13 @@ ghost use Rattle.rk_tree.specs.Held as held;
 ghost use Rattle.rk_tree.specs.Refusals.{Changes, add_refusal, has_names, is_there, link_refusal, mode_refusal, remove_refusal};
 ghost use Rattle.rk_tree.specs.Whole.{MayHold};
 
-use crate::node::{Node, add_at, put_home, replace_mode};
+use crate::node::{Node, add_under, put_name, put_place, replace_mode, take_name};
 use crate::{Entry, Refused, Tree};
 use rk_base::{Errno, Name, NoMemory};
 
 impl Tree {
     // A new node under a name that stands for nothing.
-    fn adds(&mut self, dir: usize, name: &Name, it: Entry) -> Result<usize, NoMemory>
+    pub(super) fn adds(&mut self, dir: usize, name: &Name, it: Entry) -> Result<usize, NoMemory>
         requires holds { MayHold self.old dir name.now }
         requires absent { held.child self.old dir name.now ≡ None }
         requires fit { IsFit it }
@@ -20,17 +20,14 @@ impl Tree {
         ensures err { OnErr result (self.new ≡ self.old) }
     {
         let _name = name.as_slice();
-        match self.home(dir) {
-            Some(path) => {
-                let path = path.join(*self.nodes.allocator(), name)?;
-                let n = add_at(&mut self.rows, &mut self.nodes, path, it)?;
-                Ok(n)
-            }
-            None => {
-                let n = self.nodes.len();
-                self.nodes.push(Node::lost(it))?;
-                Ok(n)
-            }
+        let alloc = *self.nodes.allocator();
+        if self.has_path(dir) {
+            let n = add_under(alloc, &mut self.nodes, dir, name, it)?;
+            Ok(n)
+        } else {
+            let n = self.nodes.len();
+            self.nodes.push(Node::lost(alloc, it))?;
+            Ok(n)
         }
     }
 
@@ -61,14 +58,11 @@ impl Tree {
         ensures err { OnErr result (self.new ≡ self.old) }
     {
         let _name = name.as_slice();
-        match self.home(dir) {
-            None => Ok(()),
-            Some(path) => {
-                let path = path.join(*self.nodes.allocator(), name)?;
-                self.rows.add(path, n)?;
-                Ok(())
-            }
+        let alloc = *self.nodes.allocator();
+        if self.has_path(dir) {
+            put_name(alloc, &mut self.nodes, dir, name, n)?;
         }
+        Ok(())
     }
 
     /// A node under one name more: a hard link. Refusals: `NoEntry` where there is no node of this
@@ -88,23 +82,14 @@ impl Tree {
     }
 
     // The name of a node, in which no names stand, stands for nothing.
-    fn removes(&mut self, dir: usize, name: &Name, n: usize) -> Result<(), NoMemory>
-        requires in_dir { is_dir (held.node self.old dir) ≡ true }
+    fn removes(&mut self, dir: usize, name: &Name, n: usize)
         requires found { held.child self.old dir name.now ≡ Some n }
         requires bare { has_names self.old n ≡ false }
-        ensures ok { OnOk result (self.new ≡ held.removed self.old dir name.now) }
-        ensures err { OnErr result (self.new ≡ self.old) }
+        ensures { self.new ≡ held.removed self.old dir name.now }
     {
         let _name = name.as_slice();
-        match self.home(dir) {
-            None => Ok(()),
-            Some(path) => {
-                let path = path.join(*self.nodes.allocator(), name)?;
-                self.rows.take(&path);
-                put_home(&mut self.nodes, n, None);
-                Ok(())
-            }
-        }
+        take_name(&mut self.nodes, dir, name);
+        put_place(&mut self.nodes, n, None);
     }
 
     /// A name stands for nothing; the node stays, for its other names and for who has it open.
@@ -118,7 +103,7 @@ impl Tree {
             Some(n) => match self.loss_refusal(dir, n) {
                 Some(e) => Err(Refused::No(e)),
                 None => {
-                    self.removes(dir, name, n)?;
+                    self.removes(dir, name, n);
                     Ok(())
                 }
             },

@@ -7,6 +7,7 @@ ghost use Rattle.rk_tree.specs.Entries.{is_dir, is_nul};
 ghost use Rattle.rk_tree.specs.Held as held;
 ghost use Rattle.rk_tree.specs.Refusals as refusals;
 
+use crate::node::has_names;
 use crate::{Entry, Tree};
 use rk_base::{Errno, Name};
 
@@ -52,11 +53,10 @@ fn entry_refusal(it: &Entry) -> Option<Errno>
 }
 
 impl Tree {
-    // What a name of a directory stands for; only a directory has names, and none of them stands for the root.
+    // What a name of a directory stands for; only a directory has names.
     pub(super) fn found(&self, dir: usize, name: &Name) -> Option<usize>
         ensures found { result ≡ held.child self.now dir name.now }
         ensures in_dir { IfSome result (λ n. is_dir (held.node self.now dir) ≡ true) }
-        ensures below { IfSome result (λ n. n ≡ held.top → ⊥) }
     {
         let _root = self.node(0);
         let bytes = name.as_slice();
@@ -67,21 +67,15 @@ impl Tree {
         }
     }
 
-    // Whether names stand in a directory, which isn't the root.
+    // Whether names stand in a directory.
     fn has_below(&self, dir: usize) -> bool
-        requires in_dir { is_dir (held.node self.now dir) ≡ true }
-        requires below { dir ≡ held.top → ⊥ }
+        requires { is_dir (held.node self.now dir) ≡ true }
         ensures { result ≡ not (is_empty (held.names self.now dir)) }
     {
-        let _root = self.node(0);
-        match self.home(dir) {
-            None => false,
-            Some(path) => self.rows.has_below(path.text()),
-        }
+        has_names(self.nodes.as_slice(), dir)
     }
 
     fn has_names(&self, n: usize) -> bool
-        requires { n ≡ held.top → ⊥ }
         ensures { result ≡ refusals.has_names self.now n }
     {
         self.is_dir(n) && self.has_below(n)
@@ -136,7 +130,6 @@ impl Tree {
 
     // A directory loses the name of a node.
     pub(super) fn loss_refusal(&self, dir: usize, n: usize) -> Option<Errno>
-        requires { n ≡ held.top → ⊥ }
         ensures { result ≡ refusals.remove_found self.now dir (Some n) }
     {
         if self.has_names(n) {
@@ -161,21 +154,6 @@ impl Tree {
         }
     }
 
-    // Whether a directory is this one or stands anywhere below it.
-    fn stands_within(&self, above: usize, dir: usize) -> bool
-        requires above { is_dir (held.node self.now above) ≡ true }
-        requires dir { is_dir (held.node self.now dir) ≡ true }
-        ensures { result ≡ held.stands_within self.now above dir }
-    {
-        match self.home(above) {
-            None => false,
-            Some(above) => match self.home(dir) {
-                None => false,
-                Some(dir) => dir.is_within(above),
-            },
-        }
-    }
-
     fn goes_below(&self, n: usize, to: usize) -> bool
         requires { is_dir (held.node self.now to) ≡ true }
         ensures { result ≡ refusals.goes_below self.now n to }
@@ -185,8 +163,7 @@ impl Tree {
 
     // A node goes where another one stands.
     fn onto_refusal(&self, n: usize, to: usize, over: usize) -> Option<Errno>
-        requires to { is_dir (held.node self.now to) ≡ true }
-        requires below { over ≡ held.top → ⊥ }
+        requires { is_dir (held.node self.now to) ≡ true }
         ensures { result ≡ refusals.first_of (refusals.over_checks self.now n to (Some over)) }
     {
         let dir = self.is_dir(n);
@@ -205,8 +182,7 @@ impl Tree {
     }
 
     fn over_refusal(&self, n: usize, to: usize, over: Option<usize>) -> Option<Errno>
-        requires to { is_dir (held.node self.now to) ≡ true }
-        requires below { IfSome over (λ m. m ≡ held.top → ⊥) }
+        requires { is_dir (held.node self.now to) ≡ true }
         ensures { result ≡ refusals.first_of (refusals.over_checks self.now n to over) }
     {
         match over {
@@ -229,8 +205,7 @@ impl Tree {
         to: usize,
         over: Option<usize>,
     ) -> Option<Errno>
-        requires to { is_dir (held.node self.now to) ≡ true }
-        requires below { IfSome over (λ m. m ≡ held.top → ⊥) }
+        requires { is_dir (held.node self.now to) ≡ true }
         ensures { result ≡ refusals.first_of (refusals.rename_checks self.now dir n to over) }
     {
         if self.lacks_w(dir) {

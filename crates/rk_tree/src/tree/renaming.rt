@@ -1,14 +1,15 @@
 // Rename.
 ghost use Rattle.std.specs.Prelude.{◌≡◌, OnOk, OnErr, IfOk, true, false, Some, None};
+ghost use Rattle.std.specs.Option.{option_and_then};
 ghost use Rattle.rk_tree.specs.Entries.{is_dir};
 ghost use Rattle.rk_tree.specs.Held as held;
-ghost use Rattle.rk_tree.specs.Moves.{Moves};
-ghost use Rattle.rk_tree.specs.Refusals.{Changes, first_of, is_there, rename_checks, rename_refusal};
+ghost use Rattle.rk_tree.specs.Nodes.{place_of};
+ghost use Rattle.rk_tree.specs.Refusals.{Changes, first_of, rename_checks, rename_refusal};
 ghost use Rattle.rk_tree.specs.Whole.{MayHold};
 
-use crate::moving::{moved_homes, moved_rows, put_homes};
+use crate::node::{move_name, place_of, put_places};
 use crate::{Refused, Tree};
-use rk_base::{Errno, Name, NoMemory, Path};
+use rk_base::{Errno, Name, NoMemory};
 
 fn is_same(n: usize, over: Option<usize>) -> bool
     ensures { result ≡ held.is_same (Some n) over }
@@ -20,68 +21,18 @@ fn is_same(n: usize, over: Option<usize>) -> bool
 }
 
 impl Tree {
-    // All within the path of a directory goes.
-    fn move_dir(&mut self, from: &Path, to: &Path, n: usize) -> Result<(), NoMemory>
-        requires { Moves self.old from.now to.now n }
-        ensures ok { OnOk result (self.new ≡ record self.old { paths = held.moved_paths from.now to.now self.old.paths }) }
-        ensures err { OnErr result (self.new ≡ self.old) }
+    // The place of a node under a name, if it is a directory.
+    fn place_under(
+        &self,
+        n: usize,
+        to: usize,
+        new: &Name,
+    ) -> Result<Option<(usize, Name)>, NoMemory>
+        ensures { IfOk result (λ place. place ≡ option_and_then (λ it. place_of it to new.now) (held.node self.now n)) }
     {
-        let alloc = *self.nodes.allocator();
-        let rows = moved_rows(alloc, &self.rows, from, to)?;
-        let homes = moved_homes(alloc, self.nodes.as_slice(), from, to)?;
-        self.rows = rows;
-        put_homes(&mut self.nodes, homes);
-        Ok(())
-    }
-
-    // One row goes.
-    fn move_file(&mut self, from: &Path, to: Path, n: usize) -> Result<(), NoMemory>
-        requires moves { Moves self.old from.now to n }
-        requires file { is_dir (held.node self.old n) ≡ false }
-        ensures ok { OnOk result (self.new ≡ record self.old { paths = held.moved_paths from.now to self.old.paths }) }
-        ensures err { OnErr result (self.new ≡ self.old) }
-    {
-        self.rows.put(to, n)?;
-        self.rows.take(from);
-        Ok(())
-    }
-
-    fn moves_to(&mut self, from: &Path, to: Path, n: usize) -> Result<(), NoMemory>
-        requires { Moves self.old from.now to n }
-        ensures ok { OnOk result (self.new ≡ record self.old { paths = held.moved_paths from.now to self.old.paths }) }
-        ensures err { OnErr result (self.new ≡ self.old) }
-    {
-        if self.is_dir(n) {
-            self.move_dir(from, &to, n)?;
-            Ok(())
-        } else {
-            self.move_file(from, to, n)?;
-            Ok(())
-        }
-    }
-
-    fn has_path(&self, dir: usize) -> bool
-        requires { is_dir (held.node self.now dir) ≡ true }
-        ensures { result ≡ is_there (held.path_of self.now dir) }
-    {
-        match self.home(dir) {
-            None => false,
-            Some(_) => true,
-        }
-    }
-
-    // The path of a name in a directory that has a path.
-    fn path_in(&self, dir: usize, name: &Name) -> Result<Path, NoMemory>
-        requires in_dir { is_dir (held.node self.now dir) ≡ true }
-        requires placed { is_there (held.path_of self.now dir) ≡ true }
-        ensures { IfOk result (λ p. Some p ≡ held.path_in self.now dir name.now) }
-    {
-        match self.home(dir) {
-            None => unreachable!(),
-            Some(path) => {
-                let path = path.join(*self.nodes.allocator(), name)?;
-                Ok(path)
-            }
+        match self.node(n) {
+            None => Ok(None),
+            Some(it) => place_of(it, to, new),
         }
     }
 
@@ -104,15 +55,15 @@ impl Tree {
         ensures ok { OnOk result (self.new ≡ held.renamed self.old dir name.now to new.now) }
         ensures err { OnErr result (self.new ≡ self.old) }
     {
-        let _root = self.node(0);
         let _name = name.as_slice();
         let _new = new.as_slice();
+        let alloc = *self.nodes.allocator();
         if !self.has_path(to) {
             return Ok(());
         }
-        let from = self.path_in(dir, name)?;
-        let onto = self.path_in(to, new)?;
-        self.moves_to(&from, onto, n)?;
+        let place = self.place_under(n, to, new)?;
+        move_name(alloc, &mut self.nodes, dir, name, n, to, new)?;
+        put_places(&mut self.nodes, over, n, place);
         Ok(())
     }
 

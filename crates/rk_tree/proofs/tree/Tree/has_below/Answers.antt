@@ -1,9 +1,12 @@
-use Rattle.rk_tree.proofs.BelowLemmas.{told_names, no_names}
+use Rattle.std.proofs.Common.{not, ap, ◌∙◌}
+use Rattle.rk_tree.specs.Entries.{is_dir}
+use Rattle.rk_tree.specs.Held.{Held, node}
+use Rattle.rk_tree.proofs.ListLemmas.{none-read}
+use Rattle.rk_tree.proofs.ShownLemmas.{steps}
 use Rattle.rk_tree.proofs.tree.Tree.has_below.Goals as goal
 
-pub returns-in-None : goal.returns-in-None
-returns-in-None c = no_names c.args.self.now c.args.dir c.in-None.ensures
-
-pub returns-in-Some : goal.returns-in-Some
-returns-in-Some c =
-    told_names c.self.inside.rows c.self.inside.nodes.items c.args.self.now c.args.dir c.in-Some.path.now c.text.result.now c.has_below.result c.self.view_is c.node-root.ensures.whole c.requires.in_dir c.requires.below c.in-Some.ensures c.text.ensures.value c.has_below.ensures
+pub returns : goal.returns
+returns c =
+    let t = c.self.inside in
+    c.has_names.ensures
+    ∙ ap not (none-read t.shown.paths t.nodes.items c.self.invariant.0 (steps t.nodes.items t.shown.paths t.shown.leads) c.self.invariant.2 c.args.dir (ap (λ (h : Held). is_dir (node h c.args.dir)) c.self.view_is ∙ c.requires) c.as_slice.result.now c.args.self.now c.as_slice.ensures.value c.self.view_is)

@@ -11,8 +11,8 @@ returns-in-None c = (sym (remove_refusal-is c.args.self.now c.args.dir c.args.na
 pub returns-in-Some-loss_refusal : goal.returns-in-Some-loss_refusal
 returns-in-Some-loss_refusal c = (sym (remove_refusal-is c.args.self.now c.args.dir c.args.name.now (Some c.in-Some.n) c.in-Some.ensures.found) ∙ sym c.in-Some-loss_refusal.ensures, refl)
 
-pub returns-in_ok-removes-in-None-loss_refusal : goal.returns-in_ok-removes-in-None-loss_refusal
-returns-in_ok-removes-in-None-loss_refusal c = (
+pub returns-in-None-loss_refusal : goal.returns-in-None-loss_refusal
+returns-in-None-loss_refusal c = (
   sym (remove_refusal-is c.args.self.now c.args.dir c.args.name.now (Some c.in-Some.n) c.in-Some.ensures.found) ∙ sym c.in-None-loss_refusal.ensures,
-  c.in_ok-removes-in-None-loss_refusal.ensures.ok,
+  c.removes.ensures,
 )

@@ -1,15 +1,30 @@
-use Rattle.rk_tree.proofs.RemovedLemmas.{removed_view, removed_nowhere, removed-kept}
+use Rattle.std.proofs.Common.{◌∙◌, ap, List, None}
+use Rattle.rk_tree.specs.declared.node.Node.{Node}
+use Rattle.rk_tree.specs.Held as held
+use Rattle.rk_tree.specs.Nodes.{change, with_place, without_name}
+use Rattle.rk_tree.proofs.ReplacedLemmas.{removed-tree}
+use Rattle.rk_tree.proofs.TreeLemmas.{tree_inside, tree_same, shown_by, kept_by, view_by}
 use Rattle.rk_tree.proofs.tree.Tree.removes.Goals as goal
+
+pub invariant_of-self-inside : goal.invariant_of-self-inside
+invariant_of-self-inside c =
+    let t = tree_inside c.self.inside.nodes.items c.self.inside.shown c.args.self.now c.self.invariant c.self.view_is in (
+      shown_by c.put_place.new.nodes.items (held.removed c.args.self.now c.args.dir c.args.name.now)
+          (tree_same (change (with_place None) (change (without_name c.args.name.now) c.self.inside.nodes.items c.args.dir) c.args.n) c.put_place.new.nodes.items (held.removed c.args.self.now c.args.dir c.args.name.now) (c.put_place.ensures ∙ ap (λ (ns : List Node). change (with_place None) ns c.args.n) c.take_name.ensures)
+          (removed-tree c.self.inside.nodes.items c.args.self.now c.args.dir c.args.n c.args.name.now t c.requires.found c.requires.bare)),
+      tt,
+    )
 
 pub invariant_of-self : goal.invariant_of-self
 invariant_of-self c =
-    removed-kept c.self.inside.rows c.take.new.self c.self.inside.nodes.items c.put_home.new.nodes.items c.args.self.now c.args.dir c.args.n c.in-Some.path.now c.in_ok-path-in-Some.path c.args.name.now c.self.view_is c.self.invariant c.as_slice-name.ensures.name c.requires.found c.requires.bare c.in-Some.ensures
-    c.in_ok-path-in-Some.ensures.path c.take.ensures c.put_home.ensures
+    let t = tree_inside c.self.inside.nodes.items c.self.inside.shown c.args.self.now c.self.invariant c.self.view_is in
+    kept_by c.put_place.new.nodes.items (held.removed c.args.self.now c.args.dir c.args.name.now)
+    (tree_same (change (with_place None) (change (without_name c.args.name.now) c.self.inside.nodes.items c.args.dir) c.args.n) c.put_place.new.nodes.items (held.removed c.args.self.now c.args.dir c.args.name.now) (c.put_place.ensures ∙ ap (λ (ns : List Node). change (with_place None) ns c.args.n) c.take_name.ensures)
+    (removed-tree c.self.inside.nodes.items c.args.self.now c.args.dir c.args.n c.args.name.now t c.requires.found c.requires.bare)) c.self-1.given.0
 
-pub returns-in-None-clause-ok : goal.returns-in-None-clause-ok
-returns-in-None-clause-ok c = removed_nowhere c.args.self.now c.args.dir c.args.name.now c.in-None.ensures
-
-pub returns-in_ok-path-in-Some-clause-ok : goal.returns-in_ok-path-in-Some-clause-ok
-returns-in_ok-path-in-Some-clause-ok c =
-    removed_view c.self.inside.rows c.take.new.self c.self.inside.nodes.items c.put_home.new.nodes.items c.args.self.now c.args.dir c.args.n c.in-Some.path.now c.in_ok-path-in-Some.path c.args.name.now c.self.view_is c.in-Some.ensures
-    c.in_ok-path-in-Some.ensures.path c.take.ensures c.put_home.ensures
+pub returns : goal.returns
+returns c =
+    let t = tree_inside c.self.inside.nodes.items c.self.inside.shown c.args.self.now c.self.invariant c.self.view_is in
+    view_by c.put_place.new.nodes.items (held.removed c.args.self.now c.args.dir c.args.name.now)
+    (tree_same (change (with_place None) (change (without_name c.args.name.now) c.self.inside.nodes.items c.args.dir) c.args.n) c.put_place.new.nodes.items (held.removed c.args.self.now c.args.dir c.args.name.now) (c.put_place.ensures ∙ ap (λ (ns : List Node). change (with_place None) ns c.args.n) c.take_name.ensures)
+    (removed-tree c.self.inside.nodes.items c.args.self.now c.args.dir c.args.n c.args.name.now t c.requires.found c.requires.bare)) c.self-1.given.0

@@ -1,10 +1,29 @@
-use Rattle.rk_tree.specs.Held.{replaced}
-use Rattle.rk_tree.proofs.NodesLemmas.{other_node, changed-kept}
+use Rattle.rk_tree.specs.Held as held
+use Rattle.rk_tree.specs.Nodes.{change, with_entry}
+use Rattle.rk_tree.proofs.ReplacedLemmas.{entry-tree}
+use Rattle.rk_tree.proofs.TreeLemmas.{tree_inside, tree_same, shown_by, kept_by, view_by}
 use Rattle.rk_tree.proofs.WholeLemmas.{alike_replaced, fit_replaced}
 use Rattle.rk_tree.proofs.tree.Tree.set_bytes.Goals as goal
 
+pub invariant_of-self-inside : goal.invariant_of-self-inside
+invariant_of-self-inside c =
+    let t = tree_inside c.self.inside.nodes.items c.self.inside.shown c.args.self.now c.self.invariant c.self.view_is in (
+      shown_by c.replace_bytes.new.nodes.items (held.set_bytes c.args.self.now c.args.n c.args.bytes)
+          (tree_same (change (with_entry (held.replaced c.args.bytes)) c.self.inside.nodes.items c.args.n) c.replace_bytes.new.nodes.items (held.set_bytes c.args.self.now c.args.n c.args.bytes) c.replace_bytes.ensures
+          (entry-tree c.self.inside.nodes.items c.args.self.now (held.replaced c.args.bytes) c.args.n t (alike_replaced c.args.bytes) (fit_replaced c.args.bytes))),
+      tt,
+    )
+
 pub invariant_of-self : goal.invariant_of-self
-invariant_of-self c = changed-kept (replaced c.args.bytes) c.self.inside.rows c.self.inside.nodes.items c.replace_bytes.new.nodes.items c.args.self.now c.args.n (alike_replaced c.args.bytes) (fit_replaced c.args.bytes) c.self.view_is c.self.invariant c.replace_bytes.ensures
+invariant_of-self c =
+    let t = tree_inside c.self.inside.nodes.items c.self.inside.shown c.args.self.now c.self.invariant c.self.view_is in
+    kept_by c.replace_bytes.new.nodes.items (held.set_bytes c.args.self.now c.args.n c.args.bytes)
+    (tree_same (change (with_entry (held.replaced c.args.bytes)) c.self.inside.nodes.items c.args.n) c.replace_bytes.new.nodes.items (held.set_bytes c.args.self.now c.args.n c.args.bytes) c.replace_bytes.ensures
+    (entry-tree c.self.inside.nodes.items c.args.self.now (held.replaced c.args.bytes) c.args.n t (alike_replaced c.args.bytes) (fit_replaced c.args.bytes))) c.self-1.given.0
 
 pub returns : goal.returns
-returns c = other_node (replaced c.args.bytes) c.self.inside.rows c.self.inside.nodes.items c.replace_bytes.new.nodes.items c.args.self.now c.args.n c.self.view_is c.replace_bytes.ensures
+returns c =
+    let t = tree_inside c.self.inside.nodes.items c.self.inside.shown c.args.self.now c.self.invariant c.self.view_is in
+    view_by c.replace_bytes.new.nodes.items (held.set_bytes c.args.self.now c.args.n c.args.bytes)
+    (tree_same (change (with_entry (held.replaced c.args.bytes)) c.self.inside.nodes.items c.args.n) c.replace_bytes.new.nodes.items (held.set_bytes c.args.self.now c.args.n c.args.bytes) c.replace_bytes.ensures
+    (entry-tree c.self.inside.nodes.items c.args.self.now (held.replaced c.args.bytes) c.args.n t (alike_replaced c.args.bytes) (fit_replaced c.args.bytes))) c.self-1.given.0

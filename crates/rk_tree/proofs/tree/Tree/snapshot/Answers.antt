@@ -1,11 +1,38 @@
-use Rattle.std.proofs.Common.{List, ◌∙◌, sym, ap, subst}
-use Rattle.rk_tree.specs.Entries.{IsWholeSnapshot}
-use Rattle.rk_tree.specs.Whole.{IsWhole}
+use Rattle.std.proofs.Common.{◌≡◌, ◌∙◌, sym, ap, subst, length, arith}
+use Rattle.std.proofs.lemmas.List.{length-map}
+use Rattle.std.specs.FinMap.{empty}
+use Rattle.std.specs.Option.{option_copied}
+use Rattle.rk_base.specs.Text.{Text, root}
 use Rattle.rk_tree.specs.declared.node.Node.{Node}
-use Rattle.rk_tree.specs.Nodes.{held_by}
-use Rattle.rk_tree.specs.Copies.{snapshot_of}
+use Rattle.rk_tree.specs.Entries.{Entries, IsWholeSnapshot}
+use Rattle.rk_tree.specs.Held.{Held}
+use Rattle.rk_tree.specs.Copies.{put_found, snapshot_of}
+use Rattle.rk_tree.proofs.SnapshotLemmas.{dirs_on, dirs_all}
 use Rattle.rk_tree.proofs.CopiesLemmas.{snapshot_of-whole}
 use Rattle.rk_tree.proofs.tree.Tree.snapshot.Goals as goal
+use Rattle.rk_tree.proofs.tree.Tree.snapshot.Goals.{After-loop-dir}
 
-pub returns-clause-whole : goal.returns-clause-whole
-returns-clause-whole c = subst IsWholeSnapshot (sym (c.in_ok-snapshot.ensures ∙ ap (λ (ns : List Node). snapshot_of (held_by c.self.inside.rows ns)) c.as_slice.ensures.value ∙ ap snapshot_of c.self.view_is)) (snapshot_of-whole c.args.self.now (subst IsWhole c.self.view_is c.self.invariant.0))
+pub loop-dir-init : goal.loop-dir-init
+loop-dir-init c =
+    c.in_ok-put_found.ensures
+    ∙ ap (λ (m : Entries). put_found m c.in_ok-root.field-0 (option_copied c.node.result)) c.new-snapshot.ensures
+    ∙ ap (λ (path : Text). put_found empty path (option_copied c.node.result)) c.in_ok-root.ensures
+    ∙ ap (put_found empty root) c.node.ensures.node
+
+pub loop-dir-preserved : goal.loop-dir-preserved
+loop-dir-preserved c = dirs_on c.args.self.now c.loop-dir.snapshot c.put_dir.new.snapshot c.loop-dir.dir c.loop-dir.invariant c.in_ok-put_dir.ensures
+
+-- all nodes were asked
+all_nodes : (c : After-loop-dir) → c.loop-dir.dir ≡ length c.args.self.now.nodes
+all_nodes c =
+    let last : c.loop-dir.dir ≡ c.len-dir-end.result = omega arith in
+    last ∙ c.len-dir-end.ensures ∙ c.self.inside.nodes.ok.0 ∙ sym (length-map c.self.inside.nodes.items (λ (n : Node). n.entry)) ∙ ap (λ (h : Held). length h.nodes) c.self.view_is
+
+made : (c : After-loop-dir) → c.loop-dir.snapshot ≡ snapshot_of c.args.self.now
+made c = dirs_all c.args.self.now c.loop-dir.snapshot c.loop-dir.dir c.node.ensures.whole c.loop-dir.invariant (all_nodes c)
+
+pub returns : goal.returns
+returns c = record {
+  snapshot = made c;
+  whole = subst IsWholeSnapshot (sym (made c)) (snapshot_of-whole c.args.self.now c.node.ensures.whole);
+}

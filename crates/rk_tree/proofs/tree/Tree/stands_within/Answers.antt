@@ -1,12 +1,48 @@
-use Rattle.std.proofs.Common.{◌∙◌}
-use Rattle.rk_tree.proofs.RenamedLemmas.{within_some, within_none, within_nowhere}
+use Rattle.std.proofs.Common.{◌≡◌, ◌∙◌, sym, ap, ℕ, refl}
+use Rattle.rk_tree.specs.Held.{Held, path_of, within, stands_within}
+use Rattle.rk_tree.proofs.ClimbingLemmas.{Keeps, StandsIn, keeps, whole_kept, stands_in, stands_nowhere, up_higher, within_up, within_there, within_nowhere, within_none, within_root}
 use Rattle.rk_tree.proofs.tree.Tree.stands_within.Goals as goal
+use Rattle.rk_tree.proofs.tree.Tree.stands_within.Goals.{After-place_at, In-Some}
+
+stands_by : (held : Held) (above dir : ℕ) → within (path_of held above) (path_of held dir) ≡ stands_within held above dir
+unfolding stands_within
+stands_by held above dir = refl
+
+kept : (c : After-place_at) → Keeps c.args.self.now c.as_slice.result.now
+kept c = keeps c.self.inside c.args.self.now c.as_slice.result.now c.self.view_is c.self.invariant c.as_slice.ensures.value
+
+up : (c : In-Some) → StandsIn c.args.self.now c.up.at c.in-Some.field-0.now.0 c.in-Some.field-0.now.1
+up c = stands_in c.args.self.now c.as_slice.result.now (keeps c.self.inside c.args.self.now c.as_slice.result.now c.self.view_is c.self.invariant c.as_slice.ensures.value) c.up.at c.if-at-eq0.false c.up.invariant.in_dir c.in-Some.field-0.now.0 c.in-Some.field-0.now.1 (sym c.in-Some.ensures)
+
+pub returns-then-not-has_path : goal.returns-then-not-has_path
+returns-then-not-has_path c = sym (within_nowhere c.args.self.now c.args.above (path_of c.args.self.now c.args.dir) (sym c.if-not-has_path.ensures)) ∙ stands_by c.args.self.now c.args.above c.args.dir
+
+pub up-init : goal.up-init
+up-init c = record { in_dir = c.requires.dir; alike = refl }
+
+pub returns-then-at-eq0 : goal.returns-then-at-eq0
+returns-then-at-eq0 c =
+    sym (within_root c.args.self.now c.args.above (whole_kept c.self.inside c.args.self.now c.self.view_is c.self.invariant) (λ same. c.up-test.true (c.if-at-eq0.true ∙ same)))
+    ∙ ap (λ (n : ℕ). within (path_of c.args.self.now c.args.above) (path_of c.args.self.now n)) (sym c.if-at-eq0.true)
+    ∙ c.up.invariant.alike ∙ stands_by c.args.self.now c.args.above c.args.dir
 
 pub returns-in-None : goal.returns-in-None
-returns-in-None c = within_none c.args.self.now c.args.above c.args.dir c.in-None.ensures
+returns-in-None c =
+    sym (within_none c.args.self.now c.args.above c.up.at (stands_nowhere c.args.self.now c.as_slice.result.now (kept (goal.at.returns-in-None c).After-place_at) c.up.at c.if-at-eq0.false c.up.invariant.in_dir (sym c.in-None.ensures)))
+    ∙ c.up.invariant.alike ∙ stands_by c.args.self.now c.args.above c.args.dir
 
-pub returns-in-None-home : goal.returns-in-None-home
-returns-in-None-home c = within_nowhere c.args.self.now c.args.above c.args.dir c.in-Some.above.now c.in-Some.ensures c.in-None-home.ensures
+pub up-smaller : goal.up-smaller
+up-smaller c = up_higher c.args.self.now c.up.at c.in-Some.field-0.now.0 c.in-Some.field-0.now.1 (up (goal.at.up-smaller c).In-Some)
 
-pub returns-in-Some-home : goal.returns-in-Some-home
-returns-in-Some-home c = c.is_within.ensures ∙ within_some c.args.self.now c.args.above c.args.dir c.in-Some.above.now c.in-Some-home.dir.now c.in-Some.ensures c.in-Some-home.ensures
+pub up-preserved : goal.up-preserved
+up-preserved c =
+    let s = up (goal.at.up-preserved c).In-Some in
+    record {
+      in_dir = s.in_dir;
+      alike = within_up c.args.self.now c.args.above c.up.at c.in-Some.field-0.now.0 c.in-Some.field-0.now.1 (whole_kept c.self.inside c.args.self.now c.self.view_is c.self.invariant) c.requires.above c.up-test.true s ∙ c.up.invariant.alike;
+    }
+
+pub returns : goal.returns
+returns c =
+    sym (within_there c.args.self.now c.args.above (path_of c.args.self.now c.up.at) (sym c.if-not-has_path.ensures) (ap (path_of c.args.self.now) c.up-test.false))
+    ∙ c.up.invariant.alike ∙ stands_by c.args.self.now c.args.above c.args.dir

@@ -1,0 +1,228 @@
+-- What stands in each directory, put at its paths, makes the snapshot of a tree.
+use Rattle.std.proofs.Common.{◌≡◌, ◌+◌, ◌<◌, ◌≤◌, ℕ, zero, suc, List, [], ◌∷◌, length, get_or, drop, drop-cons, Bool, true, false, cond, ◌⊎◌, inl, inr, Option, Some, None, refl, sym, ap, ◌∙◌, arith}
+use Rattle.std.specs.Prelude.{slice_get}
+use Rattle.std.specs.List.{cons_option, filter_map, fold}
+use Rattle.std.specs.Option.{option_and_then}
+use Rattle.std.specs.FinMap.{empty, entries, get, get-empty}
+use Rattle.std.proofs.lemmas.List.{drop_all}
+use Rattle.std.proofs.lemmas.Option.{slice_get_within}
+use Rattle.rk_base.specs.Text.{Text, text_cmp, root, is_root, parent, name_of, join}
+use Rattle.rk_base.specs.Canonical.{is_name}
+use Rattle.rk_base.proofs.PathLemmas.{path-is_cut, is_in-join, name_of-join}
+use Rattle.rk_base.proofs.WithinLemmas.{is_the_root}
+use Rattle.rk_tree.specs.declared.entry.Entry.{Entry}
+use Rattle.rk_tree.specs.Entries.{Entries, is_dir}
+use Rattle.rk_tree.specs.Held.{Held, top, node, number_at, path_of, child, name_in, names}
+use Rattle.rk_tree.specs.Copies.{put_dir, put_found, put_name, put_names, snapshot_of}
+use Rattle.rk_tree.specs.Whole.{IsWhole}
+use Rattle.rk_tree.proofs.BelowLemmas.{child_at, names-at, row_of}
+use Rattle.rk_tree.proofs.CopiesLemmas.{get-snapshot_of}
+use Rattle.rk_tree.proofs.HeldLemmas.{dir_path}
+use Rattle.rk_tree.proofs.RowsLemmas.{insert_cases, same_maps}
+
+-- A fold, step by step.
+
+module _ {A B : Type 0} (f : B → A → B) (first : B) (items : List A) where
+  pub fold_on : (before after : B) (i : ℕ) (x : A) → fold f before (drop i items) ≡ fold f first items → i < length items → x ≡ get_or items i x → after ≡ f before x → fold f after (drop (i + 1) items) ≡ fold f first items
+  fold_on before after i x so_far lt is put =
+      ap (λ (b : B). fold f b (drop (i + 1) items)) put
+      ∙ sym (ap (fold f before) (drop-cons items i x lt ∙ ap (λ (y : A). y ∷ drop (suc i) items) (sym is) ∙ ap (λ (k : ℕ). x ∷ drop k items) (one_up i))) ∙ so_far where
+        one_up : (i : ℕ) → suc i ≡ i + 1
+        one_up i = omega arith
+
+  pub fold_all : (made : B) (i : ℕ) → fold f made (drop i items) ≡ fold f first items → length items ≤ i → made ≡ fold f first items
+  fold_all made i so_far past = sym (ap (fold f made) (drop_all i items past)) ∙ so_far
+
+-- What is put.
+
+-- what stands at a path
+abbrev pub entry_of : Held → Text → Option Entry
+entry_of held q = option_and_then (node held) (number_at held q)
+
+-- the code's look-up of a name in a directory
+pub found_child : (held : Held) (dir n : ℕ) (path name : Text) → is_name name ≡ true → path_of held dir ≡ Some path → Some n ≡ child held dir name → entry_of held (join path name) ≡ node held n
+found_child held dir n path name named at is = ap (option_and_then (node held)) (sym (child_at held dir path name named at) ∙ sym is)
+
+pub found_none : (held : Held) (dir : ℕ) (path name : Text) → is_name name ≡ true → path_of held dir ≡ Some path → None ≡ child held dir name → entry_of held (join path name) ≡ None
+found_none held dir path name named at is = ap (option_and_then (node held)) (sym (child_at held dir path name named at) ∙ sym is)
+
+-- The directories below a number, one after another.
+
+abbrev pub put_dirs : Held → Entries → ℕ → Entries
+put_dirs held first zero = first
+put_dirs held first (suc k) = put_dir held (put_dirs held first k) k
+
+abbrev pub first_put : Held → Entries
+first_put held = put_found empty root (node held top)
+
+module _ (held : Held) where
+  -- nothing but what stands at each path
+  abbrev Right : Entries → Type 0
+  Right m = (q : Text) → (get m q ≡ entry_of held q) ⊎ (get m q ≡ None)
+
+  -- what stands at this one
+  abbrev Done : Entries → Text → Type 0
+  Done m q = get m q ≡ entry_of held q
+
+  right_found : (m : Entries) (path : Text) (o : Option Entry) → entry_of held path ≡ o → Right m → Right (put_found m path o)
+  right_found m path None is right q = right q
+  right_found m path (Some it) is right q = elim (insert_cases m path it q) [
+    | inl here ↦ inl (here.1 ∙ sym is ∙ ap (entry_of held) (sym here.0))
+    | inr other ↦ elim (right q) [
+      | inl done ↦ inl (other.1 ∙ done)
+      | inr none ↦ inr (other.1 ∙ none)
+    ]
+  ]
+
+  kept_found : (m : Entries) (path : Text) (o : Option Entry) (q : Text) → entry_of held path ≡ o → Done m q → Done (put_found m path o) q
+  kept_found m path None q is done = done
+  kept_found m path (Some it) q is done = elim (insert_cases m path it q) [
+    | inl here ↦ here.1 ∙ sym is ∙ ap (entry_of held) (sym here.0)
+    | inr other ↦ other.1 ∙ done
+  ]
+
+  done_found : (m : Entries) (path : Text) (o : Option Entry) → entry_of held path ≡ o → Right m → Done (put_found m path o) path
+  done_found m path None is right = elim (right path) [
+    | inl done ↦ done
+    | inr none ↦ none ∙ sym is
+  ]
+  done_found m path (Some it) is right = elim (insert_cases m path it path) [
+    | inl here ↦ here.1 ∙ sym is
+    | inr other ↦ absurd (other.0 refl)
+  ]
+
+  right_names : (path : Text) (given : List Text) (m : Entries) → Right m → Right (fold (put_name held path) m given)
+  right_names path [] m right = right
+  right_names path (name ∷ given) m right = right_names path given (put_name held path m name) (right_found m (join path name) (entry_of held (join path name)) refl right)
+
+  kept_names : (path : Text) (given : List Text) (m : Entries) (q : Text) → Done m q → Done (fold (put_name held path) m given) q
+  kept_names path [] m q done = done
+  kept_names path (name ∷ given) m q done = kept_names path given (put_name held path m name) q (kept_found m (join path name) (entry_of held (join path name)) q refl done)
+
+  same_name : {o : Option Text} (a b : Text) → o ≡ Some a → o ≡ Some b → a ≡ b
+  same_name a b p q = cc
+
+  done_names : (path : Text) (given : List Text) (m : Entries) (i : ℕ) (name : Text) → Right m → slice_get given i ≡ Some name → Done (fold (put_name held path) m given) (join path name)
+  done_names path [] m i name right at = cc
+  done_names path (x ∷ given) m zero name right at =
+      let same : x ≡ name = same_name {o = Some x} x name refl at in
+      kept_names path given (put_name held path m x) (join path name)
+      (ap (λ (t : Text). get (put_name held path m x) (join path t)) (sym same) ∙ done_found m (join path x) (entry_of held (join path x)) refl right ∙ ap (λ (t : Text). entry_of held (join path t)) same)
+  done_names path (x ∷ given) m (suc i) name right at = done_names path given (put_name held path m x) i name (right_found m (join path x) (entry_of held (join path x)) refl right) at
+
+  right_dir : (m : Entries) (dir : ℕ) → Right m → Right (put_dir held m dir)
+  right_dir m dir right = elim (is_dir (node held dir)) as (λ (b : Bool). Right (cond b (put_names held dir m (path_of held dir)) m)) [
+    | true ↦ elim (path_of held dir) as (λ (o : Option Text). Right (put_names held dir m o)) [
+      | None ↦ right
+      | Some path ↦ right_names path (names held dir) m right
+    ]
+    | false ↦ right
+  ]
+
+  kept_dir : (m : Entries) (dir : ℕ) (q : Text) → Done m q → Done (put_dir held m dir) q
+  kept_dir m dir q done = elim (is_dir (node held dir)) as (λ (b : Bool). Done (cond b (put_names held dir m (path_of held dir)) m) q) [
+    | true ↦ elim (path_of held dir) as (λ (o : Option Text). Done (put_names held dir m o) q) [
+      | None ↦ done
+      | Some path ↦ kept_names path (names held dir) m q done
+    ]
+    | false ↦ done
+  ]
+
+  -- what is taken has a place
+  taken_at : (f : Text × ℕ → Option Text) (rows : List (Text × ℕ)) (i : ℕ) (row : Text × ℕ) (x : Text) → slice_get rows i ≡ Some row → f row ≡ Some x → (j : ℕ) × (slice_get (filter_map f rows) j ≡ Some x)
+  taken_at f [] i row x at is = cc
+  taken_at f (r ∷ rows) zero row x at is = (0, head (f r) (ap f (same_row r row refl at) ∙ is)) where
+    same_row : {o : Option (Text × ℕ)} (a b : Text × ℕ) → o ≡ Some a → o ≡ Some b → a ≡ b
+    same_row a b p q = cc
+
+    head : (o : Option Text) → o ≡ Some x → slice_get (cons_option o (filter_map f rows)) 0 ≡ Some x
+    head None e = cc
+    head (Some y) e = e
+  taken_at f (r ∷ rows) (suc i) row x at is =
+      let later = taken_at f rows i row x at is in
+      more (f r) later.0 later.1 where
+        more : (o : Option Text) (j : ℕ) → slice_get (filter_map f rows) j ≡ Some x → (k : ℕ) × (slice_get (cons_option o (filter_map f rows)) k ≡ Some x)
+        more None j e = (j, e)
+        more (Some y) j e = (suc j, e)
+
+  module _ (whole : IsWhole held) where
+    -- a name that stands for something is among the names
+    name_among : (dir : ℕ) (path name : Text) (n : ℕ) → number_at held path ≡ Some dir → is_dir (node held dir) ≡ true → is_name name ≡ true → number_at held (join path name) ≡ Some n → (j : ℕ) × (slice_get (names held dir) j ≡ Some name)
+    name_among dir path name n at d named there =
+        let row = row_of held (join path name) n there in
+        let taken = taken_at (name_in path) (entries held.paths) row.0 (join path name, n) name row.1
+        (ap (λ (b : Bool). cond b (Some (name_of (join path name))) None) (is_in-join path name (whole.canonical path dir at) named) ∙ ap (λ (t : Text). Some t) (name_of-join path name named)) in
+        (taken.0, ap (λ (ns : List Text). slice_get ns taken.0) (names-at held path dir whole at d) ∙ taken.1)
+
+    done_dir : (m : Entries) (dir : ℕ) (path name : Text) (n : ℕ) → Right m → number_at held path ≡ Some dir → is_dir (node held dir) ≡ true → is_name name ≡ true → number_at held (join path name) ≡ Some n → Done (put_dir held m dir) (join path name)
+    done_dir m dir path name n right at d named there =
+        let among = name_among dir path name n at d named there in
+        ap (λ (b : Bool). get (cond b (put_names held dir m (path_of held dir)) m) (join path name)) d
+        ∙ ap (λ (o : Option Text). get (put_names held dir m o) (join path name)) (dir_path held path dir whole d at)
+        ∙ done_names path (names held dir) m among.0 name right among.1
+
+    right_first : Right (first_put held)
+    right_first = right_found empty root (node held top) (ap (option_and_then (node held)) whole.root_at) (λ q. inr (get-empty text_cmp q))
+
+    done_first : Done (first_put held) root
+    done_first = done_found empty root (node held top) (ap (option_and_then (node held)) whole.root_at) (λ q. inr (get-empty text_cmp q))
+
+    right_dirs : (k : ℕ) → Right (put_dirs held (first_put held) k)
+    right_dirs zero = right_first
+    right_dirs (suc k) = right_dir (put_dirs held (first_put held) k) k (right_dirs k)
+
+    root_dirs : (k : ℕ) → Done (put_dirs held (first_put held) k) root
+    root_dirs zero = done_first
+    root_dirs (suc k) = kept_dir (put_dirs held (first_put held) k) k root (root_dirs k)
+
+    done_dirs : (k dir : ℕ) (path name : Text) (n : ℕ) → dir < k → number_at held path ≡ Some dir → is_dir (node held dir) ≡ true → is_name name ≡ true → number_at held (join path name) ≡ Some n → Done (put_dirs held (first_put held) k) (join path name)
+    done_dirs zero dir path name n lt at d named there = absurd (omega arith)
+    done_dirs (suc k) dir path name n lt at d named there = elim (last dir k lt) [
+      | inl same ↦
+          let at_last : number_at held path ≡ Some k = at ∙ ap (λ (j : ℕ). Some j) same in
+          done_dir (put_dirs held (first_put held) k) k path name n (right_dirs k) at_last (sym (ap (λ (j : ℕ). is_dir (node held j)) same) ∙ d) named there
+      | inr below ↦ kept_dir (put_dirs held (first_put held) k) k (join path name) (done_dirs k dir path name n below at d named there)
+    ] where
+      last : (a b : ℕ) → a < suc b → (a ≡ b) ⊎ (a < b)
+      last zero zero h = inl refl
+      last zero (suc b) h = inr (omega arith)
+      last (suc a) zero h = absurd (omega arith)
+      last (suc a) (suc b) h = elim (last a b (omega arith)) [
+        | inl same ↦ inl (ap suc same)
+        | inr less ↦ inr (omega arith)
+      ]
+
+    -- each path that stands is done
+    done_all : (q : Text) (n : ℕ) → number_at held q ≡ Some n → Done (put_dirs held (first_put held) (length held.nodes)) q
+    done_all q n at = (elim (is_root q) as (λ (b : Bool). is_root q ≡ b → Done (put_dirs held (first_put held) (length held.nodes)) q) [
+      | true ↦ λ r.
+          let same = is_the_root q r in
+          ap (get (put_dirs held (first_put held) (length held.nodes))) same ∙ root_dirs (length held.nodes) ∙ sym (ap (entry_of held) same)
+      | false ↦ λ r.
+          let cut = path-is_cut q (whole.canonical q n at) r in
+          let p = whole.placed q n at in
+          let up = whole.known (parent q) p.up p.stands in
+          ap (get (put_dirs held (first_put held) (length held.nodes))) (sym cut.whole)
+          ∙ done_dirs (length held.nodes) p.up (parent q) (name_of q) n (slice_get_within held.nodes p.up up.0 up.1) p.stands p.in_dir cut.name (ap (number_at held) cut.whole ∙ at)
+          ∙ ap (entry_of held) cut.whole
+    ]) refl
+
+    all_dirs : (q : Text) → Done (put_dirs held (first_put held) (length held.nodes)) q
+    all_dirs q = by (number_at held q) refl where
+      by : (o : Option ℕ) → number_at held q ≡ o → Done (put_dirs held (first_put held) (length held.nodes)) q
+      by (Some n) at = done_all q n at
+      by None at = elim (right_dirs (length held.nodes) q) [
+        | inl done ↦ done
+        | inr none ↦ none ∙ sym (ap (option_and_then (node held)) at)
+      ]
+
+    pub snapshot_of-dirs : put_dirs held (first_put held) (length held.nodes) ≡ snapshot_of held
+    snapshot_of-dirs = same_maps _ _ (λ q. all_dirs q ∙ sym (get-snapshot_of held q))
+
+pub dirs_on : (held : Held) (before after : Entries) (k : ℕ) → before ≡ put_dirs held (first_put held) k → after ≡ put_dir held before k → after ≡ put_dirs held (first_put held) (k + 1)
+dirs_on held before after k so_far put = put ∙ ap (λ (m : Entries). put_dir held m k) so_far ∙ ap (put_dirs held (first_put held)) (one_up k) where
+  one_up : (k : ℕ) → suc k ≡ k + 1
+  one_up k = omega arith
+
+pub dirs_all : (held : Held) (made : Entries) (k : ℕ) → IsWhole held → made ≡ put_dirs held (first_put held) k → k ≡ length held.nodes → made ≡ snapshot_of held
+dirs_all held made k whole so_far all = so_far ∙ ap (put_dirs held (first_put held)) all ∙ snapshot_of-dirs held whole

@@ -1,0 +1,94 @@
+-- Nodes that make a tree, and what they make after a change.
+use Rattle.std.proofs.Common.{◌≡◌, ℕ, List, [], ◌∷◌, ◌++◌, cond, Bool, true, false, inl, inr, Option, Some, None, Result, Ok, Err, refl, sym, ap, subst, ◌∙◌}
+use Rattle.std.specs.Prelude.{slice_get, is_ok, OnOk, OnErr}
+use Rattle.std.specs.Option.{option_and_then}
+use Rattle.std.specs.FinMap.{get, insert}
+use Rattle.rk_base.specs.Text.{Text, join}
+use Rattle.rk_base.specs.Canonical.{is_canonical}
+use Rattle.rk_base.proofs.PathLemmas.{parent-join}
+use Rattle.rk_tree.specs.declared.node.Node.{Node}
+use Rattle.rk_tree.specs.Entries.{is_dir}
+use Rattle.rk_tree.specs.Held.{Held, Paths}
+use Rattle.rk_tree.specs.Nodes.{entries_of, held_by, under, IsPlace, HavePlaces, AreAttached}
+use Rattle.rk_tree.specs.Shown.{Shown}
+use Rattle.rk_tree.specs.Whole.{IsWhole}
+use Rattle.rk_tree.proofs.BelowLemmas.{same_number}
+use Rattle.rk_tree.proofs.ShownLemmas.{Leads, Steps, shown_are}
+use Rattle.rk_tree.proofs.WholeLemmas.{stays, stands_cases}
+
+clash : (b : Bool) → b ≡ true → b ≡ false → ⊥
+clash b t f = cc
+
+abbrev pub Kept : Paths → List Node → Type 0
+Kept paths nodes = IsWhole (held_by paths nodes) × HavePlaces paths nodes × AreAttached paths nodes
+
+-- the nodes make this tree
+pub record IsTree (nodes : List Node) (held : Held) : Type 0 where
+  pub paths : Paths
+  pub leads : Leads nodes paths
+  pub kept : Kept paths nodes
+  pub is : held_by paths nodes ≡ held
+
+pub tree_inside : (nodes : List Node) (s : Shown nodes) (held : Held) → Kept s.paths nodes → held_by s.paths nodes ≡ held → IsTree nodes held
+tree_inside nodes s held kept is = record { paths = s.paths; leads = s.leads; kept = kept; is = is }
+
+pub shown_by : (nodes : List Node) (held : Held) → IsTree nodes held → Shown nodes
+shown_by nodes held t = record { paths = t.paths; leads = t.leads }
+
+pub kept_by : (nodes : List Node) (held : Held) → IsTree nodes held → (s : Shown nodes) → Kept s.paths nodes
+kept_by nodes held t s = subst (λ (p : Paths). Kept p nodes) (sym (shown_are nodes s t.paths t.leads)) t.kept
+
+pub view_by : (nodes : List Node) (held : Held) → IsTree nodes held → (s : Shown nodes) → held_by s.paths nodes ≡ held
+view_by nodes held t s = ap (λ (p : Paths). held_by p nodes) (shown_are nodes s t.paths t.leads) ∙ t.is
+
+-- the same nodes make it
+pub tree_same : (old new : List Node) (held : Held) → new ≡ old → IsTree old held → IsTree new held
+tree_same old new held same t = subst (λ (ns : List Node). IsTree ns held) (sym same) t
+
+-- what is shown after a change that may fail
+pub shown_either : {A E : Type 0} (r : Result A E) (old new after : List Node) (held then : Held) → OnOk r (new ≡ after) → OnErr r (new ≡ old) → IsTree old held → IsTree after then → Shown new
+shown_either (Ok x) old new after held then ok err t u = shown_by new then (tree_same after new then ok u)
+shown_either (Err e) old new after held then ok err t u = shown_by new held (tree_same old new held err t)
+
+-- or after a node was pushed, if there was room
+pub pushed_either : {A E : Type 0} (r : Result A E) (old new : List Node) (it known : Node) (held then : Held) → new ≡ cond (is_ok r) (old ++ it ∷ []) old → it ≡ known → IsTree old held → IsTree (old ++ known ∷ []) then → Shown new
+pushed_either (Ok x) old new it known held then is same t u = shown_by new then (tree_same (old ++ known ∷ []) new then (is ∙ ap (λ (n : Node). old ++ n ∷ []) same) u)
+pushed_either (Err e) old new it known held then is same t u = shown_by new held (tree_same old new held is t)
+
+-- an error leaves the tree
+pub err_view : {A E : Type 0} (r : Result A E) (nodes : List Node) (held : Held) → IsTree nodes held → (s : Shown nodes) → OnErr r (held_by s.paths nodes ≡ held)
+err_view (Ok x) nodes held t s = tt
+err_view (Err e) nodes held t s = view_by nodes held t s
+
+-- a fact of what the nodes make is one of the tree
+pub over : (nodes : List Node) (held : Held) (t : IsTree nodes held) (Q : Held → Type 0) → Q (held_by t.paths nodes) → Q held
+over nodes held t Q q = subst Q t.is q
+
+-- Places and names.
+
+-- only a directory has names
+pub under_dir : (nodes : List Node) (paths : Paths) → Kept paths nodes → Steps nodes paths → (n : ℕ) (name : Text) (m : ℕ) → under nodes n name ≡ Some m → is_dir (slice_get (entries_of nodes) n) ≡ true
+under_dir nodes paths kept step n name m is =
+    let a = kept.2 n name m is in
+    let c : is_canonical a.1 ≡ true = kept.0.canonical a.1 n a.2 in
+    let there : get paths (join a.1 name) ≡ Some m = step a.1 name c a.0 ∙ ap (option_and_then (λ k. under nodes k name)) a.2 ∙ is in
+    let p = kept.0.placed (join a.1 name) m there in
+    ap (λ (k : ℕ). is_dir (slice_get (entries_of nodes) k)) (same_number n p.up a.2 (ap (get paths) (sym (parent-join a.1 name c a.0)) ∙ p.stands)) ∙ p.in_dir
+
+none_of : {A : Type 0} (o : Option A) → ((x : A) → o ≡ Some x → ⊥) → o ≡ None
+none_of None h = refl
+none_of (Some x) h = absurd (h x refl)
+
+pub file_bare : (nodes : List Node) (paths : Paths) → Kept paths nodes → Steps nodes paths → (n : ℕ) → is_dir (slice_get (entries_of nodes) n) ≡ false → (name : Text) → under nodes n name ≡ None
+file_bare nodes paths kept step n file name = none_of (under nodes n name) (λ m is. clash _ (under_dir nodes paths kept step n name m is) file)
+
+pub path_stays : (paths : Paths) (path : Text) (n k : ℕ) → get paths path ≡ None → (q : Text) → get paths q ≡ Some k → get (insert paths path n) q ≡ Some k
+path_stays paths path n k free q at = stays (record { paths = paths; nodes = [] }) path n q k free at
+
+-- where a path is added for another node, a place stays
+pub place_stays : (paths : Paths) (path : Text) (n k : ℕ) (place : Option (ℕ × Text)) → get paths path ≡ None → (k ≡ n → ⊥) → IsPlace paths k place → IsPlace (insert paths path n) k place
+place_stays paths path n k None free apart h = λ q at. elim (stands_cases (record { paths = paths; nodes = [] }) path n q k at) [
+  | inl here ↦ apart here.1
+  | inr old ↦ h q old
+]
+place_stays paths path n k (Some place) free apart h = (h.0, h.1, path_stays paths path n place.0 free h.1 h.2, path_stays paths path n k free (join h.1 place.1) h.3)

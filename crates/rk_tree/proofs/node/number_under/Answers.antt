@@ -1,0 +1,13 @@
+use Rattle.std.proofs.Common.{Option, refl, sym, ap, ◌∙◌}
+use Rattle.std.proofs.lemmas.Option.{slice_get_past, slice_get_read}
+use Rattle.std.specs.FinMap.{get, get-empty}
+use Rattle.rk_base.specs.Text.{text_cmp}
+use Rattle.rk_tree.specs.declared.node.Node.{Node}
+use Rattle.rk_tree.specs.Nodes.{names_in}
+use Rattle.rk_tree.proofs.node.number_under.Goals as goal
+
+pub returns-in-None : goal.returns-in-None
+returns-in-None c = sym (get-empty text_cmp c.args.name.now) ∙ ap (λ (o : Option Node). get (names_in o) c.args.name.now) (sym (slice_get_past c.args.nodes.now c.args.n c.in-None.ensures.lookup.3))
+
+pub returns-in-Some : goal.returns-in-Some
+returns-in-Some c = c.get-in-Some.ensures ∙ ap (λ (o : Option Node). get (names_in o) c.args.name.now) (sym (slice_get_read c.args.nodes.now _ c.args.n c.in-Some.node.now refl c.in-Some.ensures.lookup.3.0 c.in-Some.ensures.lookup.1))

@@ -1,0 +1,95 @@
+// The names in a directory.
+ghost use Rattle.std.specs.Prelude.{◌≡◌, IfOk, OnOk, OnErr};
+ghost use Rattle.std.specs.FinMap.{empty, entries, get, insert, keys, remove};
+ghost use Rattle.rk_base.specs.Canonical.{is_empty};
+
+use rk_base::{Name, NoMemory, PathFault};
+use std::alloc::Global;
+use std::collections::BTreeMap;
+use std::marker::Model;
+
+/// Which node stands under each name of a directory. A look-up takes no memory, and as many
+/// comparisons as a search in a B-tree.
+#[derive(Drop)]
+pub(crate) struct Names {
+    rows: BTreeMap<Vec<u8>, usize>,
+}
+
+impl Model for Names {
+    ghost use Rattle.std.specs.FinMap as map;
+    ghost use Rattle.std.specs.Coded.{coded_list, coded_ℕ};
+    ghost use Rattle.rk_tree.specs.Held.{Paths};
+
+    ghost Value = { Paths };
+
+    ghost coded = { map.code (coded_list coded_ℕ) coded_ℕ };
+
+    ghost use Rattle.std.specs.Prelude.{◌≡◌, ℕ, true, Some};
+    ghost use Rattle.rk_base.specs.Canonical.{is_name};
+    ghost use Rattle.rk_base.specs.Text.{Text};
+    ghost use Rattle.rk_tree.specs.Names.{named};
+    ghost use Rattle.rk_tree.specs.Rows.{map_of};
+
+    ghost view = { λ n. map_of (named n.rows.entries) };
+
+    ghost invariant = { λ n. (name : Text) (k : ℕ) → map.get (map_of (named n.rows.entries)) name ≡ Some k → is_name name ≡ true };
+}
+
+impl Names {
+    /// No names.
+    pub(crate) fn new(alloc: Global) -> Names
+        ensures { result ≡ empty }
+    {
+        Names {
+            rows: BTreeMap::new(alloc),
+        }
+    }
+
+    /// The number under a name.
+    pub(crate) fn get(&self, name: &[u8]) -> Option<usize>
+        ensures { result ≡ get self.now name.now }
+    {
+        match self.rows.get(name) {
+            None => None,
+            Some(n) => Some(*n),
+        }
+    }
+
+    pub(crate) fn is_empty(&self) -> bool
+        ensures { result ≡ is_empty (entries self.now) }
+    {
+        self.rows.is_empty()
+    }
+
+    /// A name stands for this number, in the place of what it stood for.
+    pub(crate) fn put(&mut self, alloc: Global, name: &Name, n: usize) -> Result<(), NoMemory>
+        ensures ok { OnOk result (self.new ≡ insert self.old name.now n) }
+        ensures err { OnErr result (self.new ≡ self.old) }
+    {
+        let text = Vec::from_slice(alloc, name.as_slice())?;
+        self.rows.insert(text, n)?;
+        Ok(())
+    }
+
+    /// A name stands for nothing.
+    pub(crate) fn take(&mut self, name: &Name)
+        ensures { self.new ≡ remove self.old name.now }
+    {
+        let _ = self.rows.remove(name.as_slice());
+    }
+
+    /// The names, ascending.
+    pub(crate) fn list(&self, alloc: Global) -> Result<Vec<Name>, NoMemory>
+        ensures { IfOk result (λ names. names.items ≡ keys self.now) }
+    {
+        let mut names = Vec::new(alloc);
+        for (name, _) in &self.rows {
+            match Name::new(alloc, name.as_slice()) {
+                Ok(name) => names.push(name)?,
+                Err(PathFault::Invalid) => unreachable!(),
+                Err(PathFault::NoMemory) => return Err(NoMemory),
+            }
+        }
+        Ok(names)
+    }
+}

@@ -1,0 +1,129 @@
+// Snapshots of trees, and trees of snapshots.
+ghost use Rattle.std.specs.Prelude.{◌≡◌, IfOk, OnOk, option_copied, true, Some};
+ghost use Rattle.std.specs.FinMap.{get};
+ghost use Rattle.rk_base.specs.Text.{root};
+ghost use Rattle.rk_tree.specs.Copies.{MayTake, put_dir, put_found, put_names, snapshot_of, tree_of, with_node_at};
+ghost use Rattle.rk_tree.specs.Entries.{is_dir, IsWholeSnapshot};
+ghost use Rattle.rk_tree.specs.Held as held;
+ghost use Rattle.rk_tree.specs.Rows.{map_of};
+ghost use Rattle.rk_tree.specs.declared.entry.Entry.TheVariants.{Dir};
+
+use crate::{Entry, Snapshot, Tree};
+use rk_base::{Name, NoMemory, Path};
+use std::alloc::Global;
+use std::collections::BTreeMap;
+
+// What is found, put at a path.
+fn put_found(snapshot: &mut Snapshot, path: Path, found: Option<&Entry>) -> Result<(), NoMemory>
+    ensures { OnOk result (snapshot.new ≡ put_found snapshot.old path (option_copied found.entry)) }
+{
+    match found {
+        None => Ok(()),
+        Some(it) => {
+            snapshot.put(path, it.copy()?)?;
+            Ok(())
+        }
+    }
+}
+
+impl Tree {
+    // What stands under the names of a directory.
+    fn put_names(&self, snapshot: &mut Snapshot, dir: usize, path: &Path) -> Result<(), NoMemory>
+        requires in_dir { is_dir (held.node self.now dir) ≡ true }
+        requires at { held.path_of self.now dir ≡ Some path.now }
+        ensures { OnOk result (snapshot.new ≡ put_names self.now dir snapshot.old (Some path.now)) }
+    {
+        let alloc = *self.nodes.allocator();
+        let names = self.names(dir)?;
+        for name in &names {
+            let path = path.join(alloc, name)?;
+            match self.child(dir, name.as_slice()) {
+                None => {}
+                Some(n) => put_found(snapshot, path, self.node(n))?,
+            }
+        }
+        Ok(())
+    }
+
+    // What stands in a directory, if this is one that stands somewhere.
+    fn put_dir(&self, snapshot: &mut Snapshot, dir: usize) -> Result<(), NoMemory>
+        ensures { OnOk result (snapshot.new ≡ put_dir self.now snapshot.old dir) }
+    {
+        if !self.is_dir(dir) {
+            return Ok(());
+        }
+        match self.path_of(dir)? {
+            None => Ok(()),
+            Some(path) => self.put_names(snapshot, dir, &path),
+        }
+    }
+
+    /// Each path with what stands there. It is whole.
+    pub fn snapshot(&self) -> Result<Snapshot, NoMemory>
+        ensures snapshot { IfOk result (λ s. s ≡ snapshot_of self.now) }
+        ensures whole { IfOk result IsWholeSnapshot }
+    {
+        let alloc = *self.nodes.allocator();
+        let mut snapshot = Snapshot::new(alloc);
+        put_found(&mut snapshot, Path::root(alloc)?, self.node(0))?;
+        for dir in 0..self.nodes.len() {
+            self.put_dir(&mut snapshot, dir)?;
+        }
+        Ok(snapshot)
+    }
+
+    // A node more, at a path whose directory stands.
+    fn put_path(
+        &mut self,
+        numbers: &mut BTreeMap<Path, usize>,
+        path: &Path,
+        it: &Entry,
+    ) -> Result<(), NoMemory>
+        requires numbers { map_of numbers.old.entries ≡ self.old.paths }
+        requires takes { MayTake self.old path.now it.now }
+        ensures tree { OnOk result (self.new ≡ with_node_at self.old path.now it.now) }
+        ensures numbers { OnOk result (map_of numbers.new.entries ≡ self.new.paths) }
+    {
+        let _root = self.node(0);
+        let Some(name) = path.last()? else {
+            unreachable!();
+        };
+        match numbers.get(&path.parent()?) {
+            None => unreachable!(),
+            Some(up) => {
+                let n = self.adds(*up, &name, it.copy()?)?;
+                numbers.insert(path.copy()?, n)?;
+                Ok(())
+            }
+        }
+    }
+
+    /// The tree of a snapshot: a node for each path, numbered in the order of the paths. Its snapshot
+    /// is the same again.
+    pub fn of_snapshot(alloc: Global, snapshot: &Snapshot) -> Result<Tree, NoMemory>
+        requires { IsWholeSnapshot snapshot.now }
+        ensures tree { IfOk result (λ t. t ≡ tree_of snapshot.now) }
+        ensures again { IfOk result (λ t. snapshot_of t ≡ snapshot.now) }
+    {
+        let mut tree = Tree::of_root(alloc, root_mode(alloc, snapshot)?)?;
+        let mut numbers = BTreeMap::new(alloc);
+        numbers.insert(Path::root(alloc)?, 0)?;
+        let mut rows = snapshot.rows().iter();
+        // The first row is the root's.
+        let _root = rows.next();
+        for (path, it) in rows {
+            tree.put_path(&mut numbers, path, it)?;
+        }
+        Ok(tree)
+    }
+}
+
+fn root_mode(alloc: Global, snapshot: &Snapshot) -> Result<u16, NoMemory>
+    requires { is_dir (get snapshot.now root) ≡ true }
+    ensures { IfOk result (λ mode. get snapshot.now root ≡ Some (Dir mode)) }
+{
+    match snapshot.get(&Path::root(alloc)?) {
+        Some(Entry::Dir(mode)) => Ok(*mode),
+        _ => unreachable!(),
+    }
+}
