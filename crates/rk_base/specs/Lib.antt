@@ -4,3 +4,5 @@ pub mod Faults
 pub mod Names
 pub mod Paid
 pub mod Text
+pub mod Variables
+pub mod Vars

@@ -1,5 +1,5 @@
 -- Texts of paths, in the order of their bytes.
-use Rattle.std.specs.Prelude.{ℕ, ◌+◌, List, [], ◌∷◌, ◌++◌, take, drop, length, nat_eq, count_by, not, ◌&&◌, ◌||◌, Bool, ◌==◌, if◌then◌else◌, Option, Some, None}
+use Rattle.std.specs.Prelude.{ℕ, ◌+◌, ◌-◌, List, [], ◌∷◌, ◌++◌, take, drop, replicate, length, nat_eq, count_by, not, ◌&&◌, ◌||◌, Bool, ◌==◌, if◌then◌else◌, Option, Some, None}
 use Rattle.std.specs.Ordering.{nat_cmp}
 use Rattle.std.specs.declared.cmp.Ordering.{Ordering}
 use Rattle.std.specs.Cmp.Lexicographic.{slice_cmp, pointwise}
@@ -80,3 +80,7 @@ dot = 46 ∷ []
 
 abbrev pub dot_dot : Text
 dot_dot = 46 ∷ 46 ∷ []
+
+-- bytes written over a text from a place on; a gap before it becomes zero bytes
+unfoldable pub written : Text → ℕ → Text → Text
+written old at bytes = take at (old ++ replicate (at - length old) 0) ++ bytes ++ drop (at + length bytes) old

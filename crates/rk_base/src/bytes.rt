@@ -1,48 +1,44 @@
 // Byte strings, which contracts see as lists of numbers.
-ghost use Rattle.std.specs.Prelude.{◌≡◌, ◌↔◌, IsTrue, ℕ, List, length, IfOk, nat_eq, Some, refl};
+ghost use Rattle.std.specs.Prelude.{◌≡◌, ◌↔◌, IsTrue, ℕ, List, length, IfOk, OnOk, nat_eq, Some, refl};
 ghost use Rattle.std.specs.Ordering.{nat_cmp};
+ghost use Rattle.rk_base.specs.Text.{written};
 ghost use Rattle.std.specs.Hash as fed;
 ghost use Rattle.std.specs.Cmp.{po, partial_equiv_from_equiv, nat_eq_equiv, unsigned_ties, unsigned_Decides};
 ghost use Rattle.std.specs.Cmp.Lexicographic.{slice_cmp, pointwise, lists_equiv, lists_ties, nat_list_cmp_total};
 
 use crate::NoMemory;
+use crate::writing::write_over;
 use std::alloc::Global;
 use std::cmp::Ordering;
 use std::hash::{Hash, Hasher};
 use std::marker::Model;
+use std::rc::Rc;
 
-/// A byte string. Byte strings are ordered by their bytes.
+/// A byte string. A copy shares its text, so it takes no memory for it. Byte strings are ordered by their bytes.
 #[derive(Debug, Drop, Clone)]
 pub struct Bytes {
-    bytes: Vec<u8>,
+    bytes: Rc<Vec<u8>>,
 }
 
 impl Model for Bytes {
     ghost Value = { List ℕ };
 
-    ghost view = { λ b. b.bytes.items };
+    ghost view = { λ b. b.bytes.value.items };
 }
 
 impl Bytes {
-    pub fn new(bytes: Vec<u8>) -> Bytes
-        ensures { result ≡ bytes.items }
+    pub fn new(alloc: Global, bytes: Vec<u8>) -> Result<Bytes, NoMemory>
+        ensures { IfOk result (λ b. b ≡ bytes.items) }
     {
-        Bytes { bytes }
-    }
-
-    /// The bytes as a `Vec` again, at no memory.
-    pub fn into_vec(self) -> Vec<u8>
-        ensures { result.items ≡ self }
-    {
-        let Bytes { bytes } = self;
-        bytes
+        let bytes = Rc::new(alloc, bytes)?;
+        Ok(Bytes { bytes })
     }
 
     pub fn from_slice(alloc: Global, bytes: &[u8]) -> Result<Bytes, NoMemory>
         ensures { IfOk result (λ b. b ≡ bytes.now) }
     {
         let bytes = Vec::from_slice(alloc, bytes)?;
-        Ok(Bytes { bytes })
+        Bytes::new(alloc, bytes)
     }
 
     pub fn as_slice(&self) -> &[u8]
@@ -74,6 +70,16 @@ impl Bytes {
         ensures { IsTrue result ↔ (self.now ≡ other.now) }
     {
         self.bytes.as_slice() == other.bytes.as_slice()
+    }
+
+    /// Writes bytes over its own from a place on, and zero bytes into a gap before it: in place, unless other byte
+    /// strings share the text. After want of memory it may be anything.
+    pub fn write_at(&mut self, at: usize, bytes: &[u8]) -> Result<(), NoMemory>
+        ensures { OnOk result (self.new ≡ written self.old at bytes.now) }
+    {
+        let text = Rc::make_mut(&mut self.bytes)?;
+        write_over(text, at, bytes)?;
+        Ok(())
     }
 
     pub fn copy(&self) -> Result<Bytes, NoMemory>

@@ -11,6 +11,10 @@ mod names;
 mod path;
 mod steps;
 mod text;
+mod variables;
+mod vars;
+mod words;
+mod writing;
 
 pub use budget::Budget;
 pub use bytes::Bytes;
@@ -22,6 +26,9 @@ pub use names::NameList;
 pub use path::{Path, PathFault};
 pub use steps::Steps;
 pub use text::is_name;
+pub use variables::is_variable;
+pub use vars::{Var, VarList};
+pub use words::WordList;
 
 #[cfg(test)]
 mod tests;

@@ -11,7 +11,7 @@ ghost use Rattle.rk_base.specs.declared.path.PathFault.TheVariants as fault;
 
 use crate::text::{is_canonical, last_slash};
 use crate::{Bytes, Name, NoMemory};
-use std::alloc::{AllocError, Global};
+use std::alloc::Global;
 use std::cmp::Ordering;
 use std::hash::{Hash, Hasher};
 use std::marker::Model;
@@ -56,49 +56,14 @@ fn stem(dir: &[u8]) -> &[u8]
 }
 
 #[tactic(auto, unfolding(crate::specs::Text::join))]
-fn join(alloc: Global, dir: &[u8], name: &[u8]) -> Result<Vec<u8>, AllocError>
-    ensures { IfOk result (λ v. v.items ≡ join dir.now name.now) }
+fn join(alloc: Global, dir: &[u8], name: &[u8]) -> Result<Bytes, NoMemory>
+    ensures { IfOk result (λ b. b ≡ join dir.now name.now) }
 {
     let mut text = Vec::from_slice(alloc, stem(dir))?;
     text.push(b'/')?;
     text.extend_from_slice(name)?;
+    let text = Bytes::new(alloc, text)?;
     Ok(text)
-}
-
-fn begins_slash(text: &[u8]) -> bool
-    ensures { result ≡ begins_with text.now (47 ∷ []) }
-{
-    match text {
-        [first, ..] => *first == b'/',
-        [] => false,
-    }
-}
-
-fn is_below(above: &[u8], path: &[u8]) -> bool
-    ensures { result ≡ begins_with path.now (stem above.now ++ 47 ∷ []) }
-{
-    match path.strip_prefix(stem(above)) {
-        Some(rest) => begins_slash(rest),
-        None => false,
-    }
-}
-
-fn after(text: &[u8], n: usize) -> &[u8]
-    ensures { result.now ≡ drop n text.now }
-{
-    if n <= text.len() {
-        text.split_at(n).1
-    } else {
-        b""
-    }
-}
-
-fn joined(alloc: Global, front: &[u8], back: &[u8]) -> Result<Bytes, NoMemory>
-    ensures { IfOk result (λ b. b ≡ front.now ++ back.now) }
-{
-    let mut text = Vec::from_slice(alloc, front)?;
-    text.extend_from_slice(back)?;
-    Ok(Bytes::new(text))
 }
 
 impl Path {
@@ -127,9 +92,7 @@ impl Path {
         ensures deeper { depth (join self.now name.now) ≡ depth self.now + 1 }
     {
         let text = join(alloc, self.text.as_slice(), name.as_slice())?;
-        Ok(Path {
-            text: Bytes::new(text),
-        })
+        Ok(Path { text })
     }
 
     /// The canonical text.
@@ -202,32 +165,6 @@ impl Path {
         ensures { result ≡ is_in dir.now self.now }
     {
         !self.is_root() && self.parent_text() == dir.text()
-    }
-
-    /// Whether it is this path or stands anywhere below it.
-    #[tactic(auto, unfolding(crate::specs::Text::is_within))]
-    pub fn is_within(&self, above: &Path) -> bool
-        ensures { result ≡ is_within above.now self.now }
-    {
-        self.text() == above.text() || is_below(above.text(), self.text())
-    }
-
-    /// The path that it has after all within `from` has gone to `to`.
-    #[tactic(auto, unfolding(crate::specs::Text::moved))]
-    pub fn moved(&self, from: &Path, to: &Path) -> Result<Path, NoMemory>
-        requires from { is_root from.now ≡ false }
-        requires to { is_root to.now ≡ false }
-        ensures { IfOk result (λ p. p ≡ moved from.now to.now self.now) }
-    {
-        if !self.is_within(from) {
-            return self.copy();
-        }
-        let text = joined(
-            self.text.allocator(),
-            to.text(),
-            after(self.text(), from.text().len()),
-        )?;
-        Ok(Path { text })
     }
 
     pub fn is_root(&self) -> bool

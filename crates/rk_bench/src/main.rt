@@ -60,7 +60,7 @@ fn file(alloc: Global, i: u32, j: u32) -> Result<Bytes, NoMemory> {
     let mut text = dir(alloc, i)?;
     text.extend_from_slice(b"/f")?;
     push_digits(&mut text, j)?;
-    Ok(Bytes::new(text))
+    Bytes::new(alloc, text)
 }
 
 #[derive(Drop)]
@@ -84,7 +84,7 @@ impl Bench {
 
     // A directory with a hundred files.
     fn fill(&mut self, i: u32) -> Result<(), NoMemory> {
-        let dir = Bytes::new(dir(self.alloc, i)?);
+        let dir = Bytes::new(self.alloc, dir(self.alloc, i)?)?;
         self.ask(&Call::Mkdir(dir, 0o755))?;
         'files: for j in 0..100 {
             let file = file(self.alloc, i, j)?;
@@ -110,7 +110,7 @@ impl Bench {
     }
 
     fn list(&mut self, i: u32) -> Result<(), NoMemory> {
-        let dir = Bytes::new(dir(self.alloc, i)?);
+        let dir = Bytes::new(self.alloc, dir(self.alloc, i)?)?;
         self.ask(&Call::List(dir))
     }
 
@@ -141,7 +141,7 @@ impl Bench {
     }
 
     fn rename_dir(&mut self, i: u32) -> Result<(), NoMemory> {
-        let from = Bytes::new(dir(self.alloc, i)?);
+        let from = Bytes::new(self.alloc, dir(self.alloc, i)?)?;
         let to = Bytes::from_slice(self.alloc, b"/e")?;
         self.rename(from, to)
     }

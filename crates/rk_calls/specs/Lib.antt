@@ -1,3 +1,4 @@
+pub mod Brought
 pub mod Costly
 pub mod Fits
 pub mod Fix
@@ -5,10 +6,12 @@ pub mod Given
 pub mod Heard
 pub mod Keys
 pub mod Laws
+pub mod Lines
+pub mod Places
 pub mod Proper
 pub mod RefMaps
 pub mod Refs
 pub mod Saying
 pub mod Starts
 pub mod Talk
-pub mod Vars
+pub mod Turns

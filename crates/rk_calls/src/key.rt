@@ -4,8 +4,7 @@ ghost use Rattle.std.specs.List.{list_any};
 ghost use Rattle.rk_base.specs.Text.{is_slash};
 ghost use Rattle.rk_calls.specs.Keys.{key_of, takes_variables, is_key};
 
-use crate::{VarList, WordList};
-use rk_base::{Bytes, NoMemory, Path};
+use rk_base::{Bytes, NoMemory, Path, VarList, WordList};
 use std::marker::Model;
 
 /// What a command is known by: its words, its working directory and, where the first word is `sh` or has a

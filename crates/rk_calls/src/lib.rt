@@ -3,31 +3,32 @@
 
 mod answer;
 mod answerer;
+mod answers;
 mod call;
 mod drive;
 mod fitting;
 mod key;
+mod lines;
 mod machine;
-mod named;
+mod places;
 mod refmap;
 mod refs;
 mod same;
 #[cfg(test)]
 mod tests;
 mod turn;
-mod vars;
-mod words;
 
 pub use answer::Answer;
 pub use answerer::Answerer;
+pub use answers::{brought, joined};
 pub use call::{Call, How};
 pub use drive::{Spoke, advance};
 pub use fitting::fits;
 pub use key::Key;
+pub use lines::{error_line, turns};
 pub use machine::{Machine, Maker};
+pub use places::absolute;
 pub use refmap::RefMap;
 pub use refs::Refs;
 pub use same::{same_answer, same_call};
 pub use turn::Turn;
-pub use vars::{Var, VarList};
-pub use words::WordList;

@@ -1,8 +1,8 @@
 // Each call that takes memory, once where there is enough.
 ghost use Rattle.std.specs.Prelude.{◌≡◌, IfOk, length};
 
-use crate::{Answer, Call, How, Key, RefMap, Refs, VarList, WordList, same_answer, same_call};
-use rk_base::{Bytes, Errno, Kind, NameList, NoMemory, Path};
+use crate::{Answer, Call, How, Key, RefMap, Refs, same_answer, same_call};
+use rk_base::{Bytes, Errno, Kind, NameList, NoMemory, Path, VarList, WordList};
 use std::alloc::Global;
 use std::test::Fail;
 

@@ -2,8 +2,8 @@
 ghost use Rattle.std.specs.Prelude.{◌≡◌, IfOk, length};
 
 use crate::{CheckErr, check_with, first_difference};
-use rk_base::{Bytes, Errno, NoMemory, Path};
-use rk_calls::{Answer, Call, Key, Machine, Maker, Turn, VarList, WordList};
+use rk_base::{Bytes, Errno, NoMemory, Path, VarList, WordList};
+use rk_calls::{Answer, Call, Key, Machine, Maker, Turn};
 use std::alloc::Global;
 use std::test::Fail;
 use tr_record::{Step, StepList, Table};

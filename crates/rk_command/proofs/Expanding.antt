@@ -2,7 +2,7 @@
 use Rattle.std.proofs.Common.{◌≡◌, ◌+◌, ℕ, zero, suc, List, [], ◌∷◌, drop, Some, None, option_map, slice_get, refl, sym, ap, ◌∙◌, add-one}
 use Rattle.rk_base.specs.Text.{Text}
 use Rattle.rk_calls.specs.Talk.{Says, pay}
-use Rattle.rk_command.specs.Turns.{turns, pay_words}
+use Rattle.rk_calls.specs.Turns.{turns, pay_words}
 
 one-word : (ws : List Text) (at cost : ℕ) (x : Says) (p : ℕ) → Some cost ≡ option_map turns (slice_get ws at) → pay_words (drop at ws) x p ≡ pay cost (pay_words (drop (suc at) ws) x) p
 one-word [] at cost x p h = cc

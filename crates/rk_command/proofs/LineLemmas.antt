@@ -6,7 +6,7 @@ use Rattle.std.proofs.lemmas.Bool.{and_parts}
 use Rattle.std.proofs.lemmas.Bool.Decides.{leb_tells}
 use Rattle.rk_base.specs.Text.{Text}
 use Rattle.rk_command.specs.Script.{LineValue, is_word, is_cat, is_line, expanded}
-use Rattle.rk_command.specs.Turns.{turns}
+use Rattle.rk_calls.specs.Turns.{turns}
 
 some-words : (ws : List Text) → is_cat ws ≡ true → 0 < length ws
 some-words [] h = cc

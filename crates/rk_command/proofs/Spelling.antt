@@ -9,7 +9,7 @@ use Rattle.std.proofs.lemmas.List.Folds.{list_all-append}
 use Rattle.std.proofs.lemmas.List.Splits.{join_with_byte-slice_split}
 use Rattle.std.proofs.lemmas.Option.{cond_some}
 use Rattle.rk_base.specs.Text.{Text, same_text}
-use Rattle.rk_calls.specs.Keys.{is_more}
+use Rattle.rk_base.specs.Variables.{is_more}
 use Rattle.rk_command.specs.Script.{LineValue, is_word, is_cat, is_line, redirection, spelling, Spells, parts, only_line, output_of, line_of, line_of_parts, script_of}
 use Rattle.rk_command.proofs.ScriptLemmas.{line-read}
 

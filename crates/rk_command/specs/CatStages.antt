@@ -7,7 +7,7 @@ use Rattle.rk_command.specs.declared.cat.Stage.{Stage}
 use Rattle.rk_command.specs.declared.cat.Stage.TheVariants.{Next, Opening, Reading, Writing, Over}
 use Rattle.rk_command.specs.declared.cat.Move.{Move}
 use Rattle.rk_command.specs.declared.cat.Cat.{Cat}
-use Rattle.rk_command.specs.Brought.{brought}
+use Rattle.rk_calls.specs.Brought.{brought}
 use Rattle.rk_command.specs.CatTalk.{GatheredValue, reads_all, opened, added, written, tells}
 
 -- with these inputs left, and with what was gathered so far

@@ -7,12 +7,12 @@ use Rattle.rk_base.specs.declared.errno.Errno.{Errno}
 use Rattle.rk_calls.specs.declared.call.How.TheVariants.{Read as ForReading}
 use Rattle.rk_calls.specs.declared.call.Call.TheVariants.{Open, Read, Write}
 use Rattle.rk_calls.specs.Talk.{Says, ask, exits}
-use Rattle.rk_command.specs.Brought.{brought}
-use Rattle.rk_command.specs.Lines.{error_line}
+use Rattle.rk_calls.specs.Brought.{brought}
+use Rattle.rk_calls.specs.Lines.{error_line}
 use Rattle.rk_command.specs.Options.{operands}
-use Rattle.rk_command.specs.Places.{absolute}
+use Rattle.rk_calls.specs.Places.{absolute}
 use Rattle.rk_command.specs.Telling.{complains}
-use Rattle.rk_command.specs.Turns.{turns}
+use Rattle.rk_calls.specs.Turns.{turns}
 
 abbrev pub cat : Text
 cat = codes "cat"

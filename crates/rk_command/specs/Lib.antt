@@ -1,17 +1,13 @@
-pub mod Brought
 pub mod CatStages
 pub mod CatTalk
 pub mod Complaining
 pub mod First
 pub mod Lasting
-pub mod Lines
 pub mod Options
-pub mod Places
 pub mod Properly
 pub mod Running
 pub mod Script
 pub mod ShellStages
 pub mod ShellTalk
 pub mod Telling
-pub mod Turns
 pub mod UnknownTalk

@@ -9,15 +9,15 @@ use Rattle.rk_calls.specs.Keys.{KeyValue, key_of, shell}
 use Rattle.rk_calls.specs.RefMaps.{with_output}
 use Rattle.rk_calls.specs.Proper.{AsksProperly, proper-exits, proper-ask, proper-pay}
 use Rattle.rk_calls.specs.Talk.{Says}
-use Rattle.rk_command.specs.Brought.{brought, joined}
+use Rattle.rk_calls.specs.Brought.{brought, joined}
 use Rattle.rk_command.specs.CatTalk.{GatheredValue, refused, added, tells, written, writes, opened, reads, reads_all, inputs, nothing, dash, cat, begins}
 use Rattle.rk_command.specs.First.{shells, says_of, first_talk}
 use Rattle.rk_command.specs.Options.{operands}
-use Rattle.rk_command.specs.Places.{absolute}
+use Rattle.rk_calls.specs.Places.{absolute}
 use Rattle.rk_command.specs.Script.{LineValue, expanded, script_of}
 use Rattle.rk_command.specs.ShellTalk.{launches, redirected, redirects, runs_line, script_read, script_opened, runs_script}
 use Rattle.rk_command.specs.Telling.{complains}
-use Rattle.rk_command.specs.Turns.{turns, pay_words}
+use Rattle.rk_calls.specs.Turns.{turns, pay_words}
 use Rattle.rk_command.specs.UnknownTalk.{is_unknown}
 
 proper-if : (b : Bool) (x y : Says) → AsksProperly x → AsksProperly y → AsksProperly (if b then x else y)

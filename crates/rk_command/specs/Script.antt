@@ -2,7 +2,7 @@
 use Rattle.std.specs.Prelude.{◌≡◌, ◌≤◌, ℕ, List, [], ◌∷◌, ◌++◌, length, drop, codes, Option, Some, None, option_to_list, option_and_then, Bool, true, false, ◌&&◌, ◌==◌, nat_le, if◌then◌else◌}
 use Rattle.std.specs.List.{list_all, slice_split, join_with_byte, prefix_len, take_while}
 use Rattle.rk_base.specs.Text.{Text, same_text}
-use Rattle.rk_calls.specs.Keys.{is_more}
+use Rattle.rk_base.specs.Variables.{is_more}
 
 -- a command's words, and where its output goes if not to 1
 pub record LineValue : Type 0 where

@@ -7,10 +7,10 @@ use Rattle.rk_command.specs.declared.shell.Stage.{Stage}
 use Rattle.rk_command.specs.declared.shell.Stage.TheVariants.{Start, Opening, Reading, Expanding, Redirecting, Launched, Over}
 use Rattle.rk_command.specs.declared.shell.Move.{Move}
 use Rattle.rk_command.specs.declared.shell.Shell.{Shell}
-use Rattle.rk_command.specs.Brought.{brought, joined}
+use Rattle.rk_calls.specs.Brought.{brought, joined}
 use Rattle.rk_command.specs.Script.{expanded}
 use Rattle.rk_command.specs.ShellTalk.{runs_script, script_opened, script_read, redirects, redirected}
-use Rattle.rk_command.specs.Turns.{pay_words}
+use Rattle.rk_calls.specs.Turns.{pay_words}
 
 abbrev pub stage_talk : Text → Text → Stage → Answer → Says
 stage_talk wd file Start a = runs_script wd file

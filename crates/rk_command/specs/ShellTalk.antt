@@ -8,12 +8,12 @@ use Rattle.rk_calls.specs.declared.call.Call.TheVariants.{Open, Read, Launch}
 use Rattle.rk_calls.specs.Keys.{key_of, shell}
 use Rattle.rk_calls.specs.RefMaps.{with_output}
 use Rattle.rk_calls.specs.Talk.{Says, pay, ask, exits}
-use Rattle.rk_command.specs.Brought.{brought, joined}
-use Rattle.rk_command.specs.Lines.{error_line}
-use Rattle.rk_command.specs.Places.{absolute}
+use Rattle.rk_calls.specs.Brought.{brought, joined}
+use Rattle.rk_calls.specs.Lines.{error_line}
+use Rattle.rk_calls.specs.Places.{absolute}
 use Rattle.rk_command.specs.Script.{LineValue, expanded, script_of}
 use Rattle.rk_command.specs.Telling.{complains}
-use Rattle.rk_command.specs.Turns.{pay_words}
+use Rattle.rk_calls.specs.Turns.{pay_words}
 
 -- `sh: OPERAND: word`
 abbrev pub refusal : Text → Errno → Text

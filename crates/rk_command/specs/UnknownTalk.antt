@@ -3,7 +3,7 @@ use Rattle.std.specs.Prelude.{codes}
 use Rattle.rk_base.specs.Text.{Text}
 use Rattle.rk_calls.specs.Keys.{shell}
 use Rattle.rk_calls.specs.Talk.{Says}
-use Rattle.rk_command.specs.Lines.{error_line}
+use Rattle.rk_calls.specs.Lines.{error_line}
 use Rattle.rk_command.specs.Telling.{complains}
 
 -- `sh: NAME: not found`, and status 127

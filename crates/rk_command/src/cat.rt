@@ -2,16 +2,13 @@
 ghost use Rattle.std.specs.Prelude.{◌≡◌, ◌∷◌, [], List, IfOk};
 ghost use Rattle.rk_base.specs.Text.{Text};
 ghost use Rattle.rk_calls.specs.Costly.{IsCostly};
-ghost use Rattle.rk_command.specs.Brought.{brought};
+ghost use Rattle.rk_calls.specs.Brought.{brought};
 ghost use Rattle.rk_command.specs.CatTalk.{GatheredValue, tells, written, writes, opened, reads, reads_all, inputs, nothing, added};
 ghost use Rattle.rk_command.specs.CatStages.{IsSaidBy, stage_talk};
 
-use crate::answers::brought;
 use crate::gathered::Gathered;
-use crate::lines::turns;
-use crate::places::absolute;
 use rk_base::{Bytes, NoMemory, Path};
-use rk_calls::{Answer, Call, How, Machine, Turn};
+use rk_calls::{Answer, Call, How, Machine, Turn, absolute, brought, turns};
 use std::alloc::Global;
 use std::collections::VecDeque;
 use std::mem;
@@ -49,38 +46,39 @@ pub(crate) struct Cat {
 }
 
 // The error text, where there is any, and the exit.
-fn tell(gathered: &mut Gathered) -> Move
-    ensures talk { (wd : Text) (inputs : List Text) → IsSaidBy wd (tells gathered.old.errors) inputs gathered.new result }
-    ensures costly { IsCostly result.turn }
+fn tell(gathered: &mut Gathered) -> Result<Move, NoMemory>
+    ensures talk { IfOk result (λ move. (wd : Text) (inputs : List Text) → IsSaidBy wd (tells gathered.old.errors) inputs gathered.new move) }
+    ensures costly { IfOk result (λ move. IsCostly move.turn) }
 {
-    let errors = gathered.take_errors();
+    let errors = gathered.take_errors()?;
     if errors.is_empty() {
-        return Move {
+        return Ok(Move {
             turn: Turn::Exit(0, 0),
             stage: Stage::Over(0),
-        };
+        });
     }
     let cost = 1 + turns(errors.as_slice());
-    Move {
+    Ok(Move {
         turn: Turn::Ask(Call::Write(2, errors), cost),
         stage: Stage::Over(1),
-    }
+    })
 }
 
 // The output, where there is any, and then the error text.
-fn write(gathered: &mut Gathered) -> Move
-    ensures talk { (wd : Text) (inputs : List Text) → IsSaidBy wd (writes gathered.old) inputs gathered.new result }
-    ensures costly { IsCostly result.turn }
+fn write(gathered: &mut Gathered) -> Result<Move, NoMemory>
+    ensures talk { IfOk result (λ move. (wd : Text) (inputs : List Text) → IsSaidBy wd (writes gathered.old) inputs gathered.new move) }
+    ensures costly { IfOk result (λ move. IsCostly move.turn) }
 {
-    let content = gathered.take_content();
+    let content = gathered.take_content()?;
     if content.is_empty() {
-        return tell(gathered);
+        let last = tell(gathered)?;
+        return Ok(last);
     }
     let cost = 1 + turns(content.as_slice());
-    Move {
+    Ok(Move {
         turn: Turn::Ask(Call::Write(1, content), cost),
         stage: Stage::Writing,
-    }
+    })
 }
 
 // After the output was written.
@@ -88,10 +86,11 @@ fn finish(gathered: &mut Gathered, alloc: Global, answer: Answer) -> Result<Move
     ensures talk { IfOk result (λ move. (wd : Text) (inputs : List Text) → IsSaidBy wd (tells (written gathered.old (brought answer)).errors) inputs gathered.new move) }
     ensures costly { IfOk result (λ move. IsCostly move.turn) }
 {
-    if let Err(errno) = brought(alloc, answer) {
+    if let Err(errno) = brought(alloc, answer)? {
         gathered.refuse(b"output", errno)?;
     }
-    Ok(tell(gathered))
+    let last = tell(gathered)?;
+    Ok(last)
 }
 
 // One input: the standard input for `-`, and else a file.
@@ -123,7 +122,10 @@ fn read_next(
     ensures costly { IfOk result (λ move. IsCostly move.turn) }
 {
     match inputs.pop_front() {
-        None => Ok(write(gathered)),
+        None => {
+            let last = write(gathered)?;
+            Ok(last)
+        }
         Some(operand) => read_input(alloc, wd, operand),
     }
 }
@@ -140,7 +142,7 @@ fn read_opened(
     ensures costly { IfOk result (λ move. IsCostly move.turn) }
 {
     let alloc = *inputs.allocator();
-    match brought(alloc, answer) {
+    match brought(alloc, answer)? {
         Err(errno) => {
             gathered.refuse(operand.as_slice(), errno)?;
             read_next(alloc, wd, inputs, gathered)
@@ -167,7 +169,7 @@ fn add_read(
     ensures costly { IfOk result (λ move. IsCostly move.turn) }
 {
     let alloc = *inputs.allocator();
-    gathered.add(operand.as_slice(), brought(alloc, answer))?;
+    gathered.add(operand.as_slice(), brought(alloc, answer)?)?;
     read_next(alloc, wd, inputs, gathered)
 }
 

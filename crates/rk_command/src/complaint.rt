@@ -2,11 +2,10 @@
 ghost use Rattle.std.specs.Prelude.{◌≡◌, IfOk, Some, codes};
 ghost use Rattle.rk_calls.specs.Keys.{shell};
 ghost use Rattle.rk_command.specs.CatTalk.{usage};
-ghost use Rattle.rk_command.specs.Lines.{error_line};
+ghost use Rattle.rk_calls.specs.Lines.{error_line};
 
-use crate::lines::{error_line, turns};
 use rk_base::{Bytes, NoMemory};
-use rk_calls::{Answer, Call, Machine, Turn};
+use rk_calls::{Answer, Call, Machine, Turn, error_line, turns};
 use std::alloc::Global;
 
 /// A text that is to be written to 2, and the status that the command exits with afterwards.

@@ -2,8 +2,8 @@
 ghost use Rattle.std.specs.Prelude.{◌≡◌, ◌+◌, [], IfOk, OnOk, codes};
 ghost use Rattle.rk_command.specs.CatTalk.{refused, added, nothing};
 
-use crate::lines::error_line;
 use rk_base::{Bytes, Errno, NoMemory};
+use rk_calls::error_line;
 use std::alloc::Global;
 use std::marker::Model;
 use std::mem;
@@ -79,20 +79,24 @@ impl Gathered {
     }
 
     /// Takes out what the inputs gave.
-    pub(crate) fn take_content(&mut self) -> Bytes
-        ensures content { result ≡ self.old.content }
-        ensures left { self.new ≡ record self.old { content = [] } }
+    pub(crate) fn take_content(&mut self) -> Result<Bytes, NoMemory>
+        ensures content { IfOk result (λ b. b ≡ self.old.content) }
+        ensures left { OnOk result (self.new ≡ record self.old { content = [] }) }
     {
         let alloc = *self.content.allocator();
-        Bytes::new(mem::replace(&mut self.content, Vec::new(alloc)))
+        let content = mem::replace(&mut self.content, Vec::new(alloc));
+        let content = Bytes::new(alloc, content)?;
+        Ok(content)
     }
 
     /// Takes out the error text.
-    pub(crate) fn take_errors(&mut self) -> Bytes
-        ensures errors { result ≡ self.old.errors }
-        ensures left { self.new ≡ record self.old { errors = [] } }
+    pub(crate) fn take_errors(&mut self) -> Result<Bytes, NoMemory>
+        ensures errors { IfOk result (λ b. b ≡ self.old.errors) }
+        ensures left { OnOk result (self.new ≡ record self.old { errors = [] }) }
     {
         let alloc = *self.errors.allocator();
-        Bytes::new(mem::replace(&mut self.errors, Vec::new(alloc)))
+        let errors = mem::replace(&mut self.errors, Vec::new(alloc));
+        let errors = Bytes::new(alloc, errors)?;
+        Ok(errors)
     }
 }

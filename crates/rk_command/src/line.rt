@@ -1,13 +1,12 @@
 // Lines of scripts.
 ghost use Rattle.std.specs.Prelude.{◌≡◌, ◌≤◌, ◌<◌, ◌++◌, length, true, option_map, option_to_list, slice_get, IfSome, IfOk};
 ghost use Rattle.std.specs.List.{list_all};
-ghost use Rattle.rk_calls.specs.Keys.{is_more};
+ghost use Rattle.rk_base.specs.Variables.{is_more};
 ghost use Rattle.rk_command.specs.Script.{is_word, is_cat, is_line, expanded};
-ghost use Rattle.rk_command.specs.Turns.{turns};
+ghost use Rattle.rk_calls.specs.Turns.{turns};
 
-use crate::lines::turns;
-use rk_base::{Bytes, NoMemory};
-use rk_calls::WordList;
+use rk_base::{Bytes, NoMemory, WordList};
+use rk_calls::turns;
 use std::marker::Model;
 
 /// A command's words, `cat` and at least one more, and where its output goes if not to 1. Each word, and the

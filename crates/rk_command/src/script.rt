@@ -4,8 +4,7 @@ ghost use Rattle.std.specs.List.{prefix_len};
 ghost use Rattle.rk_command.specs.Script.{is_word, parts, only_line, output_of, line_of_parts, script_of, Spells, LineValue};
 
 use crate::line::{Line, is_cat, is_word};
-use rk_base::{Bytes, NoMemory};
-use rk_calls::WordList;
+use rk_base::{Bytes, NoMemory, WordList};
 use std::alloc::Global;
 
 fn place_of(text: &[u8], at: u8) -> Option<usize>

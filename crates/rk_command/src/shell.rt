@@ -2,20 +2,19 @@
 ghost use Rattle.std.specs.Prelude.{◌≡◌, ◌++◌, ℕ, List, Some, None, IfOk, drop};
 ghost use Rattle.rk_base.specs.Text.{Text};
 ghost use Rattle.rk_calls.specs.Costly.{IsCostly};
-ghost use Rattle.rk_command.specs.Brought.{brought};
+ghost use Rattle.rk_calls.specs.Brought.{brought};
 ghost use Rattle.rk_command.specs.Script.{expanded};
 ghost use Rattle.rk_command.specs.ShellTalk.{refusal, syntax_error, launches, redirected, redirects, runs_line, script_read, script_opened, runs_script};
 ghost use Rattle.rk_command.specs.ShellStages.{IsSaidBy, stage_talk};
 ghost use Rattle.rk_command.specs.Telling.{complains};
-ghost use Rattle.rk_command.specs.Turns.{pay_words};
+ghost use Rattle.rk_calls.specs.Turns.{pay_words};
 
-use crate::answers::{brought, joined};
 use crate::line::Line;
-use crate::lines::{error_line, turns};
-use crate::places::absolute;
 use crate::script::read_line;
-use rk_base::{Bytes, Errno, NoMemory, Path};
-use rk_calls::{Answer, Call, How, Key, Machine, RefMap, Turn, VarList};
+use rk_base::{Bytes, Errno, NoMemory, Path, VarList};
+use rk_calls::{
+    Answer, Call, How, Key, Machine, RefMap, Turn, absolute, brought, error_line, joined, turns,
+};
 use std::alloc::Global;
 use std::mem;
 
@@ -105,7 +104,7 @@ impl Shell {
         ensures talk { IfOk result (IsSaidBy self.now.wd self.now.file (script_opened self.now.wd self.now.file (brought answer))) }
         ensures costly { IfOk result (λ move. IsCostly move.turn) }
     {
-        match brought(self.alloc, answer) {
+        match brought(self.alloc, answer)? {
             Err(errno) => refuse(self.alloc, self.file.as_slice(), errno, 127),
             Ok(_) => Ok(Move {
                 turn: Turn::Ask(Call::Read(10), 1),
@@ -140,7 +139,7 @@ impl Shell {
         ensures talk { IfOk result (IsSaidBy self.now.wd self.now.file (script_read self.now.wd self.now.file (brought answer))) }
         ensures costly { IfOk result (λ move. IsCostly move.turn) }
     {
-        match brought(self.alloc, answer) {
+        match brought(self.alloc, answer)? {
             Err(errno) => refuse(self.alloc, self.file.as_slice(), errno, 127),
             Ok(text) => {
                 let line = read_line(self.alloc, text.as_slice())?;
@@ -202,7 +201,7 @@ impl Shell {
         ensures talk { IfOk result (IsSaidBy self.now.wd self.now.file (redirected self.now.wd line.words operand (brought answer))) }
         ensures costly { IfOk result (λ move. IsCostly move.turn) }
     {
-        match brought(self.alloc, answer) {
+        match brought(self.alloc, answer)? {
             Err(errno) => refuse(self.alloc, operand.as_slice(), errno, 1),
             Ok(_) => self.launch(line, 11),
         }

@@ -103,7 +103,10 @@ fn content<F: Folder>(alloc: Global, folder: &mut F, file: &Path) -> Result<Byte
 {
     match folder.read(alloc, file)? {
         Got::Content(bytes) => Ok(bytes),
-        Got::Absent => Ok(Bytes::new(Vec::new(alloc))),
+        Got::Absent => {
+            let none = Bytes::from_slice(alloc, b"")?;
+            Ok(none)
+        }
     }
 }
 

@@ -60,7 +60,11 @@ fn content(rt: &impl Files, alloc: Global, place: &str) -> io::Result<Got> {
     match fs::symlink_metadata(rt, place) {
         Ok(it) if it.is_file() => {
             let mut file = File::open(rt, place)?;
-            Ok(Got::Content(Bytes::new(all_bytes(alloc, &mut file)?)))
+            let bytes = all_bytes(alloc, &mut file)?;
+            match Bytes::new(alloc, bytes) {
+                Ok(bytes) => Ok(Got::Content(bytes)),
+                Err(_) => Err(io::Error::from(ErrorKind::OutOfMemory)),
+            }
         }
         Ok(_) => Err(io::Error::from(ErrorKind::InvalidInput)),
         Err(e) if e.kind() == ErrorKind::NotFound => Ok(Got::Absent),

@@ -1,7 +1,7 @@
 -- The world: a tree, the open descriptions, the pipes, the output and the error text.
-use Rattle.std.specs.Prelude.{ℕ, ◌+◌, ◌-◌, List, [], ◌∷◌, ◌++◌, length, take, drop, position, replicate, Bool, true, false, ◌==◌, if◌then◌else◌, Option, Some, None, slice_get, slice_set, refl}
+use Rattle.std.specs.Prelude.{ℕ, ◌+◌, List, [], ◌∷◌, ◌++◌, length, drop, position, Bool, true, false, ◌==◌, if◌then◌else◌, Option, Some, None, slice_get, slice_set, refl}
 use Rattle.std.specs.Coded.{Coded, code_by, coded×, coded_ℕ, coded_list}
-use Rattle.rk_base.specs.Text.{Text}
+use Rattle.rk_base.specs.Text.{Text, written}
 use Rattle.rk_tree.specs.Entries.{Entries}
 use Rattle.rk_tree.specs.Held.{Held, node, file_bytes, set_bytes}
 use Rattle.rk_tree.specs.Copies.{tree_of}
@@ -46,10 +46,6 @@ fresh_world snapshot = fresh (tree_of snapshot)
 abbrev pub text_of : Option Text → Text
 text_of None = []
 text_of (Some text) = text
-
--- bytes written over a text from a place on; a gap before it becomes zero bytes
-unfoldable pub written : Text → ℕ → Text → Text
-written old at bytes = take at (old ++ replicate (at - length old) 0) ++ bytes ++ drop (at + length bytes) old
 
 -- what there is to read
 abbrev pub rest_of : World → ℕ → Source → Text

@@ -17,7 +17,8 @@ fn special_line(alloc: Global, path: &Path) -> Result<Bytes, NoMemory>
     let mut line = Vec::from_slice(alloc, b"rkr: ")?;
     line.extend_from_slice(path.as_slice())?;
     line.extend_from_slice(b": not a file or directory\n")?;
-    Ok(Bytes::new(line))
+    let line = Bytes::new(alloc, line)?;
+    Ok(line)
 }
 
 fn name_of(file: StateFile) -> &'static [u8]
@@ -38,7 +39,8 @@ fn digests(alloc: Global, kept: &[u8; 32], computed: &[u8; 32]) -> Result<Bytes,
     text.extend_from_slice(kept.as_bytes())?;
     text.extend_from_slice(b", computed ")?;
     text.extend_from_slice(computed.as_bytes())?;
-    Ok(Bytes::new(text))
+    let text = Bytes::new(alloc, text)?;
+    Ok(text)
 }
 
 fn damage_text(alloc: Global, damage: &Damage) -> Result<Bytes, NoMemory>
@@ -60,7 +62,8 @@ fn damaged_line(alloc: Global, file: StateFile, damage: &Damage) -> Result<Bytes
     line.extend_from_slice(b": damaged: ")?;
     line.extend_from_slice(damage.as_slice())?;
     line.push(b'\n')?;
-    Ok(Bytes::new(line))
+    let line = Bytes::new(alloc, line)?;
+    Ok(line)
 }
 
 fn forged_line(alloc: Global, rec: u64, step: u64) -> Result<Bytes, NoMemory>

@@ -49,7 +49,8 @@ pub(crate) fn shown(alloc: Global, text: &[u8]) -> Result<Bytes, NoMemory>
         [..] => {
             let mut out = Vec::new(alloc);
             show_bytes(&mut out, text)?;
-            Ok(Bytes::new(out))
+            let text = Bytes::new(alloc, out)?;
+            Ok(text)
         }
     }
 }

@@ -230,7 +230,7 @@ fn first_db(alloc: Global) -> Result<Bytes, Fail> {
     let _ended = build(alloc, &mut folder, &mut out, &mut err)?;
     match folder.at(&at(alloc, b"/.rkr/db")?) {
         Some(Standing::File(bytes)) => Ok(bytes.copy()?),
-        _ => Ok(Bytes::new(Vec::new(alloc))),
+        _ => Ok(Bytes::from_slice(alloc, b"")?),
     }
 }
 

@@ -6,7 +6,8 @@ use Rattle.std.proofs.lemmas.Bool.{ltb-true, leb-true}
 use Rattle.rk_base.specs.Text.{Text}
 use Rattle.rk_base.specs.Canonical.{is_canonical}
 use Rattle.rk_base.specs.Names.{are_names}
-use Rattle.rk_calls.specs.Keys.{KeyValue, is_key, are_variables}
+use Rattle.rk_base.specs.Variables.{are_variables}
+use Rattle.rk_calls.specs.Keys.{KeyValue, is_key}
 use Rattle.rk_calls.specs.RefMaps.{is_refmap}
 use Rattle.rk_calls.specs.declared.call.Call.{Call}
 use Rattle.rk_calls.specs.declared.call.Call.TheVariants as call

@@ -15,7 +15,7 @@ use Rattle.rk_base.specs.declared.kind.Kind.{Kind}
 use Rattle.rk_base.specs.declared.kind.Kind.TheVariants.{File, Dir, Link}
 use Rattle.rk_calls.specs.Keys.{KeyValue}
 use Rattle.rk_calls.specs.RefMaps.{is_refmap, rise_from}
-use Rattle.rk_calls.specs.declared.vars.Var.{Var}
+use Rattle.rk_base.specs.declared.vars.Var.{Var}
 use Rattle.rk_calls.specs.declared.call.How.{How}
 use Rattle.rk_calls.specs.declared.call.How.TheVariants as how
 use Rattle.rk_calls.specs.declared.call.Call.{Call}

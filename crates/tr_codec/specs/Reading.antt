@@ -8,9 +8,10 @@ use Rattle.rk_base.specs.declared.errno.Errno.{Errno}
 use Rattle.rk_base.specs.declared.errno.Errno.TheVariants as errno
 use Rattle.rk_base.specs.declared.kind.Kind.{Kind}
 use Rattle.rk_base.specs.declared.kind.Kind.TheVariants.{File, Dir, Link}
-use Rattle.rk_calls.specs.Keys.{KeyValue, is_key, are_variables}
+use Rattle.rk_base.specs.Variables.{are_variables}
+use Rattle.rk_calls.specs.Keys.{KeyValue, is_key}
 use Rattle.rk_calls.specs.RefMaps.{is_refmap}
-use Rattle.rk_calls.specs.declared.vars.Var.{Var}
+use Rattle.rk_base.specs.declared.vars.Var.{Var}
 use Rattle.rk_calls.specs.declared.call.How.{How}
 use Rattle.rk_calls.specs.declared.call.How.TheVariants as how
 use Rattle.rk_calls.specs.declared.call.Call.{Call}

@@ -5,8 +5,8 @@ ghost use Rattle.tr_codec.specs.Spelling.{var_piece, key_piece, pair_piece};
 ghost use Rattle.tr_codec.specs.Puts.{Puts};
 
 use crate::writer::Writer;
-use rk_base::{Bytes, NoMemory};
-use rk_calls::{Key, Var};
+use rk_base::{Bytes, NoMemory, Var};
+use rk_calls::Key;
 
 fn put_words(w: &mut Writer, words: &[Bytes]) -> Result<(), NoMemory>
     ensures { OnOk result (Puts (counted blob words.now) w.old w.new) }

@@ -13,7 +13,9 @@ pub(crate) fn seal(mut out: Vec<u8>) -> Result<Bytes, NoMemory>
 {
     let digest = Sha256::digest(out.as_slice());
     out.extend_from_slice(&digest)?;
-    Ok(Bytes::new(out))
+    let alloc = *out.allocator();
+    let bytes = Bytes::new(alloc, out)?;
+    Ok(bytes)
 }
 
 pub(crate) fn is_same(a: &[u8], b: &[u8]) -> bool

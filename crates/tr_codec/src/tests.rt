@@ -5,8 +5,8 @@ mod forms;
 mod kinds;
 
 use crate::write_db;
-use rk_base::{Bytes, NoMemory, Path};
-use rk_calls::{Answer, Call, How, Key, RefMap, VarList, WordList};
+use rk_base::{Bytes, NoMemory, Path, VarList, WordList};
+use rk_calls::{Answer, Call, How, Key, RefMap};
 use std::alloc::Global;
 use std::test::Fail;
 use tr_record::{Step, Table};

@@ -2,7 +2,7 @@
 use Rattle.std.proofs.Common.{◌≡◌, ◌∙◌, ap, refl, sym, Bool, true, false, ◌&&◌, List, ℕ}
 use Rattle.std.specs.Bool.{Decides}
 use Rattle.std.specs.Cmp.Lexicographic.{pointwise_decides, bytes_decides}
-use Rattle.rk_calls.specs.declared.vars.Var.{Var}
+use Rattle.rk_base.specs.declared.vars.Var.{Var}
 use Rattle.rk_calls.specs.Keys.{KeyValue, same_var, same_key}
 
 both : (a b : Bool) → (a && b) ≡ true → (a ≡ true) × (b ≡ true)

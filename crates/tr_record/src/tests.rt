@@ -1,7 +1,7 @@
 // A table of three commands, of which two have one key.
 use crate::{Step, Table};
-use rk_base::{Bytes, NoMemory, Path};
-use rk_calls::{Answer, Call, Key, VarList, WordList};
+use rk_base::{Bytes, NoMemory, Path, VarList, WordList};
+use rk_calls::{Answer, Call, Key};
 use std::alloc::Global;
 use std::test::Fail;
 

@@ -1,5 +1,5 @@
 // Open.
-ghost use Rattle.std.specs.Prelude.{◌≡◌, IfOk};
+ghost use Rattle.std.specs.Prelude.{◌≡◌, IfOk, OnOk};
 ghost use Rattle.rk_calls.specs.declared.call.Call.TheVariants.{Open};
 ghost use Rattle.rk_tree.specs.Held as held;
 ghost use Rattle.rk_tree.specs.Whole.{MayHold};
@@ -72,7 +72,7 @@ impl World {
         if is_read(how) {
             return Ok(Answer::No(Errno::NoEntry));
         }
-        let none = Bytes::new(Vec::new(self.allocator()));
+        let none = Bytes::from_slice(self.allocator(), b"")?;
         match self.tree.add(dir, &name, Entry::File(0o644, none)) {
             Ok(n) => {
                 let answer = self.opens(refs, how, n)?;
@@ -84,16 +84,17 @@ impl World {
     }
 
     // Make empties what is there.
-    fn empties(&mut self, how: How, n: usize)
-        ensures { self.new ≡ with_tree self.old (rows.emptied how self.old.tree n) }
+    fn empties(&mut self, how: How, n: usize) -> Result<(), NoMemory>
+        ensures { OnOk result (self.new ≡ with_tree self.old (rows.emptied how self.old.tree n)) }
     {
         match how {
-            How::Read => {}
+            How::Read => Ok(()),
             How::Make => {
-                let none = Bytes::new(Vec::new(self.allocator()));
+                let none = Bytes::from_slice(self.allocator(), b"")?;
                 self.tree.set_bytes(n, none);
+                Ok(())
             }
-            How::Append => {}
+            How::Append => Ok(()),
         }
     }
 
@@ -113,7 +114,7 @@ impl World {
         if lacks(how, self.tree.mode(n)) {
             return Ok(Answer::No(Errno::Denied));
         }
-        self.empties(how, n);
+        self.empties(how, n)?;
         let answer = self.opens(refs, how, n)?;
         Ok(answer)
     }

@@ -11,7 +11,7 @@ impl World {
     pub(super) fn pipe(&mut self, refs: &mut Refs) -> Result<Answer, NoMemory>
         ensures { IfOk result (λ a. record { answer = a; refs = refs.new; world = self.new } ≡ all.piped self.old refs.old) }
     {
-        let none = Bytes::new(Vec::new(self.allocator()));
+        let none = Bytes::from_slice(self.allocator(), b"")?;
         let p = self.pipes.len();
         let d = self.opens.len();
         self.pipes.push(none)?;

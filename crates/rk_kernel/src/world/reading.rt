@@ -82,21 +82,23 @@ impl World {
     }
 
     // The offset goes to the end, and a pipe is emptied.
-    fn after_read(&mut self, k: usize, d: Description)
-        ensures { self.new ≡ after_read self.old k d d.source }
+    fn after_read(&mut self, k: usize, d: Description) -> Result<(), NoMemory>
+        ensures { OnOk result (self.new ≡ after_read self.old k d d.source) }
     {
         match d.source {
             Source::Node(n) => {
                 let end = self.tree.bytes(n).len();
-                self.set_offset(k, d, end)
+                self.set_offset(k, d, end);
+                Ok(())
             }
             Source::Pipe(p) => {
-                let none = Bytes::new(Vec::new(self.allocator()));
-                self.set_pipe(p, none)
+                let none = Bytes::from_slice(self.allocator(), b"")?;
+                self.set_pipe(p, none);
+                Ok(())
             }
-            Source::Output => {}
-            Source::ErrorText => {}
-            Source::Nothing => {}
+            Source::Output => Ok(()),
+            Source::ErrorText => Ok(()),
+            Source::Nothing => Ok(()),
         }
     }
 
@@ -113,7 +115,7 @@ impl World {
                         return Ok(Answer::No(Errno::BadRef));
                     }
                     let bytes = self.rest_of(self.allocator(), d.offset, d.source)?;
-                    self.after_read(k, d);
+                    self.after_read(k, d)?;
                     Ok(Answer::Content(bytes))
                 }
             },

@@ -2,7 +2,8 @@
 ghost use Rattle.std.specs.Prelude.{◌≡◌, ◌+◌, ◌-◌, ◌++◌, IfOk, OnOk, if◌then◌else◌, take, replicate, length};
 ghost use Rattle.rk_base.specs.Canonical.{is_empty};
 ghost use Rattle.rk_calls.specs.declared.call.Call.TheVariants.{Write};
-ghost use Rattle.rk_kernel.specs.World.{after_write, written};
+ghost use Rattle.rk_kernel.specs.World.{after_write};
+ghost use Rattle.rk_base.specs.Text.{written};
 ghost use Rattle.rk_kernel.specs.Do as all;
 ghost use Rattle.rk_kernel.specs.declared.description.Source.TheVariants as source;
 
@@ -17,7 +18,8 @@ fn joined(alloc: Global, a: &[u8], b: &[u8]) -> Result<Bytes, NoMemory>
 {
     let mut all = Vec::from_slice(alloc, a)?;
     all.extend_from_slice(b)?;
-    Ok(Bytes::new(all))
+    let all = Bytes::new(alloc, all)?;
+    Ok(all)
 }
 
 // What stands before a place, with zero bytes up to it.
@@ -35,7 +37,7 @@ fn padded(alloc: Global, old: &[u8], at: usize) -> Result<Vec<u8>, NoMemory>
 }
 
 // Bytes written over others from a place on.
-#[tactic(auto, unfolding(crate::specs::World::written))]
+#[tactic(auto, unfolding(rk_base::specs::Text::written))]
 fn written(
     alloc: Global,
     old: &[u8],
@@ -49,7 +51,8 @@ fn written(
     let mut new = padded(alloc, old, at)?;
     new.extend_from_slice(bytes)?;
     new.extend_from_slice(after(old, end))?;
-    Ok(Bytes::new(new))
+    let new = Bytes::new(alloc, new)?;
+    Ok(new)
 }
 
 impl World {

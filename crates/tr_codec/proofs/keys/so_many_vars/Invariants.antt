@@ -1,5 +1,5 @@
 use Rattle.std.proofs.Common.{◌≡◌, ◌-◌, List, []}
-use Rattle.rk_calls.specs.declared.vars.Var.{Var}
+use Rattle.rk_base.specs.declared.vars.Var.{Var}
 use Rattle.tr_codec.specs.Reading.{var_at, many_at}
 use Rattle.tr_codec.proofs.keys.so_many_vars.Given as goal
 

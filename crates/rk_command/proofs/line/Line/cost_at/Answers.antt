@@ -1,6 +1,6 @@
 use Rattle.std.proofs.Common.{Some, option_map, ap, sym, ◌∙◌, arith}
 use Rattle.rk_command.specs.Script.{is_line}
-use Rattle.rk_command.specs.Turns.{turns}
+use Rattle.rk_calls.specs.Turns.{turns}
 use Rattle.rk_command.proofs.LineLemmas.{line-costs, at-word, at-operand, at-none}
 use Rattle.rk_command.proofs.line.Line.cost_at.Goals as goal
 

@@ -1,7 +1,7 @@
 // Operands as the texts of paths.
 ghost use Rattle.std.specs.Prelude.{◌≡◌, IfOk};
 ghost use Rattle.rk_base.specs.Text.{stem, join};
-ghost use Rattle.rk_command.specs.Places.{absolute};
+ghost use Rattle.rk_calls.specs.Places.{absolute};
 
 use rk_base::{Bytes, NoMemory, Path};
 use std::alloc::Global;
@@ -20,16 +20,17 @@ fn join(alloc: Global, wd: &Path, operand: &[u8]) -> Result<Bytes, NoMemory>
     let mut path = Vec::from_slice(alloc, stem(wd))?;
     path.push(b'/')?;
     path.extend_from_slice(operand)?;
-    Ok(Bytes::new(path))
+    let path = Bytes::new(alloc, path)?;
+    Ok(path)
 }
 
 /// The text of the path that an operand names, from a working directory. An empty operand stays empty.
 #[tactic(auto, unfolding(crate::specs::Places::absolute))]
-pub(crate) fn absolute(alloc: Global, wd: &Path, operand: &[u8]) -> Result<Bytes, NoMemory>
+pub fn absolute(alloc: Global, wd: &Path, operand: &[u8]) -> Result<Bytes, NoMemory>
     ensures { IfOk result (λ path. path ≡ absolute wd.now operand.now) }
 {
     match operand {
-        [] => Ok(Bytes::new(Vec::new(alloc))),
+        [] => Bytes::from_slice(alloc, b""),
         [b'/', ..] => Bytes::from_slice(alloc, operand),
         [_, ..] => join(alloc, wd, operand),
     }

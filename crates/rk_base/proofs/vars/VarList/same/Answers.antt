@@ -3,9 +3,9 @@ use Rattle.std.specs.Bool.{Decides}
 use Rattle.std.proofs.lemmas.Grind.{common_steps}
 use Rattle.std.proofs.lemmas.Slice.Eq.{slice_eq-Decides}
 use Rattle.std.specs.Cmp.Lexicographic.{bytes_decides}
-use Rattle.rk_calls.specs.declared.vars.Var.{Var}
-use Rattle.rk_calls.specs.Vars.{var_eq}
-use Rattle.rk_calls.proofs.vars.VarList.same.Goals as goal
+use Rattle.rk_base.specs.declared.vars.Var.{Var}
+use Rattle.rk_base.specs.Vars.{var_eq}
+use Rattle.rk_base.proofs.vars.VarList.same.Goals as goal
 
 both : (a b : Bool) → (a && b) ≡ true → (a ≡ true) × (b ≡ true)
 both true b h = (refl, h)

@@ -1,15 +1,15 @@
 // Lists of variables.
 ghost use Rattle.std.specs.Prelude.{◌≡◌, ◌↔◌, IsTrue, [], IfOk, Some, None, true, if◌then◌else◌};
-ghost use Rattle.rk_calls.specs.Keys.{are_variables};
+ghost use Rattle.rk_base.specs.Variables.{are_variables};
 
-use crate::named::are_variables;
-use rk_base::{Bytes, NoMemory};
+use crate::variables::are_variables;
+use crate::{Bytes, NoMemory};
 use std::alloc::Global;
 use std::hash::{Hash, Hasher};
 use std::marker::Model;
 
 /// A variable: its name and its value.
-#[derive(Debug, Drop, Clone, PartialEq, Eq)]
+#[derive(Debug, Drop, Clone, PartialEq, Eq, Hash)]
 pub struct Var {
     pub name: Bytes,
     pub value: Bytes,
@@ -23,8 +23,8 @@ pub struct VarList {
 
 impl Model for VarList {
     ghost use Rattle.std.specs.Prelude.{◌≡◌, List, true};
-    ghost use Rattle.rk_calls.specs.declared.vars.Var.{Var};
-    ghost use Rattle.rk_calls.specs.Keys.{are_variables};
+    ghost use Rattle.rk_base.specs.declared.vars.Var.{Var};
+    ghost use Rattle.rk_base.specs.Variables.{are_variables};
 
     ghost Value = { List Var };
 
@@ -94,7 +94,7 @@ impl VarList {
 impl PartialEq for VarList {
     ghost use Rattle.std.specs.Cmp.{partial_equiv_from_equiv};
     ghost use Rattle.std.specs.Cmp.Lexicographic.{pointwise, lists_equiv};
-    ghost use Rattle.rk_calls.specs.Vars.{var_eq, var_eq_equiv};
+    ghost use Rattle.rk_base.specs.Vars.{var_eq, var_eq_equiv};
 
     ghost eq = { pointwise var_eq };
 
@@ -107,21 +107,20 @@ impl PartialEq for VarList {
 
 impl Eq for VarList {
     ghost use Rattle.std.specs.Cmp.Lexicographic.{lists_equiv};
-    ghost use Rattle.rk_calls.specs.Vars.{var_eq_equiv};
+    ghost use Rattle.rk_base.specs.Vars.{var_eq_equiv};
 
     ghost laws = { lists_equiv var_eq_equiv };
 }
 
-// Equal lists feed alike, since they feed nothing: few keys differ in their variables alone.
 impl Hash for VarList {
-    ghost use Rattle.std.specs.Prelude.{[]};
-    ghost use Rattle.std.specs.Hash.{none_alike};
-    ghost use Rattle.std.specs.Cmp.Lexicographic.{pointwise};
-    ghost use Rattle.rk_calls.specs.Vars.{var_eq};
+    ghost use Rattle.std.specs.Hash as fed;
+    ghost use Rattle.rk_base.specs.Vars.{var_writes, var_alike};
 
-    ghost hash_input = { λ _. [] };
+    ghost hash_input = { fed.slice var_writes };
 
-    ghost respects_eq = { (none_alike (pointwise var_eq)).fed };
+    ghost respects_eq = { (fed.items_Alike var_alike).fed };
 
-    fn hash<H: Hasher>(&self, _state: &mut H) {}
+    fn hash<H: Hasher>(&self, state: &mut H) {
+        self.vars.as_slice().hash(state);
+    }
 }

@@ -1,14 +1,14 @@
 // Lines of error text, and what bytes cost.
 ghost use Rattle.std.specs.Prelude.{◌≡◌, ◌<◌, ◌^◌, IfOk};
-ghost use Rattle.rk_command.specs.Lines.{error_line};
-ghost use Rattle.rk_command.specs.Turns.{turns};
+ghost use Rattle.rk_calls.specs.Lines.{error_line};
+ghost use Rattle.rk_calls.specs.Turns.{turns};
 
 use rk_base::{Bytes, NoMemory};
 use std::alloc::Global;
 
 /// What bytes cost, in turns: one for each 64 bytes, rounded up.
 #[tactic(auto, unfolding(crate::specs::Turns::turns))]
-pub(crate) fn turns(bytes: &[u8]) -> u64
+pub fn turns(bytes: &[u8]) -> u64
     ensures turns { result ≡ turns bytes.now }
     ensures small { result < 2 ^ 60 }
 {
@@ -17,7 +17,7 @@ pub(crate) fn turns(bytes: &[u8]) -> u64
 
 /// `NAME: OPERAND: word` and a newline.
 #[tactic(auto, unfolding(crate::specs::Lines::error_line))]
-pub(crate) fn error_line(
+pub fn error_line(
     alloc: Global,
     name: &[u8],
     operand: &[u8],
@@ -31,5 +31,6 @@ pub(crate) fn error_line(
     line.extend_from_slice(b": ")?;
     line.extend_from_slice(word)?;
     line.push(b'\n')?;
-    Ok(Bytes::new(line))
+    let line = Bytes::new(alloc, line)?;
+    Ok(line)
 }

@@ -4,7 +4,7 @@ ghost use Rattle.std.specs.Hash as fed;
 ghost use Rattle.std.specs.Cmp.{partial_equiv_from_equiv, nat_eq_equiv, unsigned_Decides};
 ghost use Rattle.std.specs.Cmp.Lexicographic.{pointwise, lists_equiv};
 
-use rk_base::{Bytes, NoMemory};
+use crate::{Bytes, NoMemory};
 use std::alloc::Global;
 use std::hash::{Hash, Hasher};
 use std::marker::Model;

@@ -1,7 +1,7 @@
 use Rattle.std.proofs.Common.{ap, List}
-use Rattle.rk_calls.specs.declared.vars.Var.{Var}
-use Rattle.rk_calls.specs.Keys.{are_variables}
-use Rattle.rk_calls.proofs.vars.VarList.new.Goals as goal
+use Rattle.rk_base.specs.declared.vars.Var.{Var}
+use Rattle.rk_base.specs.Variables.{are_variables}
+use Rattle.rk_base.proofs.vars.VarList.new.Goals as goal
 
 pub invariant_of-result : goal.invariant_of-result
 unfolding are_variables

@@ -2,7 +2,7 @@ use Rattle.std.proofs.Common.{arith}
 use Rattle.std.proofs.lemmas.Grind.{common_steps}
 use Rattle.std.proofs.lemmas.Slice.Eq.{slice_eq-Decides}
 use Rattle.std.specs.Cmp.Lexicographic.{bytes_decides}
-use Rattle.rk_calls.proofs.words.WordList.same.Goals as goal
+use Rattle.rk_base.proofs.words.WordList.same.Goals as goal
 
 pub returns : goal.returns
 returns c =

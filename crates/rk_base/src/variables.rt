@@ -2,11 +2,11 @@
 ghost use Rattle.std.specs.Prelude.{◌≡◌};
 ghost use Rattle.std.specs.List.{list_all};
 ghost use Rattle.std.specs.Ordering.{is_lt};
+ghost use Rattle.rk_base.specs.Names.{ascend, ascend_from};
 ghost use Rattle.rk_base.specs.Text.{text_cmp};
-ghost use Rattle.rk_calls.specs.Keys.{is_start, is_more, is_variable, ascend_from, ascend, are_variables};
+ghost use Rattle.rk_base.specs.Variables.{is_start, is_more, is_variable, names_of, are_variables};
 
-use crate::Var;
-use rk_base::Bytes;
+use crate::{Bytes, Var};
 
 fn is_start(b: u8) -> bool
     ensures { result ≡ is_start b }
@@ -26,7 +26,8 @@ fn all_more(text: &[u8]) -> bool
     text.iter().all(|b| is_more(*b))
 }
 
-fn is_variable(name: &[u8]) -> bool
+/// Whether it is the name of a variable: a letter or `_`, then letters, digits and `_` (XBD 3.235).
+pub fn is_variable(name: &[u8]) -> bool
     ensures { result ≡ is_variable name.now }
 {
     match name {
@@ -42,7 +43,7 @@ fn is_below(a: &Bytes, b: &Bytes) -> bool
 }
 
 fn ascends_from(first: &Bytes, vars: &[Var]) -> bool
-    ensures { result ≡ ascend_from first.now vars.now }
+    ensures { result ≡ ascend_from first.now (names_of vars.now) }
 {
     let mut last = first;
     'vars: for var in vars {
@@ -55,7 +56,7 @@ fn ascends_from(first: &Bytes, vars: &[Var]) -> bool
 }
 
 fn ascends(vars: &[Var]) -> bool
-    ensures { result ≡ ascend vars.now }
+    ensures { result ≡ ascend (names_of vars.now) }
 {
     match vars {
         [] => true,
@@ -70,7 +71,7 @@ fn all_named(vars: &[Var]) -> bool
 }
 
 /// Whether these are variables, ascending by name.
-#[tactic(auto, unfolding(crate::specs::Keys::are_variables))]
+#[tactic(auto, unfolding(crate::specs::Variables::are_variables))]
 pub(crate) fn are_variables(vars: &[Var]) -> bool
     ensures { result ≡ are_variables vars.now }
 {
