@@ -1,5 +1,5 @@
 -- The world: a tree, the open descriptions, the pipes, the output and the error text.
-use Rattle.std.specs.Prelude.{ℕ, ◌+◌, List, [], ◌∷◌, ◌++◌, length, drop, position, Bool, true, false, ◌==◌, if◌then◌else◌, Option, Some, None, slice_get, slice_set, refl}
+use Rattle.std.specs.Prelude.{ℕ, ◌+◌, List, [], ◌∷◌, ◌++◌, length, take, drop, position, Bool, true, false, ◌==◌, if◌then◌else◌, Option, Some, None, slice_get, slice_set, refl}
 use Rattle.std.specs.Coded.{Coded, code_by, coded×, coded_ℕ, coded_list}
 use Rattle.rk_base.specs.Text.{Text, written}
 use Rattle.rk_tree.specs.Entries.{Entries}
