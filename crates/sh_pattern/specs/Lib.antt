@@ -1,0 +1,6 @@
+pub mod Classes
+pub mod Decided
+pub mod Matching
+pub mod Parts
+pub mod Sets
+pub mod Walking

@@ -1,0 +1,53 @@
+// Patterns against texts. The expected answers are those of dash and bash.
+use crate::{matches, prefix, suffix};
+use std::test::Fail;
+
+#[test]
+fn matches_texts(rt: HostRuntime) -> Result<(), Fail> {
+    for (pattern, text, answer) in [
+        (b"".as_slice(), b"".as_slice(), true),
+        (b"a", b"", false),
+        (b"*", b"", true),
+        (b"?", b"", false),
+        (b"?", b"\xff", true),
+        (b"a*c", b"abc", true),
+        (b"*a*b*", b"xxaybz", true),
+        (b"*a*a*a*a*b", b"aaaaaaaaaaaaaaaaaaaaaaaaaaaaaaaa", false),
+        (b"\\*", b"*", true),
+        (b"\\*", b"x", false),
+        (b"a\\", b"a\\", true),
+        (b"[!a-c]x", b"dx", true),
+        (b"[!a-c]x", b"bx", false),
+        (b"[a-c]", b"c", true),
+        (b"[c-a]", b"b", false),
+        (b"[]a]", b"]", true),
+        (b"[!]a]", b"]", false),
+        (b"[a-]", b"-", true),
+        (b"[a\\-z]", b"m", false),
+        (b"[\\]]", b"]", true),
+        (b"[[:digit:]-]*", b"-5", true),
+        (b"[[:upper:][:blank:]]", b" ", true),
+        (b"[[:upper:][:blank:]]", b"a", false),
+        (b"[a", b"[a", true),
+        (b"[[:alpha:]", b"[p", true),
+        (b"[[:alpha:]", b"a", false),
+        (b"[[:foo:]]", b"f]", true),
+        (b"[A-[:x]", b"B", true),
+    ] {
+        assert_eq!(rt; matches(pattern, text), answer);
+    }
+    Ok(())
+}
+
+#[test]
+fn finds_ends(rt: HostRuntime) -> Result<(), Fail> {
+    assert_eq!(rt; suffix(b".*", b"a.b.c", false), Some(2));
+    assert_eq!(rt; suffix(b".*", b"a.b.c", true), Some(4));
+    assert_eq!(rt; prefix(b"*.", b"a.b.c", false), Some(2));
+    assert_eq!(rt; prefix(b"*.", b"a.b.c", true), Some(4));
+    assert_eq!(rt; prefix(b"*/", b"abc", true), None);
+    assert_eq!(rt; suffix(b"?c", b"abc", true), Some(2));
+    assert_eq!(rt; suffix(b"*", b"abc", false), Some(0));
+    assert_eq!(rt; suffix(b"b", b"abc", true), None);
+    Ok(())
+}
