@@ -1,0 +1,15 @@
+//! The variables of a shell with their flags, its positional parameters, and what else expansion and builtins are lent
+//! (XCU 2.5).
+#![tactic(auto)]
+
+mod env;
+mod rows;
+mod variable;
+mod vars;
+
+pub use env::Env;
+pub use variable::Variable;
+pub use vars::{Saved, VarErr, Vars};
+
+#[cfg(test)]
+mod tests;
