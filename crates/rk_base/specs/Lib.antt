@@ -3,6 +3,7 @@ pub mod Errno
 pub mod Faults
 pub mod Names
 pub mod Paid
+pub mod Sorted
 pub mod Text
 pub mod Variables
 pub mod Vars
