@@ -1,0 +1,84 @@
+-- The rules by which a word is cut into fields.
+use Rattle.std.specs.Prelude.{◌≡◌, ◌≢◌, ◌⊎◌, List, [], ◌∷◌, ◌++◌}
+use Rattle.sh_split.specs.declared.mark.Mark.{Mark}
+use Rattle.sh_split.specs.declared.mark.Kind.{Kind}
+use Rattle.sh_split.specs.declared.mark.Kind.TheVariants.{White, Hard, Matter, Break}
+
+abbrev pub Marks : Type 0
+Marks = List Mark
+
+module _ (kind : Mark → Kind) where
+  -- all marks are of one kind
+  abbrev pub IsRun : Kind → Marks → Type 0
+  IsRun k [] = Unit {0}
+  IsRun k (m ∷ ms) = (kind m ≡ k) × IsRun k ms
+
+  -- no mark of a kind comes first
+  abbrev pub NotFirst : Kind → Marks → Type 0
+  NotFirst k [] = Unit {0}
+  NotFirst k (m ∷ ms) = kind m ≢ k
+
+  -- white space, all that stands there and nothing else that delimits
+  pub record IsBlank (delimiter rest : Marks) : Type 0 where
+    pub some : delimiter ≢ []
+    pub white : IsRun White delimiter
+    pub no_more : NotFirst White rest
+    pub alone : NotFirst Hard rest
+
+  -- another byte of IFS, with all white space beside it
+  pub record IsHard (delimiter rest : Marks) : Type 0 where
+    pub before : Marks
+    pub byte : Mark
+    pub after : Marks
+    pub whole : delimiter ≡ before ++ byte ∷ after
+    pub white_before : IsRun White before
+    pub hard : kind byte ≡ Hard
+    pub white_after : IsRun White after
+    pub no_more : NotFirst White rest
+
+  -- nothing follows
+  abbrev pub IsLast : Marks → Marks → Type 0
+  IsLast delimiter rest = (delimiter ≡ []) × (rest ≡ [])
+
+  -- a field and what delimits it; only another byte of IFS delimits an empty one
+  abbrev pub Delimits : Marks → Marks → Marks → Type 0
+  Delimits field delimiter rest = ((field ≢ []) × IsBlank delimiter rest) ⊎ (IsHard delimiter rest ⊎ ((field ≢ []) × IsLast delimiter rest))
+
+  -- the fields, each with its delimiter, one after another
+  abbrev pub AreFields : List Marks → Marks → Type 0
+  AreFields [] text = text ≡ []
+  AreFields (field ∷ fields) text =
+      (delimiter : Marks) × (rest : Marks) × (text ≡ field ++ (delimiter ++ rest)) × IsRun Matter field × Delimits field delimiter rest × AreFields fields rest
+
+  -- the cutting of a text without breaks: white space at its beginning is left out
+  pub record IsCut (text : Marks) (fields : List Marks) : Type 0 where
+    pub lead : Marks
+    pub rest : Marks
+    pub whole : text ≡ lead ++ rest
+    pub white : IsRun White lead
+    pub no_more : NotFirst White rest
+    pub are : AreFields fields rest
+
+  -- the cutting of a text whose breaks stand between these
+  abbrev pub AreCut : List Marks → List Marks → Type 0
+  AreCut [] fields = fields ≡ []
+  AreCut (text ∷ texts) fields = (first : List Marks) × (others : List Marks) × (fields ≡ first ++ others) × IsCut text first × AreCut texts others
+
+abbrev pub put : Mark → List Marks → List Marks
+put m [] = (m ∷ []) ∷ []
+put m (ms ∷ others) = (m ∷ ms) ∷ others
+
+abbrev pub parted : Kind → Mark → List Marks → List Marks
+parted White m texts = put m texts
+parted Hard m texts = put m texts
+parted Matter m texts = put m texts
+parted Break m texts = [] ∷ texts
+
+-- the texts between breaks
+abbrev pub between : (Mark → Kind) → Marks → List Marks
+between kind [] = [] ∷ []
+between kind (m ∷ ms) = parted (kind m) m (between kind ms)
+
+-- these are the fields of an expanded word
+unfoldable pub IsCutting : (Mark → Kind) → Marks → List Marks → Type 0
+IsCutting kind text fields = AreCut kind (between kind text) fields
