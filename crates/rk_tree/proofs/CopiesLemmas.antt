@@ -11,9 +11,9 @@ use Rattle.std.specs.FinMap.Entries.{below_all}
 use Rattle.std.specs.FinMap.{entries, get, find, is_sorted, values, get-entries, entries_sorted}
 use Rattle.rk_base.specs.Text.{Text, text_cmp, root, parent}
 use Rattle.rk_base.specs.Canonical.{is_canonical}
-use Rattle.rk_tree.specs.declared.entry.Entry.{Entry}
+use Rattle.rk_tree.specs.Node.{Node}
 use Rattle.rk_tree.specs.Entries.{Entries, is_dir, IsWholeSnapshot}
-use Rattle.rk_tree.specs.Held.{Held, node, number_at}
+use Rattle.rk_tree.specs.Hierarchy.{Hierarchy, node, number_at}
 use Rattle.rk_tree.specs.Whole.{IsWhole}
 use Rattle.rk_tree.specs.Copies.{entry_row, snapshot_of, numbered, tree_of}
 use Rattle.rk_tree.proofs.RowsLemmas.{same_maps, get-found, and_first, and_second, find_below}
@@ -26,64 +26,64 @@ both false b h k = absurd h
 
 -- The snapshot of a tree.
 
-abbrev pub found_row : Text → Option Entry → Option (Text × Entry)
+abbrev pub found_row : Text → Option Node → Option (Text × Node)
 found_row path o = option_map (λ it. (path, it)) o
 
-abbrev pub and_row : Option (Text × Entry) → List (Text × Entry) → List (Text × Entry)
+abbrev pub and_row : Option (Text × Node) → List (Text × Node) → List (Text × Node)
 and_row None rows = rows
 and_row (Some row) rows = row ∷ rows
 
 -- what a filtered row has
-find-found : (nodes : List Entry) (q : Text) (rows : List (Text × ℕ)) → T (is_sorted text_cmp rows) → find text_cmp q (filter_map (entry_row nodes) rows) ≡ option_and_then (slice_get nodes) (find text_cmp q rows)
+find-found : (nodes : List Node) (q : Text) (rows : List (Text × ℕ)) → T (is_sorted text_cmp rows) → find text_cmp q (filter_map (entry_row nodes) rows) ≡ option_and_then (slice_get nodes) (find text_cmp q rows)
 find-found nodes q [] h = refl
 find-found nodes q (row ∷ rows) h =
     let rest = find-found nodes q rows (and_second _ _ h) in
     elim (told_apart q row.0) [
       | inl same ↦
           let none : find text_cmp q rows ≡ None = ap (λ (t : Text). find text_cmp t rows) same.0 ∙ find_below row.0 rows (and_first _ _ h) in
-          (elim (slice_get nodes row.1) as (λ (o : Option Entry). find text_cmp q (and_row (found_row row.0 o) (filter_map (entry_row nodes) rows)) ≡ o) [
+          (elim (slice_get nodes row.1) as (λ (o : Option Node). find text_cmp q (and_row (found_row row.0 o) (filter_map (entry_row nodes) rows)) ≡ o) [
             | None ↦ rest ∙ ap (option_and_then (slice_get nodes)) none
             | Some it ↦ ap (λ (b : Bool). cond b (Some it) (find text_cmp q (filter_map (entry_row nodes) rows))) same.1
           ]) ∙ sym (ap (λ (b : Bool). option_and_then (slice_get nodes) (cond b (Some row.1) (find text_cmp q rows))) same.1)
       | inr apart ↦
-          (elim (slice_get nodes row.1) as (λ (o : Option Entry). find text_cmp q (and_row (found_row row.0 o) (filter_map (entry_row nodes) rows)) ≡ find text_cmp q (filter_map (entry_row nodes) rows)) [
+          (elim (slice_get nodes row.1) as (λ (o : Option Node). find text_cmp q (and_row (found_row row.0 o) (filter_map (entry_row nodes) rows)) ≡ find text_cmp q (filter_map (entry_row nodes) rows)) [
             | None ↦ refl
             | Some it ↦ ap (λ (b : Bool). cond b (Some it) (find text_cmp q (filter_map (entry_row nodes) rows))) apart.1
           ]) ∙ rest ∙ sym (ap (λ (b : Bool). option_and_then (slice_get nodes) (cond b (Some row.1) (find text_cmp q rows))) apart.1)
     ]
 
 -- a snapshot has at each path the node of its number
-pub get-snapshot_of : (held : Held) (q : Text) → get (snapshot_of held) q ≡ option_and_then (node held) (number_at held q)
+pub get-snapshot_of : (tree : Hierarchy) (q : Text) → get (snapshot_of tree) q ≡ option_and_then (node tree) (number_at tree q)
 unfolding snapshot_of
-get-snapshot_of held q =
-    get-found (filter_map (entry_row held.nodes) (entries held.paths)) q
-    ∙ find-found held.nodes q (entries held.paths) (entries_sorted held.paths)
-    ∙ ap (option_and_then (node held)) (sym (get-entries held.paths q))
+get-snapshot_of tree q =
+    get-found (filter_map (entry_row tree.nodes) (entries tree.paths)) q
+    ∙ find-found tree.nodes q (entries tree.paths) (entries_sorted tree.paths)
+    ∙ ap (option_and_then (node tree)) (sym (get-entries tree.paths q))
 
 -- The tree of a snapshot.
 
-below_numbered : (path : Text) (k : ℕ) (rows : List (Text × Entry)) → T (below_all text_cmp path rows) → T (below_all text_cmp path (numbered k rows))
+below_numbered : (path : Text) (k : ℕ) (rows : List (Text × Node)) → T (below_all text_cmp path rows) → T (below_all text_cmp path (numbered k rows))
 below_numbered path k [] h = tt
 below_numbered path k (row ∷ rows) h = both _ _ (and_first _ _ h) (below_numbered path (k + 1) rows (and_second _ _ h))
 
-sorted_numbered : (k : ℕ) (rows : List (Text × Entry)) → T (is_sorted text_cmp rows) → T (is_sorted text_cmp (numbered k rows))
+sorted_numbered : (k : ℕ) (rows : List (Text × Node)) → T (is_sorted text_cmp rows) → T (is_sorted text_cmp (numbered k rows))
 sorted_numbered k [] h = tt
 sorted_numbered k (row ∷ rows) h = both _ _ (below_numbered row.0 (k + 1) rows (and_first _ _ h)) (sorted_numbered (k + 1) rows (and_second _ _ h))
 
-get_seam : (front : List Entry) (it : Entry) (back : List Entry) → slice_get (front ++ it ∷ back) (length front) ≡ Some it
+get_seam : (front : List Node) (it : Node) (back : List Node) → slice_get (front ++ it ∷ back) (length front) ≡ Some it
 get_seam [] it back = refl
 get_seam (x ∷ front) it back = get_seam front it back
 
-length_push : (front : List Entry) (it : Entry) → length (front ++ it ∷ []) ≡ length front + 1
+length_push : (front : List Node) (it : Node) → length (front ++ it ∷ []) ≡ length front + 1
 length_push [] it = omega arith
 length_push (x ∷ front) it = ap suc (length_push front it) ∙ omega arith
 
-pub find_numbered : (front : List Entry) (k : ℕ) (q : Text) (rows : List (Text × Entry)) → k ≡ length front → option_and_then (slice_get (front ++ values_of rows)) (find text_cmp q (numbered k rows)) ≡ find text_cmp q rows
+pub find_numbered : (front : List Node) (k : ℕ) (q : Text) (rows : List (Text × Node)) → k ≡ length front → option_and_then (slice_get (front ++ values_of rows)) (find text_cmp q (numbered k rows)) ≡ find text_cmp q rows
 find_numbered front k q [] e = refl
 find_numbered front k q (row ∷ rows) e =
     elim (eq_by_cmp text_cmp q row.0) as (λ (b : Bool). option_and_then (slice_get (front ++ row.1 ∷ values_of rows)) (cond b (Some k) (find text_cmp q (numbered (k + 1) rows))) ≡ cond b (Some row.1) (find text_cmp q rows)) [
       | true ↦ ap (slice_get (front ++ row.1 ∷ values_of rows)) e ∙ get_seam front row.1 (values_of rows)
-      | false ↦ ap (λ (ns : List Entry). option_and_then (slice_get ns) (find text_cmp q (numbered (k + 1) rows))) (sym (append_assoc front (row.1 ∷ []) (values_of rows)))
+      | false ↦ ap (λ (ns : List Node). option_and_then (slice_get ns) (find text_cmp q (numbered (k + 1) rows))) (sym (append_assoc front (row.1 ∷ []) (values_of rows)))
           ∙ find_numbered (front ++ row.1 ∷ []) (k + 1) q rows (ap (λ (n : ℕ). n + 1) e ∙ sym (length_push front row.1))
     ]
 
@@ -107,25 +107,25 @@ some_of f (Some x) y h = (x, refl, h)
 none_some : {A : Type 0} {x : A} {o : Option A} → o ≡ None → o ≡ Some x → ⊥
 none_some n s = cc
 
-dir_node : (o : Option Entry) → is_dir o ≡ true → (it : Entry) × (o ≡ Some it)
+dir_node : (o : Option Node) → is_dir o ≡ true → (it : Node) × (o ≡ Some it)
 dir_node None h = cc
 dir_node (Some it) h = (it, refl)
 
-pub snapshot_of-whole : (held : Held) → IsWhole held → IsWholeSnapshot (snapshot_of held)
-snapshot_of-whole held whole = record {
-  root_dir = ap is_dir (get-snapshot_of held root ∙ ap (option_and_then (node held)) whole.root_at) ∙ whole.root_dir;
+pub snapshot_of-whole : (tree : Hierarchy) → IsWhole tree → IsWholeSnapshot (snapshot_of tree)
+snapshot_of-whole tree whole = record {
+  root_dir = ap is_dir (get-snapshot_of tree root ∙ ap (option_and_then (node tree)) whole.root_at) ∙ whole.root_dir;
   canonical = λ q it at. let s = stands q it at in whole.canonical q s.0 s.1;
   placed = λ q it at. let s = stands q it at in let p = whole.placed q s.0 s.1 in
-      ap is_dir (get-snapshot_of held (parent q) ∙ ap (option_and_then (node held)) p.stands) ∙ p.in_dir;
-  unseen = λ q h. get-snapshot_of held q ∙ ap (option_and_then (node held)) (whole.unseen q h);
+      ap is_dir (get-snapshot_of tree (parent q) ∙ ap (option_and_then (node tree)) p.stands) ∙ p.in_dir;
+  unseen = λ q h. get-snapshot_of tree q ∙ ap (option_and_then (node tree)) (whole.unseen q h);
   fit = λ q it at. let s = stands q it at in whole.fit s.0 it s.2;
 } where
-  stands : (q : Text) (it : Entry) → get (snapshot_of held) q ≡ Some it → (n : ℕ) × (number_at held q ≡ Some n) × (node held n ≡ Some it)
-  stands q it at = some_of (node held) (number_at held q) it (sym (get-snapshot_of held q) ∙ at)
+  stands : (q : Text) (it : Node) → get (snapshot_of tree) q ≡ Some it → (n : ℕ) × (number_at tree q ≡ Some n) × (node tree n ≡ Some it)
+  stands q it at = some_of (node tree) (number_at tree q) it (sym (get-snapshot_of tree q) ∙ at)
 
 -- The root comes first.
 
-pub below_less : (x q : Text) (rows : List (Text × Entry)) (it : Entry) → T (below_all text_cmp x rows) → find text_cmp q rows ≡ Some it → T (is_lt (text_cmp x q))
+pub below_less : (x q : Text) (rows : List (Text × Node)) (it : Node) → T (below_all text_cmp x rows) → find text_cmp q rows ≡ Some it → T (is_lt (text_cmp x q))
 below_less x q [] it h at = cc
 below_less x q (row ∷ rows) it h at = elim (told_apart q row.0) [
   | inl same ↦ subst (λ (t : Text). T (is_lt (text_cmp x t))) (sym same.0) (and_first _ _ h)

@@ -4,7 +4,7 @@ pub mod ClimbingLemmas
 pub mod CompareLemmas
 pub mod CopiesLemmas
 pub mod GrownLemmas
-pub mod HeldLemmas
+pub mod HierarchyLemmas
 pub mod ListLemmas
 pub mod MovedLemmas
 pub mod NamesLemmas

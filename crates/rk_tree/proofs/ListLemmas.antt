@@ -13,14 +13,14 @@ use Rattle.rk_base.specs.Text.{Text, text_cmp, stem, name_of, join, is_in}
 use Rattle.rk_base.specs.Canonical.{is_empty, is_name, is_canonical}
 use Rattle.rk_base.specs.Names.{ascend, ascend_from, are_names}
 use Rattle.rk_base.proofs.PathLemmas.{is_in-join, join-is_in}
-use Rattle.rk_tree.specs.declared.node.Node.{Node}
+use Rattle.rk_tree.specs.declared.inode.Inode.{Inode}
 use Rattle.rk_tree.specs.Entries.{is_dir}
-use Rattle.rk_tree.specs.Held.{Held, Paths, node, path_of, names, names_at, name_in}
-use Rattle.rk_tree.specs.Nodes.{names_in, under, held_by, AreAttached}
+use Rattle.rk_tree.specs.Hierarchy.{Hierarchy, Paths, node, path_of, names, names_at, name_in}
+use Rattle.rk_tree.specs.Inodes.{names_in, under, hierarchy_of, AreAttached}
 use Rattle.rk_tree.specs.Whole.{IsWhole}
 use Rattle.rk_tree.proofs.BelowLemmas.{none_some, row_stands}
 use Rattle.rk_tree.proofs.CompareLemmas.{cmp-front}
-use Rattle.rk_tree.proofs.HeldLemmas.{dir_path, path_stands}
+use Rattle.rk_tree.proofs.HierarchyLemmas.{dir_path, path_stands}
 use Rattle.rk_tree.proofs.RowsLemmas.{and_both, and_first, and_second, is_yes}
 use Rattle.rk_tree.proofs.ShownLemmas.{Steps}
 use Rattle.rk_tree.proofs.TextLemmas.{exact_texts, told_apart}
@@ -47,10 +47,10 @@ ascends_from : (dir last : Text) (rows : List (Text × ℕ)) → T (below_all te
 ascends_from dir last [] below h c = refl
 ascends_from dir last (row ∷ rows) below h c = (elim (is_in dir row.0) as (λ (b : Bool). is_in dir row.0 ≡ b → ascend_from last (cons_option (cond b (Some (name_of row.0)) None) (filter_map (name_in dir) rows)) ≡ true) [
   | true ↦ λ e.
-      let joined : join dir (name_of row.0) ≡ row.0 = (join-is_in dir row.0 (c 0 row refl) e).0 in
+      let path_by : join dir (name_of row.0) ≡ row.0 = (join-is_in dir row.0 (c 0 row refl) e).0 in
       ap (λ (b : Bool). b && ascend_from (name_of row.0) (filter_map (name_in dir) rows))
-      (ap is_lt (sym (cmp-join dir last (name_of row.0)) ∙ ap (text_cmp (join dir last)) joined) ∙ is_yes _ (and_first _ _ below))
-      ∙ ascends_from dir (name_of row.0) rows (subst (λ (t : Text). T (below_all text_cmp t rows)) (sym joined) (and_first _ _ h)) (and_second _ _ h) (λ i. c (suc i))
+      (ap is_lt (sym (cmp-join dir last (name_of row.0)) ∙ ap (text_cmp (join dir last)) path_by) ∙ is_yes _ (and_first _ _ below))
+      ∙ ascends_from dir (name_of row.0) rows (subst (λ (t : Text). T (below_all text_cmp t rows)) (sym path_by) (and_first _ _ h)) (and_second _ _ h) (λ i. c (suc i))
   | false ↦ λ e. ascends_from dir last rows (and_second _ _ below) (and_second _ _ h) (λ i. c (suc i))
 ]) refl
 
@@ -61,20 +61,20 @@ all_ascend dir (row ∷ rows) h c = (elim (is_in dir row.0) as (λ (b : Bool). i
   | false ↦ λ e. all_ascend dir rows (and_second _ _ h) (λ i. c (suc i))
 ]) refl
 
-are-names : (held : Held) (o : Option Text) → IsWhole held → are_names (names_at held.paths o) ≡ true
+are-names : (tree : Hierarchy) (o : Option Text) → IsWhole tree → are_names (names_at tree.paths o) ≡ true
 unfolding are_names
-are-names held None whole = refl
-are-names held (Some dir) whole =
-    let canon : AreCanonical (entries held.paths) = λ i row at. whole.canonical row.0 row.1 (row_stands held i row.0 row.1 at) in
-    ap (λ (b : Bool). b && ascend (filter_map (name_in dir) (entries held.paths))) (all_named dir (entries held.paths) canon) ∙ all_ascend dir (entries held.paths) (entries_sorted held.paths) canon
+are-names tree None whole = refl
+are-names tree (Some dir) whole =
+    let canon : AreCanonical (entries tree.paths) = λ i row at. whole.canonical row.0 row.1 (row_stands tree i row.0 row.1 at) in
+    ap (λ (b : Bool). b && ascend (filter_map (name_in dir) (entries tree.paths))) (all_named dir (entries tree.paths) canon) ∙ all_ascend dir (entries tree.paths) (entries_sorted tree.paths) canon
 
-pub names-are : (held : Held) (dir : ℕ) → IsWhole held → are_names (names held dir) ≡ true
+pub names-are : (tree : Hierarchy) (dir : ℕ) → IsWhole tree → are_names (names tree dir) ≡ true
 unfolding names
-names-are held dir whole = are-names held (path_of held dir) whole
+names-are tree dir whole = are-names tree (path_of tree dir) whole
 
 -- so a list is made of them
-pub no_list : (given : List Text) (held : Held) (dir : ℕ) → IsWhole held → given ≡ names held dir → ◌≡◌ {A = Option (List Text)} None (cond (are_names given) (Some given) None) → ⊥
-no_list given held dir whole is none = nothing (none ∙ ap (λ (b : Bool). cond b (Some given) None) (ap are_names is ∙ names-are held dir whole)) where
+pub no_list : (given : List Text) (tree : Hierarchy) (dir : ℕ) → IsWhole tree → given ≡ names tree dir → ◌≡◌ {A = Option (List Text)} None (cond (are_names given) (Some given) None) → ⊥
+no_list given tree dir whole is none = nothing (none ∙ ap (λ (b : Bool). cond b (Some given) None) (ap are_names is ∙ names-are tree dir whole)) where
   nothing : ◌≡◌ {A = Option (List Text)} None (Some given) → ⊥
   nothing e = cc
 
@@ -141,10 +141,10 @@ empty_names : (rows : List (Text × ℕ)) → is_empty rows ≡ is_empty (map (�
 empty_names [] = refl
 empty_names (row ∷ rows) = refl
 
-module _ (paths : Paths) (nodes : List Node) (whole : IsWhole (held_by paths nodes)) (step : Steps nodes paths) (attached : AreAttached paths nodes) (n : ℕ) (d : is_dir (node (held_by paths nodes) n) ≡ true) where
+module _ (paths : Paths) (nodes : List Inode) (whole : IsWhole (hierarchy_of paths nodes)) (step : Steps nodes paths) (attached : AreAttached paths nodes) (n : ℕ) (d : is_dir (node (hierarchy_of paths nodes) n) ≡ true) where
   rows_are : (path : Text) → get paths path ≡ Some n → rows_in path (entries paths) ≡ entries (names_in (slice_get nodes n))
   rows_are path at =
-      let canon : AreCanonical (entries paths) = λ i row at. whole.canonical row.0 row.1 (row_stands (held_by paths nodes) i row.0 row.1 at) in
+      let canon : AreCanonical (entries paths) = λ i row at. whole.canonical row.0 row.1 (row_stands (hierarchy_of paths nodes) i row.0 row.1 at) in
       same_entries text_cmp nat_list_cmp_total exact_texts (rows_in path (entries paths)) (entries (names_in (slice_get nodes n))) (sorted_in path (entries paths) (entries_sorted paths) canon) (entries_sorted (names_in (slice_get nodes n)))
       (λ q. (elim (is_name q) as (λ (b : Bool). is_name q ≡ b → find text_cmp q (rows_in path (entries paths)) ≡ find text_cmp q (entries (names_in (slice_get nodes n)))) [
         | true ↦ λ e. found_in path q (entries paths) (whole.canonical path n at) e canon ∙ sym (get-entries paths (join path q)) ∙ step path q (whole.canonical path n at) e
@@ -152,20 +152,20 @@ module _ (paths : Paths) (nodes : List Node) (whole : IsWhole (held_by paths nod
         | false ↦ λ e. unnamed_in path q (entries paths) e canon ∙ sym (none_of (under nodes n q) (λ m is. clash _ (attached n q m is).0 e)) ∙ get-entries (names_in (slice_get nodes n)) q
       ]) refl)
 
-  none_are : path_of (held_by paths nodes) n ≡ None → [] ≡ entries (names_in (slice_get nodes n))
+  none_are : path_of (hierarchy_of paths nodes) n ≡ None → [] ≡ entries (names_in (slice_get nodes n))
   none_are nowhere = same_entries text_cmp nat_list_cmp_total exact_texts [] (entries (names_in (slice_get nodes n))) tt (entries_sorted (names_in (slice_get nodes n)))
-      (λ q. sym (none_of (under nodes n q) (λ m is. none_some nowhere (dir_path (held_by paths nodes) (attached n q m is).1 n whole d (attached n q m is).2))) ∙ get-entries (names_in (slice_get nodes n)) q)
+      (λ q. sym (none_of (under nodes n q) (λ m is. none_some nowhere (dir_path (hierarchy_of paths nodes) (attached n q m is).1 n whole d (attached n q m is).2))) ∙ get-entries (names_in (slice_get nodes n)) q)
 
-  names-under : names (held_by paths nodes) n ≡ keys (names_in (slice_get nodes n))
+  names-under : names (hierarchy_of paths nodes) n ≡ keys (names_in (slice_get nodes n))
   unfolding names
-  names-under = (elim (path_of (held_by paths nodes) n) as (λ (o : Option Text). path_of (held_by paths nodes) n ≡ o → names_at paths o ≡ keys (names_in (slice_get nodes n))) [
+  names-under = (elim (path_of (hierarchy_of paths nodes) n) as (λ (o : Option Text). path_of (hierarchy_of paths nodes) n ≡ o → names_at paths o ≡ keys (names_in (slice_get nodes n))) [
     | None ↦ λ nowhere. ap (map (λ (row : Text × ℕ). row.0)) (none_are nowhere)
-    | Some path ↦ λ at. sym (names_of_rows path (entries paths)) ∙ ap (map (λ (row : Text × ℕ). row.0)) (rows_are path (path_stands (held_by paths nodes) n path at))
+    | Some path ↦ λ at. sym (names_of_rows path (entries paths)) ∙ ap (map (λ (row : Text × ℕ). row.0)) (rows_are path (path_stands (hierarchy_of paths nodes) n path at))
   ]) refl
 
   -- the nodes are read, and show a tree
-  pub names-read : (read : List Node) (held : Held) → read ≡ nodes → held_by paths nodes ≡ held → keys (names_in (slice_get read n)) ≡ names held n
-  names-read read held is view = ap (λ (ns : List Node). keys (names_in (slice_get ns n))) is ∙ sym names-under ∙ ap (λ (h : Held). names h n) view
+  pub names-read : (read : List Inode) (tree : Hierarchy) → read ≡ nodes → hierarchy_of paths nodes ≡ tree → keys (names_in (slice_get read n)) ≡ names tree n
+  names-read read tree is view = ap (λ (ns : List Inode). keys (names_in (slice_get ns n))) is ∙ sym names-under ∙ ap (λ (h : Hierarchy). names h n) view
 
-  pub none-read : (read : List Node) (held : Held) → read ≡ nodes → held_by paths nodes ≡ held → is_empty (entries (names_in (slice_get read n))) ≡ is_empty (names held n)
-  none-read read held is view = empty_names (entries (names_in (slice_get read n))) ∙ ap (λ (ts : List Text). is_empty ts) (names-read read held is view)
+  pub none-read : (read : List Inode) (tree : Hierarchy) → read ≡ nodes → hierarchy_of paths nodes ≡ tree → is_empty (entries (names_in (slice_get read n))) ≡ is_empty (names tree n)
+  none-read read tree is view = empty_names (entries (names_in (slice_get read n))) ∙ ap (λ (ts : List Text). is_empty ts) (names-read read tree is view)

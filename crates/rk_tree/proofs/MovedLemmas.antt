@@ -8,7 +8,7 @@ use Rattle.rk_base.specs.Canonical.{is_canonical}
 use Rattle.rk_base.proofs.PathLemmas.{path-is_cut, parent-join}
 use Rattle.rk_base.proofs.MovedLemmas.{moved-out, moved-from, moved-join, moved-canonical, moved-within, moved-apart, moved-outside, within-canonical}
 use Rattle.rk_base.proofs.WithinLemmas.{within-down, within-join, within-not_root, stem-back, is_the_root}
-use Rattle.rk_tree.specs.Held.{Held, Paths, top, number_at, moves, moved_paths}
+use Rattle.rk_tree.specs.Hierarchy.{Hierarchy, Paths, top, number_at, moves, moved_paths}
 use Rattle.rk_tree.specs.Moves.{Moves}
 use Rattle.rk_tree.specs.Whole.{IsPlaced, IsWhole}
 use Rattle.rk_tree.proofs.BelowLemmas.{none_some, same_number, not_above, row_of, row_stands}
@@ -94,22 +94,22 @@ module _ (from to : Text) where
 
 -- The tree.
 
-module _ (held : Held) (whole : IsWhole held) (from to : Text) (n : ℕ) (m : Moves held from to n) where
-  abbrev now : Held
-  now = record held { paths = moved_paths from to held.paths }
+module _ (tree : Hierarchy) (whole : IsWhole tree) (from to : Text) (n : ℕ) (m : Moves tree from to n) where
+  abbrev now : Hierarchy
+  now = record tree { paths = moved_paths from to tree.paths }
 
   pub from_is : is_canonical from ≡ true
   from_is = whole.canonical from n m.stands
 
   -- what stands below the new place was moved there
-  not_below : (q : Text) (k : ℕ) → number_at held q ≡ Some k → (q ≡ to → ⊥) → is_within to q ≡ true → ⊥
+  not_below : (q : Text) (k : ℕ) → number_at tree q ≡ Some k → (q ≡ to → ⊥) → is_within to q ≡ true → ⊥
   not_below q k at apart h = none_some (m.bare q h apart) at
 
-  goes_apart : (a b : Text) (x y : ℕ) → number_at held a ≡ Some x → number_at held b ≡ Some y → (b ≡ to → ⊥) → is_within from a ≡ true → is_within from b ≡ false → moved from to a ≡ moved from to b → ⊥
+  goes_apart : (a b : Text) (x y : ℕ) → number_at tree a ≡ Some x → number_at tree b ≡ Some y → (b ≡ to → ⊥) → is_within from a ≡ true → is_within from b ≡ false → moved from to a ≡ moved from to b → ⊥
   goes_apart a b x y at bt apart h k e =
       not_below b y bt apart (ap (is_within to) (sym (moved-out from to b k) ∙ sym e) ∙ moved-within from to from_is m.from_below m.to_is m.to_below a (whole.canonical a x at) h)
 
-  single : (a b : Text) (x y : ℕ) → number_at held a ≡ Some x → number_at held b ≡ Some y → (a ≡ to → ⊥) → (b ≡ to → ⊥) → moved from to a ≡ moved from to b → a ≡ b
+  single : (a b : Text) (x y : ℕ) → number_at tree a ≡ Some x → number_at tree b ≡ Some y → (a ≡ to → ⊥) → (b ≡ to → ⊥) → moved from to a ≡ moved from to b → a ≡ b
   single a b x y at bt aa ba e = elim (is_within from a) as (λ (s : Bool). is_within from a ≡ s → a ≡ b) [
     | true ↦ λ h. elim (is_within from b) as (λ (s : Bool). is_within from b ≡ s → a ≡ b) [
       | true ↦ λ k. moved-apart from to from_is m.from_below m.to_is m.to_below a b h k e
@@ -121,14 +121,14 @@ module _ (held : Held) (whole : IsWhole held) (from to : Text) (n : ℕ) (m : Mo
     ] refl
   ] refl
 
-  pub there : (key : Text) (k : ℕ) → number_at held key ≡ Some k → (key ≡ to → ⊥) → number_at now (moved from to key) ≡ Some k
-  there key k = moved_there from to held.paths key k single
+  pub there : (key : Text) (k : ℕ) → number_at tree key ≡ Some k → (key ≡ to → ⊥) → number_at now (moved from to key) ≡ Some k
+  there key k = moved_there from to tree.paths key k single
 
-  pub back : (r : Text) (k : ℕ) → number_at now r ≡ Some k → (key : Text) × (number_at held key ≡ Some k) × (key ≡ to → ⊥) × (moved from to key ≡ r)
-  back = moved_back from to held.paths
+  pub back : (r : Text) (k : ℕ) → number_at now r ≡ Some k → (key : Text) × (number_at tree key ≡ Some k) × (key ≡ to → ⊥) × (moved from to key ≡ r)
+  back = moved_back from to tree.paths
 
   -- what stands outside stays where it is
-  pub stays : (key : Text) (k : ℕ) → number_at held key ≡ Some k → (key ≡ to → ⊥) → is_within from key ≡ false → number_at now key ≡ Some k
+  pub stays : (key : Text) (k : ℕ) → number_at tree key ≡ Some k → (key ≡ to → ⊥) → is_within from key ≡ false → number_at now key ≡ Some k
   stays key k at apart out = ap (number_at now) (sym (moved-out from to key out)) ∙ there key k at apart
 
   root_outside : is_within from root ≡ false
@@ -147,7 +147,7 @@ module _ (held : Held) (whole : IsWhole held) (from to : Text) (n : ℕ) (m : Mo
   ] refl
 
   -- the directory of what goes, goes with it
-  pub up_goes : (key : Text) (k : ℕ) → number_at held key ≡ Some k → is_within from key ≡ true → (key ≡ from → ⊥) → (is_within from (parent key) ≡ true) × (parent (moved from to key) ≡ moved from to (parent key))
+  pub up_goes : (key : Text) (k : ℕ) → number_at tree key ≡ Some k → is_within from key ≡ true → (key ≡ from → ⊥) → (is_within from (parent key) ≡ true) × (parent (moved from to key) ≡ moved from to (parent key))
   up_goes key k at h apart =
       let c = whole.canonical key k at in
       let it = path-is_cut key c (within-not_root from key from_is m.from_below h) in
@@ -160,13 +160,13 @@ module _ (held : Held) (whole : IsWhole held) (from to : Text) (n : ℕ) (m : Mo
         )
       ]
 
-  up_of : (key : Text) (k : ℕ) → number_at held key ≡ Some k → (key ≡ to → ⊥) → IsPlaced now (moved from to key)
+  up_of : (key : Text) (k : ℕ) → number_at tree key ≡ Some k → (key ≡ to → ⊥) → IsPlaced now (moved from to key)
   up_of key k at apart = elim (is_within from key) as (λ (b : Bool). is_within from key ≡ b → IsPlaced now (moved from to key)) [
     | false ↦ λ out.
         let p = whole.placed key k at in
         record {
           up = p.up;
-          stands = ap (λ (t : Text). number_at now (parent t)) (moved-out from to key out) ∙ stays (parent key) p.up p.stands (not_above held to key k whole m.to_below m.bare apart at) (up_outside key (whole.canonical key k at) out);
+          stands = ap (λ (t : Text). number_at now (parent t)) (moved-out from to key out) ∙ stays (parent key) p.up p.stands (not_above tree to key k whole m.to_below m.bare apart at) (up_outside key (whole.canonical key k at) out);
           in_dir = p.in_dir;
         }
     | true ↦ λ h. elim (told_apart key from) [

@@ -19,7 +19,7 @@ use Rattle.rk_base.specs.Faults.{Reads}
 use Rattle.rk_base.specs.declared.path.PathFault.{PathFault}
 use Rattle.rk_base.specs.declared.path.PathFault.TheVariants.{Invalid, NoMemory}
 use Rattle.rk_base.proofs.CanonicalLemmas.{both}
-use Rattle.rk_tree.specs.Held.{Paths}
+use Rattle.rk_tree.specs.Hierarchy.{Paths}
 use Rattle.rk_tree.specs.Names.{named}
 use Rattle.rk_tree.specs.Rows.{map_of}
 use Rattle.rk_tree.proofs.BelowLemmas.{none_some}
@@ -166,5 +166,5 @@ all_done done all left before none = sym (append-nil done) ∙ ap (λ (rows : Li
 
 -- a name is read as one
 pub no_fault : (text name : Text) (fault : PathFault) → text ≡ name → is_name name ≡ true → Reads (is_name text) text (Err fault) → fault ≡ Invalid → ⊥
-no_fault text name Invalid is named told e = clash _ (ap is_name is ∙ named) told
-no_fault text name NoMemory is named told e = cc
+no_fault text name Invalid is named led_to e = clash _ (ap is_name is ∙ named) led_to
+no_fault text name NoMemory is named led_to e = cc

@@ -14,10 +14,9 @@ use Rattle.rk_base.specs.Text.{Text, text_cmp, root, is_root, hidden, parent, na
 use Rattle.rk_base.specs.Canonical.{is_canonical, is_name}
 use Rattle.rk_base.proofs.PathLemmas.{path-is_cut}
 use Rattle.rk_base.proofs.WithinLemmas.{is_the_root, within-itself}
-use Rattle.rk_tree.specs.declared.entry.Entry.{Entry}
-use Rattle.rk_tree.specs.declared.entry.Entry.TheVariants.{Dir}
+use Rattle.rk_tree.specs.Node.{Node, Dir}
 use Rattle.rk_tree.specs.Entries.{Entries, is_dir, IsWholeSnapshot}
-use Rattle.rk_tree.specs.Held.{Held, Paths, node, number_at, path_of, child, linked, added, with_path}
+use Rattle.rk_tree.specs.Hierarchy.{Hierarchy, Paths, node, number_at, path_of, child, linked, added, with_path}
 use Rattle.rk_tree.specs.Rows.{map_of}
 use Rattle.rk_tree.specs.Copies.{MayTake, with_node_at, numbered, tree_of}
 use Rattle.rk_tree.specs.Whole.{IsWhole, MayHold}
@@ -25,7 +24,7 @@ use Rattle.rk_tree.proofs.BelowLemmas.{child_at, none_some, same_number}
 use Rattle.rk_tree.proofs.ClimbingLemmas.{root_path}
 use Rattle.rk_tree.proofs.CompareLemmas.{cmp-front}
 use Rattle.rk_tree.proofs.CopiesLemmas.{find_numbered, below_less, not_below_root}
-use Rattle.rk_tree.proofs.HeldLemmas.{dir_path}
+use Rattle.rk_tree.proofs.HierarchyLemmas.{dir_path}
 use Rattle.rk_tree.proofs.RowsLemmas.{row_at, empty_rows, find_head, find_later, get-map_of, get-found, same_maps, and_first, and_second}
 use Rattle.rk_tree.proofs.TextLemmas.{told_apart}
 
@@ -35,18 +34,18 @@ clash b t f = cc
 -- A node more, at a path.
 
 -- where a path comes to stand
-pub record Lands (held : Held) (path name : Text) (up : ℕ) : Type 0 where
+pub record Lands (tree : Hierarchy) (path name : Text) (up : ℕ) : Type 0 where
   pub named : is_name name ≡ true
   pub whole : join (parent path) name ≡ path
-  pub at : path_of held up ≡ Some (parent path)
-  pub in_dir : is_dir (node held up) ≡ true
+  pub at : path_of tree up ≡ Some (parent path)
+  pub in_dir : is_dir (node tree up) ≡ true
 
 -- it isn't the root
-pub not_the_root : (held : Held) (path : Text) → IsWhole held → number_at held path ≡ None → is_root path ≡ false
-not_the_root held path whole absent = by (is_root path) refl where
+pub not_the_root : (tree : Hierarchy) (path : Text) → IsWhole tree → number_at tree path ≡ None → is_root path ≡ false
+not_the_root tree path whole absent = by (is_root path) refl where
   by : (b : Bool) → is_root path ≡ b → b ≡ false
   by false r = refl
-  by true r = absurd (none_some absent (ap (number_at held) (is_the_root path r) ∙ whole.root_at))
+  by true r = absurd (none_some absent (ap (number_at tree) (is_the_root path r) ∙ whole.root_at))
 
 pub has_last : (path : Text) (last : Option Text) → is_root path ≡ false → last ≡ last_of path → last ≡ None → ⊥
 has_last path last below is none = absurd (some_none (sym none ∙ is ∙ ap (λ (b : Bool). cond b None (Some (name_of path))) below)) where
@@ -58,42 +57,42 @@ last_is path name below is = same (sym (ap (λ (b : Bool). cond b None (Some (na
   same : {a b : Text} → Some a ≡ Some b → a ≡ b
   same e = cc
 
-pub lands : (held : Held) (path name : Text) (it : Entry) (up : ℕ) → IsWhole held → MayTake held path it → last_of path ≡ Some name → number_at held (parent path) ≡ Some up → Lands held path name up
-lands held path name it up whole takes last at =
-    let below = not_the_root held path whole takes.absent in
+pub lands : (tree : Hierarchy) (path name : Text) (it : Node) (up : ℕ) → IsWhole tree → MayTake tree path it → last_of path ≡ Some name → number_at tree (parent path) ≡ Some up → Lands tree path name up
+lands tree path name it up whole takes last at =
+    let below = not_the_root tree path whole takes.absent in
     let cut = path-is_cut path takes.canonical below in
     let is = last_is path name below last in
-    let d : is_dir (node held up) ≡ true = ap (λ (k : ℕ). is_dir (node held k)) (same_number {o = number_at held (parent path)} up takes.placed.up at takes.placed.stands) ∙ takes.placed.in_dir in
+    let d : is_dir (node tree up) ≡ true = ap (λ (k : ℕ). is_dir (node tree k)) (same_number {o = number_at tree (parent path)} up takes.placed.up at takes.placed.stands) ∙ takes.placed.in_dir in
     record {
       named = ap is_name (sym is) ∙ cut.name;
       whole = ap (join (parent path)) (sym is) ∙ cut.whole;
-      at = dir_path held (parent path) up whole d at;
+      at = dir_path tree (parent path) up whole d at;
       in_dir = d;
     }
 
-pub may_hold : (held : Held) (path name : Text) (it : Entry) (up : ℕ) → IsWhole held → MayTake held path it → Lands held path name up → MayHold held up name
-may_hold held path name it up whole takes l = record {
+pub may_hold : (tree : Hierarchy) (path name : Text) (it : Node) (up : ℕ) → IsWhole tree → MayTake tree path it → Lands tree path name up → MayHold tree up name
+may_hold tree path name it up whole takes l = record {
   in_dir = l.in_dir;
   seen = λ at_top named.
-      let at_root : parent path ≡ root = same (sym l.at ∙ ap (path_of held) at_top ∙ root_path held whole) in
+      let at_root : parent path ≡ root = same (sym l.at ∙ ap (path_of tree) at_top ∙ root_path tree whole) in
       let here : path ≡ join root hidden = sym l.whole ∙ ap (λ (t : Text). join t name) at_root ∙ ap (join root) named in
       clash _ (ap (is_within (join root hidden)) here ∙ within-itself (join root hidden)) takes.seen;
 } where
   same : {a b : Text} → Some a ≡ Some b → a ≡ b
   same e = cc
 
-pub child_absent : (held : Held) (path name : Text) (it : Entry) (up : ℕ) → MayTake held path it → Lands held path name up → child held up name ≡ None
-child_absent held path name it up takes l = child_at held up (parent path) name l.named l.at ∙ ap (number_at held) l.whole ∙ takes.absent
+pub child_absent : (tree : Hierarchy) (path name : Text) (it : Node) (up : ℕ) → MayTake tree path it → Lands tree path name up → child tree up name ≡ None
+child_absent tree path name it up takes l = child_at tree up (parent path) name l.named l.at ∙ ap (number_at tree) l.whole ∙ takes.absent
 
-pub added_at : (held : Held) (path name : Text) (it : Entry) (up : ℕ) → Lands held path name up → added held up name it ≡ with_node_at held path it
+pub added_at : (tree : Hierarchy) (path name : Text) (it : Node) (up : ℕ) → Lands tree path name up → added tree up name it ≡ with_node_at tree path it
 unfolding added linked
-added_at held path name it up l =
-    ap (λ (o : Option Text). record { paths = with_path o (λ p. insert held.paths (join p name) (length held.nodes)) held.paths; nodes = held.nodes ++ it ∷ [] }) l.at
-    ∙ ap (λ (p : Text). record { paths = insert held.paths p (length held.nodes); nodes = held.nodes ++ it ∷ [] }) l.whole
+added_at tree path name it up l =
+    ap (λ (o : Option Text). record { paths = with_path o (λ p. insert tree.paths (join p name) (length tree.nodes)) tree.paths; nodes = tree.nodes ++ it ∷ [] }) l.at
+    ∙ ap (λ (p : Text). record { paths = insert tree.paths p (length tree.nodes); nodes = tree.nodes ++ it ∷ [] }) l.whole
 
 -- the number of a path, by the rows of numbers
-pub number_by : (held : Held) (rows : List (Text × ℕ)) (path key : Text) (o : Option ℕ) → map_of rows ≡ held.paths → key ≡ path → o ≡ row_at rows key → o ≡ number_at held path
-number_by held rows path key o kept is found = found ∙ ap (row_at rows) is ∙ sym (get-map_of rows path) ∙ ap (λ (m : Paths). get m path) kept
+pub number_by : (tree : Hierarchy) (rows : List (Text × ℕ)) (path key : Text) (o : Option ℕ) → map_of rows ≡ tree.paths → key ≡ path → o ≡ row_at rows key → o ≡ number_at tree path
+number_by tree rows path key o kept is found = found ∙ ap (row_at rows) is ∙ sym (get-map_of rows path) ∙ ap (λ (m : Paths). get m path) kept
 
 -- Rows in order.
 
@@ -109,13 +108,13 @@ not_both a b = by (text_cmp a b) (text_cmp b a) (nat_list_cmp_total.antisymm a b
 not_itself : (a : Text) → T (is_lt (text_cmp a a)) → ⊥
 not_itself a h = not_both a a h h
 
-module _ (path : Text) (it : Entry) (rest : List (Text × Entry)) where
-  below_seam : (x : Text) (done : List (Text × Entry)) → T (below_all text_cmp x (done ++ (path, it) ∷ rest)) → T (is_lt (text_cmp x path))
+module _ (path : Text) (it : Node) (rest : List (Text × Node)) where
+  below_seam : (x : Text) (done : List (Text × Node)) → T (below_all text_cmp x (done ++ (path, it) ∷ rest)) → T (is_lt (text_cmp x path))
   below_seam x [] h = and_first _ _ h
   below_seam x (row ∷ done) h = below_seam x done (and_second _ _ h)
 
   -- a path that comes next isn't among those done
-  absent_before : (done : List (Text × Entry)) → T (is_sorted text_cmp (done ++ (path, it) ∷ rest)) → find text_cmp path done ≡ None
+  absent_before : (done : List (Text × Node)) → T (is_sorted text_cmp (done ++ (path, it) ∷ rest)) → find text_cmp path done ≡ None
   absent_before [] h = refl
   absent_before (row ∷ done) h = elim (told_apart path row.0) [
     | inl same ↦ absurd (not_itself path (subst (λ (t : Text). T (is_lt (text_cmp t path))) (sym same.0) (below_seam row.0 done (and_first _ _ h))))
@@ -123,7 +122,7 @@ module _ (path : Text) (it : Entry) (rest : List (Text × Entry)) where
   ]
 
   -- what is less than it is
-  there_before : (done : List (Text × Entry)) (q : Text) (e : Entry) → T (is_sorted text_cmp (done ++ (path, it) ∷ rest)) → T (is_lt (text_cmp q path)) → find text_cmp q (done ++ (path, it) ∷ rest) ≡ Some e → find text_cmp q done ≡ Some e
+  there_before : (done : List (Text × Node)) (q : Text) (e : Node) → T (is_sorted text_cmp (done ++ (path, it) ∷ rest)) → T (is_lt (text_cmp q path)) → find text_cmp q (done ++ (path, it) ∷ rest) ≡ Some e → find text_cmp q done ≡ Some e
   there_before [] q e h less at = elim (told_apart q path) [
     | inl same ↦ absurd (not_itself path (subst (λ (t : Text). T (is_lt (text_cmp t path))) same.0 less))
     | inr apart ↦ absurd (not_both q path less (below_less path q rest e (and_first _ _ h) (sym (ap (λ (b : Bool). cond b (Some it) (find text_cmp q rest)) apart.1) ∙ at)))
@@ -159,17 +158,17 @@ parent_less path c r = let cut = path-is_cut path c r in subst (λ (t : Text). T
 
 -- The rows so far.
 
-abbrev pub tree_by : List (Text × Entry) → Held
+abbrev pub tree_by : List (Text × Node) → Hierarchy
 tree_by rows = record { paths = map_of (numbered 0 rows); nodes = values_of rows }
 
-absent_number : (k : ℕ) (q : Text) (rows : List (Text × Entry)) → find text_cmp q rows ≡ None → find text_cmp q (numbered k rows) ≡ None
+absent_number : (k : ℕ) (q : Text) (rows : List (Text × Node)) → find text_cmp q rows ≡ None → find text_cmp q (numbered k rows) ≡ None
 absent_number k q [] none = refl
 absent_number k q (row ∷ rows) none = elim (told_apart q row.0) [
   | inl same ↦ absurd (none_some (sym (ap (λ (b : Bool). cond b (Some row.1) (find text_cmp q rows)) same.1) ∙ none) refl)
   | inr apart ↦ ap (λ (b : Bool). cond b (Some k) (find text_cmp q (numbered (k + 1) rows))) apart.1 ∙ absent_number (k + 1) q rows (sym (ap (λ (b : Bool). cond b (Some row.1) (find text_cmp q rows)) apart.1) ∙ none)
 ]
 
-number_of : (q : Text) (rows : List (Text × Entry)) (e : Entry) → find text_cmp q rows ≡ Some e → (n : ℕ) × (number_at (tree_by rows) q ≡ Some n) × (node (tree_by rows) n ≡ Some e)
+number_of : (q : Text) (rows : List (Text × Node)) (e : Node) → find text_cmp q rows ≡ Some e → (n : ℕ) × (number_at (tree_by rows) q ≡ Some n) × (node (tree_by rows) n ≡ Some e)
 number_of q rows e at =
     let s = some_of (slice_get (values_of rows)) (find text_cmp q (numbered 0 rows)) e (find_numbered [] 0 q rows refl ∙ at) in
     (s.0, get-found (numbered 0 rows) q ∙ s.1, s.2) where
@@ -177,7 +176,7 @@ number_of q rows e at =
       some_of f None y h = cc
       some_of f (Some x) y h = (x, refl, h)
 
-numbered-push : (k : ℕ) (rows : List (Text × Entry)) (path : Text) (it : Entry) → numbered k (rows ++ (path, it) ∷ []) ≡ numbered k rows ++ (path, k + length (values_of rows)) ∷ []
+numbered-push : (k : ℕ) (rows : List (Text × Node)) (path : Text) (it : Node) → numbered k (rows ++ (path, it) ∷ []) ≡ numbered k rows ++ (path, k + length (values_of rows)) ∷ []
 numbered-push k [] path it = ap (λ (n : ℕ). (path, n) ∷ []) (plus k) where
   plus : (k : ℕ) → k ≡ k + 0
   plus k = omega arith
@@ -185,9 +184,9 @@ numbered-push k (row ∷ rows) path it = ap (λ (more : List (Text × ℕ)). (ro
   one_on : (k n : ℕ) → (k + 1) + n ≡ k + suc n
   one_on k n = omega arith
 
-values-push : (rows : List (Text × Entry)) (path : Text) (it : Entry) → values_of (rows ++ (path, it) ∷ []) ≡ values_of rows ++ it ∷ []
+values-push : (rows : List (Text × Node)) (path : Text) (it : Node) → values_of (rows ++ (path, it) ∷ []) ≡ values_of rows ++ it ∷ []
 values-push [] path it = refl
-values-push (row ∷ rows) path it = ap (λ (more : List Entry). row.1 ∷ more) (values-push rows path it)
+values-push (row ∷ rows) path it = ap (λ (more : List Node). row.1 ∷ more) (values-push rows path it)
 
 find-push : (rows : List (Text × ℕ)) (path q : Text) (n : ℕ) → find text_cmp path rows ≡ None → find text_cmp q (rows ++ (path, n) ∷ []) ≡ cond (eq_by_cmp text_cmp q path) (Some n) (find text_cmp q rows)
 find-push [] path q n none = refl
@@ -216,27 +215,27 @@ map_of-push rows path n none = same_maps _ _ (λ q.
     ∙ sym (get-insert nat_list_cmp_total (map_of rows) path n q ∙ ap (cond (eq_by_cmp text_cmp q path) (Some n)) (get-found rows q)))
 
 -- a row more is a node more at its path
-tree-push : (rows : List (Text × Entry)) (path : Text) (it : Entry) → find text_cmp path rows ≡ None → with_node_at (tree_by rows) path it ≡ tree_by (rows ++ (path, it) ∷ [])
+tree-push : (rows : List (Text × Node)) (path : Text) (it : Node) → find text_cmp path rows ≡ None → with_node_at (tree_by rows) path it ≡ tree_by (rows ++ (path, it) ∷ [])
 tree-push rows path it none =
     ap (λ (m : Paths). record { paths = m; nodes = values_of rows ++ it ∷ [] })
     (sym (map_of-push (numbered 0 rows) path (length (values_of rows)) (absent_number 0 path rows none)) ∙ ap (λ (n : ℕ). map_of (numbered 0 rows ++ (path, n) ∷ [])) (none_on (length (values_of rows))) ∙ sym (ap (λ (r : List (Text × ℕ)). map_of r) (numbered-push 0 rows path it)))
-    ∙ ap (λ (ns : List Entry). record { paths = map_of (numbered 0 (rows ++ (path, it) ∷ [])); nodes = ns }) (sym (values-push rows path it)) where
+    ∙ ap (λ (ns : List Node). record { paths = map_of (numbered 0 (rows ++ (path, it) ∷ [])); nodes = ns }) (sym (values-push rows path it)) where
       none_on : (n : ℕ) → n ≡ 0 + n
       none_on n = omega arith
 
 -- The rows of a snapshot, the first of which is the root's.
 
 -- a tree has these rows yet to take
-pub record Takes (snapshot : Entries) (held : Held) (left : List (Text × Entry)) : Type 0 where
-  pub mode : Entry
-  pub more : List (Text × Entry)
+pub record Takes (snapshot : Entries) (tree : Hierarchy) (left : List (Text × Node)) : Type 0 where
+  pub mode : Node
+  pub more : List (Text × Node)
   pub split : ((root, mode) ∷ more) ++ left ≡ entries snapshot
-  pub made : held ≡ tree_by ((root, mode) ∷ more)
+  pub made : tree ≡ tree_by ((root, mode) ∷ more)
 
 module _ (snapshot : Entries) (whole : IsWholeSnapshot snapshot) where
-  first_row : (mode : ℕ) (row : Text × Entry) (rest : List (Text × Entry)) → get snapshot root ≡ Some (Dir mode) → entries snapshot ≡ row ∷ rest → row ≡ (root, Dir mode)
+  first_row : (mode : ℕ) (row : Text × Node) (rest : List (Text × Node)) → get snapshot root ≡ Some (Dir mode) → entries snapshot ≡ row ∷ rest → row ≡ (root, Dir mode)
   first_row mode row rest at is =
-      let sorted : T (is_sorted text_cmp (row ∷ rest)) = subst (λ (r : List (Text × Entry)). T (is_sorted text_cmp r)) is (entries_sorted snapshot) in
+      let sorted : T (is_sorted text_cmp (row ∷ rest)) = subst (λ (r : List (Text × Node)). T (is_sorted text_cmp r)) is (entries_sorted snapshot) in
       let there : find text_cmp root (row ∷ rest) ≡ Some (Dir mode) = ap (find text_cmp root) (sym is) ∙ sym (get-entries snapshot root) ∙ at in
       elim (told_apart root row.0) [
         | inl same ↦ pair (sym same.0) (same_entry (sym (ap (λ (b : Bool). cond b (Some row.1) (find text_cmp root rest)) same.1) ∙ there))
@@ -244,41 +243,41 @@ module _ (snapshot : Entries) (whole : IsWholeSnapshot snapshot) where
             let later : find text_cmp root rest ≡ Some (Dir mode) = sym (ap (λ (b : Bool). cond b (Some row.1) (find text_cmp root rest)) apart.1) ∙ there in
             absurd (not_below_root row.0 (whole.canonical row.0 row.1 (get-entries snapshot row.0 ∙ ap (find text_cmp row.0) is ∙ find_head row.0 row rest refl)) (below_less row.0 root rest (Dir mode) (and_first _ _ sorted) later))
       ] where
-        same_entry : {a b : Entry} → Some a ≡ Some b → a ≡ b
+        same_entry : {a b : Node} → Some a ≡ Some b → a ≡ b
         same_entry e = cc
 
         pair : row.0 ≡ root → row.1 ≡ Dir mode → row ≡ (root, Dir mode)
         pair p q = λ i. (p i, q i)
 
   -- the root alone has all other rows to take
-  takes_rest : (mode : ℕ) (row : Text × Entry) (rest : List (Text × Entry)) (held : Held) → get snapshot root ≡ Some (Dir mode) → entries snapshot ≡ row ∷ rest → held ≡ record { paths = insert empty root 0; nodes = Dir mode ∷ [] } → Takes snapshot held rest
-  takes_rest mode row rest held at is made = record {
+  takes_rest : (mode : ℕ) (row : Text × Node) (rest : List (Text × Node)) (tree : Hierarchy) → get snapshot root ≡ Some (Dir mode) → entries snapshot ≡ row ∷ rest → tree ≡ record { paths = insert empty root 0; nodes = Dir mode ∷ [] } → Takes snapshot tree rest
+  takes_rest mode row rest tree at is made = record {
     mode = Dir mode;
     more = [];
-    split = ap (λ (r : Text × Entry). r ∷ rest) (sym (first_row mode row rest at is)) ∙ sym is;
+    split = ap (λ (r : Text × Node). r ∷ rest) (sym (first_row mode row rest at is)) ∙ sym is;
     made = made ∙ ap (λ (m : Paths). record { paths = m; nodes = Dir mode ∷ [] }) (sym root_map);
   } where
     root_map : map_of {X = ℕ} ((root, 0) ∷ []) ≡ insert empty root 0
     root_map = map_of-push [] root 0 refl ∙ ap (λ (m : Paths). insert m root 0) (empty_rows [] refl)
 
   -- the first row is taken off
-  pub takes_first : (mode : ℕ) (first : Option (Bor Text × Bor Entry)) (rows left : List (Text × Entry)) (held : Held) → get snapshot root ≡ Some (Dir mode) → rows ≡ entries snapshot → MatchOption first ((rows ≡ []) × (left ≡ [])) (λ row. rows ≡ (row.0.now, row.1.now) ∷ left) → held ≡ record { paths = insert empty root 0; nodes = Dir mode ∷ [] } → Takes snapshot held left
-  takes_first mode None rows left held at is steps made = absurd (none_some (get-entries snapshot root ∙ ap (find text_cmp root) (sym is ∙ steps.0)) at)
-  takes_first mode (Some row) rows left held at is steps made = takes_rest mode (row.0.now, row.1.now) left held at (sym is ∙ steps) made
+  pub takes_first : (mode : ℕ) (first : Option (Bor Text × Bor Node)) (rows left : List (Text × Node)) (tree : Hierarchy) → get snapshot root ≡ Some (Dir mode) → rows ≡ entries snapshot → MatchOption first ((rows ≡ []) × (left ≡ [])) (λ row. rows ≡ (row.0.now, row.1.now) ∷ left) → tree ≡ record { paths = insert empty root 0; nodes = Dir mode ∷ [] } → Takes snapshot tree left
+  takes_first mode None rows left tree at is steps made = absurd (none_some (get-entries snapshot root ∙ ap (find text_cmp root) (sym is ∙ steps.0)) at)
+  takes_first mode (Some row) rows left tree at is steps made = takes_rest mode (row.0.now, row.1.now) left tree at (sym is ∙ steps) made
 
-  module _ (held : Held) (left rest : List (Text × Entry)) (path : Text) (it : Entry) (takes : Takes snapshot held left) (next : left ≡ (path, it) ∷ rest) where
-    abbrev done : List (Text × Entry)
+  module _ (tree : Hierarchy) (left rest : List (Text × Node)) (path : Text) (it : Node) (takes : Takes snapshot tree left) (next : left ≡ (path, it) ∷ rest) where
+    abbrev done : List (Text × Node)
     done = (root, takes.mode) ∷ takes.more
 
     split : done ++ (path, it) ∷ rest ≡ entries snapshot
-    split = ap (λ (r : List (Text × Entry)). done ++ r) (sym next) ∙ takes.split
+    split = ap (λ (r : List (Text × Node)). done ++ r) (sym next) ∙ takes.split
 
     sorted : T (is_sorted text_cmp (done ++ (path, it) ∷ rest))
-    sorted = subst (λ (r : List (Text × Entry)). T (is_sorted text_cmp r)) (sym split) (entries_sorted snapshot)
+    sorted = subst (λ (r : List (Text × Node)). T (is_sorted text_cmp r)) (sym split) (entries_sorted snapshot)
 
     stands : get snapshot path ≡ Some it
     stands = get-entries snapshot path ∙ ap (find text_cmp path) (sym split) ∙ at_seam done sorted where
-      at_seam : (front : List (Text × Entry)) → T (is_sorted text_cmp (front ++ (path, it) ∷ rest)) → find text_cmp path (front ++ (path, it) ∷ rest) ≡ Some it
+      at_seam : (front : List (Text × Node)) → T (is_sorted text_cmp (front ++ (path, it) ∷ rest)) → find text_cmp path (front ++ (path, it) ∷ rest) ≡ Some it
       at_seam [] h = find_head path (path, it) rest refl
       at_seam (row ∷ front) h = find_later path row (front ++ (path, it) ∷ rest) it h (at_seam front (and_second _ _ h))
 
@@ -292,23 +291,23 @@ module _ (snapshot : Entries) (whole : IsWholeSnapshot snapshot) where
       by true r = absurd (none_some absent (find_head path (root, takes.mode) takes.more (is_the_root path r)))
 
     -- the next row may come
-    pub takes_next : MayTake held path it
+    pub takes_next : MayTake tree path it
     takes_next =
         let canon = whole.canonical path it stands in
         let dir = some_dir (get snapshot (parent path)) (whole.placed path it stands) in
         let up = number_of (parent path) done dir.0 (there_before path it rest done (parent path) dir.0 sorted (parent_less path canon below) (ap (find text_cmp (parent path)) split ∙ sym (get-entries snapshot (parent path)) ∙ dir.1)) in
         record {
           canonical = canon;
-          absent = ap (λ (h : Held). number_at h path) takes.made ∙ get-found (numbered 0 done) path ∙ absent_number 0 path done absent;
+          absent = ap (λ (h : Hierarchy). number_at h path) takes.made ∙ get-found (numbered 0 done) path ∙ absent_number 0 path done absent;
           placed = record {
             up = up.0;
-            stands = ap (λ (h : Held). number_at h (parent path)) takes.made ∙ up.1;
-            in_dir = ap (λ (h : Held). is_dir (node h up.0)) takes.made ∙ ap is_dir up.2 ∙ sym (ap is_dir dir.1) ∙ whole.placed path it stands;
+            stands = ap (λ (h : Hierarchy). number_at h (parent path)) takes.made ∙ up.1;
+            in_dir = ap (λ (h : Hierarchy). is_dir (node h up.0)) takes.made ∙ ap is_dir up.2 ∙ sym (ap is_dir dir.1) ∙ whole.placed path it stands;
           };
           seen = unhidden (is_within (join root hidden) path) refl;
           fit = whole.fit path it stands;
         } where
-          some_dir : (o : Option Entry) → is_dir o ≡ true → (e : Entry) × (o ≡ Some e)
+          some_dir : (o : Option Node) → is_dir o ≡ true → (e : Node) × (o ≡ Some e)
           some_dir None h = cc
           some_dir (Some e) h = (e, refl)
 
@@ -317,15 +316,15 @@ module _ (snapshot : Entries) (whole : IsWholeSnapshot snapshot) where
           unhidden true h = absurd (none_some (whole.unseen path h) stands)
 
     -- and then the others are left
-    pub takes_more : (new : Held) → new ≡ with_node_at held path it → Takes snapshot new rest
+    pub takes_more : (new : Hierarchy) → new ≡ with_node_at tree path it → Takes snapshot new rest
     takes_more new is = record {
       mode = takes.mode;
       more = takes.more ++ (path, it) ∷ [];
       split = append_assoc done ((path, it) ∷ []) rest ∙ split;
-      made = is ∙ ap (λ (h : Held). with_node_at h path it) takes.made ∙ tree-push done path it absent;
+      made = is ∙ ap (λ (h : Hierarchy). with_node_at h path it) takes.made ∙ tree-push done path it absent;
     }
 
-  pub takes_all : (held : Held) (left : List (Text × Entry)) → Takes snapshot held left → left ≡ [] → held ≡ tree_of snapshot
+  pub takes_all : (tree : Hierarchy) (left : List (Text × Node)) → Takes snapshot tree left → left ≡ [] → tree ≡ tree_of snapshot
   unfolding tree_of
-  takes_all held left takes none =
-      takes.made ∙ ap tree_by (sym (append-nil ((root, takes.mode) ∷ takes.more)) ∙ ap (λ (r : List (Text × Entry)). ((root, takes.mode) ∷ takes.more) ++ r) (sym none) ∙ takes.split)
+  takes_all tree left takes none =
+      takes.made ∙ ap tree_by (sym (append-nil ((root, takes.mode) ∷ takes.more)) ∙ ap (λ (r : List (Text × Node)). ((root, takes.mode) ∷ takes.more) ++ r) (sym none) ∙ takes.split)

@@ -8,10 +8,9 @@ use Rattle.rk_base.specs.Text.{Text}
 use Rattle.rk_base.specs.Canonical.{is_empty}
 use Rattle.rk_base.specs.declared.errno.Errno.{Errno}
 use Rattle.rk_base.specs.declared.errno.Errno.TheVariants.{NoEntry, Exists, Denied, NotEmpty, Invalid}
-use Rattle.rk_tree.specs.declared.entry.Entry.{Entry}
-use Rattle.rk_tree.specs.declared.entry.Entry.TheVariants.{File, Dir, Link}
+use Rattle.rk_tree.specs.Node.{Node, File, Dir, Link}
 use Rattle.rk_tree.specs.Entries.{is_dir, is_nul, IsFit}
-use Rattle.rk_tree.specs.Held.{Held, node, child}
+use Rattle.rk_tree.specs.Hierarchy.{Hierarchy, node, child}
 use Rattle.rk_tree.specs.Refusals.{first_of, is_there, lacks_w, has_names, entry_checks, add_refusal, link_refusal, remove_found, remove_refusal, mode_refusal}
 
 -- the first of two lists of checks
@@ -47,43 +46,43 @@ filled : (text : Text) → is_empty text ≡ false → text ≢ []
 filled [] h e = cc
 filled (b ∷ bs) h e = cc
 
-pub checked-fit : (it : Entry) → first_of (entry_checks it) ≡ None → IsFit it
+pub checked-fit : (it : Node) → first_of (entry_checks it) ≡ None → IsFit it
 checked-fit (File mode bytes) h = within_all mode (passed _ Invalid [] h).0
 checked-fit (Dir mode) h = within_all mode (passed _ Invalid [] h).0
 checked-fit (Link text) h =
     let some = passed (is_empty text) NoEntry ((list_any is_nul text, Invalid) ∷ []) h in
     (filled text some.0, (passed (list_any is_nul text) Invalid [] some.1).0)
 
-pub add_refusal-is : (held : Held) (dir : ℕ) (name : Text) (it : Entry) → add_refusal held dir name it ≡ option_or (first_of (entry_checks it)) (first_of ((is_there (child held dir name), Exists) ∷ (lacks_w held dir, Denied) ∷ []))
+pub add_refusal-is : (tree : Hierarchy) (dir : ℕ) (name : Text) (it : Node) → add_refusal tree dir name it ≡ option_or (first_of (entry_checks it)) (first_of ((is_there (child tree dir name), Exists) ∷ (lacks_w tree dir, Denied) ∷ []))
 unfolding add_refusal
-add_refusal-is held dir name it = first_of-append (entry_checks it) _
+add_refusal-is tree dir name it = first_of-append (entry_checks it) _
 
-pub add-allowed : (held : Held) (dir : ℕ) (name : Text) (it : Entry) → add_refusal held dir name it ≡ None → (child held dir name ≡ None) × IsFit it
-add-allowed held dir name it h =
-    let both = or_none (first_of (entry_checks it)) (first_of ((is_there (child held dir name), Exists) ∷ (lacks_w held dir, Denied) ∷ [])) (sym (add_refusal-is held dir name it) ∙ h) in
-    (not_there (child held dir name) (passed (is_there (child held dir name)) Exists ((lacks_w held dir, Denied) ∷ []) both.1).0, checked-fit it both.0)
+pub add-allowed : (tree : Hierarchy) (dir : ℕ) (name : Text) (it : Node) → add_refusal tree dir name it ≡ None → (child tree dir name ≡ None) × IsFit it
+add-allowed tree dir name it h =
+    let both = or_none (first_of (entry_checks it)) (first_of ((is_there (child tree dir name), Exists) ∷ (lacks_w tree dir, Denied) ∷ [])) (sym (add_refusal-is tree dir name it) ∙ h) in
+    (not_there (child tree dir name) (passed (is_there (child tree dir name)) Exists ((lacks_w tree dir, Denied) ∷ []) both.1).0, checked-fit it both.0)
 
 pub there_is : {A : Type 0} (o : Option A) → is_there o ≡ true → (x : A) × (o ≡ Some x)
 there_is None h = cc
 there_is (Some x) h = (x, refl)
 
-pub link-allowed : (held : Held) (dir : ℕ) (name : Text) (n : ℕ) → link_refusal held dir name n ≡ None → (is_there (node held n) ≡ true) × (is_dir (node held n) ≡ false) × (child held dir name ≡ None)
+pub link-allowed : (tree : Hierarchy) (dir : ℕ) (name : Text) (n : ℕ) → link_refusal tree dir name n ≡ None → (is_there (node tree n) ≡ true) × (is_dir (node tree n) ≡ false) × (child tree dir name ≡ None)
 unfolding link_refusal
-link-allowed held dir name n h =
-    let one = passed (not (is_there (node held n))) NoEntry ((is_dir (node held n), Denied) ∷ (is_there (child held dir name), Exists) ∷ (lacks_w held dir, Denied) ∷ []) h in
-    let two = passed (is_dir (node held n)) Denied ((is_there (child held dir name), Exists) ∷ (lacks_w held dir, Denied) ∷ []) one.1 in
-    (so (is_there (node held n)) one.0, two.0, not_there (child held dir name) (passed (is_there (child held dir name)) Exists ((lacks_w held dir, Denied) ∷ []) two.1).0) where
+link-allowed tree dir name n h =
+    let one = passed (not (is_there (node tree n))) NoEntry ((is_dir (node tree n), Denied) ∷ (is_there (child tree dir name), Exists) ∷ (lacks_w tree dir, Denied) ∷ []) h in
+    let two = passed (is_dir (node tree n)) Denied ((is_there (child tree dir name), Exists) ∷ (lacks_w tree dir, Denied) ∷ []) one.1 in
+    (so (is_there (node tree n)) one.0, two.0, not_there (child tree dir name) (passed (is_there (child tree dir name)) Exists ((lacks_w tree dir, Denied) ∷ []) two.1).0) where
       so : (b : Bool) → not b ≡ false → b ≡ true
       so true e = refl
       so false e = cc
 
-pub remove_refusal-is : (held : Held) (dir : ℕ) (name : Text) (o : Option ℕ) → o ≡ child held dir name → remove_found held dir o ≡ remove_refusal held dir name
+pub remove_refusal-is : (tree : Hierarchy) (dir : ℕ) (name : Text) (o : Option ℕ) → o ≡ child tree dir name → remove_found tree dir o ≡ remove_refusal tree dir name
 unfolding remove_refusal
-remove_refusal-is held dir name o is = ap (remove_found held dir) is
+remove_refusal-is tree dir name o is = ap (remove_found tree dir) is
 
-pub remove-allowed : (held : Held) (dir n : ℕ) → remove_found held dir (Some n) ≡ None → has_names held n ≡ false
-remove-allowed held dir n h = (passed (has_names held n) NotEmpty ((lacks_w held dir, Denied) ∷ []) h).0
+pub remove-allowed : (tree : Hierarchy) (dir n : ℕ) → remove_found tree dir (Some n) ≡ None → has_names tree n ≡ false
+remove-allowed tree dir n h = (passed (has_names tree n) NotEmpty ((lacks_w tree dir, Denied) ∷ []) h).0
 
-pub mode-allowed : (held : Held) (n mode : ℕ) → mode_refusal held n mode ≡ None → mode ≤ 511
+pub mode-allowed : (tree : Hierarchy) (n mode : ℕ) → mode_refusal tree n mode ≡ None → mode ≤ 511
 unfolding mode_refusal
-mode-allowed held n mode h = within_all mode (passed (nat_lt 511 mode) Invalid ((not (is_there (node held n)), NoEntry) ∷ []) h).0
+mode-allowed tree n mode h = within_all mode (passed (nat_lt 511 mode) Invalid ((not (is_there (node tree n)), NoEntry) ∷ []) h).0

@@ -5,7 +5,7 @@ use Rattle.std.specs.FinMap.{get, remove, get-remove}
 use Rattle.rk_base.specs.Text.{Text, root, is_root, parent}
 use Rattle.rk_base.specs.Canonical.{is_empty, is_canonical}
 use Rattle.rk_tree.specs.Entries.{is_dir}
-use Rattle.rk_tree.specs.Held.{Held, Paths, top, node, number_at, names}
+use Rattle.rk_tree.specs.Hierarchy.{Hierarchy, Paths, top, node, number_at, names}
 use Rattle.rk_tree.specs.Moves.{IsBare}
 use Rattle.rk_tree.specs.Refusals.{has_names}
 use Rattle.rk_tree.specs.Whole.{IsWhole}
@@ -34,18 +34,18 @@ stood_there m path q k at = elim (remove_cases m path q) [
 ]
 
 -- a path below the root, below which nothing stands
-pub gone-whole : (held : Held) (path : Text) → IsWhole held → is_root path ≡ false → IsBare held path → IsWhole (record held { paths = remove held.paths path })
-gone-whole held path whole below bare = record {
-  root_at = stays_there held.paths path root top (λ same. clash _ (ap is_root (sym same)) below) whole.root_at;
+pub gone-whole : (tree : Hierarchy) (path : Text) → IsWhole tree → is_root path ≡ false → IsBare tree path → IsWhole (record tree { paths = remove tree.paths path })
+gone-whole tree path whole below bare = record {
+  root_at = stays_there tree.paths path root top (λ same. clash _ (ap is_root (sym same)) below) whole.root_at;
   root_dir = whole.root_dir;
-  canonical = λ q k at. whole.canonical q k (stood_there held.paths path q k at).1;
-  known = λ q k at. whole.known q k (stood_there held.paths path q k at).1;
+  canonical = λ q k at. whole.canonical q k (stood_there tree.paths path q k at).1;
+  known = λ q k at. whole.known q k (stood_there tree.paths path q k at).1;
   placed = λ q k at.
-      let old = stood_there held.paths path q k at in
+      let old = stood_there tree.paths path q k at in
       let p = whole.placed q k old.1 in
-      record { up = p.up; stands = stays_there held.paths path (parent q) p.up (not_above held path q k whole below bare old.0 old.1) p.stands; in_dir = p.in_dir };
-  once = λ a b k at bt d. whole.once a b k (stood_there held.paths path a k at).1 (stood_there held.paths path b k bt).1 d;
-  unseen = λ q h. elim (remove_cases held.paths path q) [
+      record { up = p.up; stands = stays_there tree.paths path (parent q) p.up (not_above tree path q k whole below bare old.0 old.1) p.stands; in_dir = p.in_dir };
+  once = λ a b k at bt d. whole.once a b k (stood_there tree.paths path a k at).1 (stood_there tree.paths path b k bt).1 d;
+  unseen = λ q h. elim (remove_cases tree.paths path q) [
     | inl here ↦ here.1
     | inr other ↦ other.1 ∙ whole.unseen q h
   ];
@@ -53,10 +53,10 @@ gone-whole held path whole below bare = record {
 }
 
 -- below the path of a name that stands for a directory without names, or for no directory, nothing stands
-pub bare_path : (held : Held) (path : Text) (n : ℕ) → IsWhole held → is_canonical path ≡ true → is_root path ≡ false → number_at held path ≡ Some n → has_names held n ≡ false → IsBare held path
-bare_path held path n whole c r at none = elim (is_dir (node held n)) as (λ (b : Bool). is_dir (node held n) ≡ b → (b && not (is_empty (names held n))) ≡ false → IsBare held path) [
-  | true ↦ λ d e. bare_dir held whole path c r n at d (no_names (names held n) e)
-  | false ↦ λ d e. bare_file held whole path c r n at d
+pub bare_path : (tree : Hierarchy) (path : Text) (n : ℕ) → IsWhole tree → is_canonical path ≡ true → is_root path ≡ false → number_at tree path ≡ Some n → has_names tree n ≡ false → IsBare tree path
+bare_path tree path n whole c r at none = elim (is_dir (node tree n)) as (λ (b : Bool). is_dir (node tree n) ≡ b → (b && not (is_empty (names tree n))) ≡ false → IsBare tree path) [
+  | true ↦ λ d e. bare_dir tree whole path c r n at d (no_names (names tree n) e)
+  | false ↦ λ d e. bare_file tree whole path c r n at d
 ] refl none where
   no_names : (xs : List Text) → not (is_empty xs) ≡ false → xs ≡ []
   no_names [] h = refl

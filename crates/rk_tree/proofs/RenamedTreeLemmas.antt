@@ -8,18 +8,17 @@ use Rattle.rk_base.specs.Text.{Text, join, is_within, moved}
 use Rattle.rk_base.specs.Canonical.{is_canonical, is_name}
 use Rattle.rk_base.proofs.MovedLemmas.{moved-join}
 use Rattle.rk_base.proofs.WithinLemmas.{within-itself, within-down, within-join, stem-back}
-use Rattle.rk_tree.specs.declared.entry.Entry.{Entry}
-use Rattle.rk_tree.specs.declared.entry.Entry.TheVariants.{File, Dir, Link}
-use Rattle.rk_tree.specs.declared.node.Node.{Node}
+use Rattle.rk_tree.specs.Node.{Node, File, Dir, Link}
+use Rattle.rk_tree.specs.declared.inode.Inode.{Inode}
 use Rattle.rk_tree.specs.Entries.{is_dir}
-use Rattle.rk_tree.specs.Held.{Held, Paths, node, number_at, path_of, child, is_same, moved_paths, renamed}
+use Rattle.rk_tree.specs.Hierarchy.{Hierarchy, Paths, node, number_at, path_of, child, is_same, moved_paths, renamed}
 use Rattle.rk_tree.specs.Moves.{Moves}
-use Rattle.rk_tree.specs.Nodes.{entries_of, held_by, under, place_in, place_of, change, cleared, with_name, with_place, without_name, IsPlace, HavePlaces, AreAttached}
+use Rattle.rk_tree.specs.Inodes.{nodes_of, hierarchy_of, under, place_in, place_of, change, cleared, with_name, with_place, without_name, IsPlace, HavePlaces, AreAttached}
 use Rattle.rk_tree.specs.Refusals.{first_of, is_there, rename_checks}
 use Rattle.rk_tree.specs.Whole.{IsWhole, MayHold}
 use Rattle.rk_tree.proofs.BelowLemmas.{none_some, same_number, child_at, child_named, child_stands, child_dir}
 use Rattle.rk_tree.proofs.ChangedLemmas.{PutsUnder, puts_name, takes_name, change_cases, entries-change, place-change, under-change, node_there}
-use Rattle.rk_tree.proofs.HeldLemmas.{path_stands}
+use Rattle.rk_tree.proofs.HierarchyLemmas.{path_stands}
 use Rattle.rk_tree.proofs.MovedLemmas.{there, back, stays, moved-whole}
 use Rattle.rk_tree.proofs.RefusalLemmas.{there_is}
 use Rattle.rk_tree.proofs.RenamedLemmas.{may_move, renamed_there}
@@ -33,18 +32,18 @@ clash b t f = cc
 
 -- What the places change.
 
-cleared_under : (ns : List Node) (o : Option ℕ) (k : ℕ) (x : Text) → under (cleared ns o) k x ≡ under ns k x
+cleared_under : (ns : List Inode) (o : Option ℕ) (k : ℕ) (x : Text) → under (cleared ns o) k x ≡ under ns k x
 cleared_under ns None k x = refl
 cleared_under ns (Some m) k x = under-change (with_place None) ns m k x (λ it. refl)
 
-cleared_entries : (ns : List Node) (o : Option ℕ) → entries_of (cleared ns o) ≡ entries_of ns
+cleared_entries : (ns : List Inode) (o : Option ℕ) → nodes_of (cleared ns o) ≡ nodes_of ns
 cleared_entries ns None = refl
 cleared_entries ns (Some m) = entries-change (with_place None) ns m (λ it. refl)
 
-same_entry : {o : Option Entry} (a b : Entry) → o ≡ Some a → o ≡ Some b → a ≡ b
+same_entry : {o : Option Node} (a b : Node) → o ≡ Some a → o ≡ Some b → a ≡ b
 same_entry a b p q = cc
 
-dir_place : (o : Option Entry) (to : ℕ) (new : Text) → is_dir o ≡ true → option_and_then (λ it. place_of it to new) o ≡ Some (to, new)
+dir_place : (o : Option Node) (to : ℕ) (new : Text) → is_dir o ≡ true → option_and_then (λ it. place_of it to new) o ≡ Some (to, new)
 dir_place None to new d = cc
 dir_place (Some (File mode bytes)) to new d = cc
 dir_place (Some (Dir mode)) to new d = refl
@@ -54,17 +53,17 @@ apart_numbers : (n : ℕ) (o : Option ℕ) → is_same (Some n) o ≡ false → 
 apart_numbers n None a is = none_some refl is
 apart_numbers n (Some m) a is = clash _ (eq-eqb n m (same_number {o = Some m} n m is refl)) a
 
-module _ (ns : List Node) (paths : Paths) (l : Leads ns paths) (kept : Kept paths ns) (dir n to : ℕ) (name new : Text) (gone : Option ℕ) (place : Option (ℕ × Text)) (renew : is_name new ≡ true) (found : child (held_by paths ns) dir name ≡ Some n) (is_over : child (held_by paths ns) to new ≡ gone) (apart : is_same (Some n) gone ≡ false) (may : MayHold (held_by paths ns) to new) (allowed : first_of (rename_checks (held_by paths ns) dir n to gone) ≡ None) (has : is_there (path_of (held_by paths ns) to) ≡ true) (placed : place ≡ option_and_then (λ it. place_of it to new) (node (held_by paths ns) n)) where
-  abbrev here : Held
-  here = held_by paths ns
+module _ (ns : List Inode) (paths : Paths) (l : Leads ns paths) (kept : Kept paths ns) (dir n to : ℕ) (name new : Text) (gone : Option ℕ) (place : Option (ℕ × Text)) (renew : is_name new ≡ true) (found : child (hierarchy_of paths ns) dir name ≡ Some n) (is_over : child (hierarchy_of paths ns) to new ≡ gone) (apart : is_same (Some n) gone ≡ false) (may : MayHold (hierarchy_of paths ns) to new) (allowed : first_of (rename_checks (hierarchy_of paths ns) dir n to gone) ≡ None) (has : is_there (path_of (hierarchy_of paths ns) to) ≡ true) (placed : place ≡ option_and_then (λ it. place_of it to new) (node (hierarchy_of paths ns) n)) where
+  abbrev here : Hierarchy
+  here = hierarchy_of paths ns
 
-  abbrev with_new : List Node
+  abbrev with_new : List Inode
   with_new = change (with_name new n) ns to
 
-  abbrev mid : List Node
+  abbrev mid : List Inode
   mid = change (without_name name) with_new dir
 
-  abbrev after : List Node
+  abbrev after : List Inode
   after = change (with_place place) (cleared mid gone) n
 
   named : is_name name ≡ true
@@ -126,7 +125,7 @@ module _ (ns : List Node) (paths : Paths) (l : Leads ns paths) (kept : Kept path
   after_under : (k : ℕ) (x : Text) → under after k x ≡ under mid k x
   after_under k x = under-change (with_place place) (cleared mid gone) n k x (λ it. refl) ∙ cleared_under mid gone k x
 
-  after_entries : entries_of after ≡ entries_of ns
+  after_entries : nodes_of after ≡ nodes_of ns
   after_entries =
       entries-change (with_place place) (cleared mid gone) n (λ it. refl) ∙ cleared_entries mid gone
       ∙ entries-change (without_name name) with_new dir (λ it. refl) ∙ entries-change (with_name new n) ns to (λ it. refl)
@@ -143,13 +142,13 @@ module _ (ns : List Node) (paths : Paths) (l : Leads ns paths) (kept : Kept path
   target_is : get now target ≡ Some n
   target_is = target_now ns mid paths kept.0 p.0 q.0 name new dir to n named renew at to_at once to_once m moves (steps ns paths l)
 
-  after_view : held_by now after ≡ renamed here dir name to new
+  after_view : hierarchy_of now after ≡ renamed here dir name to new
   after_view =
-      ap (λ (es : List Entry). record { paths = now; nodes = es }) after_entries
+      ap (λ (es : List Node). record { paths = now; nodes = es }) after_entries
       ∙ renamed_there here dir n to name new p.0 q.0 gone p.1 q.1 (sym found) (sym is_over) apart
 
-  after_whole : IsWhole (held_by now after)
-  after_whole = subst IsWhole (sym (ap (λ (es : List Entry). record { paths = now; nodes = es }) after_entries)) (moved-whole here kept.0 source target n m)
+  after_whole : IsWhole (hierarchy_of now after)
+  after_whole = subst IsWhole (sym (ap (λ (es : List Node). record { paths = now; nodes = es }) after_entries)) (moved-whole here kept.0 source target n m)
 
   source_is : is_canonical source ≡ true
   source_is = kept.0.canonical source n m.stands
@@ -189,26 +188,26 @@ module _ (ns : List Node) (paths : Paths) (l : Leads ns paths) (kept : Kept path
         ]) refl
 
   -- the directory that was replaced has none
-  place_gone : (o : Option ℕ) (k : ℕ) → get paths target ≡ o → (k ≡ n → ⊥) → is_dir (slice_get (entries_of ns) k) ≡ true → IsPlace paths k (place_in (slice_get mid k)) → IsPlace now k (place_in (slice_get (cleared mid o) k))
+  place_gone : (o : Option ℕ) (k : ℕ) → get paths target ≡ o → (k ≡ n → ⊥) → is_dir (slice_get (nodes_of ns) k) ≡ true → IsPlace paths k (place_in (slice_get mid k)) → IsPlace now k (place_in (slice_get (cleared mid o) k))
   place_gone None k on other d h = place_moved k (place_in (slice_get mid k)) other (λ e. none_some on e) h
   place_gone (Some j) k on other d h = elim (change_cases (with_place None) mid j k) [
     | inl here_is ↦ subst (λ (s : Option (ℕ × Text)). IsPlace now k s) (sym (ap place_in here_is.1 ∙ no_place (slice_get mid j)))
         (λ t is. let b = back here kept.0 source target n m t k is in b.2 (kept.0.once b.0 target k b.1 (on ∙ ap (λ (i : ℕ). Some i) (sym here_is.0)) d))
     | inr left ↦ subst (λ (s : Option (ℕ × Text)). IsPlace now k s) (sym (ap place_in left.1)) (place_moved k (place_in (slice_get mid k)) other (λ e. left.0 (same_number k j e on)) h)
   ] where
-    no_place : (o : Option Node) → place_in (option_map (with_place None) o) ≡ None
+    no_place : (o : Option Inode) → place_in (option_map (with_place None) o) ≡ None
     no_place None = refl
     no_place (Some it) = refl
 
   after_places : HavePlaces now after
   after_places k below d =
-      let old : is_dir (slice_get (entries_of ns) k) ≡ true = ap (λ (es : List Entry). is_dir (slice_get es k)) (sym after_entries) ∙ d in
+      let old : is_dir (slice_get (nodes_of ns) k) ≡ true = ap (λ (es : List Node). is_dir (slice_get es k)) (sym after_entries) ∙ d in
       elim (change_cases (with_place place) (cleared mid gone) n k) [
         | inl here_is ↦
-            let it = dir_node (slice_get (entries_of ns) n) (ap (λ (j : ℕ). is_dir (slice_get (entries_of ns) j)) (sym here_is.0) ∙ old) in
-            let x = node_there (cleared mid gone) n it.0 (ap (λ (es : List Entry). slice_get es n) (sym (entries-change (with_place place) (cleared mid gone) n (λ y. refl)) ∙ after_entries) ∙ it.1) in
+            let it = dir_node (slice_get (nodes_of ns) n) (ap (λ (j : ℕ). is_dir (slice_get (nodes_of ns) j)) (sym here_is.0) ∙ old) in
+            let x = node_there (cleared mid gone) n it.0 (ap (λ (es : List Node). slice_get es n) (sym (entries-change (with_place place) (cleared mid gone) n (λ y. refl)) ∙ after_entries) ∙ it.1) in
             subst (λ (s : Option (ℕ × Text)). IsPlace now k s)
-            (sym (ap place_in here_is.1 ∙ ap (λ (o : Option Node). place_in (option_map (with_place place) o)) x.1 ∙ placed ∙ dir_place (node here n) to new (ap (λ (j : ℕ). is_dir (node here j)) (sym here_is.0) ∙ old)))
+            (sym (ap place_in here_is.1 ∙ ap (λ (o : Option Inode). place_in (option_map (with_place place) o)) x.1 ∙ placed ∙ dir_place (node here n) to new (ap (λ (j : ℕ). is_dir (node here j)) (sym here_is.0) ∙ old)))
             (renew, q.0, to_is, target_is ∙ ap (λ (j : ℕ). Some j) (sym here_is.0))
         | inr other ↦ subst (λ (s : Option (ℕ × Text)). IsPlace now k s) (sym (ap place_in other.1))
             (place_gone gone k target_at other.0 old (subst (λ (s : Option (ℕ × Text)). IsPlace paths k s) (sym (mid_place k)) (kept.1 k below old)))
@@ -237,8 +236,8 @@ module _ (ns : List Node) (paths : Paths) (l : Leads ns paths) (kept : Kept path
     is = after_view;
   }
 
-pub renamed-tree : (ns : List Node) (held : Held) (dir n to : ℕ) (name new : Text) (gone : Option ℕ) (place : Option (ℕ × Text)) → IsTree ns held → is_name new ≡ true → Some n ≡ child held dir name → gone ≡ child held to new → is_same (Some n) gone ≡ false → MayHold held to new → first_of (rename_checks held dir n to gone) ≡ None → is_there (path_of held to) ≡ true → place ≡ option_and_then (λ it. place_of it to new) (node held n)
-    → IsTree (change (with_place place) (cleared (change (without_name name) (change (with_name new n) ns to) dir) gone) n) (renamed held dir name to new)
-renamed-tree ns held dir n to name new gone place t renew = over ns held t (λ h. Some n ≡ child h dir name → gone ≡ child h to new → is_same (Some n) gone ≡ false → MayHold h to new → first_of (rename_checks h dir n to gone) ≡ None → is_there (path_of h to) ≡ true → place ≡ option_and_then (λ it. place_of it to new) (node h n)
+pub renamed-tree : (ns : List Inode) (tree : Hierarchy) (dir n to : ℕ) (name new : Text) (gone : Option ℕ) (place : Option (ℕ × Text)) → IsTree ns tree → is_name new ≡ true → Some n ≡ child tree dir name → gone ≡ child tree to new → is_same (Some n) gone ≡ false → MayHold tree to new → first_of (rename_checks tree dir n to gone) ≡ None → is_there (path_of tree to) ≡ true → place ≡ option_and_then (λ it. place_of it to new) (node tree n)
+    → IsTree (change (with_place place) (cleared (change (without_name name) (change (with_name new n) ns to) dir) gone) n) (renamed tree dir name to new)
+renamed-tree ns tree dir n to name new gone place t renew = over ns tree t (λ h. Some n ≡ child h dir name → gone ≡ child h to new → is_same (Some n) gone ≡ false → MayHold h to new → first_of (rename_checks h dir n to gone) ≡ None → is_there (path_of h to) ≡ true → place ≡ option_and_then (λ it. place_of it to new) (node h n)
     → IsTree (change (with_place place) (cleared (change (without_name name) (change (with_name new n) ns to) dir) gone) n) (renamed h dir name to new))
     (λ found is_over apart may allowed has placed. renamed_core ns t.paths t.leads t.kept dir n to name new gone place renew (sym found) (sym is_over) apart may allowed has placed)

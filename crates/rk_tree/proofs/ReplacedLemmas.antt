@@ -7,18 +7,18 @@ use Rattle.rk_base.specs.Text.{Text, join}
 use Rattle.rk_base.specs.Canonical.{is_name}
 use Rattle.rk_base.proofs.PathLemmas.{join-not_root}
 use Rattle.rk_base.proofs.WithinLemmas.{within-itself, within-down}
-use Rattle.rk_tree.specs.declared.entry.Entry.{Entry}
-use Rattle.rk_tree.specs.declared.node.Node.{Node}
+use Rattle.rk_tree.specs.Node.{Node}
+use Rattle.rk_tree.specs.declared.inode.Inode.{Inode}
 use Rattle.rk_tree.specs.Entries.{is_dir, IsFit}
-use Rattle.rk_tree.specs.Held.{Held, Paths, node, number_at, path_of, child, with_path, removed, changed_at, change_node}
+use Rattle.rk_tree.specs.Hierarchy.{Hierarchy, Paths, node, number_at, path_of, child, with_path, removed, changed_at, change_node}
 use Rattle.rk_tree.specs.Moves.{IsBare}
-use Rattle.rk_tree.specs.Nodes.{entries_of, held_by, under, place_in, change, with_entry, with_place, without_name, IsPlace, HavePlaces, AreAttached}
-use Rattle.rk_tree.specs.Nodes as nodes
+use Rattle.rk_tree.specs.Inodes.{nodes_of, hierarchy_of, under, place_in, change, as_node, with_place, without_name, IsPlace, HavePlaces, AreAttached}
+use Rattle.rk_tree.specs.Inodes as nodes
 use Rattle.rk_tree.specs.Refusals.{has_names}
 use Rattle.rk_tree.specs.Whole.{IsWhole}
 use Rattle.rk_tree.proofs.BelowLemmas.{none_some, same_number, child_named, child_stands, child_dir}
 use Rattle.rk_tree.proofs.ChangedLemmas.{PutsUnder, takes_name, change_cases, entries-change, place-change, under-change}
-use Rattle.rk_tree.proofs.HeldLemmas.{path_stands}
+use Rattle.rk_tree.proofs.HierarchyLemmas.{path_stands}
 use Rattle.rk_tree.proofs.RemovedLemmas.{stays_there, stood_there, gone-whole, bare_path}
 use Rattle.rk_tree.proofs.ShownLemmas.{Leads, Steps, steps, leads}
 use Rattle.rk_tree.proofs.StepsLemmas.{steps-same, steps-removed, both_or, not_up}
@@ -30,67 +30,67 @@ clash b t f = cc
 
 -- Another node of the same kind.
 
-entry_of : (ns : List Node) (k : ℕ) → slice_get (entries_of ns) k ≡ option_map (λ m. m.entry) (slice_get ns k)
+entry_of : (ns : List Inode) (k : ℕ) → slice_get (nodes_of ns) k ≡ option_map (λ m. m.node) (slice_get ns k)
 entry_of [] zero = refl
 entry_of [] (suc k) = refl
 entry_of (x ∷ ns) zero = refl
 entry_of (x ∷ ns) (suc k) = entry_of ns k
 
-entries_set : (ns : List Node) (n : ℕ) (new : Node) → entries_of (slice_set ns n new) ≡ slice_set (entries_of ns) n new.entry
+entries_set : (ns : List Inode) (n : ℕ) (new : Inode) → nodes_of (slice_set ns n new) ≡ slice_set (nodes_of ns) n new.node
 entries_set [] n new = refl
 entries_set (x ∷ ns) zero new = refl
-entries_set (x ∷ ns) (suc n) new = ap (λ (es : List Entry). x.entry ∷ es) (entries_set ns n new)
+entries_set (x ∷ ns) (suc n) new = ap (λ (es : List Node). x.node ∷ es) (entries_set ns n new)
 
-entries_with : (f : Entry → Entry) (ns : List Node) (n : ℕ) (o : Option Node) → entries_of (nodes.changed_at (with_entry f) ns n o) ≡ changed_at f (entries_of ns) n (option_map (λ m. m.entry) o)
+entries_with : (f : Node → Node) (ns : List Inode) (n : ℕ) (o : Option Inode) → nodes_of (nodes.changed_at (as_node f) ns n o) ≡ changed_at f (nodes_of ns) n (option_map (λ m. m.node) o)
 entries_with f ns n None = refl
-entries_with f ns n (Some it) = entries_set ns n (with_entry f it)
+entries_with f ns n (Some it) = entries_set ns n (as_node f it)
 
-kind_with : (f : Entry → Entry) (o : Option Node) → ((it : Entry) → is_dir (Some (f it)) ≡ is_dir (Some it)) → is_dir (option_map (λ m. m.entry) (option_map (with_entry f) o)) ≡ is_dir (option_map (λ m. m.entry) o)
+kind_with : (f : Node → Node) (o : Option Inode) → ((it : Node) → is_dir (Some (f it)) ≡ is_dir (Some it)) → is_dir (option_map (λ m. m.node) (option_map (as_node f) o)) ≡ is_dir (option_map (λ m. m.node) o)
 kind_with f None alike = refl
-kind_with f (Some it) alike = alike it.entry
+kind_with f (Some it) alike = alike it.node
 
-module _ (ns : List Node) (paths : Paths) (l : Leads ns paths) (kept : Kept paths ns) (f : Entry → Entry) (n : ℕ) (alike : (it : Entry) → is_dir (Some (f it)) ≡ is_dir (Some it)) (fits : (it : Entry) → IsFit it → IsFit (f it)) where
-  entry_view : held_by paths (change (with_entry f) ns n) ≡ change_node (held_by paths ns) n f
-  entry_view = ap (λ (es : List Entry). record { paths = paths; nodes = es }) (entries_with f ns n (slice_get ns n) ∙ ap (changed_at f (entries_of ns) n) (sym (entry_of ns n)))
+module _ (ns : List Inode) (paths : Paths) (l : Leads ns paths) (kept : Kept paths ns) (f : Node → Node) (n : ℕ) (alike : (it : Node) → is_dir (Some (f it)) ≡ is_dir (Some it)) (fits : (it : Node) → IsFit it → IsFit (f it)) where
+  entry_view : hierarchy_of paths (change (as_node f) ns n) ≡ change_node (hierarchy_of paths ns) n f
+  entry_view = ap (λ (es : List Node). record { paths = paths; nodes = es }) (entries_with f ns n (slice_get ns n) ∙ ap (changed_at f (nodes_of ns) n) (sym (entry_of ns n)))
 
-  entry_kind : (k : ℕ) → is_dir (slice_get (entries_of (change (with_entry f) ns n)) k) ≡ is_dir (slice_get (entries_of ns) k)
-  entry_kind k = ap is_dir (entry_of (change (with_entry f) ns n) k) ∙ (elim (change_cases (with_entry f) ns n k) [
-    | inl here ↦ ap (λ (o : Option Node). is_dir (option_map (λ m. m.entry) o)) here.1 ∙ kind_with f (slice_get ns n) alike ∙ ap (λ (j : ℕ). is_dir (option_map (λ m. m.entry) (slice_get ns j))) (sym here.0)
-    | inr other ↦ ap (λ (o : Option Node). is_dir (option_map (λ m. m.entry) o)) other.1
+  entry_kind : (k : ℕ) → is_dir (slice_get (nodes_of (change (as_node f) ns n)) k) ≡ is_dir (slice_get (nodes_of ns) k)
+  entry_kind k = ap is_dir (entry_of (change (as_node f) ns n) k) ∙ (elim (change_cases (as_node f) ns n k) [
+    | inl here ↦ ap (λ (o : Option Inode). is_dir (option_map (λ m. m.node) o)) here.1 ∙ kind_with f (slice_get ns n) alike ∙ ap (λ (j : ℕ). is_dir (option_map (λ m. m.node) (slice_get ns j))) (sym here.0)
+    | inr other ↦ ap (λ (o : Option Inode). is_dir (option_map (λ m. m.node) o)) other.1
   ]) ∙ sym (ap is_dir (entry_of ns k))
 
-  entry_whole : IsWhole (held_by paths (change (with_entry f) ns n))
-  entry_whole = subst IsWhole (sym entry_view) (changed-whole (held_by paths ns) n f alike fits kept.0)
+  entry_whole : IsWhole (hierarchy_of paths (change (as_node f) ns n))
+  entry_whole = subst IsWhole (sym entry_view) (changed-whole (hierarchy_of paths ns) n f alike fits kept.0)
 
-  entry_core : IsTree (change (with_entry f) ns n) (change_node (held_by paths ns) n f)
+  entry_core : IsTree (change (as_node f) ns n) (change_node (hierarchy_of paths ns) n f)
   entry_core = record {
     paths = paths;
-    leads = leads (change (with_entry f) ns n) paths entry_whole (steps-same ns (change (with_entry f) ns n) paths (λ k x. under-change (with_entry f) ns n k x (λ it. refl)) (steps ns paths l));
+    leads = leads (change (as_node f) ns n) paths entry_whole (steps-same ns (change (as_node f) ns n) paths (λ k x. under-change (as_node f) ns n k x (λ it. refl)) (steps ns paths l));
     kept = (
       entry_whole,
-      λ k below d. subst (λ (p : Option (ℕ × Text)). IsPlace paths k p) (sym (place-change (with_entry f) ns n k (λ it. refl))) (kept.1 k below (sym (entry_kind k) ∙ d)),
-      λ k x m on. kept.2 k x m (sym (under-change (with_entry f) ns n k x (λ it. refl)) ∙ on),
+      λ k below d. subst (λ (p : Option (ℕ × Text)). IsPlace paths k p) (sym (place-change (as_node f) ns n k (λ it. refl))) (kept.1 k below (sym (entry_kind k) ∙ d)),
+      λ k x m on. kept.2 k x m (sym (under-change (as_node f) ns n k x (λ it. refl)) ∙ on),
     );
     is = entry_view;
   }
 
-pub entry-tree : (ns : List Node) (held : Held) (f : Entry → Entry) (n : ℕ) → IsTree ns held → ((it : Entry) → is_dir (Some (f it)) ≡ is_dir (Some it)) → ((it : Entry) → IsFit it → IsFit (f it)) → IsTree (change (with_entry f) ns n) (change_node held n f)
-entry-tree ns held f n t alike fits = over ns held t (λ h. IsTree (change (with_entry f) ns n) (change_node h n f)) (entry_core ns t.paths t.leads t.kept f n alike fits)
+pub entry-tree : (ns : List Inode) (tree : Hierarchy) (f : Node → Node) (n : ℕ) → IsTree ns tree → ((it : Node) → is_dir (Some (f it)) ≡ is_dir (Some it)) → ((it : Node) → IsFit it → IsFit (f it)) → IsTree (change (as_node f) ns n) (change_node tree n f)
+entry-tree ns tree f n t alike fits = over ns tree t (λ h. IsTree (change (as_node f) ns n) (change_node h n f)) (entry_core ns t.paths t.leads t.kept f n alike fits)
 
 -- A name less.
 
-removed_there : (held : Held) (dir : ℕ) (path name : Text) → path_of held dir ≡ Some path → removed held dir name ≡ record held { paths = remove held.paths (join path name) }
+removed_there : (tree : Hierarchy) (dir : ℕ) (path name : Text) → path_of tree dir ≡ Some path → removed tree dir name ≡ record tree { paths = remove tree.paths (join path name) }
 unfolding removed
-removed_there held dir path name at = ap (λ (o : Option Text). record held { paths = with_path o (λ p. remove held.paths (join p name)) held.paths }) at
+removed_there tree dir path name at = ap (λ (o : Option Text). record tree { paths = with_path o (λ p. remove tree.paths (join p name)) tree.paths }) at
 
-module _ (ns : List Node) (paths : Paths) (l : Leads ns paths) (kept : Kept paths ns) (dir n : ℕ) (name : Text) (found : child (held_by paths ns) dir name ≡ Some n) (none : has_names (held_by paths ns) n ≡ false) where
-  abbrev here : Held
-  here = held_by paths ns
+module _ (ns : List Inode) (paths : Paths) (l : Leads ns paths) (kept : Kept paths ns) (dir n : ℕ) (name : Text) (found : child (hierarchy_of paths ns) dir name ≡ Some n) (none : has_names (hierarchy_of paths ns) n ≡ false) where
+  abbrev here : Hierarchy
+  here = hierarchy_of paths ns
 
-  abbrev less : List Node
+  abbrev less : List Inode
   less = change (without_name name) ns dir
 
-  abbrev after : List Node
+  abbrev after : List Inode
   after = change (with_place None) less n
 
   named : is_name name ≡ true
@@ -121,18 +121,18 @@ module _ (ns : List Node) (paths : Paths) (l : Leads ns paths) (kept : Kept path
   after_under : (k : ℕ) (x : Text) → under after k x ≡ under less k x
   after_under k x = under-change (with_place None) less n k x (λ it. refl)
 
-  after_entries : entries_of after ≡ entries_of ns
+  after_entries : nodes_of after ≡ nodes_of ns
   after_entries = entries-change (with_place None) less n (λ it. refl) ∙ entries-change (without_name name) ns dir (λ it. refl)
 
   removed_steps : Steps after (remove paths gone)
   removed_steps = steps-same less after (remove paths gone) after_under
       (steps-removed ns less paths p.0 name dir (kept.0.canonical p.0 dir at) named at (λ q on. kept.0.once q p.0 dir on at in_dir) below_none puts (steps ns paths l))
 
-  removed_view : held_by (remove paths gone) after ≡ removed here dir name
-  removed_view = ap (λ (es : List Entry). record { paths = remove paths gone; nodes = es }) after_entries ∙ sym (removed_there here dir p.0 name p.1)
+  removed_view : hierarchy_of (remove paths gone) after ≡ removed here dir name
+  removed_view = ap (λ (es : List Node). record { paths = remove paths gone; nodes = es }) after_entries ∙ sym (removed_there here dir p.0 name p.1)
 
-  removed_whole : IsWhole (held_by (remove paths gone) after)
-  removed_whole = subst IsWhole (sym (ap (λ (es : List Entry). record { paths = remove paths gone; nodes = es }) after_entries)) (gone-whole here gone kept.0 (join-not_root p.0 name named) bare)
+  removed_whole : IsWhole (hierarchy_of (remove paths gone) after)
+  removed_whole = subst IsWhole (sym (ap (λ (es : List Node). record { paths = remove paths gone; nodes = es }) after_entries)) (gone-whole here gone kept.0 (join-not_root p.0 name named) bare)
 
   -- the path of a directory in which a name stands isn't gone
   stays_up : (q : Text) (k : ℕ) (x : Text) (m : ℕ) → get paths q ≡ Some k → is_name x ≡ true → get paths (join q x) ≡ Some m → get (remove paths gone) q ≡ Some k
@@ -149,7 +149,7 @@ module _ (ns : List Node) (paths : Paths) (l : Leads ns paths) (kept : Kept path
 
   removed_places : HavePlaces (remove paths gone) after
   removed_places k below d =
-      let old : is_dir (slice_get (entries_of ns) k) ≡ true = ap (λ (es : List Entry). is_dir (slice_get es k)) (sym after_entries) ∙ d in
+      let old : is_dir (slice_get (nodes_of ns) k) ≡ true = ap (λ (es : List Node). is_dir (slice_get es k)) (sym after_entries) ∙ d in
       elim (change_cases (with_place None) less n k) [
         | inl here ↦ subst (λ (q : Option (ℕ × Text)). IsPlace (remove paths gone) k q) (sym (ap place_in here.1 ∙ no_place (slice_get less n)))
             (λ q on.
@@ -158,7 +158,7 @@ module _ (ns : List Node) (paths : Paths) (l : Leads ns paths) (kept : Kept path
         | inr other ↦ subst (λ (q : Option (ℕ × Text)). IsPlace (remove paths gone) k q) (sym (ap place_in other.1 ∙ place-change (without_name name) ns dir k (λ it. refl)))
             (place_left k (place_in (slice_get ns k)) other.0 (kept.1 k below old))
       ] where
-        no_place : (o : Option Node) → place_in (option_map (with_place None) o) ≡ None
+        no_place : (o : Option Inode) → place_in (option_map (with_place None) o) ≡ None
         no_place None = refl
         no_place (Some it) = refl
 
@@ -179,6 +179,6 @@ module _ (ns : List Node) (paths : Paths) (l : Leads ns paths) (kept : Kept path
     is = removed_view;
   }
 
-pub removed-tree : (ns : List Node) (held : Held) (dir n : ℕ) (name : Text) → IsTree ns held → child held dir name ≡ Some n → has_names held n ≡ false → IsTree (change (with_place None) (change (without_name name) ns dir) n) (removed held dir name)
-removed-tree ns held dir n name t = over ns held t (λ h. child h dir name ≡ Some n → has_names h n ≡ false → IsTree (change (with_place None) (change (without_name name) ns dir) n) (removed h dir name))
+pub removed-tree : (ns : List Inode) (tree : Hierarchy) (dir n : ℕ) (name : Text) → IsTree ns tree → child tree dir name ≡ Some n → has_names tree n ≡ false → IsTree (change (with_place None) (change (without_name name) ns dir) n) (removed tree dir name)
+removed-tree ns tree dir n name t = over ns tree t (λ h. child h dir name ≡ Some n → has_names h n ≡ false → IsTree (change (with_place None) (change (without_name name) ns dir) n) (removed h dir name))
     (λ found none. removed_core ns t.paths t.leads t.kept dir n name found none)

@@ -4,10 +4,10 @@ use Rattle.std.specs.Option.{option_and_then}
 use Rattle.std.specs.FinMap.{get, get-empty}
 use Rattle.rk_base.specs.Text.{Text, text_cmp, root, is_root, join}
 use Rattle.rk_base.proofs.PathLemmas.{join-not_root}
-use Rattle.rk_tree.specs.declared.entry.Entry.TheVariants.{Dir}
-use Rattle.rk_tree.specs.declared.node.Node.{Node}
-use Rattle.rk_tree.specs.Nodes.{under, held_by, lost, AreAttached, HavePlaces}
-use Rattle.rk_tree.specs.Held.{Paths}
+use Rattle.rk_tree.specs.Node.{Dir}
+use Rattle.rk_tree.specs.declared.inode.Inode.{Inode}
+use Rattle.rk_tree.specs.Inodes.{under, hierarchy_of, lost, AreAttached, HavePlaces}
+use Rattle.rk_tree.specs.Hierarchy.{Paths}
 use Rattle.rk_tree.specs.Shown.{Shown, same_paths}
 use Rattle.rk_tree.specs.Whole.{IsWhole}
 use Rattle.rk_tree.proofs.BelowLemmas.{none_some}
@@ -16,7 +16,7 @@ use Rattle.rk_tree.proofs.ShownLemmas.{Leads, Steps, leads}
 use Rattle.rk_tree.proofs.WholeLemmas.{none, root_row, root-whole}
 
 -- a node without names
-abbrev pub root_node : ℕ → List Node
+abbrev pub root_node : ℕ → List Inode
 root_node mode = lost (Dir mode) ∷ []
 
 unnamed : (mode n : ℕ) (name : Text) → under (root_node mode) n name ≡ None
@@ -46,17 +46,17 @@ root-places mode (suc n) below d = cc
 
 -- What is known of the nodes of a new tree, and of the paths to which they lead.
 
-pub new-shown : (nodes : List Node) (mode : ℕ) → mode ≤ 511 → nodes ≡ root_node mode → Shown nodes
+pub new-shown : (nodes : List Inode) (mode : ℕ) → mode ≤ 511 → nodes ≡ root_node mode → Shown nodes
 new-shown nodes mode fits is = subst Shown (sym is) (record { paths = root_row; leads = leads (root_node mode) root_row (root-whole mode fits) (root-steps mode) })
 
-module _ (nodes : List Node) (paths : Paths) (mode : ℕ) (lead : Leads nodes paths) (fits : mode ≤ 511) (is : nodes ≡ root_node mode) where
+module _ (nodes : List Inode) (paths : Paths) (mode : ℕ) (lead : Leads nodes paths) (fits : mode ≤ 511) (is : nodes ≡ root_node mode) where
   paths_are : paths ≡ root_row
-  paths_are = same_paths nodes paths root_row lead (subst (λ (ns : List Node). Leads ns root_row) (sym is) (leads (root_node mode) root_row (root-whole mode fits) (root-steps mode)))
+  paths_are = same_paths nodes paths root_row lead (subst (λ (ns : List Inode). Leads ns root_row) (sym is) (leads (root_node mode) root_row (root-whole mode fits) (root-steps mode)))
 
-  pub new-held : held_by paths nodes ≡ record { paths = root_row; nodes = Dir mode ∷ [] }
-  new-held = ap (λ (p : Paths). held_by p nodes) paths_are ∙ ap (λ (ns : List Node). held_by root_row ns) is
+  pub new-held : hierarchy_of paths nodes ≡ record { paths = root_row; nodes = Dir mode ∷ [] }
+  new-held = ap (λ (p : Paths). hierarchy_of p nodes) paths_are ∙ ap (λ (ns : List Inode). hierarchy_of root_row ns) is
 
-  pub new-kept : IsWhole (held_by paths nodes) × HavePlaces paths nodes × AreAttached paths nodes
+  pub new-kept : IsWhole (hierarchy_of paths nodes) × HavePlaces paths nodes × AreAttached paths nodes
   new-kept =
-      subst (λ (p : Paths). IsWhole (held_by p nodes) × HavePlaces p nodes × AreAttached p nodes) (sym paths_are)
-      (subst (λ (ns : List Node). IsWhole (held_by root_row ns) × HavePlaces root_row ns × AreAttached root_row ns) (sym is) (root-whole mode fits, root-places mode, root-attached mode))
+      subst (λ (p : Paths). IsWhole (hierarchy_of p nodes) × HavePlaces p nodes × AreAttached p nodes) (sym paths_are)
+      (subst (λ (ns : List Inode). IsWhole (hierarchy_of root_row ns) × HavePlaces root_row ns × AreAttached root_row ns) (sym is) (root-whole mode fits, root-places mode, root-attached mode))

@@ -7,21 +7,21 @@ use Rattle.rk_base.specs.Canonical.{is_canonical, is_name}
 use Rattle.rk_base.proofs.CanonicalLemmas.{join-canonical}
 use Rattle.rk_base.proofs.PathLemmas.{parent-join, name_of-join, join-not_root, path-is_cut}
 use Rattle.rk_base.proofs.WithinLemmas.{is_the_root}
-use Rattle.rk_tree.specs.declared.node.Node.{Node}
-use Rattle.rk_tree.specs.Held.{Paths, top}
-use Rattle.rk_tree.specs.Nodes.{under, held_by}
+use Rattle.rk_tree.specs.declared.inode.Inode.{Inode}
+use Rattle.rk_tree.specs.Hierarchy.{Paths, top}
+use Rattle.rk_tree.specs.Inodes.{under, hierarchy_of}
 pub use Rattle.rk_tree.specs.Shown.{Leads}
 use Rattle.rk_tree.specs.Shown.{Shown, same_paths}
 use Rattle.rk_tree.specs.Whole.{IsWhole}
 
 -- each name of a directory stands for what the nodes have under it
-abbrev pub Steps : List Node → Paths → Type 0
+abbrev pub Steps : List Inode → Paths → Type 0
 Steps nodes paths = (dir name : Text) → is_canonical dir ≡ true → is_name name ≡ true → get paths (join dir name) ≡ option_and_then (λ n. under nodes n name) (get paths dir)
 
-abbrev one : List Node → Paths → Text → Bool → Bool → Option ℕ
+abbrev one : List Inode → Paths → Text → Bool → Bool → Option ℕ
 one nodes paths path r c = if r then Some top else if c then option_and_then (λ n. under nodes n (name_of path)) (get paths (parent path)) else None
 
-pub steps : (nodes : List Node) (paths : Paths) → Leads nodes paths → Steps nodes paths
+pub steps : (nodes : List Inode) (paths : Paths) → Leads nodes paths → Steps nodes paths
 steps nodes paths leads dir name c n =
     leads (join dir name)
     ∙ ap (λ (r : Bool). one nodes paths (join dir name) r (is_canonical (join dir name))) (join-not_root dir name n)
@@ -37,7 +37,7 @@ clash : (b : Bool) → b ≡ true → b ≡ false → ⊥
 clash b t f = cc
 
 -- the paths of a whole tree, whose names step so, are those to which they lead
-pub leads : (nodes : List Node) (paths : Paths) → IsWhole (held_by paths nodes) → Steps nodes paths → Leads nodes paths
+pub leads : (nodes : List Inode) (paths : Paths) → IsWhole (hierarchy_of paths nodes) → Steps nodes paths → Leads nodes paths
 leads nodes paths whole step path = elim (is_root path) as (λ (r : Bool). is_root path ≡ r → get paths path ≡ one nodes paths path r (is_canonical path)) [
   | true ↦ λ r. ap (get paths) (is_the_root path r) ∙ whole.root_at
   | false ↦ λ r. (elim (is_canonical path) as (λ (c : Bool). is_canonical path ≡ c → get paths path ≡ one nodes paths path false c) [
@@ -47,5 +47,5 @@ leads nodes paths whole step path = elim (is_root path) as (λ (r : Bool). is_ro
 ] refl
 
 -- the paths that are kept with the nodes are these
-pub shown_are : (nodes : List Node) (s : Shown nodes) (paths : Paths) → Leads nodes paths → s.paths ≡ paths
+pub shown_are : (nodes : List Inode) (s : Shown nodes) (paths : Paths) → Leads nodes paths → s.paths ≡ paths
 shown_are nodes s paths l = same_paths nodes s.paths paths s.leads l

@@ -10,14 +10,14 @@ use Rattle.rk_base.specs.Text.{Text, text_cmp, root, is_root, parent, name_of, j
 use Rattle.rk_base.specs.Canonical.{is_name}
 use Rattle.rk_base.proofs.PathLemmas.{path-is_cut, is_in-join, name_of-join}
 use Rattle.rk_base.proofs.WithinLemmas.{is_the_root}
-use Rattle.rk_tree.specs.declared.entry.Entry.{Entry}
+use Rattle.rk_tree.specs.Node.{Node}
 use Rattle.rk_tree.specs.Entries.{Entries, is_dir}
-use Rattle.rk_tree.specs.Held.{Held, top, node, number_at, path_of, child, name_in, names}
+use Rattle.rk_tree.specs.Hierarchy.{Hierarchy, top, node, number_at, path_of, child, name_in, names}
 use Rattle.rk_tree.specs.Copies.{put_dir, put_found, put_name, put_names, snapshot_of}
 use Rattle.rk_tree.specs.Whole.{IsWhole}
 use Rattle.rk_tree.proofs.BelowLemmas.{child_at, names-at, row_of}
 use Rattle.rk_tree.proofs.CopiesLemmas.{get-snapshot_of}
-use Rattle.rk_tree.proofs.HeldLemmas.{dir_path}
+use Rattle.rk_tree.proofs.HierarchyLemmas.{dir_path}
 use Rattle.rk_tree.proofs.RowsLemmas.{insert_cases, same_maps}
 
 -- A fold, step by step.
@@ -36,52 +36,52 @@ module _ {A B : Type 0} (f : B → A → B) (first : B) (items : List A) where
 -- What is put.
 
 -- what stands at a path
-abbrev pub entry_of : Held → Text → Option Entry
-entry_of held q = option_and_then (node held) (number_at held q)
+abbrev pub entry_of : Hierarchy → Text → Option Node
+entry_of tree q = option_and_then (node tree) (number_at tree q)
 
 -- the code's look-up of a name in a directory
-pub found_child : (held : Held) (dir n : ℕ) (path name : Text) → is_name name ≡ true → path_of held dir ≡ Some path → Some n ≡ child held dir name → entry_of held (join path name) ≡ node held n
-found_child held dir n path name named at is = ap (option_and_then (node held)) (sym (child_at held dir path name named at) ∙ sym is)
+pub found_child : (tree : Hierarchy) (dir n : ℕ) (path name : Text) → is_name name ≡ true → path_of tree dir ≡ Some path → Some n ≡ child tree dir name → entry_of tree (join path name) ≡ node tree n
+found_child tree dir n path name named at is = ap (option_and_then (node tree)) (sym (child_at tree dir path name named at) ∙ sym is)
 
-pub found_none : (held : Held) (dir : ℕ) (path name : Text) → is_name name ≡ true → path_of held dir ≡ Some path → None ≡ child held dir name → entry_of held (join path name) ≡ None
-found_none held dir path name named at is = ap (option_and_then (node held)) (sym (child_at held dir path name named at) ∙ sym is)
+pub found_none : (tree : Hierarchy) (dir : ℕ) (path name : Text) → is_name name ≡ true → path_of tree dir ≡ Some path → None ≡ child tree dir name → entry_of tree (join path name) ≡ None
+found_none tree dir path name named at is = ap (option_and_then (node tree)) (sym (child_at tree dir path name named at) ∙ sym is)
 
 -- The directories below a number, one after another.
 
-abbrev pub put_dirs : Held → Entries → ℕ → Entries
-put_dirs held first zero = first
-put_dirs held first (suc k) = put_dir held (put_dirs held first k) k
+abbrev pub put_dirs : Hierarchy → Entries → ℕ → Entries
+put_dirs tree first zero = first
+put_dirs tree first (suc k) = put_dir tree (put_dirs tree first k) k
 
-abbrev pub first_put : Held → Entries
-first_put held = put_found empty root (node held top)
+abbrev pub first_put : Hierarchy → Entries
+first_put tree = put_found empty root (node tree top)
 
-module _ (held : Held) where
+module _ (tree : Hierarchy) where
   -- nothing but what stands at each path
   abbrev Right : Entries → Type 0
-  Right m = (q : Text) → (get m q ≡ entry_of held q) ⊎ (get m q ≡ None)
+  Right m = (q : Text) → (get m q ≡ entry_of tree q) ⊎ (get m q ≡ None)
 
   -- what stands at this one
   abbrev Done : Entries → Text → Type 0
-  Done m q = get m q ≡ entry_of held q
+  Done m q = get m q ≡ entry_of tree q
 
-  right_found : (m : Entries) (path : Text) (o : Option Entry) → entry_of held path ≡ o → Right m → Right (put_found m path o)
+  right_found : (m : Entries) (path : Text) (o : Option Node) → entry_of tree path ≡ o → Right m → Right (put_found m path o)
   right_found m path None is right q = right q
   right_found m path (Some it) is right q = elim (insert_cases m path it q) [
-    | inl here ↦ inl (here.1 ∙ sym is ∙ ap (entry_of held) (sym here.0))
+    | inl here ↦ inl (here.1 ∙ sym is ∙ ap (entry_of tree) (sym here.0))
     | inr other ↦ elim (right q) [
       | inl done ↦ inl (other.1 ∙ done)
       | inr none ↦ inr (other.1 ∙ none)
     ]
   ]
 
-  kept_found : (m : Entries) (path : Text) (o : Option Entry) (q : Text) → entry_of held path ≡ o → Done m q → Done (put_found m path o) q
+  kept_found : (m : Entries) (path : Text) (o : Option Node) (q : Text) → entry_of tree path ≡ o → Done m q → Done (put_found m path o) q
   kept_found m path None q is done = done
   kept_found m path (Some it) q is done = elim (insert_cases m path it q) [
-    | inl here ↦ here.1 ∙ sym is ∙ ap (entry_of held) (sym here.0)
+    | inl here ↦ here.1 ∙ sym is ∙ ap (entry_of tree) (sym here.0)
     | inr other ↦ other.1 ∙ done
   ]
 
-  done_found : (m : Entries) (path : Text) (o : Option Entry) → entry_of held path ≡ o → Right m → Done (put_found m path o) path
+  done_found : (m : Entries) (path : Text) (o : Option Node) → entry_of tree path ≡ o → Right m → Done (put_found m path o) path
   done_found m path None is right = elim (right path) [
     | inl done ↦ done
     | inr none ↦ none ∙ sym is
@@ -91,39 +91,39 @@ module _ (held : Held) where
     | inr other ↦ absurd (other.0 refl)
   ]
 
-  right_names : (path : Text) (given : List Text) (m : Entries) → Right m → Right (fold (put_name held path) m given)
+  right_names : (path : Text) (given : List Text) (m : Entries) → Right m → Right (fold (put_name tree path) m given)
   right_names path [] m right = right
-  right_names path (name ∷ given) m right = right_names path given (put_name held path m name) (right_found m (join path name) (entry_of held (join path name)) refl right)
+  right_names path (name ∷ given) m right = right_names path given (put_name tree path m name) (right_found m (join path name) (entry_of tree (join path name)) refl right)
 
-  kept_names : (path : Text) (given : List Text) (m : Entries) (q : Text) → Done m q → Done (fold (put_name held path) m given) q
+  kept_names : (path : Text) (given : List Text) (m : Entries) (q : Text) → Done m q → Done (fold (put_name tree path) m given) q
   kept_names path [] m q done = done
-  kept_names path (name ∷ given) m q done = kept_names path given (put_name held path m name) q (kept_found m (join path name) (entry_of held (join path name)) q refl done)
+  kept_names path (name ∷ given) m q done = kept_names path given (put_name tree path m name) q (kept_found m (join path name) (entry_of tree (join path name)) q refl done)
 
   same_name : {o : Option Text} (a b : Text) → o ≡ Some a → o ≡ Some b → a ≡ b
   same_name a b p q = cc
 
-  done_names : (path : Text) (given : List Text) (m : Entries) (i : ℕ) (name : Text) → Right m → slice_get given i ≡ Some name → Done (fold (put_name held path) m given) (join path name)
+  done_names : (path : Text) (given : List Text) (m : Entries) (i : ℕ) (name : Text) → Right m → slice_get given i ≡ Some name → Done (fold (put_name tree path) m given) (join path name)
   done_names path [] m i name right at = cc
   done_names path (x ∷ given) m zero name right at =
       let same : x ≡ name = same_name {o = Some x} x name refl at in
-      kept_names path given (put_name held path m x) (join path name)
-      (ap (λ (t : Text). get (put_name held path m x) (join path t)) (sym same) ∙ done_found m (join path x) (entry_of held (join path x)) refl right ∙ ap (λ (t : Text). entry_of held (join path t)) same)
-  done_names path (x ∷ given) m (suc i) name right at = done_names path given (put_name held path m x) i name (right_found m (join path x) (entry_of held (join path x)) refl right) at
+      kept_names path given (put_name tree path m x) (join path name)
+      (ap (λ (t : Text). get (put_name tree path m x) (join path t)) (sym same) ∙ done_found m (join path x) (entry_of tree (join path x)) refl right ∙ ap (λ (t : Text). entry_of tree (join path t)) same)
+  done_names path (x ∷ given) m (suc i) name right at = done_names path given (put_name tree path m x) i name (right_found m (join path x) (entry_of tree (join path x)) refl right) at
 
-  right_dir : (m : Entries) (dir : ℕ) → Right m → Right (put_dir held m dir)
-  right_dir m dir right = elim (is_dir (node held dir)) as (λ (b : Bool). Right (cond b (put_names held dir m (path_of held dir)) m)) [
-    | true ↦ elim (path_of held dir) as (λ (o : Option Text). Right (put_names held dir m o)) [
+  right_dir : (m : Entries) (dir : ℕ) → Right m → Right (put_dir tree m dir)
+  right_dir m dir right = elim (is_dir (node tree dir)) as (λ (b : Bool). Right (cond b (put_names tree dir m (path_of tree dir)) m)) [
+    | true ↦ elim (path_of tree dir) as (λ (o : Option Text). Right (put_names tree dir m o)) [
       | None ↦ right
-      | Some path ↦ right_names path (names held dir) m right
+      | Some path ↦ right_names path (names tree dir) m right
     ]
     | false ↦ right
   ]
 
-  kept_dir : (m : Entries) (dir : ℕ) (q : Text) → Done m q → Done (put_dir held m dir) q
-  kept_dir m dir q done = elim (is_dir (node held dir)) as (λ (b : Bool). Done (cond b (put_names held dir m (path_of held dir)) m) q) [
-    | true ↦ elim (path_of held dir) as (λ (o : Option Text). Done (put_names held dir m o) q) [
+  kept_dir : (m : Entries) (dir : ℕ) (q : Text) → Done m q → Done (put_dir tree m dir) q
+  kept_dir m dir q done = elim (is_dir (node tree dir)) as (λ (b : Bool). Done (cond b (put_names tree dir m (path_of tree dir)) m) q) [
+    | true ↦ elim (path_of tree dir) as (λ (o : Option Text). Done (put_names tree dir m o) q) [
       | None ↦ done
-      | Some path ↦ kept_names path (names held dir) m q done
+      | Some path ↦ kept_names path (names tree dir) m q done
     ]
     | false ↦ done
   ]
@@ -145,43 +145,43 @@ module _ (held : Held) where
         more None j e = (j, e)
         more (Some y) j e = (suc j, e)
 
-  module _ (whole : IsWhole held) where
+  module _ (whole : IsWhole tree) where
     -- a name that stands for something is among the names
-    name_among : (dir : ℕ) (path name : Text) (n : ℕ) → number_at held path ≡ Some dir → is_dir (node held dir) ≡ true → is_name name ≡ true → number_at held (join path name) ≡ Some n → (j : ℕ) × (slice_get (names held dir) j ≡ Some name)
+    name_among : (dir : ℕ) (path name : Text) (n : ℕ) → number_at tree path ≡ Some dir → is_dir (node tree dir) ≡ true → is_name name ≡ true → number_at tree (join path name) ≡ Some n → (j : ℕ) × (slice_get (names tree dir) j ≡ Some name)
     name_among dir path name n at d named there =
-        let row = row_of held (join path name) n there in
-        let taken = taken_at (name_in path) (entries held.paths) row.0 (join path name, n) name row.1
+        let row = row_of tree (join path name) n there in
+        let taken = taken_at (name_in path) (entries tree.paths) row.0 (join path name, n) name row.1
         (ap (λ (b : Bool). cond b (Some (name_of (join path name))) None) (is_in-join path name (whole.canonical path dir at) named) ∙ ap (λ (t : Text). Some t) (name_of-join path name named)) in
-        (taken.0, ap (λ (ns : List Text). slice_get ns taken.0) (names-at held path dir whole at d) ∙ taken.1)
+        (taken.0, ap (λ (ns : List Text). slice_get ns taken.0) (names-at tree path dir whole at d) ∙ taken.1)
 
-    done_dir : (m : Entries) (dir : ℕ) (path name : Text) (n : ℕ) → Right m → number_at held path ≡ Some dir → is_dir (node held dir) ≡ true → is_name name ≡ true → number_at held (join path name) ≡ Some n → Done (put_dir held m dir) (join path name)
+    done_dir : (m : Entries) (dir : ℕ) (path name : Text) (n : ℕ) → Right m → number_at tree path ≡ Some dir → is_dir (node tree dir) ≡ true → is_name name ≡ true → number_at tree (join path name) ≡ Some n → Done (put_dir tree m dir) (join path name)
     done_dir m dir path name n right at d named there =
         let among = name_among dir path name n at d named there in
-        ap (λ (b : Bool). get (cond b (put_names held dir m (path_of held dir)) m) (join path name)) d
-        ∙ ap (λ (o : Option Text). get (put_names held dir m o) (join path name)) (dir_path held path dir whole d at)
-        ∙ done_names path (names held dir) m among.0 name right among.1
+        ap (λ (b : Bool). get (cond b (put_names tree dir m (path_of tree dir)) m) (join path name)) d
+        ∙ ap (λ (o : Option Text). get (put_names tree dir m o) (join path name)) (dir_path tree path dir whole d at)
+        ∙ done_names path (names tree dir) m among.0 name right among.1
 
-    right_first : Right (first_put held)
-    right_first = right_found empty root (node held top) (ap (option_and_then (node held)) whole.root_at) (λ q. inr (get-empty text_cmp q))
+    right_first : Right (first_put tree)
+    right_first = right_found empty root (node tree top) (ap (option_and_then (node tree)) whole.root_at) (λ q. inr (get-empty text_cmp q))
 
-    done_first : Done (first_put held) root
-    done_first = done_found empty root (node held top) (ap (option_and_then (node held)) whole.root_at) (λ q. inr (get-empty text_cmp q))
+    done_first : Done (first_put tree) root
+    done_first = done_found empty root (node tree top) (ap (option_and_then (node tree)) whole.root_at) (λ q. inr (get-empty text_cmp q))
 
-    right_dirs : (k : ℕ) → Right (put_dirs held (first_put held) k)
+    right_dirs : (k : ℕ) → Right (put_dirs tree (first_put tree) k)
     right_dirs zero = right_first
-    right_dirs (suc k) = right_dir (put_dirs held (first_put held) k) k (right_dirs k)
+    right_dirs (suc k) = right_dir (put_dirs tree (first_put tree) k) k (right_dirs k)
 
-    root_dirs : (k : ℕ) → Done (put_dirs held (first_put held) k) root
+    root_dirs : (k : ℕ) → Done (put_dirs tree (first_put tree) k) root
     root_dirs zero = done_first
-    root_dirs (suc k) = kept_dir (put_dirs held (first_put held) k) k root (root_dirs k)
+    root_dirs (suc k) = kept_dir (put_dirs tree (first_put tree) k) k root (root_dirs k)
 
-    done_dirs : (k dir : ℕ) (path name : Text) (n : ℕ) → dir < k → number_at held path ≡ Some dir → is_dir (node held dir) ≡ true → is_name name ≡ true → number_at held (join path name) ≡ Some n → Done (put_dirs held (first_put held) k) (join path name)
+    done_dirs : (k dir : ℕ) (path name : Text) (n : ℕ) → dir < k → number_at tree path ≡ Some dir → is_dir (node tree dir) ≡ true → is_name name ≡ true → number_at tree (join path name) ≡ Some n → Done (put_dirs tree (first_put tree) k) (join path name)
     done_dirs zero dir path name n lt at d named there = absurd (omega arith)
     done_dirs (suc k) dir path name n lt at d named there = elim (last dir k lt) [
       | inl same ↦
-          let at_last : number_at held path ≡ Some k = at ∙ ap (λ (j : ℕ). Some j) same in
-          done_dir (put_dirs held (first_put held) k) k path name n (right_dirs k) at_last (sym (ap (λ (j : ℕ). is_dir (node held j)) same) ∙ d) named there
-      | inr below ↦ kept_dir (put_dirs held (first_put held) k) k (join path name) (done_dirs k dir path name n below at d named there)
+          let at_last : number_at tree path ≡ Some k = at ∙ ap (λ (j : ℕ). Some j) same in
+          done_dir (put_dirs tree (first_put tree) k) k path name n (right_dirs k) at_last (sym (ap (λ (j : ℕ). is_dir (node tree j)) same) ∙ d) named there
+      | inr below ↦ kept_dir (put_dirs tree (first_put tree) k) k (join path name) (done_dirs k dir path name n below at d named there)
     ] where
       last : (a b : ℕ) → a < suc b → (a ≡ b) ⊎ (a < b)
       last zero zero h = inl refl
@@ -193,36 +193,36 @@ module _ (held : Held) where
       ]
 
     -- each path that stands is done
-    done_all : (q : Text) (n : ℕ) → number_at held q ≡ Some n → Done (put_dirs held (first_put held) (length held.nodes)) q
-    done_all q n at = (elim (is_root q) as (λ (b : Bool). is_root q ≡ b → Done (put_dirs held (first_put held) (length held.nodes)) q) [
+    done_all : (q : Text) (n : ℕ) → number_at tree q ≡ Some n → Done (put_dirs tree (first_put tree) (length tree.nodes)) q
+    done_all q n at = (elim (is_root q) as (λ (b : Bool). is_root q ≡ b → Done (put_dirs tree (first_put tree) (length tree.nodes)) q) [
       | true ↦ λ r.
           let same = is_the_root q r in
-          ap (get (put_dirs held (first_put held) (length held.nodes))) same ∙ root_dirs (length held.nodes) ∙ sym (ap (entry_of held) same)
+          ap (get (put_dirs tree (first_put tree) (length tree.nodes))) same ∙ root_dirs (length tree.nodes) ∙ sym (ap (entry_of tree) same)
       | false ↦ λ r.
           let cut = path-is_cut q (whole.canonical q n at) r in
           let p = whole.placed q n at in
           let up = whole.known (parent q) p.up p.stands in
-          ap (get (put_dirs held (first_put held) (length held.nodes))) (sym cut.whole)
-          ∙ done_dirs (length held.nodes) p.up (parent q) (name_of q) n (slice_get_within held.nodes p.up up.0 up.1) p.stands p.in_dir cut.name (ap (number_at held) cut.whole ∙ at)
-          ∙ ap (entry_of held) cut.whole
+          ap (get (put_dirs tree (first_put tree) (length tree.nodes))) (sym cut.whole)
+          ∙ done_dirs (length tree.nodes) p.up (parent q) (name_of q) n (slice_get_within tree.nodes p.up up.0 up.1) p.stands p.in_dir cut.name (ap (number_at tree) cut.whole ∙ at)
+          ∙ ap (entry_of tree) cut.whole
     ]) refl
 
-    all_dirs : (q : Text) → Done (put_dirs held (first_put held) (length held.nodes)) q
-    all_dirs q = by (number_at held q) refl where
-      by : (o : Option ℕ) → number_at held q ≡ o → Done (put_dirs held (first_put held) (length held.nodes)) q
+    all_dirs : (q : Text) → Done (put_dirs tree (first_put tree) (length tree.nodes)) q
+    all_dirs q = by (number_at tree q) refl where
+      by : (o : Option ℕ) → number_at tree q ≡ o → Done (put_dirs tree (first_put tree) (length tree.nodes)) q
       by (Some n) at = done_all q n at
-      by None at = elim (right_dirs (length held.nodes) q) [
+      by None at = elim (right_dirs (length tree.nodes) q) [
         | inl done ↦ done
-        | inr none ↦ none ∙ sym (ap (option_and_then (node held)) at)
+        | inr none ↦ none ∙ sym (ap (option_and_then (node tree)) at)
       ]
 
-    pub snapshot_of-dirs : put_dirs held (first_put held) (length held.nodes) ≡ snapshot_of held
-    snapshot_of-dirs = same_maps _ _ (λ q. all_dirs q ∙ sym (get-snapshot_of held q))
+    pub snapshot_of-dirs : put_dirs tree (first_put tree) (length tree.nodes) ≡ snapshot_of tree
+    snapshot_of-dirs = same_maps _ _ (λ q. all_dirs q ∙ sym (get-snapshot_of tree q))
 
-pub dirs_on : (held : Held) (before after : Entries) (k : ℕ) → before ≡ put_dirs held (first_put held) k → after ≡ put_dir held before k → after ≡ put_dirs held (first_put held) (k + 1)
-dirs_on held before after k so_far put = put ∙ ap (λ (m : Entries). put_dir held m k) so_far ∙ ap (put_dirs held (first_put held)) (one_up k) where
+pub dirs_on : (tree : Hierarchy) (before after : Entries) (k : ℕ) → before ≡ put_dirs tree (first_put tree) k → after ≡ put_dir tree before k → after ≡ put_dirs tree (first_put tree) (k + 1)
+dirs_on tree before after k so_far put = put ∙ ap (λ (m : Entries). put_dir tree m k) so_far ∙ ap (put_dirs tree (first_put tree)) (one_up k) where
   one_up : (k : ℕ) → suc k ≡ k + 1
   one_up k = omega arith
 
-pub dirs_all : (held : Held) (made : Entries) (k : ℕ) → IsWhole held → made ≡ put_dirs held (first_put held) k → k ≡ length held.nodes → made ≡ snapshot_of held
-dirs_all held made k whole so_far all = so_far ∙ ap (put_dirs held (first_put held)) all ∙ snapshot_of-dirs held whole
+pub dirs_all : (tree : Hierarchy) (made : Entries) (k : ℕ) → IsWhole tree → made ≡ put_dirs tree (first_put tree) k → k ≡ length tree.nodes → made ≡ snapshot_of tree
+dirs_all tree made k whole so_far all = so_far ∙ ap (put_dirs tree (first_put tree)) all ∙ snapshot_of-dirs tree whole

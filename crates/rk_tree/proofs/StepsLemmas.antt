@@ -8,10 +8,10 @@ use Rattle.rk_base.proofs.CanonicalLemmas.{join-canonical}
 use Rattle.rk_base.proofs.MovedLemmas.{moved-out, moved-from, moved-join, within-canonical}
 use Rattle.rk_base.proofs.PathLemmas.{parent-join, name_of-join, join-not_root, path-is_cut, depth-join}
 use Rattle.rk_base.proofs.WithinLemmas.{within-itself, within-is, within-down, within-join, within-not_root, stem-back, stem-below}
-use Rattle.rk_tree.specs.declared.node.Node.{Node}
-use Rattle.rk_tree.specs.Held.{Paths, moved_paths}
+use Rattle.rk_tree.specs.declared.inode.Inode.{Inode}
+use Rattle.rk_tree.specs.Hierarchy.{Paths, moved_paths}
 use Rattle.rk_tree.specs.Moves.{Moves}
-use Rattle.rk_tree.specs.Nodes.{under, held_by}
+use Rattle.rk_tree.specs.Inodes.{under, hierarchy_of}
 use Rattle.rk_tree.specs.Whole.{IsWhole}
 use Rattle.rk_tree.proofs.BelowLemmas.{none_some, same_number}
 use Rattle.rk_tree.proofs.ChangedLemmas.{PutsUnder, apart_or}
@@ -25,15 +25,15 @@ clash : (b : Bool) → b ≡ true → b ≡ false → ⊥
 clash b t f = cc
 
 -- what a directory's number leads to
-abbrev pub after : List Node → Text → Option ℕ → Option ℕ
+abbrev pub after : List Inode → Text → Option ℕ → Option ℕ
 after nodes name o = option_and_then (λ n. under nodes n name) o
 
-pub after_same : (old new : List Node) (name : Text) (o : Option ℕ) → ((n : ℕ) → o ≡ Some n → under new n name ≡ under old n name) → after old name o ≡ after new name o
+pub after_same : (old new : List Inode) (name : Text) (o : Option ℕ) → ((n : ℕ) → o ≡ Some n → under new n name ≡ under old n name) → after old name o ≡ after new name o
 after_same old new name None h = refl
 after_same old new name (Some n) h = sym (h n refl)
 
 -- the same names lead to the same paths
-pub steps-same : (old new : List Node) (paths : Paths) → ((n : ℕ) (name : Text) → under new n name ≡ under old n name) → Steps old paths → Steps new paths
+pub steps-same : (old new : List Inode) (paths : Paths) → ((n : ℕ) (name : Text) → under new n name ≡ under old n name) → Steps old paths → Steps new paths
 steps-same old new paths same step dir name c n = step dir name c n ∙ after_same old new name (get paths dir) (λ k at. same k name)
 
 -- two names in two directories make two paths
@@ -48,7 +48,7 @@ not_up dir name n e =
 
 -- A name more.
 
-module _ (old new : List Node) (paths : Paths) (path name : Text) (dir n : ℕ) (c : is_canonical path ≡ true) (named : is_name name ≡ true) (at : get paths path ≡ Some dir) (once : (q : Text) → get paths q ≡ Some dir → q ≡ path) (absent : get paths (join path name) ≡ None) (bare : (x : Text) → under new n x ≡ None) (puts : PutsUnder old new dir name (Some n)) (step : Steps old paths) where
+module _ (old new : List Inode) (paths : Paths) (path name : Text) (dir n : ℕ) (c : is_canonical path ≡ true) (named : is_name name ≡ true) (at : get paths path ≡ Some dir) (once : (q : Text) → get paths q ≡ Some dir → q ≡ path) (absent : get paths (join path name) ≡ None) (bare : (x : Text) → under new n x ≡ None) (puts : PutsUnder old new dir name (Some n)) (step : Steps old paths) where
   abbrev linked_path : Text
   linked_path = join path name
 
@@ -81,7 +81,7 @@ module _ (old new : List Node) (paths : Paths) (path name : Text) (dir n : ℕ) 
 
 -- A name less.
 
-module _ (old new : List Node) (paths : Paths) (path name : Text) (dir : ℕ) (c : is_canonical path ≡ true) (named : is_name name ≡ true) (at : get paths path ≡ Some dir) (once : (q : Text) → get paths q ≡ Some dir → q ≡ path) (bare : (x : Text) → is_name x ≡ true → get paths (join (join path name) x) ≡ None) (puts : PutsUnder old new dir name None) (step : Steps old paths) where
+module _ (old new : List Inode) (paths : Paths) (path name : Text) (dir : ℕ) (c : is_canonical path ≡ true) (named : is_name name ≡ true) (at : get paths path ≡ Some dir) (once : (q : Text) → get paths q ≡ Some dir → q ≡ path) (bare : (x : Text) → is_name x ≡ true → get paths (join (join path name) x) ≡ None) (puts : PutsUnder old new dir name None) (step : Steps old paths) where
   abbrev gone : Text
   gone = join path name
 
@@ -140,7 +140,7 @@ up_apart dir name c n = (elim (is_within (join dir name) dir) as (λ (b : Bool).
   | true ↦ λ w. absurd (not_within dir name c n w)
 ]) refl
 
--- what is told of two names in two directories
+-- what is led_to of two names in two directories
 pub both_or : (u dir : ℕ) (x name : Text) → ((u ≡ dir) × (x ≡ name)) ⊎ (u ≡ dir → x ≡ name → ⊥)
 both_or u dir x name = elim (apart_or u dir) [
   | inr apart ↦ inr (λ e same. apart e)
@@ -151,12 +151,12 @@ both_or u dir x name = elim (apart_or u dir) [
 ]
 
 -- one name leaves, and another one comes
-pub record MovesUnder (old new : List Node) (dir : ℕ) (name : Text) (to : ℕ) (onto : Text) (n : ℕ) : Type 0 where
+pub record MovesUnder (old new : List Inode) (dir : ℕ) (name : Text) (to : ℕ) (onto : Text) (n : ℕ) : Type 0 where
   pub comes : under new to onto ≡ Some n
   pub goes : under new dir name ≡ None
   pub others : (d : ℕ) (x : Text) → (d ≡ dir → x ≡ name → ⊥) → (d ≡ to → x ≡ onto → ⊥) → under new d x ≡ under old d x
 
-module _ (old new : List Node) (paths : Paths) (whole : IsWhole (held_by paths old)) (from_dir to_dir name onto : Text) (dir to n : ℕ) (named : is_name name ≡ true) (renamed : is_name onto ≡ true) (at : get paths from_dir ≡ Some dir) (to_at : get paths to_dir ≡ Some to) (once : (q : Text) → get paths q ≡ Some dir → q ≡ from_dir) (to_once : (q : Text) → get paths q ≡ Some to → q ≡ to_dir) (m : Moves (held_by paths old) (join from_dir name) (join to_dir onto) n) (moves : MovesUnder old new dir name to onto n) (step : Steps old paths) where
+module _ (old new : List Inode) (paths : Paths) (whole : IsWhole (hierarchy_of paths old)) (from_dir to_dir name onto : Text) (dir to n : ℕ) (named : is_name name ≡ true) (renamed : is_name onto ≡ true) (at : get paths from_dir ≡ Some dir) (to_at : get paths to_dir ≡ Some to) (once : (q : Text) → get paths q ≡ Some dir → q ≡ from_dir) (to_once : (q : Text) → get paths q ≡ Some to → q ≡ to_dir) (m : Moves (hierarchy_of paths old) (join from_dir name) (join to_dir onto) n) (moves : MovesUnder old new dir name to onto n) (step : Steps old paths) where
   abbrev source : Text
   source = join from_dir name
 
@@ -176,16 +176,16 @@ module _ (old new : List Node) (paths : Paths) (whole : IsWhole (held_by paths o
   to_is = whole.canonical to_dir to to_at
 
   to_out : is_within source to_dir ≡ false
-  to_out = ap (is_within source) (sym (parent-join to_dir onto to_is renamed)) ∙ up_outside (held_by paths old) whole source target n m target m.to_is m.outside
+  to_out = ap (is_within source) (sym (parent-join to_dir onto to_is renamed)) ∙ up_outside (hierarchy_of paths old) whole source target n m target m.to_is m.outside
 
   pub to_now : get now to_dir ≡ Some to
-  to_now = stays (held_by paths old) whole source target n m to_dir to to_at (not_up to_dir onto renamed) to_out
+  to_now = stays (hierarchy_of paths old) whole source target n m to_dir to to_at (not_up to_dir onto renamed) to_out
 
   not_one : source ≡ target → ⊥
   not_one same = clash _ (ap (is_within source) (sym same) ∙ within-itself source) m.outside
 
   pub target_now : get now target ≡ Some n
-  target_now = ap (get now) (sym (moved-from source target)) ∙ there (held_by paths old) whole source target n m source n m.stands not_one
+  target_now = ap (get now) (sym (moved-from source target)) ∙ there (hierarchy_of paths old) whole source target n m source n m.stands not_one
 
   -- what stands in the directory at a path, which isn't the one that loses or gains the name
   keeps : (key x : Text) (u k : ℕ) → get paths key ≡ Some u → (key ≡ from_dir → x ≡ name → ⊥) → (key ≡ to_dir → x ≡ onto → ⊥) → under old u x ≡ Some k → under new u x ≡ Some k
@@ -196,13 +196,13 @@ module _ (old new : List Node) (paths : Paths) (whole : IsWhole (held_by paths o
   goes_in : (d x key : Text) (k : ℕ) → is_canonical d ≡ true → is_name x ≡ true → get paths key ≡ Some k → is_within source key ≡ true → (key ≡ source → ⊥) → moved source target key ≡ join d x → after new x (get now d) ≡ Some k
   goes_in d x key k cd nx on h other is =
       let it = path-is_cut key (whole.canonical key k on) (within-not_root source key source_is m.from_below h) in
-      let g = up_goes (held_by paths old) whole source target n m key k on h other in
+      let g = up_goes (hierarchy_of paths old) whole source target n m key k on h other in
       let same = same_join (moved source target (parent key)) d (name_of key) x (within-canonical source target source_is m.from_below m.to_is m.to_below (parent key) it.dir g.0) cd it.name nx
       (sym (moved-join source target source_is m.from_below m.to_is m.to_below (parent key) (name_of key) g.0) ∙ ap (moved source target) it.whole ∙ is) in
       let u = some_of (λ j. under old j (name_of key)) (get paths (parent key)) k (sym (step (parent key) (name_of key) it.dir it.name) ∙ ap (get paths) it.whole ∙ on) in
       ap (λ (t : Text). after new t (get now d)) (sym same.1)
       ∙ ap (λ (t : Text). after new (name_of key) (get now t)) (sym same.0)
-      ∙ ap (after new (name_of key)) (there (held_by paths old) whole source target n m (parent key) u.0 u.1 (λ e. clash _ (ap (is_within source) (sym e) ∙ g.0) m.outside))
+      ∙ ap (after new (name_of key)) (there (hierarchy_of paths old) whole source target n m (parent key) u.0 u.1 (λ e. clash _ (ap (is_within source) (sym e) ∙ g.0) m.outside))
       ∙ keeps (parent key) (name_of key) u.0 k u.1
       (λ e s. clash _ (ap (is_within source) (sym e) ∙ g.0) (up_apart from_dir name from_is named))
       (λ e s. clash _ (ap (is_within source) (sym e) ∙ g.0) to_out) u.2
@@ -210,7 +210,7 @@ module _ (old new : List Node) (paths : Paths) (whole : IsWhole (held_by paths o
   goes_by : (d x : Text) (k : ℕ) → is_canonical d ≡ true → is_name x ≡ true → get paths (join d x) ≡ Some k → is_within source (join d x) ≡ false → (join d x ≡ target → ⊥) → after new x (get now d) ≡ Some k
   goes_by d x k cd nx on w other =
       let u = some_of (λ j. under old j x) (get paths d) k (sym (step d x cd nx) ∙ on) in
-      ap (after new x) (stays (held_by paths old) whole source target n m d u.0 u.1 (λ e. none_some (m.bare (join d x) (ap (λ (t : Text). is_within target (join t x)) e ∙ within-down target target x (within-itself target)) (λ same. not_up target x nx (sym same ∙ ap (λ (t : Text). join t x) e))) on) (out d x w))
+      ap (after new x) (stays (hierarchy_of paths old) whole source target n m d u.0 u.1 (λ e. none_some (m.bare (join d x) (ap (λ (t : Text). is_within target (join t x)) e ∙ within-down target target x (within-itself target)) (λ same. not_up target x nx (sym same ∙ ap (λ (t : Text). join t x) e))) on) (out d x w))
       ∙ keeps d x u.0 k u.1
       (λ e s. clash _ (ap (is_within source) (ap (join d) s ∙ ap (λ (t : Text). join t name) e) ∙ within-itself source) w)
       (λ e s. other (ap (join d) s ∙ ap (λ (t : Text). join t onto) e)) u.2 where
@@ -222,7 +222,7 @@ module _ (old new : List Node) (paths : Paths) (whole : IsWhole (held_by paths o
 
   forward : (d x : Text) → is_canonical d ≡ true → is_name x ≡ true → (k : ℕ) → get now (join d x) ≡ Some k → after new x (get now d) ≡ Some k
   forward d x cd nx k on =
-      let b = back (held_by paths old) whole source target n m (join d x) k on in
+      let b = back (hierarchy_of paths old) whole source target n m (join d x) k on in
       (elim (is_within source b.0) as (λ (s : Bool). is_within source b.0 ≡ s → after new x (get now d) ≡ Some k) [
         | true ↦ λ h. elim (told_apart b.0 source) [
           | inl same ↦
@@ -242,10 +242,10 @@ module _ (old new : List Node) (paths : Paths) (whole : IsWhole (held_by paths o
       let other : join key x ≡ target → ⊥ = λ e. let s = same_join key to_dir x onto ck to_is nx renamed e in two (same_number u to on (ap (get paths) s.0 ∙ to_at)) s.1 in
       (elim (is_within source key) as (λ (s : Bool). is_within source key ≡ s → get now (join d x) ≡ Some k) [
         | true ↦ λ h.
-            ap (λ (t : Text). get now (join t x)) (sym is) ∙ ap (get now) (sym (moved-join source target source_is m.from_below m.to_is m.to_below key x h)) ∙ there (held_by paths old) whole source target n m (join key x) k stands other
+            ap (λ (t : Text). get now (join t x)) (sym is) ∙ ap (get now) (sym (moved-join source target source_is m.from_below m.to_is m.to_below key x h)) ∙ there (hierarchy_of paths old) whole source target n m (join key x) k stands other
         | false ↦ λ w.
             ap (λ (t : Text). get now (join t x)) (sym is ∙ moved-out source target key w)
-            ∙ stays (held_by paths old) whole source target n m (join key x) k stands other (outer key x u ck nx on one w)
+            ∙ stays (hierarchy_of paths old) whole source target n m (join key x) k stands other (outer key x u ck nx on one w)
       ]) refl where
         outer : (key x : Text) (u : ℕ) → is_canonical key ≡ true → is_name x ≡ true → get paths key ≡ Some u → (u ≡ dir → x ≡ name → ⊥) → is_within source key ≡ false → is_within source (join key x) ≡ false
         outer key x u ck nx on one w = (elim (is_within source (join key x)) as (λ (b : Bool). is_within source (join key x) ≡ b → b ≡ false) [
@@ -259,7 +259,7 @@ module _ (old new : List Node) (paths : Paths) (whole : IsWhole (held_by paths o
   backward : (d x : Text) → is_canonical d ≡ true → is_name x ≡ true → (k : ℕ) → after new x (get now d) ≡ Some k → get now (join d x) ≡ Some k
   backward d x cd nx k is =
       let u = some_of (λ j. under new j x) (get now d) k is in
-      let b = back (held_by paths old) whole source target n m d u.0 u.1 in
+      let b = back (hierarchy_of paths old) whole source target n m d u.0 u.1 in
       elim (both_or u.0 to x onto) [
         | inl two ↦
             let key : b.0 ≡ to_dir = to_once b.0 (b.1 ∙ ap (λ (j : ℕ). Some j) two.0) in

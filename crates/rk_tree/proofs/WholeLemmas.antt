@@ -5,17 +5,16 @@ use Rattle.std.proofs.lemmas.Option.{slice_get_within}
 use Rattle.std.specs.FinMap.{get, empty, insert, get-empty}
 use Rattle.rk_base.specs.Text.{Text, text_cmp, root, parent, join, hidden, is_within}
 use Rattle.rk_base.specs.Canonical.{is_name, is_canonical}
-use Rattle.rk_tree.specs.declared.entry.Entry.{Entry}
-use Rattle.rk_tree.specs.declared.entry.Entry.TheVariants.{File, Dir, Link}
+use Rattle.rk_tree.specs.Node.{Node, File, Dir, Link}
 use Rattle.rk_tree.specs.Entries.{is_dir, IsFit}
-use Rattle.rk_tree.specs.Held.{Held, Paths, top, node, number_at, path_of, child, with_node, linked, added, with_path, set_node, changed_at, change_node, replaced, with_mode}
+use Rattle.rk_tree.specs.Hierarchy.{Hierarchy, Paths, top, node, number_at, path_of, child, with_node, linked, added, with_path, set_node, changed_at, change_node, replaced, with_mode}
 use Rattle.rk_tree.specs.Whole.{IsPlaced, IsWhole, MayHold}
 use Rattle.rk_tree.proofs.RowsLemmas.{insert_cases}
 use Rattle.rk_tree.proofs.TextLemmas.{parent-root, within-join, hidden-back, root_seen, name_at_root}
 use Rattle.rk_base.proofs.CanonicalLemmas.{root-canonical, join-canonical}
 use Rattle.rk_base.proofs.PathLemmas.{parent-join}
 use Rattle.rk_tree.proofs.BelowLemmas.{child_at}
-use Rattle.rk_tree.proofs.HeldLemmas.{path_stands}
+use Rattle.rk_tree.proofs.HierarchyLemmas.{path_stands}
 
 clash : (b : Bool) → b ≡ true → b ≡ false → ⊥
 clash b t f = cc
@@ -26,11 +25,11 @@ none_some n s = cc
 same_number : {o : Option ℕ} (a b : ℕ) → o ≡ Some a → o ≡ Some b → a ≡ b
 same_number a b p q = cc
 
-same_entry : {o : Option Entry} (a b : Entry) → o ≡ Some a → o ≡ Some b → a ≡ b
+same_entry : {o : Option Node} (a b : Node) → o ≡ Some a → o ≡ Some b → a ≡ b
 same_entry a b p q = cc
 
 -- a directory is a node
-pub dir_node : (o : Option Entry) → is_dir o ≡ true → (it : Entry) × (o ≡ Some it)
+pub dir_node : (o : Option Node) → is_dir o ≡ true → (it : Node) × (o ≡ Some it)
 dir_node None h = cc
 dir_node (Some it) h = (it, refl)
 
@@ -72,41 +71,41 @@ root-whole mode fits = record {
   ];
   fit = λ n it at. only n it at;
 } where
-  only : (n : ℕ) (it : Entry) → slice_get (Dir mode ∷ []) n ≡ Some it → IsFit it
+  only : (n : ℕ) (it : Node) → slice_get (Dir mode ∷ []) n ≡ Some it → IsFit it
   only zero it at = subst IsFit (same_entry (Dir mode) it refl at) fits
   only (suc n) it at = cc
 
 -- A node more.
 
-pub get-more : (xs : List Entry) (y : Entry) (n : ℕ) (x : Entry) → slice_get xs n ≡ Some x → slice_get (xs ++ y ∷ []) n ≡ Some x
+pub get-more : (xs : List Node) (y : Node) (n : ℕ) (x : Node) → slice_get xs n ≡ Some x → slice_get (xs ++ y ∷ []) n ≡ Some x
 get-more [] y n x at = cc
 get-more (z ∷ xs) y zero x at = at
 get-more (z ∷ xs) y (suc n) x at = get-more xs y n x at
 
-pub get-last : (xs : List Entry) (y : Entry) → slice_get (xs ++ y ∷ []) (length xs) ≡ Some y
+pub get-last : (xs : List Node) (y : Node) → slice_get (xs ++ y ∷ []) (length xs) ≡ Some y
 get-last [] y = refl
 get-last (x ∷ xs) y = get-last xs y
 
-more_cases : (xs : List Entry) (y : Entry) (n : ℕ) (x : Entry) → slice_get (xs ++ y ∷ []) n ≡ Some x → (slice_get xs n ≡ Some x) ⊎ (y ≡ x)
+more_cases : (xs : List Node) (y : Node) (n : ℕ) (x : Node) → slice_get (xs ++ y ∷ []) n ≡ Some x → (slice_get xs n ≡ Some x) ⊎ (y ≡ x)
 more_cases [] y zero x at = inr (same_entry y x refl at)
 more_cases [] y (suc n) x at = cc
 more_cases (z ∷ xs) y zero x at = inl at
 more_cases (z ∷ xs) y (suc n) x at = more_cases xs y n x at
 
 -- what is known of a node stays, where a node comes
-kept_dir : (xs : List Entry) (y : Entry) (n : ℕ) → is_dir (slice_get xs n) ≡ true → is_dir (slice_get (xs ++ y ∷ []) n) ≡ true
+kept_dir : (xs : List Node) (y : Node) (n : ℕ) → is_dir (slice_get xs n) ≡ true → is_dir (slice_get (xs ++ y ∷ []) n) ≡ true
 kept_dir xs y n h = let it = dir_node (slice_get xs n) h in ap is_dir (get-more xs y n it.0 it.1) ∙ sym (ap is_dir it.1) ∙ h
 
-pub more-whole : (held : Held) (it : Entry) → IsWhole held → IsFit it → IsWhole (with_node held it)
-more-whole held it whole fits = record {
+pub more-whole : (tree : Hierarchy) (it : Node) → IsWhole tree → IsFit it → IsWhole (with_node tree it)
+more-whole tree it whole fits = record {
   root_at = whole.root_at;
-  root_dir = kept_dir held.nodes it top whole.root_dir;
+  root_dir = kept_dir tree.nodes it top whole.root_dir;
   canonical = whole.canonical;
-  known = λ q n at. let k = whole.known q n at in (k.0, get-more held.nodes it n k.0 k.1);
-  placed = λ q n at. let p = whole.placed q n at in record { up = p.up; stands = p.stands; in_dir = kept_dir held.nodes it p.up p.in_dir };
-  once = λ a b n at bt d. let k = whole.known a n at in whole.once a b n at bt (ap is_dir k.1 ∙ sym (ap is_dir (get-more held.nodes it n k.0 k.1)) ∙ d);
+  known = λ q n at. let k = whole.known q n at in (k.0, get-more tree.nodes it n k.0 k.1);
+  placed = λ q n at. let p = whole.placed q n at in record { up = p.up; stands = p.stands; in_dir = kept_dir tree.nodes it p.up p.in_dir };
+  once = λ a b n at bt d. let k = whole.known a n at in whole.once a b n at bt (ap is_dir k.1 ∙ sym (ap is_dir (get-more tree.nodes it n k.0 k.1)) ∙ d);
   unseen = whole.unseen;
-  fit = λ n x at. elim (more_cases held.nodes it n x at) [
+  fit = λ n x at. elim (more_cases tree.nodes it n x at) [
     | inl old ↦ whole.fit n x old
     | inr new ↦ subst IsFit new fits
   ];
@@ -115,53 +114,53 @@ more-whole held it whole fits = record {
 -- A path more.
 
 -- a path at which a node may stand: a name in a directory, of a node that is no directory or stands nowhere else
-pub record IsOpen (held : Held) (path : Text) (n : ℕ) : Type 0 where
+pub record IsOpen (tree : Hierarchy) (path : Text) (n : ℕ) : Type 0 where
   pub is_path : is_canonical path ≡ true
-  pub absent : number_at held path ≡ None
-  pub placed : IsPlaced held path
+  pub absent : number_at tree path ≡ None
+  pub placed : IsPlaced tree path
   pub seen : is_within (join root hidden) path ≡ true → ⊥
-  pub has_node : (it : Entry) × (node held n ≡ Some it)
-  pub nowhere : is_dir (node held n) ≡ true → (q : Text) → number_at held q ≡ Some n → ⊥
+  pub has_node : (it : Node) × (node tree n ≡ Some it)
+  pub nowhere : is_dir (node tree n) ≡ true → (q : Text) → number_at tree q ≡ Some n → ⊥
 
-pub stays : (held : Held) (path : Text) (n : ℕ) (q : Text) (k : ℕ) → number_at held path ≡ None → number_at held q ≡ Some k → get (insert held.paths path n) q ≡ Some k
-stays held path n q k none at = elim (insert_cases held.paths path n q) [
-  | inl here ↦ absurd (none_some none (ap (number_at held) (sym here.0) ∙ at))
+pub stays : (tree : Hierarchy) (path : Text) (n : ℕ) (q : Text) (k : ℕ) → number_at tree path ≡ None → number_at tree q ≡ Some k → get (insert tree.paths path n) q ≡ Some k
+stays tree path n q k none at = elim (insert_cases tree.paths path n q) [
+  | inl here ↦ absurd (none_some none (ap (number_at tree) (sym here.0) ∙ at))
   | inr other ↦ other.1 ∙ at
 ]
 
-pub stands_cases : (held : Held) (path : Text) (n : ℕ) (q : Text) (k : ℕ) → get (insert held.paths path n) q ≡ Some k → ((q ≡ path) × (k ≡ n)) ⊎ (number_at held q ≡ Some k)
-stands_cases held path n q k at = elim (insert_cases held.paths path n q) [
+pub stands_cases : (tree : Hierarchy) (path : Text) (n : ℕ) (q : Text) (k : ℕ) → get (insert tree.paths path n) q ≡ Some k → ((q ≡ path) × (k ≡ n)) ⊎ (number_at tree q ≡ Some k)
+stands_cases tree path n q k at = elim (insert_cases tree.paths path n q) [
   | inl here ↦ inl (here.0, same_number k n at here.1)
   | inr other ↦ inr (sym other.1 ∙ at)
 ]
 
-pub opened-whole : (held : Held) (path : Text) (n : ℕ) → IsWhole held → IsOpen held path n → IsWhole (record held { paths = insert held.paths path n })
-opened-whole held path n whole is = record {
-  root_at = stays held path n root top is.absent whole.root_at;
+pub opened-whole : (tree : Hierarchy) (path : Text) (n : ℕ) → IsWhole tree → IsOpen tree path n → IsWhole (record tree { paths = insert tree.paths path n })
+opened-whole tree path n whole is = record {
+  root_at = stays tree path n root top is.absent whole.root_at;
   root_dir = whole.root_dir;
-  canonical = λ q k at. elim (stands_cases held path n q k at) [
+  canonical = λ q k at. elim (stands_cases tree path n q k at) [
     | inl new ↦ ap is_canonical new.0 ∙ is.is_path
     | inr old ↦ whole.canonical q k old
   ];
-  known = λ q k at. elim (stands_cases held path n q k at) [
-    | inl new ↦ (is.has_node.0, ap (node held) new.1 ∙ is.has_node.1)
+  known = λ q k at. elim (stands_cases tree path n q k at) [
+    | inl new ↦ (is.has_node.0, ap (node tree) new.1 ∙ is.has_node.1)
     | inr old ↦ whole.known q k old
   ];
-  placed = λ q k at. elim (stands_cases held path n q k at) [
-    | inl new ↦ record { up = is.placed.up; stands = stays held path n (parent q) is.placed.up is.absent (ap (λ (t : Text). number_at held (parent t)) new.0 ∙ is.placed.stands); in_dir = is.placed.in_dir }
-    | inr old ↦ let p = whole.placed q k old in record { up = p.up; stands = stays held path n (parent q) p.up is.absent p.stands; in_dir = p.in_dir }
+  placed = λ q k at. elim (stands_cases tree path n q k at) [
+    | inl new ↦ record { up = is.placed.up; stands = stays tree path n (parent q) is.placed.up is.absent (ap (λ (t : Text). number_at tree (parent t)) new.0 ∙ is.placed.stands); in_dir = is.placed.in_dir }
+    | inr old ↦ let p = whole.placed q k old in record { up = p.up; stands = stays tree path n (parent q) p.up is.absent p.stands; in_dir = p.in_dir }
   ];
-  once = λ a b k at bt d. elim (stands_cases held path n a k at) [
-    | inl new ↦ elim (stands_cases held path n b k bt) [
+  once = λ a b k at bt d. elim (stands_cases tree path n a k at) [
+    | inl new ↦ elim (stands_cases tree path n b k bt) [
       | inl again ↦ new.0 ∙ sym again.0
-      | inr old ↦ absurd (is.nowhere (ap (λ (j : ℕ). is_dir (node held j)) (sym new.1) ∙ d) b (old ∙ ap (λ (j : ℕ). Some j) new.1))
+      | inr old ↦ absurd (is.nowhere (ap (λ (j : ℕ). is_dir (node tree j)) (sym new.1) ∙ d) b (old ∙ ap (λ (j : ℕ). Some j) new.1))
     ]
-    | inr old ↦ elim (stands_cases held path n b k bt) [
-      | inl new ↦ absurd (is.nowhere (ap (λ (j : ℕ). is_dir (node held j)) (sym new.1) ∙ d) a (old ∙ ap (λ (j : ℕ). Some j) new.1))
+    | inr old ↦ elim (stands_cases tree path n b k bt) [
+      | inl new ↦ absurd (is.nowhere (ap (λ (j : ℕ). is_dir (node tree j)) (sym new.1) ∙ d) a (old ∙ ap (λ (j : ℕ). Some j) new.1))
       | inr older ↦ whole.once a b k old older d
     ]
   ];
-  unseen = λ q h. elim (insert_cases held.paths path n q) [
+  unseen = λ q h. elim (insert_cases tree.paths path n q) [
     | inl here ↦ absurd (is.seen (ap (is_within (join root hidden)) (sym here.0) ∙ h))
     | inr other ↦ other.1 ∙ whole.unseen q h
   ];
@@ -170,60 +169,60 @@ opened-whole held path n whole is = record {
 
 -- A new node under a name.
 
-pub new_nowhere : (held : Held) → IsWhole held → (q : Text) (n : ℕ) → n ≡ length held.nodes → number_at held q ≡ Some n → ⊥
-new_nowhere held whole q n is at =
+pub new_nowhere : (tree : Hierarchy) → IsWhole tree → (q : Text) (n : ℕ) → n ≡ length tree.nodes → number_at tree q ≡ Some n → ⊥
+new_nowhere tree whole q n is at =
     let k = whole.known q n at in
-    let within : n < length held.nodes = slice_get_within held.nodes n k.0 k.1 in
+    let within : n < length tree.nodes = slice_get_within tree.nodes n k.0 k.1 in
     omega arith
 
 hidden_parent : parent (join root hidden) ≡ root
 unfolding parent join
 hidden_parent = refl
 
-pub unhidden : (held : Held) (dir : ℕ) (name path : Text) → IsWhole held → is_name name ≡ true → MayHold held dir name → number_at held path ≡ Some dir → is_within (join root hidden) (join path name) ≡ true → ⊥
-unhidden held dir name path whole named may at h = elim (within-join (join root hidden) path name hidden-back (whole.canonical path dir at) named h) [
+pub unhidden : (tree : Hierarchy) (dir : ℕ) (name path : Text) → IsWhole tree → is_name name ≡ true → MayHold tree dir name → number_at tree path ≡ Some dir → is_within (join root hidden) (join path name) ≡ true → ⊥
+unhidden tree dir name path whole named may at h = elim (within-join (join root hidden) path name hidden-back (whole.canonical path dir at) named h) [
   | inl same ↦
       let at_root : path ≡ root = sym (parent-join path name (whole.canonical path dir at) named) ∙ ap parent same ∙ hidden_parent in
-      may.seen (same_number dir top at (ap (number_at held) at_root ∙ whole.root_at)) (name_at_root name (ap (λ (t : Text). join t name) (sym at_root) ∙ same))
+      may.seen (same_number dir top at (ap (number_at tree) at_root ∙ whole.root_at)) (name_at_root name (ap (λ (t : Text). join t name) (sym at_root) ∙ same))
   | inr within ↦ none_some (whole.unseen path within) at
 ]
 
 -- a name in a directory may come to stand for a new node
-pub name-open : (held : Held) (dir : ℕ) (name path : Text) (it : Entry) → IsWhole held → is_name name ≡ true → MayHold held dir name → child held dir name ≡ None → path_of held dir ≡ Some path → IsOpen (with_node held it) (join path name) (length held.nodes)
+pub name-open : (tree : Hierarchy) (dir : ℕ) (name path : Text) (it : Node) → IsWhole tree → is_name name ≡ true → MayHold tree dir name → child tree dir name ≡ None → path_of tree dir ≡ Some path → IsOpen (with_node tree it) (join path name) (length tree.nodes)
 unfolding child
-name-open held dir name path it whole named may absent at =
-    let stands = path_stands held dir path at in
+name-open tree dir name path it whole named may absent at =
+    let stands = path_stands tree dir path at in
     let canon = whole.canonical path dir stands in
     record {
       is_path = join-canonical path name canon named;
-      absent = sym (child_at held dir path name named at) ∙ absent;
-      placed = record { up = dir; stands = ap (number_at held) (parent-join path name canon named) ∙ stands; in_dir = kept_dir held.nodes it dir may.in_dir };
-      seen = unhidden held dir name path whole named may stands;
-      has_node = (it, get-last held.nodes it);
-      nowhere = λ d q on. new_nowhere held whole q _ refl on;
+      absent = sym (child_at tree dir path name named at) ∙ absent;
+      placed = record { up = dir; stands = ap (number_at tree) (parent-join path name canon named) ∙ stands; in_dir = kept_dir tree.nodes it dir may.in_dir };
+      seen = unhidden tree dir name path whole named may stands;
+      has_node = (it, get-last tree.nodes it);
+      nowhere = λ d q on. new_nowhere tree whole q _ refl on;
     }
 
-pub added-whole : (held : Held) (dir : ℕ) (name : Text) (it : Entry) → IsWhole held → is_name name ≡ true → MayHold held dir name → child held dir name ≡ None → IsFit it → IsWhole (added held dir name it)
+pub added-whole : (tree : Hierarchy) (dir : ℕ) (name : Text) (it : Node) → IsWhole tree → is_name name ≡ true → MayHold tree dir name → child tree dir name ≡ None → IsFit it → IsWhole (added tree dir name it)
 unfolding added linked
-added-whole held dir name it whole named may absent fits = elim (path_of held dir) as (λ (o : Option Text). path_of held dir ≡ o → IsWhole (record { paths = with_path o (λ path. insert held.paths (join path name) (length held.nodes)) held.paths; nodes = held.nodes ++ it ∷ [] })) [
-  | None ↦ λ at. more-whole held it whole fits
-  | Some path ↦ λ at. opened-whole (with_node held it) (join path name) (length held.nodes) (more-whole held it whole fits) (name-open held dir name path it whole named may absent at)
+added-whole tree dir name it whole named may absent fits = elim (path_of tree dir) as (λ (o : Option Text). path_of tree dir ≡ o → IsWhole (record { paths = with_path o (λ path. insert tree.paths (join path name) (length tree.nodes)) tree.paths; nodes = tree.nodes ++ it ∷ [] })) [
+  | None ↦ λ at. more-whole tree it whole fits
+  | Some path ↦ λ at. opened-whole (with_node tree it) (join path name) (length tree.nodes) (more-whole tree it whole fits) (name-open tree dir name path it whole named may absent at)
 ] refl
 
 -- A node under one name more.
 
-pub linked-whole : (held : Held) (dir : ℕ) (name : Text) (n : ℕ) (it : Entry) → IsWhole held → is_name name ≡ true → MayHold held dir name → child held dir name ≡ None → node held n ≡ Some it → is_dir (node held n) ≡ false → IsWhole (linked held dir name n)
+pub linked-whole : (tree : Hierarchy) (dir : ℕ) (name : Text) (n : ℕ) (it : Node) → IsWhole tree → is_name name ≡ true → MayHold tree dir name → child tree dir name ≡ None → node tree n ≡ Some it → is_dir (node tree n) ≡ false → IsWhole (linked tree dir name n)
 unfolding linked child
-linked-whole held dir name n it whole named may absent is file = elim (path_of held dir) as (λ (o : Option Text). path_of held dir ≡ o → IsWhole (record held { paths = with_path o (λ path. insert held.paths (join path name) n) held.paths })) [
+linked-whole tree dir name n it whole named may absent is file = elim (path_of tree dir) as (λ (o : Option Text). path_of tree dir ≡ o → IsWhole (record tree { paths = with_path o (λ path. insert tree.paths (join path name) n) tree.paths })) [
   | None ↦ λ at. whole
   | Some path ↦ λ at.
-      let stands = path_stands held dir path at in
+      let stands = path_stands tree dir path at in
       let canon = whole.canonical path dir stands in
-      opened-whole held (join path name) n whole (record {
+      opened-whole tree (join path name) n whole (record {
         is_path = join-canonical path name canon named;
-        absent = sym (child_at held dir path name named at) ∙ absent;
-        placed = record { up = dir; stands = ap (number_at held) (parent-join path name canon named) ∙ stands; in_dir = may.in_dir };
-        seen = unhidden held dir name path whole named may stands;
+        absent = sym (child_at tree dir path name named at) ∙ absent;
+        placed = record { up = dir; stands = ap (number_at tree) (parent-join path name canon named) ∙ stands; in_dir = may.in_dir };
+        seen = unhidden tree dir name path whole named may stands;
         has_node = (it, is);
         nowhere = λ d q on. clash _ d file;
       })
@@ -231,7 +230,7 @@ linked-whole held dir name n it whole named may absent is file = elim (path_of h
 
 -- Other nodes.
 
-pub set_cases : (xs : List Entry) (n : ℕ) (old new : Entry) → slice_get xs n ≡ Some old → (k : ℕ) → ((k ≡ n) × (slice_get (slice_set xs n new) k ≡ Some new)) ⊎ (slice_get (slice_set xs n new) k ≡ slice_get xs k)
+pub set_cases : (xs : List Node) (n : ℕ) (old new : Node) → slice_get xs n ≡ Some old → (k : ℕ) → ((k ≡ n) × (slice_get (slice_set xs n new) k ≡ Some new)) ⊎ (slice_get (slice_set xs n new) k ≡ slice_get xs k)
 set_cases [] n old new at k = cc
 set_cases (x ∷ xs) zero old new at zero = inl (refl, refl)
 set_cases (x ∷ xs) zero old new at (suc k) = inr refl
@@ -242,52 +241,52 @@ set_cases (x ∷ xs) (suc n) old new at (suc k) = elim (set_cases xs n old new a
 ]
 
 -- a node of the same kind in the place of another
-pub set-whole : (held : Held) (n : ℕ) (old new : Entry) → IsWhole held → node held n ≡ Some old → is_dir (Some new) ≡ is_dir (Some old) → IsFit new → IsWhole (set_node held n new)
-set-whole held n old new whole at alike fits =
-    let dirs : (k : ℕ) → is_dir (node (set_node held n new) k) ≡ is_dir (node held k) = λ k. elim (set_cases held.nodes n old new at k) [
-      | inl here ↦ ap is_dir here.1 ∙ alike ∙ sym (ap is_dir (ap (node held) here.0 ∙ at))
+pub set-whole : (tree : Hierarchy) (n : ℕ) (old new : Node) → IsWhole tree → node tree n ≡ Some old → is_dir (Some new) ≡ is_dir (Some old) → IsFit new → IsWhole (set_node tree n new)
+set-whole tree n old new whole at alike fits =
+    let dirs : (k : ℕ) → is_dir (node (set_node tree n new) k) ≡ is_dir (node tree k) = λ k. elim (set_cases tree.nodes n old new at k) [
+      | inl here ↦ ap is_dir here.1 ∙ alike ∙ sym (ap is_dir (ap (node tree) here.0 ∙ at))
       | inr other ↦ ap is_dir other
     ] in
     record {
       root_at = whole.root_at;
       root_dir = dirs top ∙ whole.root_dir;
       canonical = whole.canonical;
-      known = λ q k on. elim (set_cases held.nodes n old new at k) [
+      known = λ q k on. elim (set_cases tree.nodes n old new at k) [
         | inl here ↦ (new, here.1)
         | inr other ↦ let it = whole.known q k on in (it.0, other ∙ it.1)
       ];
       placed = λ q k on. let p = whole.placed q k on in record { up = p.up; stands = p.stands; in_dir = dirs p.up ∙ p.in_dir };
       once = λ a b k on too d. whole.once a b k on too (sym (dirs k) ∙ d);
       unseen = whole.unseen;
-      fit = λ k it is. elim (set_cases held.nodes n old new at k) [
+      fit = λ k it is. elim (set_cases tree.nodes n old new at k) [
         | inl here ↦ subst IsFit (same_entry new it here.1 is) fits
         | inr other ↦ whole.fit k it (sym other ∙ is)
       ];
     }
 
-pub alike_replaced : (bytes : List ℕ) (it : Entry) → is_dir (Some (replaced bytes it)) ≡ is_dir (Some it)
+pub alike_replaced : (bytes : List ℕ) (it : Node) → is_dir (Some (replaced bytes it)) ≡ is_dir (Some it)
 alike_replaced bytes (File mode old) = refl
 alike_replaced bytes (Dir mode) = refl
 alike_replaced bytes (Link text) = refl
 
-pub alike_mode : (mode : ℕ) (it : Entry) → is_dir (Some (with_mode mode it)) ≡ is_dir (Some it)
+pub alike_mode : (mode : ℕ) (it : Node) → is_dir (Some (with_mode mode it)) ≡ is_dir (Some it)
 alike_mode mode (File old bytes) = refl
 alike_mode mode (Dir old) = refl
 alike_mode mode (Link text) = refl
 
-pub fit_replaced : (bytes : List ℕ) (it : Entry) → IsFit it → IsFit (replaced bytes it)
+pub fit_replaced : (bytes : List ℕ) (it : Node) → IsFit it → IsFit (replaced bytes it)
 fit_replaced bytes (File mode old) h = h
 fit_replaced bytes (Dir mode) h = h
 fit_replaced bytes (Link text) h = h
 
-pub fit_mode : (mode : ℕ) (it : Entry) → mode ≤ 511 → IsFit it → IsFit (with_mode mode it)
+pub fit_mode : (mode : ℕ) (it : Node) → mode ≤ 511 → IsFit it → IsFit (with_mode mode it)
 fit_mode mode (File old bytes) m h = m
 fit_mode mode (Dir old) m h = m
 fit_mode mode (Link text) m h = h
 
 -- a node that becomes another of its kind
-pub changed-whole : (held : Held) (n : ℕ) (f : Entry → Entry) → ((it : Entry) → is_dir (Some (f it)) ≡ is_dir (Some it)) → ((it : Entry) → IsFit it → IsFit (f it)) → IsWhole held → IsWhole (change_node held n f)
-changed-whole held n f alike fits whole = elim (node held n) as (λ (o : Option Entry). node held n ≡ o → IsWhole (record held { nodes = changed_at f held.nodes n o })) [
+pub changed-whole : (tree : Hierarchy) (n : ℕ) (f : Node → Node) → ((it : Node) → is_dir (Some (f it)) ≡ is_dir (Some it)) → ((it : Node) → IsFit it → IsFit (f it)) → IsWhole tree → IsWhole (change_node tree n f)
+changed-whole tree n f alike fits whole = elim (node tree n) as (λ (o : Option Node). node tree n ≡ o → IsWhole (record tree { nodes = changed_at f tree.nodes n o })) [
   | None ↦ λ at. whole
-  | Some it ↦ λ at. set-whole held n it (f it) whole at (alike it) (fits it (whole.fit n it at))
+  | Some it ↦ λ at. set-whole tree n it (f it) whole at (alike it) (fits it (whole.fit n it at))
 ] refl

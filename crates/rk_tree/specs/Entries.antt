@@ -7,18 +7,25 @@ use Rattle.rk_base.specs.Canonical.{is_canonical}
 use Rattle.rk_base.specs.declared.kind.Kind.{Kind}
 use Rattle.rk_base.specs.declared.kind.Kind.TheVariants as kind
 use Rattle.rk_tree.specs.declared.entry.Entry.{Entry}
-use Rattle.rk_tree.specs.declared.entry.Entry.TheVariants.{File, Dir, Link}
+use Rattle.rk_tree.specs.declared.entry.Entry.TheVariants as entry
+use Rattle.rk_tree.specs.Node.{Node, File, Dir, Link}
+
+-- the node that an entry is
+abbrev pub node_of : Entry → Node
+node_of (entry.File mode bytes) = File mode bytes
+node_of (entry.Dir mode) = Dir mode
+node_of (entry.Link text) = Link text
 
 -- a finite map from paths to what stands there
 abbrev pub Entries : Type 0
-Entries = FinMap text_cmp Entry
+Entries = FinMap text_cmp Node
 
-abbrev pub kind_of : Entry → Kind
+abbrev pub kind_of : Node → Kind
 kind_of (File mode bytes) = kind.File
 kind_of (Dir mode) = kind.Dir
 kind_of (Link text) = kind.Link
 
-abbrev pub is_dir : Option Entry → Bool
+abbrev pub is_dir : Option Node → Bool
 is_dir None = false
 is_dir (Some (File mode bytes)) = false
 is_dir (Some (Dir mode)) = true
@@ -28,7 +35,7 @@ abbrev pub is_nul : ℕ → Bool
 is_nul b = b == 0
 
 -- a mode is at most 0777, and a link's text is not empty and has no NUL
-abbrev pub IsFit : Entry → Type 0
+abbrev pub IsFit : Node → Type 0
 IsFit (File mode bytes) = mode ≤ 511
 IsFit (Dir mode) = mode ≤ 511
 IsFit (Link text) = (text ≢ []) × (list_any is_nul text ≡ false)
@@ -38,8 +45,8 @@ pub record IsWholeSnapshot (snapshot : Entries) : Type 0 where
   -- the root is a directory
   pub root_dir : is_dir (get snapshot root) ≡ true
   -- each path is a canonical text and stands in a directory
-  pub canonical : (path : Text) (it : Entry) → get snapshot path ≡ Some it → is_canonical path ≡ true
-  pub placed : (path : Text) (it : Entry) → get snapshot path ≡ Some it → is_dir (get snapshot (parent path)) ≡ true
+  pub canonical : (path : Text) (it : Node) → get snapshot path ≡ Some it → is_canonical path ≡ true
+  pub placed : (path : Text) (it : Node) → get snapshot path ≡ Some it → is_dir (get snapshot (parent path)) ≡ true
   -- nothing stands at the hidden name or below it
   pub unseen : (path : Text) → is_within (join root hidden) path ≡ true → get snapshot path ≡ None
-  pub fit : (path : Text) (it : Entry) → get snapshot path ≡ Some it → IsFit it
+  pub fit : (path : Text) (it : Node) → get snapshot path ≡ Some it → IsFit it

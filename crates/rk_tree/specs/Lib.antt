@@ -1,9 +1,10 @@
 pub mod Copies
 pub mod Entries
-pub mod Held
+pub mod Hierarchy
+pub mod Inodes
 pub mod Moves
 pub mod Names
-pub mod Nodes
+pub mod Node
 pub mod Refusals
 pub mod Rows
 pub mod Shown

@@ -7,6 +7,6 @@ abbrev pub named : {A : Type 0} → List (Vec ℕ A × ℕ) → List (Text × �
 named rows = map (λ row. (row.0.items, row.1)) rows
 
 -- names put after a directory's path, the last one first
-abbrev pub joined : Text → List Text → Text
-joined dir [] = dir
-joined dir (name ∷ names) = join (joined dir names) name
+abbrev pub path_by : Text → List Text → Text
+path_by dir [] = dir
+path_by dir (name ∷ names) = join (path_by dir names) name

@@ -1,11 +1,11 @@
-// What stands at a path.
+// What a node is made of.
 ghost use Rattle.std.specs.Prelude.{◌≡◌, ◌↔◌, IsTrue, IfOk};
-ghost use Rattle.rk_tree.specs.Entries.{kind_of};
+ghost use Rattle.rk_tree.specs.Entries.{node_of};
 
-use rk_base::{Bytes, Kind, NoMemory};
+use rk_base::{Bytes, NoMemory};
 
-/// What stands at a path: a file with its mode and bytes, a directory with its mode, or a symbolic
-/// link with its text. It is a node of a tree and an entry of a snapshot.
+/// What is put into a tree or a snapshot: a file with its mode and bytes, a directory with its mode,
+/// or a symbolic link with its text.
 #[derive(Clone, Debug, Drop)]
 pub enum Entry {
     File(u16, Bytes),
@@ -14,19 +14,9 @@ pub enum Entry {
 }
 
 impl Entry {
-    pub fn kind(&self) -> Kind
-        ensures { result ≡ kind_of self.now }
-    {
-        match self {
-            Entry::File(_, _) => Kind::File,
-            Entry::Dir(_) => Kind::Dir,
-            Entry::Link(_) => Kind::Link,
-        }
-    }
-
     /// Whether both are the same, the bytes included.
     pub fn same(&self, other: &Entry) -> bool
-        ensures { IsTrue result ↔ (self.now ≡ other.now) }
+        ensures { IsTrue result ↔ (node_of self.now ≡ node_of other.now) }
     {
         match (self, other) {
             (Entry::File(mode, bytes), Entry::File(other_mode, other_bytes)) => {
@@ -39,7 +29,7 @@ impl Entry {
     }
 
     pub fn copy(&self) -> Result<Entry, NoMemory>
-        ensures { IfOk result (λ it. it ≡ self.now) }
+        ensures { IfOk result (λ it. node_of it ≡ node_of self.now) }
     {
         let copy = self.clone()?;
         Ok(copy)

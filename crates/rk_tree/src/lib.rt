@@ -2,6 +2,8 @@
 #![tactic(auto)]
 
 mod entry;
+mod id;
+mod inode;
 mod names;
 mod node;
 mod refused;
@@ -11,6 +13,8 @@ mod tests;
 mod tree;
 
 pub use entry::Entry;
+pub use id::NodeId;
+pub use node::Node;
 pub use refused::Refused;
 pub use snapshot::Snapshot;
 pub use tree::Tree;

@@ -3,6 +3,7 @@ ghost use Rattle.std.specs.Prelude.{◌≡◌, IfOk, OnOk, OnErr};
 ghost use Rattle.std.specs.FinMap.{empty, entries, get, insert, keys, remove};
 ghost use Rattle.rk_base.specs.Canonical.{is_empty};
 
+use crate::NodeId;
 use rk_base::{Name, NoMemory, PathFault};
 use std::alloc::Global;
 use std::collections::BTreeMap;
@@ -12,13 +13,13 @@ use std::marker::Model;
 /// comparisons as a search in a B-tree.
 #[derive(Drop)]
 pub(crate) struct Names {
-    rows: BTreeMap<Vec<u8>, usize>,
+    rows: BTreeMap<Vec<u8>, NodeId>,
 }
 
 impl Model for Names {
     ghost use Rattle.std.specs.FinMap as map;
     ghost use Rattle.std.specs.Coded.{coded_list, coded_ℕ};
-    ghost use Rattle.rk_tree.specs.Held.{Paths};
+    ghost use Rattle.rk_tree.specs.Hierarchy.{Paths};
 
     ghost Value = { Paths };
 
@@ -46,7 +47,7 @@ impl Names {
     }
 
     /// The number under a name.
-    pub(crate) fn get(&self, name: &[u8]) -> Option<usize>
+    pub(crate) fn get(&self, name: &[u8]) -> Option<NodeId>
         ensures { result ≡ get self.now name.now }
     {
         match self.rows.get(name) {
@@ -62,7 +63,7 @@ impl Names {
     }
 
     /// A name stands for this number, in the place of what it stood for.
-    pub(crate) fn put(&mut self, alloc: Global, name: &Name, n: usize) -> Result<(), NoMemory>
+    pub(crate) fn put(&mut self, alloc: Global, name: &Name, n: NodeId) -> Result<(), NoMemory>
         ensures ok { OnOk result (self.new ≡ insert self.old name.now n) }
         ensures err { OnErr result (self.new ≡ self.old) }
     {

@@ -1,8 +1,9 @@
 // Snapshots.
 ghost use Rattle.std.specs.Prelude.{◌≡◌, ◌↔◌, IsTrue, option_copied, OnOk, OnErr};
 ghost use Rattle.std.specs.FinMap.{empty, entries, get, insert, len};
+ghost use Rattle.rk_tree.specs.Entries.{node_of};
 
-use crate::Entry;
+use crate::{Entry, Node};
 use rk_base::{NoMemory, Path};
 use std::alloc::Global;
 use std::collections::BTreeMap;
@@ -11,7 +12,7 @@ use std::marker::Model;
 /// What stands at each path: a finite map, in the order of the paths' texts.
 #[derive(Drop)]
 pub struct Snapshot {
-    rows: BTreeMap<Path, Entry>,
+    rows: BTreeMap<Path, Node>,
 }
 
 impl Model for Snapshot {
@@ -21,9 +22,9 @@ impl Model for Snapshot {
 
     ghost Value = { Entries };
 
-    ghost use Rattle.rk_tree.specs.contracts.entry.Entry as it;
+    ghost use Rattle.rk_tree.specs.Node.{node_code};
 
-    ghost coded = { map.code (coded_list coded_ℕ) it.the_row.coded };
+    ghost coded = { map.code (coded_list coded_ℕ) node_code };
 
     ghost use Rattle.rk_tree.specs.Rows.{map_of};
 
@@ -41,7 +42,7 @@ impl Snapshot {
     }
 
     /// What stands at a path.
-    pub fn get(&self, path: &Path) -> Option<&Entry>
+    pub fn get(&self, path: &Path) -> Option<&Node>
         ensures { option_copied result ≡ get self.now path.now }
     {
         self.rows.get(path)
@@ -49,6 +50,13 @@ impl Snapshot {
 
     /// An entry at a path, in the place of what stood there.
     pub fn put(&mut self, path: Path, it: Entry) -> Result<(), NoMemory>
+        ensures ok { OnOk result (self.new ≡ insert self.old path (node_of it)) }
+        ensures err { OnErr result (self.new ≡ self.old) }
+    {
+        self.put_node(path, Node::new(it))
+    }
+
+    pub(crate) fn put_node(&mut self, path: Path, it: Node) -> Result<(), NoMemory>
         ensures ok { OnOk result (self.new ≡ insert self.old path it) }
         ensures err { OnErr result (self.new ≡ self.old) }
     {
@@ -69,8 +77,8 @@ impl Snapshot {
         self.len() == 0
     }
 
-    /// The paths with their entries, ascending by the paths' texts.
-    pub fn rows(&self) -> &BTreeMap<Path, Entry>
+    /// The paths with what stands there, ascending by the paths' texts.
+    pub fn rows(&self) -> &BTreeMap<Path, Node>
         ensures { result.now.entries ≡ entries self.now }
     {
         let _count = self.rows.len();

@@ -1,12 +1,13 @@
 // The tree of a world.
-ghost use Rattle.std.specs.Prelude.{◌≡◌, ◌≤◌, option_copied, IfOk, true, [], ◌∷◌};
+ghost use Rattle.std.specs.Prelude.{◌≡◌, ◌≤◌, option_copied, option_map, IfOk, IfSome, true, Some, [], ◌∷◌};
 ghost use Rattle.std.specs.FinMap.{empty, insert};
 ghost use Rattle.rk_base.specs.Text.{root};
-ghost use Rattle.rk_tree.specs.Entries.{is_dir};
-ghost use Rattle.rk_tree.specs.Held as held;
+ghost use Rattle.rk_tree.specs.Entries.{is_dir, kind_of};
+ghost use Rattle.rk_tree.specs.Hierarchy as hierarchy;
+ghost use Rattle.rk_tree.specs.Refusals.{is_there};
 ghost use Rattle.rk_tree.specs.Shown.{Shown, Shown-prop};
 ghost use Rattle.rk_tree.specs.Whole.{IsWhole};
-ghost use Rattle.rk_tree.specs.declared.entry.Entry.TheVariants.{Dir};
+ghost use Rattle.rk_tree.specs.Node.{Dir};
 
 mod changing;
 mod climbing;
@@ -14,9 +15,9 @@ mod copying;
 mod refusing;
 mod renaming;
 
-use crate::Entry;
-use crate::node::{Node, entry_at, names_of, number_under, place_at, replace_bytes};
-use rk_base::{Bytes, Name, NameList, NoMemory};
+use crate::inode::{Inode, names_of, node_at, number_under, place_at, replace_bytes};
+use crate::{Entry, Node, NodeId};
+use rk_base::{Bytes, Kind, Name, NameList, NoMemory};
 use std::alloc::Global;
 use std::marker::Model;
 
@@ -25,25 +26,23 @@ use std::marker::Model;
 /// count of nodes so far.
 #[derive(Drop)]
 pub struct Tree {
-    nodes: Vec<Node>,
+    nodes: Vec<Inode>,
     ghost shown: { Shown nodes.items } by { Shown-prop nodes.items },
 }
 
 impl Model for Tree {
-    ghost use Rattle.rk_tree.specs.Held.{Held, held_code};
+    ghost use Rattle.rk_tree.specs.Hierarchy.{Hierarchy, hierarchy_code};
 
-    ghost Value = { Held };
+    ghost Value = { Hierarchy };
 
-    ghost use Rattle.rk_tree.specs.contracts.entry.Entry as it;
+    ghost coded = { hierarchy_code };
 
-    ghost coded = { held_code it.the_row.coded };
-
-    ghost use Rattle.rk_tree.specs.Nodes.{held_by, AreAttached, HavePlaces};
+    ghost use Rattle.rk_tree.specs.Inodes.{hierarchy_of, AreAttached, HavePlaces};
     ghost use Rattle.rk_tree.specs.Whole.{IsWhole};
 
-    ghost view = { λ t. held_by t.shown.paths t.nodes.items };
+    ghost view = { λ t. hierarchy_of t.shown.paths t.nodes.items };
 
-    ghost invariant = { λ t. IsWhole (held_by t.shown.paths t.nodes.items) × HavePlaces t.shown.paths t.nodes.items × AreAttached t.shown.paths t.nodes.items };
+    ghost invariant = { λ t. IsWhole (hierarchy_of t.shown.paths t.nodes.items) × HavePlaces t.shown.paths t.nodes.items × AreAttached t.shown.paths t.nodes.items };
 }
 
 impl Tree {
@@ -52,7 +51,7 @@ impl Tree {
         requires { mode ≤ 511 }
         ensures { IfOk result (λ t. t ≡ record { paths = insert empty root 0; nodes = Dir mode ∷ [] }) }
     {
-        let nodes = vec![in alloc; Node::lost(alloc, Entry::Dir(mode))]?;
+        let nodes = vec![in alloc; Inode::lost(alloc, Node::new(Entry::Dir(mode)))]?;
         Ok(Tree { nodes })
     }
 
@@ -63,62 +62,98 @@ impl Tree {
         Tree::of_root(alloc, 0o755)
     }
 
-    /// The node of this number.
-    pub fn node(&self, n: usize) -> Option<&Entry>
-        ensures node { option_copied result ≡ held.node self.now n }
+    fn look(&self, n: NodeId) -> Option<&Node>
+        ensures node { option_copied result ≡ hierarchy.node self.now n }
         ensures whole { IsWhole self.now }
     {
-        entry_at(self.nodes.as_slice(), n)
+        node_at(self.nodes.as_slice(), n)
     }
 
-    /// Whether there is a node of this number and it is a directory.
-    pub fn is_dir(&self, n: usize) -> bool
-        ensures { result ≡ is_dir (held.node self.now n) }
+    /// The root. The tree is whole.
+    pub fn root(&self) -> NodeId
+        ensures root { result ≡ hierarchy.top }
+        ensures whole { IsWhole self.now }
     {
-        matches!(self.node(n), Some(Entry::Dir(_)))
+        let _ = &self.nodes;
+        NodeId::root()
     }
 
-    /// The mode of a node; a link's is 0777, and 0 where there is no node of this number.
-    pub fn mode(&self, n: usize) -> u16
-        ensures { result ≡ held.mode_of (held.node self.now n) }
+    /// Whether this is a node of the tree.
+    pub fn has(&self, n: NodeId) -> bool
+        ensures { result ≡ is_there (hierarchy.node self.now n) }
     {
-        match self.node(n) {
+        self.look(n).is_some()
+    }
+
+    /// What a node of the tree is.
+    pub fn kind(&self, n: NodeId) -> Kind
+        requires { is_there (hierarchy.node self.now n) ≡ true }
+        ensures { Some result ≡ option_map kind_of (hierarchy.node self.now n) }
+    {
+        match self.look(n) {
+            None => unreachable!(),
+            Some(it) => it.kind(),
+        }
+    }
+
+    /// Whether this is a node of the tree and a directory.
+    pub fn is_dir(&self, n: NodeId) -> bool
+        ensures { result ≡ is_dir (hierarchy.node self.now n) }
+    {
+        match self.look(n) {
+            None => false,
+            Some(it) => it.is_dir(),
+        }
+    }
+
+    /// The mode of a node; a link's is 0777, and 0 where this is no node of the tree.
+    pub fn mode(&self, n: NodeId) -> u16
+        ensures { result ≡ hierarchy.mode_of (hierarchy.node self.now n) }
+    {
+        match self.look(n) {
             None => 0,
-            Some(Entry::File(mode, _)) => *mode,
-            Some(Entry::Dir(mode)) => *mode,
-            Some(Entry::Link(_)) => 0o777,
+            Some(it) => it.mode(),
         }
     }
 
     /// The bytes of a file; none for any other node.
-    pub fn bytes(&self, n: usize) -> &[u8]
-        ensures { result.now ≡ held.file_bytes (held.node self.now n) }
+    pub fn bytes(&self, n: NodeId) -> &[u8]
+        ensures { result.now ≡ hierarchy.file_bytes (hierarchy.node self.now n) }
     {
-        match self.node(n) {
+        match self.look(n) {
             None => b"",
-            Some(Entry::File(_, bytes)) => bytes.as_slice(),
-            Some(Entry::Dir(_)) => b"",
-            Some(Entry::Link(_)) => b"",
+            Some(it) => it.bytes(),
         }
     }
 
-    /// The entry of this name in a directory; `None` exactly where there is none. It takes no memory.
-    pub fn child(&self, dir: usize, name: &[u8]) -> Option<usize>
-        requires { is_dir (held.node self.now dir) ≡ true }
-        ensures { result ≡ held.child self.now dir name.now }
+    /// The text of a link; none for any other node.
+    pub fn link_text(&self, n: NodeId) -> &[u8]
+        ensures { result.now ≡ hierarchy.text_of (hierarchy.node self.now n) }
+    {
+        match self.look(n) {
+            None => b"",
+            Some(it) => it.link_text(),
+        }
+    }
+
+    /// The node of this name in a directory; `None` exactly where there is none. It takes no memory.
+    pub fn child(&self, dir: NodeId, name: &[u8]) -> Option<NodeId>
+        requires { is_dir (hierarchy.node self.now dir) ≡ true }
+        ensures child { result ≡ hierarchy.child self.now dir name.now }
+        ensures there { IfSome result (λ n. is_there (hierarchy.node self.now n) ≡ true) }
     {
         number_under(self.nodes.as_slice(), dir, name)
     }
 
     /// The directory that a directory stands in: the root for the root, and `None` for a directory
     /// that was removed. It takes no memory.
-    pub fn parent(&self, dir: usize) -> Option<usize>
-        requires { is_dir (held.node self.now dir) ≡ true }
-        ensures { result ≡ held.parent_of self.now dir }
+    pub fn parent(&self, dir: NodeId) -> Option<NodeId>
+        requires { is_dir (hierarchy.node self.now dir) ≡ true }
+        ensures { result ≡ hierarchy.parent_of self.now dir }
     {
-        let _root = self.node(0);
-        if dir == 0 {
-            return Some(0);
+        let _root = self.look(NodeId::root());
+        if dir.is_root() {
+            return Some(dir);
         }
         match place_at(self.nodes.as_slice(), dir) {
             None => None,
@@ -126,19 +161,19 @@ impl Tree {
         }
     }
 
-    fn names(&self, dir: usize) -> Result<Vec<Name>, NoMemory>
-        requires { is_dir (held.node self.now dir) ≡ true }
-        ensures { IfOk result (λ names. names.items ≡ held.names self.now dir) }
+    fn names(&self, dir: NodeId) -> Result<Vec<Name>, NoMemory>
+        requires { is_dir (hierarchy.node self.now dir) ≡ true }
+        ensures { IfOk result (λ names. names.items ≡ hierarchy.names self.now dir) }
     {
         names_of(*self.nodes.allocator(), self.nodes.as_slice(), dir)
     }
 
     /// The names in a directory, ascending.
-    pub fn list(&self, dir: usize) -> Result<NameList, NoMemory>
-        requires { is_dir (held.node self.now dir) ≡ true }
-        ensures { IfOk result (λ list. list ≡ held.names self.now dir) }
+    pub fn list(&self, dir: NodeId) -> Result<NameList, NoMemory>
+        requires { is_dir (hierarchy.node self.now dir) ≡ true }
+        ensures { IfOk result (λ list. list ≡ hierarchy.names self.now dir) }
     {
-        let _root = self.node(0);
+        let _root = self.look(NodeId::root());
         let names = self.names(dir)?;
         match NameList::from_vec(names) {
             None => unreachable!(),
@@ -147,8 +182,8 @@ impl Tree {
     }
 
     /// A file's bytes are replaced; any other node stays as it is.
-    pub fn set_bytes(&mut self, n: usize, bytes: Bytes)
-        ensures { self.new ≡ held.set_bytes self.old n bytes }
+    pub fn set_bytes(&mut self, n: NodeId, bytes: Bytes)
+        ensures { self.new ≡ hierarchy.set_bytes self.old n bytes }
     {
         replace_bytes(&mut self.nodes, n, bytes);
     }

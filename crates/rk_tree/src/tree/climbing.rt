@@ -3,18 +3,18 @@ ghost use Rattle.std.specs.Prelude.{◌≡◌, IfOk, true, Some};
 ghost use Rattle.std.specs.Option.{option_map};
 ghost use Rattle.rk_base.specs.Text.{root};
 ghost use Rattle.rk_tree.specs.Entries.{is_dir};
-ghost use Rattle.rk_tree.specs.Held as held;
-ghost use Rattle.rk_tree.specs.Names.{joined};
+ghost use Rattle.rk_tree.specs.Hierarchy as hierarchy;
+ghost use Rattle.rk_tree.specs.Names.{path_by};
 ghost use Rattle.rk_tree.specs.Refusals.{is_there};
 
-use crate::Tree;
-use crate::node::place_at;
+use crate::inode::place_at;
+use crate::{NodeId, Tree};
 use rk_base::{Name, NoMemory, Path};
 use std::alloc::Global;
 
 // The path of names, the last one first.
-fn joined(alloc: Global, names: Vec<Name>) -> Result<Path, NoMemory>
-    ensures { IfOk result (λ path. path ≡ joined root names.items) }
+fn path_by(alloc: Global, names: Vec<Name>) -> Result<Path, NoMemory>
+    ensures { IfOk result (λ path. path ≡ path_by root names.items) }
 {
     let mut path = Path::root(alloc)?;
     let mut left = names;
@@ -26,21 +26,21 @@ fn joined(alloc: Global, names: Vec<Name>) -> Result<Path, NoMemory>
 
 impl Tree {
     /// Whether a directory stands somewhere: it wasn't removed.
-    pub(super) fn has_path(&self, dir: usize) -> bool
-        requires { is_dir (held.node self.now dir) ≡ true }
-        ensures { result ≡ is_there (held.path_of self.now dir) }
+    pub(super) fn has_path(&self, dir: NodeId) -> bool
+        requires { is_dir (hierarchy.node self.now dir) ≡ true }
+        ensures { result ≡ is_there (hierarchy.path_of self.now dir) }
     {
-        dir == 0 || place_at(self.nodes.as_slice(), dir).is_some()
+        dir.is_root() || place_at(self.nodes.as_slice(), dir).is_some()
     }
 
     // The names of a directory's path, the last one first.
-    fn names_to(&self, dir: usize) -> Result<Option<Vec<Name>>, NoMemory>
-        requires { is_dir (held.node self.now dir) ≡ true }
-        ensures { IfOk result (λ names. option_map (λ some. joined root some.items) names ≡ held.path_of self.now dir) }
+    fn names_to(&self, dir: NodeId) -> Result<Option<Vec<Name>>, NoMemory>
+        requires { is_dir (hierarchy.node self.now dir) ≡ true }
+        ensures { IfOk result (λ names. option_map (λ some. path_by root some.items) names ≡ hierarchy.path_of self.now dir) }
     {
         let mut names = Vec::new(*self.nodes.allocator());
         let mut at = dir;
-        'up: while at != 0 {
+        'up: while !at.is_root() {
             match place_at(self.nodes.as_slice(), at) {
                 None => return Ok(None),
                 Some((up, name)) => {
@@ -53,31 +53,31 @@ impl Tree {
     }
 
     /// The path of a directory; `None` for a directory that was removed.
-    pub fn path_of(&self, dir: usize) -> Result<Option<Path>, NoMemory>
-        requires { is_dir (held.node self.now dir) ≡ true }
-        ensures { IfOk result (λ path. path ≡ held.path_of self.now dir) }
+    pub fn path_of(&self, dir: NodeId) -> Result<Option<Path>, NoMemory>
+        requires { is_dir (hierarchy.node self.now dir) ≡ true }
+        ensures { IfOk result (λ path. path ≡ hierarchy.path_of self.now dir) }
     {
         match self.names_to(dir)? {
             None => Ok(None),
             Some(names) => {
-                let path = joined(*self.nodes.allocator(), names)?;
+                let path = path_by(*self.nodes.allocator(), names)?;
                 Ok(Some(path))
             }
         }
     }
 
     /// Whether a directory is this one or stands anywhere below it.
-    pub(super) fn stands_within(&self, above: usize, dir: usize) -> bool
-        requires above { is_dir (held.node self.now above) ≡ true }
-        requires dir { is_dir (held.node self.now dir) ≡ true }
-        ensures { result ≡ held.stands_within self.now above dir }
+    pub(super) fn stands_within(&self, above: NodeId, dir: NodeId) -> bool
+        requires above { is_dir (hierarchy.node self.now above) ≡ true }
+        requires dir { is_dir (hierarchy.node self.now dir) ≡ true }
+        ensures { result ≡ hierarchy.stands_within self.now above dir }
     {
         if !self.has_path(above) {
             return false;
         }
         let mut at = dir;
         'up: while at != above {
-            if at == 0 {
+            if at.is_root() {
                 return false;
             }
             match place_at(self.nodes.as_slice(), at) {

@@ -4,23 +4,23 @@ ghost use Rattle.std.specs.FinMap.{get};
 ghost use Rattle.rk_base.specs.Text.{root};
 ghost use Rattle.rk_tree.specs.Copies.{MayTake, put_dir, put_found, put_names, snapshot_of, tree_of, with_node_at};
 ghost use Rattle.rk_tree.specs.Entries.{is_dir, IsWholeSnapshot};
-ghost use Rattle.rk_tree.specs.Held as held;
+ghost use Rattle.rk_tree.specs.Hierarchy as hierarchy;
 ghost use Rattle.rk_tree.specs.Rows.{map_of};
-ghost use Rattle.rk_tree.specs.declared.entry.Entry.TheVariants.{Dir};
+ghost use Rattle.rk_tree.specs.Node.{Dir};
 
-use crate::{Entry, Snapshot, Tree};
+use crate::{Entry, Node, NodeId, Snapshot, Tree};
 use rk_base::{Name, NoMemory, Path};
 use std::alloc::Global;
 use std::collections::BTreeMap;
 
 // What is found, put at a path.
-fn put_found(snapshot: &mut Snapshot, path: Path, found: Option<&Entry>) -> Result<(), NoMemory>
+fn put_found(snapshot: &mut Snapshot, path: Path, found: Option<&Node>) -> Result<(), NoMemory>
     ensures { OnOk result (snapshot.new ≡ put_found snapshot.old path (option_copied found.entry)) }
 {
     match found {
         None => Ok(()),
         Some(it) => {
-            snapshot.put(path, it.copy()?)?;
+            snapshot.put_node(path, it.copy()?)?;
             Ok(())
         }
     }
@@ -28,9 +28,9 @@ fn put_found(snapshot: &mut Snapshot, path: Path, found: Option<&Entry>) -> Resu
 
 impl Tree {
     // What stands under the names of a directory.
-    fn put_names(&self, snapshot: &mut Snapshot, dir: usize, path: &Path) -> Result<(), NoMemory>
-        requires in_dir { is_dir (held.node self.now dir) ≡ true }
-        requires at { held.path_of self.now dir ≡ Some path.now }
+    fn put_names(&self, snapshot: &mut Snapshot, dir: NodeId, path: &Path) -> Result<(), NoMemory>
+        requires in_dir { is_dir (hierarchy.node self.now dir) ≡ true }
+        requires at { hierarchy.path_of self.now dir ≡ Some path.now }
         ensures { OnOk result (snapshot.new ≡ put_names self.now dir snapshot.old (Some path.now)) }
     {
         let alloc = *self.nodes.allocator();
@@ -39,14 +39,14 @@ impl Tree {
             let path = path.join(alloc, name)?;
             match self.child(dir, name.as_slice()) {
                 None => {}
-                Some(n) => put_found(snapshot, path, self.node(n))?,
+                Some(n) => put_found(snapshot, path, self.look(n))?,
             }
         }
         Ok(())
     }
 
     // What stands in a directory, if this is one that stands somewhere.
-    fn put_dir(&self, snapshot: &mut Snapshot, dir: usize) -> Result<(), NoMemory>
+    fn put_dir(&self, snapshot: &mut Snapshot, dir: NodeId) -> Result<(), NoMemory>
         ensures { OnOk result (snapshot.new ≡ put_dir self.now snapshot.old dir) }
     {
         if !self.is_dir(dir) {
@@ -65,9 +65,9 @@ impl Tree {
     {
         let alloc = *self.nodes.allocator();
         let mut snapshot = Snapshot::new(alloc);
-        put_found(&mut snapshot, Path::root(alloc)?, self.node(0))?;
+        put_found(&mut snapshot, Path::root(alloc)?, self.look(NodeId::root()))?;
         for dir in 0..self.nodes.len() {
-            self.put_dir(&mut snapshot, dir)?;
+            self.put_dir(&mut snapshot, NodeId::new(dir))?;
         }
         Ok(snapshot)
     }
@@ -75,16 +75,16 @@ impl Tree {
     // A node more, at a path whose directory stands.
     fn put_path(
         &mut self,
-        numbers: &mut BTreeMap<Path, usize>,
+        numbers: &mut BTreeMap<Path, NodeId>,
         path: &Path,
-        it: &Entry,
+        it: &Node,
     ) -> Result<(), NoMemory>
         requires numbers { map_of numbers.old.entries ≡ self.old.paths }
         requires takes { MayTake self.old path.now it.now }
         ensures tree { OnOk result (self.new ≡ with_node_at self.old path.now it.now) }
         ensures numbers { OnOk result (map_of numbers.new.entries ≡ self.new.paths) }
     {
-        let _root = self.node(0);
+        let _root = self.look(NodeId::root());
         let Some(name) = path.last()? else {
             unreachable!();
         };
@@ -107,7 +107,7 @@ impl Tree {
     {
         let mut tree = Tree::of_root(alloc, root_mode(alloc, snapshot)?)?;
         let mut numbers = BTreeMap::new(alloc);
-        numbers.insert(Path::root(alloc)?, 0)?;
+        numbers.insert(Path::root(alloc)?, NodeId::root())?;
         let mut rows = snapshot.rows().iter();
         // The first row is the root's.
         let _root = rows.next();
@@ -123,7 +123,11 @@ fn root_mode(alloc: Global, snapshot: &Snapshot) -> Result<u16, NoMemory>
     ensures { IfOk result (λ mode. get snapshot.now root ≡ Some (Dir mode)) }
 {
     match snapshot.get(&Path::root(alloc)?) {
-        Some(Entry::Dir(mode)) => Ok(*mode),
-        _ => unreachable!(),
+        Some(it) => match it.entry() {
+            Entry::File(_, _) => unreachable!(),
+            Entry::Dir(mode) => Ok(*mode),
+            Entry::Link(_) => unreachable!(),
+        },
+        None => unreachable!(),
     }
 }

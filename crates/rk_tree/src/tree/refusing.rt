@@ -3,12 +3,12 @@ ghost use Rattle.std.specs.Prelude.{◌≡◌, [], ◌∷◌, IfSome, not, true,
 ghost use Rattle.std.specs.List.{list_any};
 ghost use Rattle.rk_base.specs.Canonical.{is_empty};
 ghost use Rattle.rk_base.specs.declared.errno.Errno.TheVariants.{Exists, Denied};
-ghost use Rattle.rk_tree.specs.Entries.{is_dir, is_nul};
-ghost use Rattle.rk_tree.specs.Held as held;
+ghost use Rattle.rk_tree.specs.Entries.{is_dir, is_nul, node_of};
+ghost use Rattle.rk_tree.specs.Hierarchy as hierarchy;
 ghost use Rattle.rk_tree.specs.Refusals as refusals;
 
-use crate::node::has_names;
-use crate::{Entry, Tree};
+use crate::inode::has_names;
+use crate::{Entry, NodeId, Tree};
 use rk_base::{Errno, Name};
 
 fn has_nul(text: &[u8]) -> bool
@@ -18,7 +18,7 @@ fn has_nul(text: &[u8]) -> bool
 }
 
 fn has_w(mode: u16) -> bool
-    ensures { result ≡ held.has_w mode }
+    ensures { result ≡ hierarchy.has_w mode }
 {
     mode / 128 % 2 == 1
 }
@@ -35,7 +35,7 @@ fn mode_refusal(mode: u16) -> Option<Errno>
 
 // What no node may be.
 fn entry_refusal(it: &Entry) -> Option<Errno>
-    ensures { result ≡ refusals.first_of (refusals.entry_checks it.now) }
+    ensures { result ≡ refusals.first_of (refusals.entry_checks (node_of it.now)) }
 {
     match it {
         Entry::File(mode, _) => mode_refusal(*mode),
@@ -54,11 +54,11 @@ fn entry_refusal(it: &Entry) -> Option<Errno>
 
 impl Tree {
     // What a name of a directory stands for; only a directory has names.
-    pub(super) fn found(&self, dir: usize, name: &Name) -> Option<usize>
-        ensures found { result ≡ held.child self.now dir name.now }
-        ensures in_dir { IfSome result (λ n. is_dir (held.node self.now dir) ≡ true) }
+    pub(super) fn found(&self, dir: NodeId, name: &Name) -> Option<NodeId>
+        ensures found { result ≡ hierarchy.child self.now dir name.now }
+        ensures in_dir { IfSome result (λ n. is_dir (hierarchy.node self.now dir) ≡ true) }
     {
-        let _root = self.node(0);
+        let _root = self.look(NodeId::root());
         let bytes = name.as_slice();
         if self.is_dir(dir) {
             self.child(dir, bytes)
@@ -68,29 +68,29 @@ impl Tree {
     }
 
     // Whether names stand in a directory.
-    fn has_below(&self, dir: usize) -> bool
-        requires { is_dir (held.node self.now dir) ≡ true }
-        ensures { result ≡ not (is_empty (held.names self.now dir)) }
+    fn has_below(&self, dir: NodeId) -> bool
+        requires { is_dir (hierarchy.node self.now dir) ≡ true }
+        ensures { result ≡ not (is_empty (hierarchy.names self.now dir)) }
     {
         has_names(self.nodes.as_slice(), dir)
     }
 
-    fn has_names(&self, n: usize) -> bool
+    fn has_names(&self, n: NodeId) -> bool
         ensures { result ≡ refusals.has_names self.now n }
     {
         self.is_dir(n) && self.has_below(n)
     }
 
-    fn lacks_w(&self, dir: usize) -> bool
+    fn lacks_w(&self, dir: NodeId) -> bool
         ensures { result ≡ refusals.lacks_w self.now dir }
     {
         !has_w(self.mode(dir))
     }
 
     // A directory gains a name.
-    fn gain_refusal(&self, dir: usize, name: &Name) -> Option<Errno>
-        requires { is_dir (held.node self.now dir) ≡ true }
-        ensures { result ≡ refusals.first_of ((refusals.is_there (held.child self.now dir name.now), Exists) ∷ (refusals.lacks_w self.now dir, Denied) ∷ []) }
+    fn gain_refusal(&self, dir: NodeId, name: &Name) -> Option<Errno>
+        requires { is_dir (hierarchy.node self.now dir) ≡ true }
+        ensures { result ≡ refusals.first_of ((refusals.is_there (hierarchy.child self.now dir name.now), Exists) ∷ (refusals.lacks_w self.now dir, Denied) ∷ []) }
     {
         match self.child(dir, name.as_slice()) {
             Some(_) => Some(Errno::Exists),
@@ -104,9 +104,9 @@ impl Tree {
         }
     }
 
-    pub(super) fn add_refusal(&self, dir: usize, name: &Name, it: &Entry) -> Option<Errno>
-        requires { is_dir (held.node self.now dir) ≡ true }
-        ensures { result ≡ refusals.add_refusal self.now dir name.now it.now }
+    pub(super) fn add_refusal(&self, dir: NodeId, name: &Name, it: &Entry) -> Option<Errno>
+        requires { is_dir (hierarchy.node self.now dir) ≡ true }
+        ensures { result ≡ refusals.add_refusal self.now dir name.now (node_of it.now) }
     {
         match entry_refusal(it) {
             Some(e) => Some(e),
@@ -116,20 +116,21 @@ impl Tree {
 
     // A node gains a name.
     #[tactic(auto, unfolding(crate::specs::Refusals::link_refusal))]
-    pub(super) fn link_refusal(&self, dir: usize, name: &Name, n: usize) -> Option<Errno>
-        requires { is_dir (held.node self.now dir) ≡ true }
+    pub(super) fn link_refusal(&self, dir: NodeId, name: &Name, n: NodeId) -> Option<Errno>
+        requires { is_dir (hierarchy.node self.now dir) ≡ true }
         ensures { result ≡ refusals.link_refusal self.now dir name.now n }
     {
-        match self.node(n) {
-            None => Some(Errno::NoEntry),
-            Some(Entry::Dir(_)) => Some(Errno::Denied),
-            Some(Entry::File(_, _)) => self.gain_refusal(dir, name),
-            Some(Entry::Link(_)) => self.gain_refusal(dir, name),
+        if !self.has(n) {
+            Some(Errno::NoEntry)
+        } else if self.is_dir(n) {
+            Some(Errno::Denied)
+        } else {
+            self.gain_refusal(dir, name)
         }
     }
 
     // A directory loses the name of a node.
-    pub(super) fn loss_refusal(&self, dir: usize, n: usize) -> Option<Errno>
+    pub(super) fn loss_refusal(&self, dir: NodeId, n: NodeId) -> Option<Errno>
         ensures { result ≡ refusals.remove_found self.now dir (Some n) }
     {
         if self.has_names(n) {
@@ -142,28 +143,31 @@ impl Tree {
     }
 
     #[tactic(auto, unfolding(crate::specs::Refusals::mode_refusal))]
-    pub(super) fn mode_refusal(&self, n: usize, mode: u16) -> Option<Errno>
+    pub(super) fn mode_refusal(&self, n: NodeId, mode: u16) -> Option<Errno>
         ensures { result ≡ refusals.mode_refusal self.now n mode }
     {
         match mode_refusal(mode) {
             Some(e) => Some(e),
-            None => match self.node(n) {
-                None => Some(Errno::NoEntry),
-                Some(_) => None,
-            },
+            None => {
+                if self.has(n) {
+                    None
+                } else {
+                    Some(Errno::NoEntry)
+                }
+            }
         }
     }
 
-    fn goes_below(&self, n: usize, to: usize) -> bool
-        requires { is_dir (held.node self.now to) ≡ true }
+    fn goes_below(&self, n: NodeId, to: NodeId) -> bool
+        requires { is_dir (hierarchy.node self.now to) ≡ true }
         ensures { result ≡ refusals.goes_below self.now n to }
     {
         self.is_dir(n) && self.stands_within(n, to)
     }
 
     // A node goes where another one stands.
-    fn onto_refusal(&self, n: usize, to: usize, over: usize) -> Option<Errno>
-        requires { is_dir (held.node self.now to) ≡ true }
+    fn onto_refusal(&self, n: NodeId, to: NodeId, over: NodeId) -> Option<Errno>
+        requires { is_dir (hierarchy.node self.now to) ≡ true }
         ensures { result ≡ refusals.first_of (refusals.over_checks self.now n to (Some over)) }
     {
         let dir = self.is_dir(n);
@@ -181,12 +185,12 @@ impl Tree {
         }
     }
 
-    fn over_refusal(&self, n: usize, to: usize, over: Option<usize>) -> Option<Errno>
-        requires { is_dir (held.node self.now to) ≡ true }
-        ensures { result ≡ refusals.first_of (refusals.over_checks self.now n to over) }
+    fn over_refusal(&self, n: NodeId, to: NodeId, over: &Option<NodeId>) -> Option<Errno>
+        requires { is_dir (hierarchy.node self.now to) ≡ true }
+        ensures { result ≡ refusals.first_of (refusals.over_checks self.now n to over.now) }
     {
         match over {
-            Some(over) => self.onto_refusal(n, to, over),
+            Some(over) => self.onto_refusal(n, to, *over),
             None => {
                 if self.goes_below(n, to) {
                     Some(Errno::Invalid)
@@ -200,13 +204,13 @@ impl Tree {
     // A node leaves a directory for another one, where it takes the place of another node or of none.
     pub(super) fn move_refusal(
         &self,
-        dir: usize,
-        n: usize,
-        to: usize,
-        over: Option<usize>,
+        dir: NodeId,
+        n: NodeId,
+        to: NodeId,
+        over: &Option<NodeId>,
     ) -> Option<Errno>
-        requires { is_dir (held.node self.now to) ≡ true }
-        ensures { result ≡ refusals.first_of (refusals.rename_checks self.now dir n to over) }
+        requires { is_dir (hierarchy.node self.now to) ≡ true }
+        ensures { result ≡ refusals.first_of (refusals.rename_checks self.now dir n to over.now) }
     {
         if self.lacks_w(dir) {
             Some(Errno::Denied)

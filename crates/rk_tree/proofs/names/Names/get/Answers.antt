@@ -1,6 +1,6 @@
 use Rattle.std.proofs.Common.{sym, ap, ◌∙◌}
 use Rattle.std.specs.FinMap.{get}
-use Rattle.rk_tree.specs.Held.{Paths}
+use Rattle.rk_tree.specs.Hierarchy.{Paths}
 use Rattle.rk_tree.proofs.NamesLemmas.{get_named}
 use Rattle.rk_tree.proofs.names.Names.get.Goals as goal
 

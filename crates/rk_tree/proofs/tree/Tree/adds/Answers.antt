@@ -1,7 +1,7 @@
 use Rattle.std.proofs.Common.{◌∙◌, ◌++◌, ◌∷◌, [], sym, ap, length}
-use Rattle.rk_tree.specs.declared.node.Node.{Node}
-use Rattle.rk_tree.specs.Held as held
-use Rattle.rk_tree.specs.Nodes.{change, lost, placed, with_name}
+use Rattle.rk_tree.specs.declared.inode.Inode.{Inode}
+use Rattle.rk_tree.specs.Hierarchy as hierarchy
+use Rattle.rk_tree.specs.Inodes.{change, lost, placed, with_name}
 use Rattle.rk_tree.proofs.GrownLemmas.{added-tree, lost-tree}
 use Rattle.rk_tree.proofs.TreeLemmas.{tree_inside, tree_same, shown_either, pushed_either, kept_by, view_by, err_view}
 use Rattle.rk_tree.proofs.tree.Tree.adds.Goals as goal
@@ -9,7 +9,7 @@ use Rattle.rk_tree.proofs.tree.Tree.adds.Goals as goal
 pub invariant_of-self-inside : goal.invariant_of-self-inside
 invariant_of-self-inside c =
     let t = tree_inside c.self.inside.nodes.items c.self.inside.shown c.args.self.now c.self.invariant c.self.view_is in (
-      shown_either c.add_under.result c.self.inside.nodes.items c.add_under.new.nodes.items (change (with_name c.args.name.now (length c.self.inside.nodes.items)) (c.self.inside.nodes.items ++ placed c.args.dir c.args.name.now c.args.it ∷ []) c.args.dir) c.args.self.now (held.added c.args.self.now c.args.dir c.args.name.now c.args.it)
+      shown_either c.add_under.result c.self.inside.nodes.items c.add_under.new.nodes.items (change (with_name c.args.name.now (length c.self.inside.nodes.items)) (c.self.inside.nodes.items ++ placed c.args.dir c.args.name.now c.args.it ∷ []) c.args.dir) c.args.self.now (hierarchy.added c.args.self.now c.args.dir c.args.name.now c.args.it)
           c.add_under.ensures.added c.add_under.ensures.err t (added-tree c.self.inside.nodes.items c.args.self.now c.args.dir c.args.name.now c.args.it t c.as_slice-name.ensures.name c.requires.holds c.requires.absent c.requires.fit (sym c.has_path.ensures ∙ c.if-has_path.true)),
       tt,
     )
@@ -17,15 +17,15 @@ invariant_of-self-inside c =
 pub invariant_of-self-then-has_path : goal.invariant_of-self-then-has_path
 invariant_of-self-then-has_path c =
     let t = tree_inside c.self.inside.nodes.items c.self.inside.shown c.args.self.now c.self.invariant c.self.view_is in
-    kept_by c.add_under.new.nodes.items (held.added c.args.self.now c.args.dir c.args.name.now c.args.it)
-    (tree_same (change (with_name c.args.name.now (length c.self.inside.nodes.items)) (c.self.inside.nodes.items ++ placed c.args.dir c.args.name.now c.args.it ∷ []) c.args.dir) c.add_under.new.nodes.items (held.added c.args.self.now c.args.dir c.args.name.now c.args.it) c.in_ok-n.ensures.added
+    kept_by c.add_under.new.nodes.items (hierarchy.added c.args.self.now c.args.dir c.args.name.now c.args.it)
+    (tree_same (change (with_name c.args.name.now (length c.self.inside.nodes.items)) (c.self.inside.nodes.items ++ placed c.args.dir c.args.name.now c.args.it ∷ []) c.args.dir) c.add_under.new.nodes.items (hierarchy.added c.args.self.now c.args.dir c.args.name.now c.args.it) c.in_ok-n.ensures.added
     (added-tree c.self.inside.nodes.items c.args.self.now c.args.dir c.args.name.now c.args.it t c.as_slice-name.ensures.name c.requires.holds c.requires.absent c.requires.fit (sym c.has_path.ensures ∙ c.if-has_path.true))) c.self-1.given.0
 
 pub returns-in_ok-n-clause-added : goal.returns-in_ok-n-clause-added
 returns-in_ok-n-clause-added c =
     let t = tree_inside c.self.inside.nodes.items c.self.inside.shown c.args.self.now c.self.invariant c.self.view_is in
-    view_by c.add_under.new.nodes.items (held.added c.args.self.now c.args.dir c.args.name.now c.args.it)
-    (tree_same (change (with_name c.args.name.now (length c.self.inside.nodes.items)) (c.self.inside.nodes.items ++ placed c.args.dir c.args.name.now c.args.it ∷ []) c.args.dir) c.add_under.new.nodes.items (held.added c.args.self.now c.args.dir c.args.name.now c.args.it) c.in_ok-n.ensures.added
+    view_by c.add_under.new.nodes.items (hierarchy.added c.args.self.now c.args.dir c.args.name.now c.args.it)
+    (tree_same (change (with_name c.args.name.now (length c.self.inside.nodes.items)) (c.self.inside.nodes.items ++ placed c.args.dir c.args.name.now c.args.it ∷ []) c.args.dir) c.add_under.new.nodes.items (hierarchy.added c.args.self.now c.args.dir c.args.name.now c.args.it) c.in_ok-n.ensures.added
     (added-tree c.self.inside.nodes.items c.args.self.now c.args.dir c.args.name.now c.args.it t c.as_slice-name.ensures.name c.requires.holds c.requires.absent c.requires.fit (sym c.has_path.ensures ∙ c.if-has_path.true))) c.self-1.given.0
 
 pub invariant_of-self : goal.invariant_of-self
@@ -41,7 +41,7 @@ returns-in_err-n-clause-err c =
 pub invariant_of-self-inside-else-has_path : goal.invariant_of-self-inside-else-has_path
 invariant_of-self-inside-else-has_path c =
     let t = tree_inside c.self.inside.nodes.items c.self.inside.shown c.args.self.now c.self.invariant c.self.view_is in (
-      pushed_either c.push.result c.self.inside.nodes.items c.push.new.self.items c.lost.result (lost c.args.it) c.args.self.now (held.added c.args.self.now c.args.dir c.args.name.now c.args.it) c.push.ensures.items c.lost.ensures t
+      pushed_either c.push.result c.self.inside.nodes.items c.push.new.self.items c.lost.result (lost c.args.it) c.args.self.now (hierarchy.added c.args.self.now c.args.dir c.args.name.now c.args.it) c.push.ensures.items c.lost.ensures t
           (lost-tree c.self.inside.nodes.items c.args.self.now c.args.dir c.args.name.now c.args.it t c.requires.fit (sym c.has_path.ensures ∙ c.if-has_path.false)),
       tt,
     )
@@ -49,15 +49,15 @@ invariant_of-self-inside-else-has_path c =
 pub invariant_of-self-else-has_path : goal.invariant_of-self-else-has_path
 invariant_of-self-else-has_path c =
     let t = tree_inside c.self.inside.nodes.items c.self.inside.shown c.args.self.now c.self.invariant c.self.view_is in
-    kept_by c.push.new.self.items (held.added c.args.self.now c.args.dir c.args.name.now c.args.it)
-    (tree_same (c.self.inside.nodes.items ++ lost c.args.it ∷ []) c.push.new.self.items (held.added c.args.self.now c.args.dir c.args.name.now c.args.it) (c.in_ok-push.ensures.items ∙ ap (λ (n : Node). c.self.inside.nodes.items ++ n ∷ []) c.lost.ensures)
+    kept_by c.push.new.self.items (hierarchy.added c.args.self.now c.args.dir c.args.name.now c.args.it)
+    (tree_same (c.self.inside.nodes.items ++ lost c.args.it ∷ []) c.push.new.self.items (hierarchy.added c.args.self.now c.args.dir c.args.name.now c.args.it) (c.in_ok-push.ensures.items ∙ ap (λ (n : Inode). c.self.inside.nodes.items ++ n ∷ []) c.lost.ensures)
     (lost-tree c.self.inside.nodes.items c.args.self.now c.args.dir c.args.name.now c.args.it t c.requires.fit (sym c.has_path.ensures ∙ c.if-has_path.false))) c.self-else-has_path-1.given.0
 
 pub returns-in_ok-push-clause-added : goal.returns-in_ok-push-clause-added
 returns-in_ok-push-clause-added c =
     let t = tree_inside c.self.inside.nodes.items c.self.inside.shown c.args.self.now c.self.invariant c.self.view_is in
-    view_by c.push.new.self.items (held.added c.args.self.now c.args.dir c.args.name.now c.args.it)
-    (tree_same (c.self.inside.nodes.items ++ lost c.args.it ∷ []) c.push.new.self.items (held.added c.args.self.now c.args.dir c.args.name.now c.args.it) (c.in_ok-push.ensures.items ∙ ap (λ (n : Node). c.self.inside.nodes.items ++ n ∷ []) c.lost.ensures)
+    view_by c.push.new.self.items (hierarchy.added c.args.self.now c.args.dir c.args.name.now c.args.it)
+    (tree_same (c.self.inside.nodes.items ++ lost c.args.it ∷ []) c.push.new.self.items (hierarchy.added c.args.self.now c.args.dir c.args.name.now c.args.it) (c.in_ok-push.ensures.items ∙ ap (λ (n : Inode). c.self.inside.nodes.items ++ n ∷ []) c.lost.ensures)
     (lost-tree c.self.inside.nodes.items c.args.self.now c.args.dir c.args.name.now c.args.it t c.requires.fit (sym c.has_path.ensures ∙ c.if-has_path.false))) c.self-else-has_path-1.given.0
 
 pub invariant_of-self-in_err-push : goal.invariant_of-self-in_err-push

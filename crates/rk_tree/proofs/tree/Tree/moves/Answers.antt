@@ -1,7 +1,7 @@
 use Rattle.std.proofs.Common.{◌∙◌, sym, ap, List}
-use Rattle.rk_tree.specs.declared.node.Node.{Node}
-use Rattle.rk_tree.specs.Held as held
-use Rattle.rk_tree.specs.Nodes.{change, cleared, with_name, with_place, without_name}
+use Rattle.rk_tree.specs.declared.inode.Inode.{Inode}
+use Rattle.rk_tree.specs.Hierarchy as hierarchy
+use Rattle.rk_tree.specs.Inodes.{change, cleared, with_name, with_place, without_name}
 use Rattle.rk_tree.proofs.RenamedLemmas.{renamed_nowhere}
 use Rattle.rk_tree.proofs.RenamedTreeLemmas.{renamed-tree}
 use Rattle.rk_tree.proofs.TreeLemmas.{tree_inside, tree_same, shown_by, kept_by, view_by, err_view}
@@ -23,9 +23,9 @@ returns-in_err-move_name-clause-err c =
 pub invariant_of-self-inside-2 : goal.invariant_of-self-inside-2
 invariant_of-self-inside-2 c =
     let t = tree_inside c.self.inside.nodes.items c.self.inside.shown c.args.self.now c.self.invariant c.self.view_is in (
-      shown_by c.put_places.new.nodes.items (held.renamed c.args.self.now c.args.dir c.args.name.now c.args.to c.args.new.now)
-          (tree_same (change (with_place c.in_ok-place.place) (cleared (change (without_name c.args.name.now) (change (with_name c.args.new.now c.args.n) c.self.inside.nodes.items c.args.to) c.args.dir) c.args.over) c.args.n) c.put_places.new.nodes.items (held.renamed c.args.self.now c.args.dir c.args.name.now c.args.to c.args.new.now)
-          (c.put_places.ensures ∙ ap (λ (ns : List Node). change (with_place c.in_ok-place.place) (cleared ns c.args.over) c.args.n) c.in_ok-move_name.ensures.ok)
+      shown_by c.put_places.new.nodes.items (hierarchy.renamed c.args.self.now c.args.dir c.args.name.now c.args.to c.args.new.now)
+          (tree_same (change (with_place c.in_ok-place.place) (cleared (change (without_name c.args.name.now) (change (with_name c.args.new.now c.args.n) c.self.inside.nodes.items c.args.to) c.args.dir) c.args.over) c.args.n) c.put_places.new.nodes.items (hierarchy.renamed c.args.self.now c.args.dir c.args.name.now c.args.to c.args.new.now)
+          (c.put_places.ensures ∙ ap (λ (ns : List Inode). change (with_place c.in_ok-place.place) (cleared ns c.args.over) c.args.n) c.in_ok-move_name.ensures.ok)
           (renamed-tree c.self.inside.nodes.items c.args.self.now c.args.dir c.args.n c.args.to c.args.name.now c.args.new.now c.args.over c.in_ok-place.place t c.as_slice-new.ensures.name c.requires.found c.requires.over c.requires.apart c.requires.holds c.requires.allowed (sym c.has_path.ensures ∙ c.if-not-has_path.false) c.in_ok-place.ensures)),
       tt,
     )
@@ -33,15 +33,15 @@ invariant_of-self-inside-2 c =
 pub invariant_of-self-2 : goal.invariant_of-self-2
 invariant_of-self-2 c =
     let t = tree_inside c.self.inside.nodes.items c.self.inside.shown c.args.self.now c.self.invariant c.self.view_is in
-    kept_by c.put_places.new.nodes.items (held.renamed c.args.self.now c.args.dir c.args.name.now c.args.to c.args.new.now)
-    (tree_same (change (with_place c.in_ok-place.place) (cleared (change (without_name c.args.name.now) (change (with_name c.args.new.now c.args.n) c.self.inside.nodes.items c.args.to) c.args.dir) c.args.over) c.args.n) c.put_places.new.nodes.items (held.renamed c.args.self.now c.args.dir c.args.name.now c.args.to c.args.new.now)
-    (c.put_places.ensures ∙ ap (λ (ns : List Node). change (with_place c.in_ok-place.place) (cleared ns c.args.over) c.args.n) c.in_ok-move_name.ensures.ok)
+    kept_by c.put_places.new.nodes.items (hierarchy.renamed c.args.self.now c.args.dir c.args.name.now c.args.to c.args.new.now)
+    (tree_same (change (with_place c.in_ok-place.place) (cleared (change (without_name c.args.name.now) (change (with_name c.args.new.now c.args.n) c.self.inside.nodes.items c.args.to) c.args.dir) c.args.over) c.args.n) c.put_places.new.nodes.items (hierarchy.renamed c.args.self.now c.args.dir c.args.name.now c.args.to c.args.new.now)
+    (c.put_places.ensures ∙ ap (λ (ns : List Inode). change (with_place c.in_ok-place.place) (cleared ns c.args.over) c.args.n) c.in_ok-move_name.ensures.ok)
     (renamed-tree c.self.inside.nodes.items c.args.self.now c.args.dir c.args.n c.args.to c.args.name.now c.args.new.now c.args.over c.in_ok-place.place t c.as_slice-new.ensures.name c.requires.found c.requires.over c.requires.apart c.requires.holds c.requires.allowed (sym c.has_path.ensures ∙ c.if-not-has_path.false) c.in_ok-place.ensures)) c.self-2-1.given.0
 
 pub returns-clause-ok : goal.returns-clause-ok
 returns-clause-ok c =
     let t = tree_inside c.self.inside.nodes.items c.self.inside.shown c.args.self.now c.self.invariant c.self.view_is in
-    view_by c.put_places.new.nodes.items (held.renamed c.args.self.now c.args.dir c.args.name.now c.args.to c.args.new.now)
-    (tree_same (change (with_place c.in_ok-place.place) (cleared (change (without_name c.args.name.now) (change (with_name c.args.new.now c.args.n) c.self.inside.nodes.items c.args.to) c.args.dir) c.args.over) c.args.n) c.put_places.new.nodes.items (held.renamed c.args.self.now c.args.dir c.args.name.now c.args.to c.args.new.now)
-    (c.put_places.ensures ∙ ap (λ (ns : List Node). change (with_place c.in_ok-place.place) (cleared ns c.args.over) c.args.n) c.in_ok-move_name.ensures.ok)
+    view_by c.put_places.new.nodes.items (hierarchy.renamed c.args.self.now c.args.dir c.args.name.now c.args.to c.args.new.now)
+    (tree_same (change (with_place c.in_ok-place.place) (cleared (change (without_name c.args.name.now) (change (with_name c.args.new.now c.args.n) c.self.inside.nodes.items c.args.to) c.args.dir) c.args.over) c.args.n) c.put_places.new.nodes.items (hierarchy.renamed c.args.self.now c.args.dir c.args.name.now c.args.to c.args.new.now)
+    (c.put_places.ensures ∙ ap (λ (ns : List Inode). change (with_place c.in_ok-place.place) (cleared ns c.args.over) c.args.n) c.in_ok-move_name.ensures.ok)
     (renamed-tree c.self.inside.nodes.items c.args.self.now c.args.dir c.args.n c.args.to c.args.name.now c.args.new.now c.args.over c.in_ok-place.place t c.as_slice-new.ensures.name c.requires.found c.requires.over c.requires.apart c.requires.holds c.requires.allowed (sym c.has_path.ensures ∙ c.if-not-has_path.false) c.in_ok-place.ensures)) c.self-2-1.given.0

@@ -3,7 +3,7 @@ use Rattle.std.specs.List.{fold}
 use Rattle.std.specs.Option.{option_copied}
 use Rattle.rk_base.specs.Text.{Text, join}
 use Rattle.rk_tree.specs.Copies.{put_name, put_found}
-use Rattle.rk_tree.specs.Held.{child}
+use Rattle.rk_tree.specs.Hierarchy.{child}
 use Rattle.rk_tree.proofs.SnapshotLemmas.{fold_on, fold_all, found_child, found_none}
 use Rattle.rk_tree.proofs.tree.Tree.put_names.Goals as goal
 use Rattle.rk_tree.proofs.tree.Tree.put_names.Goals.{in-None, in-Some+in_ok-put_found-in-Some}
@@ -16,11 +16,11 @@ loop-name-preserved c = fold_on (put_name c.args.self.now c.args.path.now) c.arg
     (elim c.match-child.branch [
       | in-None w ↦
           w.snapshot-is
-          ∙ sym (ap (put_found c.loop-name.snapshot (join c.args.path.now c.name-item.result)) (found_none c.args.self.now c.args.dir c.args.path.now c.name-item.result c.as_slice.ensures.name c.requires.at (w.in-None.ensures ∙ ap (child c.args.self.now c.args.dir) c.as_slice.ensures.value)))
+          ∙ sym (ap (put_found c.loop-name.snapshot (join c.args.path.now c.name-item.result)) (found_none c.args.self.now c.args.dir c.args.path.now c.name-item.result c.as_slice.ensures.name c.requires.at (w.in-None.ensures.child ∙ ap (child c.args.self.now c.args.dir) c.as_slice.ensures.value)))
       | in-Some+in_ok-put_found-in-Some w ↦
           w.snapshot-is ∙ w.in_ok-put_found-in-Some.ensures
-          ∙ ap (λ (path : Text). put_found c.loop-name.snapshot path (option_copied w.node.result)) c.in_ok-path.ensures.path
-          ∙ ap (put_found c.loop-name.snapshot (join c.args.path.now c.name-item.result)) (w.node.ensures.node ∙ sym (found_child c.args.self.now c.args.dir w.in-Some.n c.args.path.now c.name-item.result c.as_slice.ensures.name c.requires.at (w.in-Some.ensures ∙ ap (child c.args.self.now c.args.dir) c.as_slice.ensures.value)))
+          ∙ ap (λ (path : Text). put_found c.loop-name.snapshot path (option_copied w.look.result)) c.in_ok-path.ensures.path
+          ∙ ap (put_found c.loop-name.snapshot (join c.args.path.now c.name-item.result)) (w.look.ensures.node ∙ sym (found_child c.args.self.now c.args.dir w.in-Some.n c.args.path.now c.name-item.result c.as_slice.ensures.name c.requires.at (w.in-Some.ensures.child ∙ ap (child c.args.self.now c.args.dir) c.as_slice.ensures.value)))
     ])
 
 pub returns : goal.returns

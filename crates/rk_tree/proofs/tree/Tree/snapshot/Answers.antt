@@ -3,10 +3,10 @@ use Rattle.std.proofs.lemmas.List.{length-map}
 use Rattle.std.specs.FinMap.{empty}
 use Rattle.std.specs.Option.{option_copied}
 use Rattle.rk_base.specs.Text.{Text, root}
-use Rattle.rk_tree.specs.declared.node.Node.{Node}
+use Rattle.rk_tree.specs.declared.inode.Inode.{Inode}
 use Rattle.rk_tree.specs.Entries.{Entries, IsWholeSnapshot}
-use Rattle.rk_tree.specs.Held.{Held}
-use Rattle.rk_tree.specs.Copies.{put_found, snapshot_of}
+use Rattle.rk_tree.specs.Hierarchy.{Hierarchy, node}
+use Rattle.rk_tree.specs.Copies.{put_dir, put_found, snapshot_of}
 use Rattle.rk_tree.proofs.SnapshotLemmas.{dirs_on, dirs_all}
 use Rattle.rk_tree.proofs.CopiesLemmas.{snapshot_of-whole}
 use Rattle.rk_tree.proofs.tree.Tree.snapshot.Goals as goal
@@ -15,24 +15,24 @@ use Rattle.rk_tree.proofs.tree.Tree.snapshot.Goals.{After-loop-dir}
 pub loop-dir-init : goal.loop-dir-init
 loop-dir-init c =
     c.in_ok-put_found.ensures
-    ∙ ap (λ (m : Entries). put_found m c.in_ok-root.field-0 (option_copied c.node.result)) c.new-snapshot.ensures
-    ∙ ap (λ (path : Text). put_found empty path (option_copied c.node.result)) c.in_ok-root.ensures
-    ∙ ap (put_found empty root) c.node.ensures.node
+    ∙ ap (λ (m : Entries). put_found m c.in_ok-root.field-0 (option_copied c.look.result)) c.new-snapshot.ensures
+    ∙ ap (λ (path : Text). put_found empty path (option_copied c.look.result)) c.in_ok-root.ensures
+    ∙ ap (put_found empty root) (c.look.ensures.node ∙ ap (node c.args.self.now) c.root-2.ensures)
 
 pub loop-dir-preserved : goal.loop-dir-preserved
-loop-dir-preserved c = dirs_on c.args.self.now c.loop-dir.snapshot c.put_dir.new.snapshot c.loop-dir.dir c.loop-dir.invariant c.in_ok-put_dir.ensures
+loop-dir-preserved c = dirs_on c.args.self.now c.loop-dir.snapshot c.put_dir.new.snapshot c.loop-dir.dir c.loop-dir.invariant (c.in_ok-put_dir.ensures ∙ ap (put_dir c.args.self.now c.loop-dir.snapshot) c.new.ensures)
 
 -- all nodes were asked
 all_nodes : (c : After-loop-dir) → c.loop-dir.dir ≡ length c.args.self.now.nodes
 all_nodes c =
     let last : c.loop-dir.dir ≡ c.len-dir-end.result = omega arith in
-    last ∙ c.len-dir-end.ensures ∙ c.self.inside.nodes.ok.0 ∙ sym (length-map c.self.inside.nodes.items (λ (n : Node). n.entry)) ∙ ap (λ (h : Held). length h.nodes) c.self.view_is
+    last ∙ c.len-dir-end.ensures ∙ c.self.inside.nodes.ok.0 ∙ sym (length-map c.self.inside.nodes.items (λ (n : Inode). n.node)) ∙ ap (λ (h : Hierarchy). length h.nodes) c.self.view_is
 
 made : (c : After-loop-dir) → c.loop-dir.snapshot ≡ snapshot_of c.args.self.now
-made c = dirs_all c.args.self.now c.loop-dir.snapshot c.loop-dir.dir c.node.ensures.whole c.loop-dir.invariant (all_nodes c)
+made c = dirs_all c.args.self.now c.loop-dir.snapshot c.loop-dir.dir c.look.ensures.whole c.loop-dir.invariant (all_nodes c)
 
 pub returns : goal.returns
 returns c = record {
   snapshot = made c;
-  whole = subst IsWholeSnapshot (sym (made c)) (snapshot_of-whole c.args.self.now c.node.ensures.whole);
+  whole = subst IsWholeSnapshot (sym (made c)) (snapshot_of-whole c.args.self.now c.look.ensures.whole);
 }

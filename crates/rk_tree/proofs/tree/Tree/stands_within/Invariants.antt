@@ -1,6 +1,6 @@
 use Rattle.std.proofs.Common.{◌≡◌, true}
 use Rattle.rk_tree.specs.Entries.{is_dir}
-use Rattle.rk_tree.specs.Held.{node, path_of, within}
+use Rattle.rk_tree.specs.Hierarchy.{node, path_of, within}
 use Rattle.rk_tree.proofs.ClimbingLemmas.{depth_at}
 use Rattle.rk_tree.proofs.tree.Tree.stands_within.Given as goal
 
@@ -8,7 +8,7 @@ use Rattle.rk_tree.proofs.tree.Tree.stands_within.Given as goal
 abbrev pub invariant-up : goal.invariant-up
 invariant-up l = record {
   in_dir : is_dir (node l.self l.at) ≡ true;
-  alike : within (path_of l.self l.above) (path_of l.self l.at) ≡ within (path_of l.self l.above) (path_of l.self l.dir);
+  alike : within (path_of l.self l.above) (path_of l.self l.at) ≡ within (path_of l.self l.above) (path_of l.self l.fn.dir);
 }
 
 abbrev pub decreases-up : goal.decreases-up
