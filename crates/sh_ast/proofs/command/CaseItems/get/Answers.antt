@@ -1,0 +1,10 @@
+use Rattle.std.proofs.Common.{◌∙◌, ap, sym, slice_get}
+use Rattle.sh_ast.specs.declared.command.CaseItems.{out-CaseItems}
+use Rattle.sh_ast.proofs.Folding as folding
+use Rattle.sh_ast.proofs.Places as places
+use Rattle.sh_ast.specs.Commands as c
+use Rattle.sh_ast.specs.Lists as l
+use Rattle.sh_ast.proofs.command.CaseItems.get.Goals as goal
+
+pub returns : goal.returns
+returns c' = places.found (λ x. x.now) c.case_item c.case_items_of l.case_item_at places.case_item_at-of (out-CaseItems c'.args.self.now).items.items c'.args.at _ (c'.item_at.ensures ∙ ap (λ xs. slice_get xs c'.args.at) c'.as_slice.ensures.value) ∙ ap (λ t. l.case_item_at t c'.args.at) (sym (folding.case_items_is c'.args.self.now))

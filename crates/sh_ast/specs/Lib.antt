@@ -1,0 +1,4 @@
+pub mod Parameters
+pub mod Words
+pub mod Commands
+pub mod Lists
