@@ -1,6 +1,5 @@
 -- What a machine says where something was paid since the step before.
-use Rattle.std.proofs.Common.{◌≡◌, ℕ, ◌+◌, ◌-◌, ◌≤◌, ◌<◌, refl, sym, ◌∙◌, ap, subst, arith, inl, inr, zero-add}
-use Rattle.std.proofs.Math.Nat.{sub-zero}
+use Rattle.std.proofs.Common.{◌≡◌, ℕ, ◌+◌, ◌-◌, ◌≤◌, ◌<◌, refl, sym, ◌∙◌, ap, subst, arith, inl, inr}
 use Rattle.std.proofs.lemmas.Bool.{le-leb, lt-leb}
 use Rattle.std.proofs.lemmas.Bool.Decides.{leb_tells}
 use Rattle.rk_calls.specs.declared.call.Call.{Call}
@@ -12,15 +11,11 @@ use Rattle.rk_calls.specs.declared.drive.Spoke.TheVariants.{Call as Calls, Exit 
 use Rattle.rk_calls.specs.Talk.{Talk, Says, Cut, Exited, Asked, add, pay, after}
 use Rattle.rk_calls.specs.Saying.{speaks, goes_on}
 use Rattle.rk_calls.specs.Heard.{Goes}
+use Rattle.rk_calls.specs.Views.{pay-nothing}
 use Rattle.rk_calls.specs.Costly.{IsCostly}
 
-add-zero_paid : (t : Talk) → add 0 t ≡ t
-add-zero_paid Cut = refl
-add-zero_paid (Exited s c) = ap (Exited s) (zero-add c)
-add-zero_paid (Asked call c rest) = ap (λ n. Asked call n rest) (zero-add c)
-
 pub pay-zero : (x : Says) → pay 0 x ≡ x
-pay-zero x = λ i p. (let e : pay 0 x p ≡ x p = rw (le-leb 0 p (omega arith), sub-zero, add-zero_paid) refl in e) i
+pay-zero x = λ i p. pay-nothing x p i
 
 add-add : (n m : ℕ) (t : Talk) → add n (add m t) ≡ add (n + m) t
 add-add n m Cut = refl

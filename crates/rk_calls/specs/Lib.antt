@@ -5,7 +5,6 @@ pub mod Fix
 pub mod Given
 pub mod Heard
 pub mod Keys
-pub mod Laws
 pub mod Lines
 pub mod Places
 pub mod Proper
@@ -15,3 +14,4 @@ pub mod Saying
 pub mod Starts
 pub mod Talk
 pub mod Turns
+pub mod Views

@@ -25,8 +25,8 @@ pub trait Machine: Drop {
 
 /// What makes the command of a key. It counts those that it has started.
 pub trait Maker {
-    ghost use Rattle.rk_calls.specs.Talk.{Says, Lasts};
-    ghost use Rattle.rk_calls.specs.Proper.{AsksProperly};
+    ghost use Rattle.rk_calls.specs.Talk.{Says};
+    ghost use Rattle.rk_calls.specs.Views.{IsCommandTalk};
     ghost use Rattle.rk_calls.specs.Keys.{KeyValue};
 
     type Made: Machine;
@@ -41,9 +41,6 @@ pub trait Maker {
         ensures first { IfOk result (λ m. Self.Made.talk m Answer.Go ≡ first key.now) }
         ensures starts { CountsOne (starts self.old) (starts self.new) result };
 
-    /// Fewer turns only cut what it says.
-    ghost lasts: { (key : KeyValue) → Lasts (first key) };
-
-    /// A mode in a call that it asks is at most 0777.
-    ghost proper: { (key : KeyValue) → AsksProperly (first key) };
+    /// Fewer turns only cut what it says, and a mode in a call that it asks is at most 0777.
+    ghost command: { (key : KeyValue) → IsCommandTalk (first key) };
 }

@@ -39,7 +39,7 @@ struct Toys {
 impl Maker for Toys {
     type Made = Toy;
 
-    ghost use Rattle.rk_check.specs.Toy.{toy_says, toy_lasts, toy_proper};
+    ghost use Rattle.rk_check.specs.Toy.{toy_says, toy_command};
 
     ghost first = { λ key. toy_says };
 
@@ -50,9 +50,7 @@ impl Maker for Toys {
         Ok(Toy { has_asked: false })
     }
 
-    ghost lasts = { toy_lasts };
-
-    ghost proper = { toy_proper };
+    ghost command = { toy_command };
 }
 
 fn words(alloc: Global) -> Result<WordList, NoMemory>

@@ -1,10 +1,9 @@
 pub mod CatStages
 pub mod CatTalk
+pub mod CommandTalks
 pub mod Complaining
 pub mod First
-pub mod Lasting
 pub mod Options
-pub mod Properly
 pub mod Running
 pub mod Script
 pub mod ShellStages

@@ -33,8 +33,7 @@ impl Commands {
 
 impl Maker for Commands {
     ghost use Rattle.rk_command.specs.First.{first_talk};
-    ghost use Rattle.rk_command.specs.Lasting.{Lasts-first_talk};
-    ghost use Rattle.rk_command.specs.Properly.{proper-first_talk};
+    ghost use Rattle.rk_command.specs.CommandTalks.{talk-first_talk};
 
     type Made = Command;
 
@@ -48,7 +47,5 @@ impl Maker for Commands {
         Ok(command)
     }
 
-    ghost lasts = { Lasts-first_talk };
-
-    ghost proper = { proper-first_talk };
+    ghost command = { talk-first_talk };
 }

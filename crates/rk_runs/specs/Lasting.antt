@@ -10,6 +10,7 @@ use Rattle.rk_calls.specs.declared.drive.Spoke.TheVariants.{Call as Calls, Exit 
 use Rattle.rk_calls.specs.Talk.{Talk, Says, Cut, Exited, Asked, cut, Lasts}
 use Rattle.rk_calls.specs.Saying.{node, speaks, rest_of, goes_on}
 use Rattle.rk_calls.specs.Keys.{KeyValue}
+use Rattle.rk_calls.specs.Views.{IsCommandTalk, talk-lasts}
 use Rattle.rk_runs.specs.Spoken.{follow, Follows}
 use Rattle.rk_runs.specs.Running.{paid}
 use Rattle.rk_calls.specs.Heard.{IsPaid}
@@ -138,6 +139,9 @@ Lasts-goes x l call c e a p more =
 -- what every key's command says lasts
 abbrev pub AllLast : (KeyValue → Says) → Type 0
 AllLast first = (key : KeyValue) → Lasts (first key)
+
+pub all-last : (first : KeyValue → Says) → ((key : KeyValue) → IsCommandTalk (first key)) → AllLast first
+all-last first commands key = talk-lasts (first key) (commands key)
 
 pub Lasts-follow : (x : Says) → Lasts x → (steps : List Step) → Follows x steps → Lasts (follow x steps)
 Lasts-follow x l [] f = l

@@ -7,8 +7,9 @@ use Rattle.rk_calls.specs.declared.drive.Spoke.TheVariants.{Call as Calls, Exit 
 use Rattle.rk_calls.specs.Proper.{IsProper, IsProperTalk, AsksProperly, proper-goes_on}
 use Rattle.rk_calls.specs.Talk.{Talk, Says, Cut, Exited, Asked}
 use Rattle.rk_calls.specs.Saying.{node, speaks, goes_on}
+use Rattle.rk_calls.specs.Views.{talk-proper}
 use Rattle.rk_command.specs.First.{first_talk}
-use Rattle.rk_command.specs.Properly.{proper-first_talk}
+use Rattle.rk_command.specs.CommandTalks.{talk-first_talk}
 use Rattle.tr_record.specs.declared.records.Record.{Record}
 use Rattle.tr_record.specs.declared.steps.Step.{Step}
 use Rattle.tr_record.specs.Rec.{rec_at}
@@ -60,7 +61,7 @@ sound table spoken small =
     (λ i l.
     let h : own (rec_at i table) ≤ total table = own-le table i l in
     let key = (rec_at i table).key in
-    record { steps = steps-sound (first_talk key) (rec_at i table).steps (proper-first_talk key) (spoken i l).follows; paid = omega arith })
+    record { steps = steps-sound (first_talk key) (rec_at i table).steps (talk-proper (first_talk key) (talk-first_talk key)) (spoken i l).follows; paid = omega arith })
 
 -- what a budget met is small
 pub small : (used before all told limit steps : ℕ) → used ≡ before + all → before ≡ 0 → told ≡ used → told ≤ limit → limit ≡ steps → steps < 2 ^ 32 → all < 2 ^ 64

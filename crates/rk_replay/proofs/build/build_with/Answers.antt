@@ -1,5 +1,6 @@
 use Rattle.std.proofs.Common.{◌≡◌, length, arith, refl, ap, ◌∙◌}
 use Rattle.std.proofs.lemmas.Result.{err_from_is_err_and}
+use Rattle.rk_runs.specs.Lasting.{all-last}
 use Rattle.rk_runs.specs.Freshing.{Freshing-start, Freshing-ask, Freshing-launch, Freshing-short, Freshing-end, Freshing-join}
 use Rattle.rk_runs.specs.Run.{game}
 use Rattle.rk_runs.specs.Speaking.{fresh-spoken}
@@ -106,10 +107,10 @@ returns-in-None-clause-done g c = λ q.
 
 pub returns-in-None-clause-spoken : goal.returns-in-None-clause-spoken
 returns-in-None-clause-spoken g c = λ q.
-    fresh-spoken (game g.K.Maker.first g.W.Answerer.given) g.met.K.Maker.lasts g.met.W.Answerer.fitting _ _ _ _ _ _ _ _ (returns-in-None-clause-done g c q)
+    fresh-spoken (game g.K.Maker.first g.W.Answerer.given) (all-last g.K.Maker.first g.met.K.Maker.command) g.met.W.Answerer.fitting _ _ _ _ _ _ _ _ (returns-in-None-clause-done g c q)
 
 pub returns-in-None-clause-kept : goal.returns-in-None-clause-kept
-returns-in-None-clause-kept g c = λ q. all-kept g.K.Maker.first g.met.K.Maker.lasts _ _ q (returns-in-None-clause-spoken g c q)
+returns-in-None-clause-kept g c = λ q. all-kept g.K.Maker.first (all-last g.K.Maker.first g.met.K.Maker.command) _ _ q (returns-in-None-clause-spoken g c q)
 
 pub returns-in-None-clause-starts : goal.returns-in-None-clause-starts
 returns-in-None-clause-starts g c =

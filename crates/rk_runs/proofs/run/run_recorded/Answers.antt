@@ -1,4 +1,5 @@
 use Rattle.std.proofs.Common.{◌≡◌, length, arith, refl, ap}
+use Rattle.rk_runs.specs.Lasting.{all-last}
 use Rattle.rk_calls.specs.declared.answer.Answer.TheVariants.{Joined}
 use Rattle.rk_runs.specs.Freshing.{Freshing-start, Freshing-ask, Freshing-launch, Freshing-short, Freshing-end, Freshing-place, Freshing-join}
 use Rattle.rk_runs.specs.Run.{game}
@@ -49,11 +50,11 @@ returns-in-None-clause-done g c =
 
 pub returns-in-None-clause-spoken : goal.returns-in-None-clause-spoken
 returns-in-None-clause-spoken g c =
-    fresh-spoken (game g.K.Maker.first g.W.Answerer.given) g.met.K.Maker.lasts g.met.W.Answerer.fitting _ _ _ _ _ _ _ _ (returns-in-None-clause-done g c)
+    fresh-spoken (game g.K.Maker.first g.W.Answerer.given) (all-last g.K.Maker.first g.met.K.Maker.command) g.met.W.Answerer.fitting _ _ _ _ _ _ _ _ (returns-in-None-clause-done g c)
 
 pub returns-in-None-clause-paid : goal.returns-in-None-clause-paid
 returns-in-None-clause-paid g c =
-    let e = fresh-paid (game g.K.Maker.first g.W.Answerer.given) g.met.K.Maker.lasts g.met.W.Answerer.fitting _ _ _ _ _ _ _ _ (returns-in-None-clause-done g c) in
+    let e = fresh-paid (game g.K.Maker.first g.W.Answerer.given) (all-last g.K.Maker.first g.met.K.Maker.command) g.met.W.Answerer.fitting _ _ _ _ _ _ _ _ (returns-in-None-clause-done g c) in
     omega arith
 
 pub join-requires : goal.join-requires
