@@ -4,6 +4,9 @@ use Rattle.std.specs.List.{list_all, list_any, slice_split}
 use Rattle.std.specs.Str.{is_utf8}
 use Rattle.rk_base.specs.Text.{Text, is_slash, same_text, dot, dot_dot}
 
+abbrev pub is_nul : ℕ → Bool
+is_nul b = b == 0
+
 -- a slash or a NUL
 abbrev pub is_barred : ℕ → Bool
 is_barred b = is_slash b || (b == 0)

@@ -1,5 +1,7 @@
 // Each call that takes memory, once where there is enough.
-use crate::{Budget, Bytes, Name, NameList, NoMemory, Path, PathFault};
+use crate::{
+    Budget, Bytes, Name, NameList, NoMemory, Path, PathFault, Var, VarList, WordList, sort_texts,
+};
 use std::alloc::Global;
 use std::test::Fail;
 
@@ -76,7 +78,47 @@ fn pays_to_the_limit(rt: HostRuntime) -> Result<(), Fail> {
     assert!(rt; budget.pay(2) && !budget.pay(2) && budget.pay(1));
     assert_eq!(rt; budget.used(), 3);
     assert_eq!(rt; budget.left(), 0);
-    let bytes = Bytes::from_slice(alloc, b"ab")?;
-    assert!(rt; bytes.copy()?.same(&bytes));
+    Ok(())
+}
+
+#[test]
+fn writes_its_own_bytes(rt: HostRuntime) -> Result<(), Fail> {
+    let alloc = rt.alloc();
+    let mut text = Bytes::from_slice(alloc, b"abc")?;
+    let copy = text.copy()?;
+    text.write_at(1, b"XY")?;
+    text.write_at(5, b"z")?;
+    assert_eq!(rt; text.as_slice(), b"aXY\0\0z".as_slice());
+    assert_eq!(rt; copy.as_slice(), b"abc".as_slice());
+    Ok(())
+}
+
+#[test]
+fn keeps_lists(rt: HostRuntime) -> Result<(), Fail> {
+    let alloc = rt.alloc();
+    let mut texts = Vec::new(alloc);
+    for text in [b"b".as_slice(), b"a.c", b"a", b"a/b"] {
+        texts.push(Bytes::from_slice(alloc, text)?)?;
+    }
+    sort_texts(&mut texts)?;
+    let mut words = WordList::new(Vec::new(alloc));
+    for text in texts {
+        words.push(text)?;
+    }
+    let copy = words.copy()?;
+    assert!(rt;
+        matches!(copy.as_slice(), [_, second, _, _] if second.as_slice() == b"a.c".as_slice())
+    );
+    let mut vars = Vec::new(alloc);
+    for name in [b"A1".as_slice(), b"_"] {
+        let name = Bytes::from_slice(alloc, name)?;
+        let value = name.copy()?;
+        vars.push(Var { name, value })?;
+    }
+    let Some(vars) = VarList::from_vec(vars) else {
+        assert!(rt; false);
+        return Ok(());
+    };
+    assert!(rt; vars.copy()?.same(&vars) && vars.as_slice().len() == 2);
     Ok(())
 }

@@ -3,7 +3,7 @@ ghost use Rattle.std.specs.Prelude.{◌≡◌, ◌≤◌, ◌<◌, ◌∷◌, []
 ghost use Rattle.std.specs.Str.{is_utf8};
 ghost use Rattle.std.specs.List.{list_all, list_any};
 ghost use Rattle.rk_base.specs.Text.{is_slash, last_slash};
-ghost use Rattle.rk_base.specs.Canonical.{is_barred, components, is_name, is_canonical};
+ghost use Rattle.rk_base.specs.Canonical.{is_barred, is_nul, components, is_name, is_canonical};
 
 use std::str;
 
@@ -17,6 +17,13 @@ fn has_barred(bytes: &[u8]) -> bool
     ensures { result ≡ list_any is_barred bytes.now }
 {
     bytes.iter().any(|b| *b == b'/' || *b == 0)
+}
+
+/// Whether a NUL stands among the bytes.
+pub fn has_nul(bytes: &[u8]) -> bool
+    ensures { result ≡ list_any is_nul bytes.now }
+{
+    bytes.iter().any(|b| *b == 0)
 }
 
 /// Whether the bytes are a name: UTF-8 of 1 to 255 bytes, without a slash or a NUL, and not `.` or `..`.
