@@ -1,0 +1,47 @@
+-- The forms of the arguments of options.
+use Rattle.std.specs.Prelude.{ℕ, [], ◌∷◌, length, nat_le, nat_lt, Bool, true, false, ◌==◌, ◌&&◌, ◌||◌, not}
+use Rattle.std.specs.List.{list_all, before_first, after_first, slice_split}
+use Rattle.rk_base.specs.Canonical.{is_empty}
+use Rattle.rk_base.specs.Text.{Text}
+use Rattle.ut_args.specs.declared.form.Form.{Form}
+use Rattle.ut_args.specs.declared.form.Form.TheVariants as forms
+use Rattle.ut_args.specs.declared.form.Opt.{Opt}
+
+abbrev pub is_digit : ℕ → Bool
+is_digit b = nat_le 48 b && nat_le b 57
+
+abbrev pub is_octal : ℕ → Bool
+is_octal b = nat_le 48 b && nat_le b 55
+
+-- one to ten digits
+abbrev pub is_number : Text → Bool
+is_number text = (nat_lt 0 (length text) && nat_le (length text) 10) && list_all is_digit text
+
+-- an end of a range, which is left out or a number
+abbrev pub is_end : Text → Bool
+is_end text = is_empty text || is_number text
+
+-- `N`, `N-M`, `N-` or `-M`: one end at least is a number
+abbrev pub is_range : Text → Bool
+is_range text =
+    (not (is_empty (before_first (λ b. b == 45) text) && is_empty (after_first (λ b. b == 45) text)) && is_end (before_first (λ b. b == 45) text)) && is_end (after_first (λ b. b == 45) text)
+
+-- ranges with commas between them
+abbrev pub is_ranges : Text → Bool
+is_ranges text = list_all is_range (slice_split (λ b. b == 44) text)
+
+-- one to three octal digits, or four where the first is `0`
+abbrev pub is_mode : Text → Bool
+is_mode [] = false
+is_mode (b ∷ bs) = list_all is_octal (b ∷ bs) && (nat_le (length bs) 2 || (b == 48 && length bs == 3))
+
+abbrev pub is_form : Form → Text → Bool
+is_form forms.Alone text = false
+is_form forms.Text text = true
+is_form forms.Number text = is_number text
+is_form forms.Ranges text = is_ranges text
+is_form forms.Byte text = length text == 1
+is_form forms.Mode text = is_mode text
+
+abbrev pub is_of : ℕ → Opt → Bool
+is_of letter o = o.letter == letter
