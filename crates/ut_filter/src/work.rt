@@ -1,0 +1,28 @@
+// The work of a filter.
+ghost use Rattle.std.specs.Prelude.{◌≡◌, IfOk, option_copied};
+
+use crate::made::{Input, Made};
+use rk_base::{Bytes, NoMemory};
+use std::alloc::Global;
+
+/// A filter's name, options and pure function.
+pub trait Work: Drop {
+    ghost use Rattle.ut_filter.specs.Filters.{Job};
+
+    ghost job: { Self → Job };
+
+    fn name(&self) -> &'static [u8]
+        ensures { result.now ≡ (job self.now).name };
+
+    /// Its status where its output is refused.
+    fn failed(&self) -> u8
+        ensures { result ≡ (job self.now).failed };
+
+    /// The file that its output goes to, where that isn't the standard output.
+    fn out(&self) -> Option<&Bytes>
+        ensures { option_copied result ≡ (job self.now).out };
+
+    /// What it makes of its inputs.
+    fn make(&self, alloc: Global, inputs: &[Input]) -> Result<Made, NoMemory>
+        ensures { IfOk result (λ made. made ≡ (job self.now).makes inputs.now) };
+}
