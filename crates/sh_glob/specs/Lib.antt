@@ -1,0 +1,3 @@
+pub mod Globbing
+pub mod Stages
+pub mod Told
