@@ -1,3 +1,4 @@
+pub mod Best
 pub mod Classes
 pub mod Decided
 pub mod Matching

@@ -1,12 +1,10 @@
-use Rattle.sh_pattern.specs.Parts.{parts}
-use Rattle.sh_pattern.proofs.MatchLemmas.{tells_prefix, best_prefix, within_text}
+use Rattle.std.proofs.Common.{length}
+use Rattle.sh_pattern.specs.Matching.{MatchesPrefix}
+use Rattle.sh_pattern.proofs.BestLemmas.{prefix_told, within_told}
 use Rattle.sh_pattern.proofs.matching.prefix.Goals as goal
 
-pub overflow_sub-result : goal.overflow_sub-result
-overflow_sub-result c = within_text c.args.longest (parts c.args.pattern.now) c.args.bytes.now c.in-Some.left c.in-Some.ensures
+pub returns-clause-value : goal.returns-clause-value
+returns-clause-value c = prefix_told c.args.pattern.now c.args.bytes.now c.args.longest c.best_prefix.result c.best_prefix.ensures
 
-pub returns-in-None : goal.returns-in-None
-returns-in-None c = tells_prefix c.args.longest (parts c.args.pattern.now) c.args.bytes.now c.in-None.ensures
-
-pub returns-in-Some : goal.returns-in-Some
-returns-in-Some c = best_prefix c.args.longest (parts c.args.pattern.now) c.args.bytes.now c.in-Some.left c.in-Some.ensures
+pub returns-clause-within : goal.returns-clause-within
+returns-clause-within c = within_told c.args.longest (length c.args.bytes.now) (MatchesPrefix c.args.pattern.now c.args.bytes.now) c.best_prefix.result c.best_prefix.ensures

@@ -1,9 +1,10 @@
-use Rattle.std.proofs.Common.{List, subst, length}
-use Rattle.rk_base.specs.Text.{Text}
-use Rattle.sh_pattern.specs.Parts.{Part, parts}
-use Rattle.sh_pattern.specs.Matching.{TellsBest, MatchesEnd}
+use Rattle.std.proofs.Common.{length}
+use Rattle.sh_pattern.specs.Matching.{MatchesSuffix}
+use Rattle.sh_pattern.proofs.BestLemmas.{suffix_told, within_told}
 use Rattle.sh_pattern.proofs.matching.suffix.Goals as goal
 
-pub returns : goal.returns
-returns c =
-    subst (λ (t : Text). TellsBest c.args.longest (length t) (MatchesEnd (parts c.args.pattern.now) t) c.suffix.result) c.new.ensures.text (subst (λ (ps : List Part). TellsBest c.args.longest (length c.new.result.text.now) (MatchesEnd ps c.new.result.text.now) c.suffix.result) c.new.ensures.pattern c.suffix.ensures)
+pub returns-clause-value : goal.returns-clause-value
+returns-clause-value c = suffix_told c.args.pattern.now c.args.bytes.now c.args.longest c.best_suffix.result c.best_suffix.ensures
+
+pub returns-clause-within : goal.returns-clause-within
+returns-clause-within c = within_told c.args.longest (length c.args.bytes.now) (MatchesSuffix c.args.pattern.now c.args.bytes.now) c.best_suffix.result c.best_suffix.ensures
