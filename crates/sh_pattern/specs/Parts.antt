@@ -2,7 +2,7 @@
 use Rattle.std.specs.Prelude.{◌≡◌, ℕ, zero, suc, ◌+◌, ◌==◌, List, [], ◌∷◌, Option, Some, None, Bool, true, false, not, if◌then◌else◌}
 use Rattle.rk_base.specs.Text.{Text}
 use Rattle.sh_pattern.specs.declared.part.Part.{Part as PartOf}
-use Rattle.sh_pattern.specs.declared.part.Part.TheVariants.{Star as Any, One as Only}
+use Rattle.sh_pattern.specs.declared.part.Part.TheVariants.{Star as Run, One as Single}
 use Rattle.sh_pattern.specs.declared.part.First.{First as FirstOf}
 use Rattle.sh_pattern.specs.Sets.{Set, set_of, in_items, value, extra}
 
@@ -51,10 +51,10 @@ parts = parts_from 0
 
 -- A part as the code tells it of a byte b.
 abbrev pub AsPart : ℕ → Part → PartOf → Type 0
-AsPart b Star Any = Unit {0}
-AsPart b Star (Only met) = ⊥
-AsPart b (One meets) Any = ⊥
-AsPart b (One meets) (Only met) = met ≡ meets b
+AsPart b Star Run = Unit {0}
+AsPart b Star (Single met) = ⊥
+AsPart b (One meets) Run = ⊥
+AsPart b (One meets) (Single met) = met ≡ meets b
 
 pub record AsFirst (b : ℕ) (first : First) (told : FirstOf) : Type 0 where
   pub part : AsPart b first.part told.part
