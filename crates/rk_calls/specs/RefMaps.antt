@@ -14,8 +14,3 @@ is_refmap (p ∷ ps) = nat_lt p.0 10 && rise_from p.0 ps
 abbrev pub number_of : ℕ → List (ℕ × ℕ) → Option ℕ
 number_of d [] = None
 number_of d (p ∷ ps) = if p.0 == d then Some p.1 else number_of d ps
-
--- each descriptor stands for the same number, but 1 for this one
-abbrev pub with_output : ℕ → List (ℕ × ℕ)
-with_output output =
-    (0, 0) ∷ (1, output) ∷ (2, 2) ∷ (3, 3) ∷ (4, 4) ∷ (5, 5) ∷ (6, 6) ∷ (7, 7) ∷ (8, 8) ∷ (9, 9) ∷ []

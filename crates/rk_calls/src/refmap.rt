@@ -1,9 +1,8 @@
 // What a launched command's descriptors stand for.
 ghost use Rattle.std.specs.Prelude.{◌≡◌, ◌↔◌, IsTrue, IfOk, Some, None, true, if◌then◌else◌};
-ghost use Rattle.rk_calls.specs.RefMaps.{is_refmap, rise_from, number_of, with_output};
+ghost use Rattle.rk_calls.specs.RefMaps.{is_refmap, rise_from, number_of};
 
 use rk_base::NoMemory;
-use std::alloc::Global;
 use std::marker::Model;
 
 /// Pairs of a descriptor of the launched command, 0 to 9, and the launcher's number that it stands for; each
@@ -57,26 +56,6 @@ impl RefMap {
         } else {
             None
         }
-    }
-
-    /// Each descriptor from 0 to 9 stands for the same number, but 1 for this one.
-    #[tactic(auto, unfolding(crate::specs::RefMaps::is_refmap))]
-    pub fn with_output(alloc: Global, output: u64) -> Result<RefMap, NoMemory>
-        ensures { IfOk result (λ m. m ≡ with_output output) }
-    {
-        let pairs = vec![in alloc;
-            (0, 0),
-            (1, output),
-            (2, 2),
-            (3, 3),
-            (4, 4),
-            (5, 5),
-            (6, 6),
-            (7, 7),
-            (8, 8),
-            (9, 9),
-        ]?;
-        Ok(RefMap { pairs })
     }
 
     pub fn as_slice(&self) -> &[(u8, u64)]

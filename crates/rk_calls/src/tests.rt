@@ -31,10 +31,17 @@ fn path(alloc: Global) -> Result<Bytes, NoMemory> {
     Bytes::from_slice(alloc, b"/a")
 }
 
+/// The launched command's 0 is 0, and its 1 is 10.
+fn map(alloc: Global) -> Result<RefMap, NoMemory> {
+    match RefMap::from_vec(vec![in alloc; (0, 0), (1, 10)]?) {
+        Some(map) => Ok(map),
+        None => Err(NoMemory),
+    }
+}
+
 fn launch(alloc: Global) -> Result<Call, NoMemory> {
     let key = Key::new(words(alloc)?, Path::root(alloc)?, VarList::new(alloc));
-    let map = RefMap::with_output(alloc, 10)?;
-    Ok(Call::Launch(key, map))
+    Ok(Call::Launch(key, map(alloc)?))
 }
 
 fn openings(alloc: Global) -> Result<Vec<Call>, NoMemory> {
@@ -154,7 +161,7 @@ fn passes_descriptors(rt: HostRuntime) -> Result<(), Fail> {
     let alloc = rt.alloc();
     let mut refs = Refs::top(alloc)?;
     refs.push(7)?;
-    let child = refs.pass(&RefMap::with_output(alloc, 10)?.copy()?)?;
+    let child = refs.pass(&map(alloc)?.copy()?)?;
     assert_eq!(rt; child.at(0), Some(0));
     assert_eq!(rt; child.at(1), Some(7));
     assert_eq!(rt; child.at(3), None);

@@ -20,8 +20,20 @@ pub enum CheckErr {
     NoMemory,
 }
 
+impl From<NoMemory> for CheckErr {
+    ghost use Rattle.std.specs.Prelude.{◌≡◌};
+    ghost use Rattle.rk_check.specs.declared.check.CheckErr.{CheckErr};
+
+    ghost from_gives = { λ _ e. e ≡ CheckErr.NoMemory };
+
+    fn from(_: NoMemory) -> CheckErr {
+        CheckErr::NoMemory
+    }
+}
+
 impl FeedErr {
-    fn of_record(self, rec: u64) -> CheckErr
+    /// What is told of a record, as told of the table in which it has this number.
+    pub fn of_record(self, rec: u64) -> CheckErr
         ensures { result ≡ at_record rec self }
     {
         match self {

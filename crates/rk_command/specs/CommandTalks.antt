@@ -6,7 +6,6 @@ use Rattle.rk_base.specs.declared.errno.Errno.{Errno}
 use Rattle.rk_calls.specs.declared.call.How.TheVariants.{Read as ForReading, Make}
 use Rattle.rk_calls.specs.declared.call.Call.TheVariants.{Open, Read, Write, Launch}
 use Rattle.rk_calls.specs.Keys.{KeyValue, key_of, shell}
-use Rattle.rk_calls.specs.RefMaps.{with_output}
 use Rattle.rk_calls.specs.Talk.{Says}
 use Rattle.rk_calls.specs.Views.{IsCommandTalk, talk-exits, talk-pay, talk-ask, talk-if}
 use Rattle.rk_calls.specs.Brought.{brought, joined}
@@ -14,6 +13,7 @@ use Rattle.rk_command.specs.CatTalk.{GatheredValue, refused, added, tells, writt
 use Rattle.rk_command.specs.First.{shells, says_of, first_talk}
 use Rattle.rk_command.specs.Options.{operands}
 use Rattle.rk_calls.specs.Places.{absolute}
+use Rattle.rk_command.specs.Output.{with_output}
 use Rattle.rk_command.specs.Script.{LineValue, expanded, script_of}
 use Rattle.rk_command.specs.ShellTalk.{launches, redirected, redirects, runs_line, script_read, script_opened, runs_script}
 use Rattle.rk_command.specs.Telling.{complains}

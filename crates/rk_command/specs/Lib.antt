@@ -4,6 +4,7 @@ pub mod CommandTalks
 pub mod Complaining
 pub mod First
 pub mod Options
+pub mod Output
 pub mod Running
 pub mod Script
 pub mod ShellStages

@@ -6,11 +6,11 @@ use Rattle.rk_base.specs.declared.errno.Errno.{Errno}
 use Rattle.rk_calls.specs.declared.call.How.TheVariants.{Read as ForReading, Make}
 use Rattle.rk_calls.specs.declared.call.Call.TheVariants.{Open, Read, Launch}
 use Rattle.rk_calls.specs.Keys.{key_of, shell}
-use Rattle.rk_calls.specs.RefMaps.{with_output}
 use Rattle.rk_calls.specs.Talk.{Says, pay, ask, exits}
 use Rattle.rk_calls.specs.Brought.{brought, joined}
 use Rattle.rk_calls.specs.Lines.{error_line}
 use Rattle.rk_calls.specs.Places.{absolute}
+use Rattle.rk_command.specs.Output.{with_output}
 use Rattle.rk_command.specs.Script.{LineValue, expanded, script_of}
 use Rattle.rk_command.specs.Telling.{complains}
 use Rattle.rk_calls.specs.Turns.{pay_words}

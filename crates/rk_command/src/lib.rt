@@ -8,6 +8,7 @@ mod complaint;
 mod gathered;
 mod line;
 mod options;
+mod output;
 mod script;
 mod shell;
 

@@ -10,10 +10,11 @@ ghost use Rattle.rk_command.specs.Telling.{complains};
 ghost use Rattle.rk_calls.specs.Turns.{pay_words};
 
 use crate::line::Line;
+use crate::output::with_output;
 use crate::script::read_line;
 use rk_base::{Bytes, Errno, NoMemory, Path, VarList};
 use rk_calls::{
-    Answer, Call, How, Key, Machine, RefMap, Turn, absolute, brought, error_line, joined, turns,
+    Answer, Call, How, Key, Machine, Turn, absolute, brought, error_line, joined, turns,
 };
 use std::alloc::Global;
 use std::mem;
@@ -154,7 +155,7 @@ impl Shell {
         ensures costly { IfOk result (λ move. IsCostly move.turn) }
     {
         let wd = self.wd.copy()?;
-        let map = RefMap::with_output(self.alloc, output)?;
+        let map = with_output(self.alloc, output)?;
         let key = Key::new(line.into_words(), wd, VarList::new(self.alloc));
         Ok(Move {
             turn: Turn::Ask(Call::Launch(key, map), 1),

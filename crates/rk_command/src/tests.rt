@@ -1,11 +1,10 @@
 // The commands of one script, answered by hand.
 ghost use Rattle.std.specs.Prelude.{◌<◌, IfOk, length};
 
+use crate::output::with_output;
 use crate::{Command, Commands};
 use rk_base::{Bytes, Errno, NoMemory, Path};
-use rk_calls::{
-    Answer, Call, How, Key, Maker, RefMap, Spoke, VarList, WordList, advance, same_call,
-};
+use rk_calls::{Answer, Call, How, Key, Maker, Spoke, VarList, WordList, advance, same_call};
 use std::alloc::Global;
 use std::test::Fail;
 
@@ -71,7 +70,7 @@ impl Talk {
 
     fn launch(&mut self, key: Key, output: u64, status: u8) -> Result<(), NoMemory> {
         self.answers.push(Answer::Joined(status))?;
-        let map = RefMap::with_output(self.alloc, output)?;
+        let map = with_output(self.alloc, output)?;
         self.asked.push((Call::Launch(key, map), 1))?;
         Ok(())
     }

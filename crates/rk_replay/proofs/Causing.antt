@@ -4,12 +4,12 @@ use Rattle.std.specs.Prelude.{filter_map}
 use Rattle.std.specs.List.{cons_option}
 use Rattle.std.proofs.lemmas.List.{take_more}
 use Rattle.tr_record.specs.declared.records.Record.{Record}
-use Rattle.tr_record.specs.Rec.{rec_at}
+use Rattle.tr_record.specs.Rec.{rec_at, found}
 use Rattle.rk_replay.specs.declared.ran.Cause.{Cause}
 use Rattle.rk_replay.specs.declared.ran.Cause.TheVariants.{NoRecord}
 use Rattle.rk_replay.specs.declared.ran.Ran.{Ran}
-use Rattle.rk_replay.specs.Ran.{found, first_difference, cause_by, cause_of, ran_for, ran_of}
-use Rattle.rk_replay.proofs.Finding.{found-some, found-none}
+use Rattle.rk_replay.specs.Ran.{first_difference, cause_by, cause_of, ran_for, ran_of}
+use Rattle.tr_record.proofs.Finding.{found-some, found-none}
 
 pub cause-found : (old : List Record) (r x : Record) → found old r.key r.ordinal ≡ Some x → cause_of old r ≡ cause_by (let o : Option Record = Some x in o) r.steps
 unfolding cause_of

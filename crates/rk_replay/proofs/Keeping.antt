@@ -5,7 +5,7 @@ use Rattle.rk_calls.specs.Talk.{Says}
 use Rattle.rk_calls.specs.Keys.{KeyValue, same_key}
 use Rattle.tr_record.specs.declared.records.Record.{Record}
 use Rattle.tr_record.specs.declared.steps.Step.{Step}
-use Rattle.tr_record.specs.Rec.{rec_at, fresh_rec, no_key}
+use Rattle.tr_record.specs.Rec.{rec_at, fresh_rec, no_key, found}
 use Rattle.rk_runs.specs.Lasting.{AllLast}
 use Rattle.rk_runs.specs.Spoken.{IsSpoken, AreSpoken}
 use Rattle.rk_check.specs.Differences.{AnswerAlike}
@@ -13,9 +13,9 @@ use Rattle.rk_check.specs.Laws.{spoken-alike}
 use Rattle.rk_replay.specs.declared.ran.Cause.{Cause}
 use Rattle.rk_replay.specs.declared.ran.Cause.TheVariants.{Differs}
 use Rattle.rk_replay.specs.Answers.{same_answer}
-use Rattle.rk_replay.specs.Ran.{found, first_difference, cause_by, cause_of, IsKept, AreKept}
+use Rattle.rk_replay.specs.Ran.{first_difference, cause_by, cause_of, IsKept, AreKept}
 use Rattle.rk_replay.proofs.Differing.{same-answer}
-use Rattle.rk_replay.proofs.KeyLemmas.{same_key-Decides}
+use Rattle.tr_record.proofs.KeyLemmas.{same_key-Decides}
 
 -- what is found stands somewhere, and passes the test
 record Stands {X : Type 0} (test : X → Bool) (xs : List X) (d x : X) : Type 0 where

@@ -2,9 +2,9 @@ pub mod Causing
 pub mod Differing
 pub mod Finding
 pub mod Keeping
-pub mod KeyLemmas
 pub mod Linking
 pub mod Replaying
 pub mod Standing
 pub mod Stopping
+pub mod Telling
 pub mod Totalling

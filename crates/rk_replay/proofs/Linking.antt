@@ -7,7 +7,7 @@ use Rattle.rk_calls.specs.declared.drive.Spoke.TheVariants.{Call as Calls, Exit 
 use Rattle.rk_calls.specs.Keys.{KeyValue}
 use Rattle.tr_record.specs.declared.records.Record.{Record}
 use Rattle.tr_record.specs.declared.steps.Step.{Step}
-use Rattle.tr_record.specs.Rec.{rec_at, fresh_rec, with_step, with_exit}
+use Rattle.tr_record.specs.Rec.{rec_at, fresh_rec, with_step, with_exit, found}
 use Rattle.rk_runs.specs.Own.{steps_cost}
 use Rattle.rk_runs.specs.Run.{step}
 use Rattle.rk_runs.specs.Spoken.{step_at}
@@ -17,7 +17,7 @@ use Rattle.rk_replay.specs.declared.activity.Activity.{Activity}
 use Rattle.rk_replay.specs.declared.activity.Activity.TheVariants.{Runs, Replays}
 use Rattle.rk_replay.specs.declared.ran.Cause.{Cause}
 use Rattle.rk_replay.specs.declared.ran.Cause.TheVariants.{NoRecord, Differs}
-use Rattle.rk_replay.specs.Ran.{found, cause_by, cause_of, own_for}
+use Rattle.rk_replay.specs.Ran.{cause_by, cause_of, own_for}
 use Rattle.rk_replay.specs.Activities.{IsReady, IsWaiting, IsLaunched, IsRunning, IsNext, Speaks_on, Takes, made, given_up, counted, exit_counted}
 use Rattle.rk_replay.proofs.Causing.{cause-found, cause-missing}
 use Rattle.rk_replay.proofs.Differing.{first_difference-prefix, first_difference-stable, first_difference-next}

@@ -7,12 +7,11 @@ use Rattle.rk_calls.specs.Talk.{Says}
 use Rattle.rk_calls.specs.Saying.{goes_on}
 use Rattle.rk_calls.specs.Keys.{KeyValue}
 use Rattle.tr_record.specs.declared.records.Record.{Record}
-use Rattle.tr_record.specs.Rec.{rec_at}
+use Rattle.tr_record.specs.Rec.{rec_at, found}
 use Rattle.rk_runs.specs.Own.{steps_cost}
 use Rattle.rk_runs.specs.Spoken.{follow, step_at}
 use Rattle.rk_replay.specs.declared.activity.Activity.{Activity}
 use Rattle.rk_replay.specs.declared.activity.Activity.TheVariants.{Runs, Replays}
-use Rattle.rk_replay.specs.Ran.{found}
 
 -- what it says from here on, once it is given this answer: a replayed command stands where its machine would
 abbrev pub stands : {S : Type 0} → (S → Answer → Says) → (KeyValue → Says) → List Record → Activity S → Answer → Says

@@ -1,18 +1,14 @@
 -- Which commands ran, and why.
-use Rattle.std.specs.Prelude.{◌≡◌, ℕ, suc, ◌<◌, ◌&&◌, ◌==◌, if◌then◌else◌, List, [], ◌∷◌, length, Option, Some, None, find, filter_map, sum_by}
-use Rattle.rk_calls.specs.Keys.{KeyValue, same_key}
+use Rattle.std.specs.Prelude.{◌≡◌, ℕ, suc, ◌<◌, if◌then◌else◌, List, [], ◌∷◌, length, Option, Some, None, filter_map, sum_by}
+use Rattle.rk_calls.specs.Keys.{KeyValue}
 use Rattle.tr_record.specs.declared.records.Record.{Record}
 use Rattle.tr_record.specs.declared.steps.Step.{Step}
-use Rattle.tr_record.specs.Rec.{rec_at}
+use Rattle.tr_record.specs.Rec.{rec_at, found}
 use Rattle.rk_runs.specs.Own.{own}
 use Rattle.rk_replay.specs.declared.ran.Cause.{Cause}
 use Rattle.rk_replay.specs.declared.ran.Cause.TheVariants.{NoRecord, Differs}
 use Rattle.rk_replay.specs.declared.ran.Ran.{Ran}
 use Rattle.rk_replay.specs.Answers.{same_answer}
-
--- the record under a key and an ordinal
-unfoldable pub found : List Record → KeyValue → ℕ → Option Record
-found old key ordinal = find (λ rec. same_key rec.key key && (rec.ordinal == ordinal)) old
 
 -- the first step whose answers differ, with both; the first of these steps has this number
 abbrev pub first_difference : ℕ → List Step → List Step → Option Cause

@@ -9,13 +9,12 @@ ghost use Rattle.rk_runs.specs.Spoken.{follow, Follows, step_at};
 ghost use Rattle.rk_check.specs.Fed.{waits_at};
 ghost use Rattle.rk_check.specs.Started.{started};
 ghost use Rattle.rk_replay.specs.Activities.{stands, waits, IsReady, IsWaiting, IsLaunched, made, Takes, given_up, counted, so_far, exit_counted};
-ghost use Rattle.rk_replay.specs.Stops.{IsForged, stop_of};
+ghost use Rattle.rk_replay.specs.Stops.{IsForged};
 ghost use Rattle.rk_replay.specs.declared.activity.Activity.TheVariants.{Replays};
 
-use crate::stop::Stop;
 use rk_base::{NoMemory, Steps};
 use rk_calls::{Answer, Key, Machine, Maker, Refs, same_answer};
-use rk_check::{Fed, FeedErr, feed};
+use rk_check::{CheckErr, feed};
 use rk_runs::Active;
 use std::sync::ledger::Ledger;
 use tr_record::{Step, Table};
@@ -74,25 +73,13 @@ pub(crate) fn begin<K: Maker>(
     })
 }
 
-fn stop_of(rec: usize, err: FeedErr) -> Stop
-    ensures { result ≡ stop_of rec err }
-{
-    match err {
-        FeedErr::Forged { step } => Stop::Forged {
-            rec: rec as u64,
-            step,
-        },
-        FeedErr::NoMemory => Stop::NoMemory,
-    }
-}
-
 /// Makes the machine of a record and gives it the first `count` answers; it is yet to hear the last of them.
 pub(crate) fn machine_of<K: Maker>(
     maker: &mut K,
     old: &Table,
     rec: usize,
     count: usize,
-) -> Result<K::Made, Stop>
+) -> Result<K::Made, CheckErr>
     requires in_old { rec < length old.now }
     requires in_rec { count ≤ length (rec_at rec old.now).steps }
     ensures waits { IfOk result (λ m. 1 ≤ count → (a : Answer) → K.Made.talk m a ≡ waits_at (K.first (rec_at rec old.now).key) (rec_at rec old.now).steps count a) }
@@ -102,7 +89,7 @@ pub(crate) fn machine_of<K: Maker>(
 {
     match feed(maker, old.at(rec), count) {
         Ok(fed) => Ok(fed.machine),
-        Err(err) => Err(stop_of(rec, err)),
+        Err(err) => Err(err.of_record(rec as u64)),
     }
 }
 
@@ -113,7 +100,7 @@ fn take_answer<K: Maker>(
     rec: usize,
     at: usize,
     answer: &Answer,
-) -> Result<Activity<K::Made>, Stop>
+) -> Result<Activity<K::Made>, CheckErr>
     requires in_old { rec < length old.now }
     requires in_rec { at < length (rec_at rec old.now).steps }
     ensures state { IfOk result (λ now. stands K.Made.talk K.first old.now now answer.now ≡ goes_on (step_at at (rec_at rec old.now).steps).cost (follow (K.first (rec_at rec old.now).key) (take at (rec_at rec old.now).steps)) answer.now) }
@@ -164,7 +151,7 @@ pub(crate) fn settle<K: Maker, L: Ledger>(
     place: usize,
     old: &Table,
     live: &mut Steps<L>,
-) -> Result<(), Stop>
+) -> Result<(), CheckErr>
     requires waiting { IsWaiting old.now activity.old }
     requires here { place < length table.now }
     ensures state { IfOk result (λ _. stands K.Made.talk K.first old.now activity.new answer.now ≡ waits K.Made.talk K.first old.now activity.old answer.now) }

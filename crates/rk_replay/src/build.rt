@@ -1,10 +1,11 @@
 // Builds over an old table.
-ghost use Rattle.std.specs.Prelude.{◌≡◌, ◌+◌, ◌≤◌, length, IfOk, IfErr};
+ghost use Rattle.std.specs.Prelude.{◌≡◌, ◌+◌, ◌≤◌, length, IfOk, IfErr, IfSome};
+ghost use Rattle.std.specs.Option.{IsSomeAnd};
 ghost use Rattle.rk_calls.specs.Refs.{top_refs};
 ghost use Rattle.rk_check.specs.Started.{started};
 ghost use Rattle.rk_runs.specs.Own.{total};
 ghost use Rattle.rk_runs.specs.Purse.{left};
-ghost use Rattle.rk_runs.specs.Run.{game, fresh, Done};
+ghost use Rattle.rk_runs.specs.Run.{game, fresh, Done, Spent};
 ghost use Rattle.rk_runs.specs.Spoken.{AreSpoken};
 ghost use Rattle.rk_replay.specs.Ran.{AreKept, ran_of, ran_total};
 ghost use Rattle.rk_replay.specs.Stops.{Stops};
@@ -12,10 +13,11 @@ ghost use Rattle.rk_replay.specs.Stops.{Stops};
 use crate::activity::{Activity, begin, exit_counted};
 use crate::hearing::hear;
 use crate::ran::{RanList, ran_of};
-use crate::stop::{Stop, spent};
+use crate::stop::Stop;
 use crate::turns::{answer_call, launch_below, resume};
 use rk_base::{Budget, NoMemory, Steps};
 use rk_calls::{Answer, Answerer, Call, Key, Machine, Maker, Refs, Spoke};
+use rk_check::check_with;
 use rk_runs::{Frame, pay};
 use std::alloc::Global;
 use std::sync::ledger::Ledger;
@@ -43,15 +45,16 @@ pub fn build_with<K: Maker, W: Answerer, L: Ledger>(
     old: &Table,
     budget: &mut Budget,
     live: &mut Steps<L>,
-) -> Result<Built, Stop>
-    // It ends as the run in which nothing is recorded yet, and leaves the same records. What didn't run is the
-    // old table's.
-    ensures done { IfOk result (λ b. AreSpoken K.first old.now → fresh (game K.first W.given) (left budget.old) key.now top_refs world.old ≡ Done world.new b.status (left budget.new) b.table) }
-    ensures spoken { IfOk result (λ b. AreSpoken K.first old.now → AreSpoken K.first b.table) }
-    ensures kept { IfOk result (λ b. AreSpoken K.first old.now → AreKept old.now b.table) }
-    ensures stops { IfErr result (Stops (game K.first W.given) old.now (fresh (game K.first W.given) (left budget.old) key.now top_refs world.old)) }
+) -> Result<Built, Stop<W::Stop>>
+    // Where the world tells what it means, it ends as the run in which nothing is recorded yet, and leaves the same
+    // records. What didn't run is the old table's.
+    ensures done { IfOk result (λ b. IfSome (W.told world.old) (λ before. IsSomeAnd (W.told world.new) (λ now. AreSpoken K.first old.now → fresh (game K.first W.given) (left budget.old) key.now top_refs before ≡ Done now b.status (left budget.new) b.table))) }
+    ensures spoken { IfOk result (λ b. IfSome (W.told world.old) (λ _. AreSpoken K.first old.now → AreSpoken K.first b.table)) }
+    ensures kept { IfOk result (λ b. IfSome (W.told world.old) (λ _. AreSpoken K.first old.now → AreKept old.now b.table)) }
+    ensures stops { IfErr result (Stops K.first old.now (IfSome (W.told world.old) (λ before. fresh (game K.first W.given) (left budget.old) key.now top_refs before ≡ Spent)) (W.Stops world.old world.new)) }
 
-    // Whatever the old table: what ran, and why; a machine was started for each, and their costs were counted.
+    // Whatever the world and the old table: what ran, and why; a machine was started for each, and their costs were
+    // counted.
     ensures ran { IfOk result (λ b. b.ran ≡ ran_of old.now b.table) }
     ensures starts { IfOk result (λ b. K.starts maker.new ≡ started (length b.ran) (K.starts maker.old)) }
     ensures live { IfOk result (λ b. live.new ≡ live.old + ran_total old.now b.table) }
@@ -96,7 +99,10 @@ pub fn build_with<K: Maker, W: Answerer, L: Ledger>(
                     }
                 }
             }
-            Spoke::Short => return Err(spent(maker, old)),
+            Spoke::Short => {
+                check_with(maker, old)?;
+                return Err(Stop::Spent);
+            }
         }
     }
 }

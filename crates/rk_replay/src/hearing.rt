@@ -8,8 +8,8 @@ ghost use Rattle.rk_replay.specs.Activities.{stands, waits, IsReady, IsNext, Spe
 ghost use Rattle.rk_replay.specs.Stops.{IsForged};
 
 use crate::activity::{Activity, machine_of};
-use crate::stop::Stop;
 use rk_calls::{Answer, Machine, Maker, Spoke, advance};
+use rk_check::CheckErr;
 use tr_record::Table;
 
 /// The next call of a record, or its exit, where the purse meets it.
@@ -19,7 +19,7 @@ fn hear_record<K: Maker>(
     rec: usize,
     at: usize,
     purse: u64,
-) -> Result<Spoke, Stop>
+) -> Result<Spoke, CheckErr>
     requires in_old { rec < length old.now }
     requires in_rec { at ≤ length (rec_at rec old.now).steps }
     ensures paid { IfOk result (λ x. IsPaid purse x) }
@@ -57,7 +57,7 @@ pub(crate) fn hear<K: Maker>(
     answer: Answer,
     purse: u64,
     old: &Table,
-) -> Result<Spoke, Stop>
+) -> Result<Spoke, CheckErr>
     requires { IsReady old.now activity.old }
     ensures paid { IfOk result (λ x. IsPaid purse x) }
     ensures spoke { IfOk result (λ x. AreSpoken K.first old.now → x ≡ speaks purse (stands K.Made.talk K.first old.now activity.old answer)) }

@@ -1,54 +1,36 @@
 // Why builds stop.
-ghost use Rattle.std.specs.Prelude.{◌≡◌};
-ghost use Rattle.rk_replay.specs.Stops.{IsLookedAt};
+ghost use Rattle.rk_replay.specs.Stops.{IsWant, IsHandedOn};
 
 use rk_base::NoMemory;
-use rk_calls::Maker;
-use rk_check::{CheckErr, check_with};
-use std::alloc::AllocFailed;
-use tr_record::Table;
+use rk_check::CheckErr;
 
 /// Why a build over an old table doesn't end.
 #[derive(Debug, Drop)]
-pub enum Stop {
+pub enum Stop<S> {
     /// The budget was spent.
     Spent,
     /// The record of this number isn't what its command says; the step's number counts from 1 on, and one past
     /// the last step is the exit.
     Forged { rec: u64, step: u64 },
-    NoMemory,
+    /// The world stopped so, or there was no memory.
+    Stopped(S),
 }
 
-impl From<NoMemory> for Stop {
-    ghost use Rattle.std.specs.Prelude.{◌≡◌};
-    ghost use Rattle.rk_replay.specs.declared.stop.Stop.{Stop};
+impl<S: From<NoMemory>> From<NoMemory> for Stop<S> {
+    ghost from_gives = { λ _ stop. IsWant S.from_gives stop };
 
-    ghost from_gives = { λ _ e. e ≡ Stop.NoMemory };
-
-    fn from(_: NoMemory) -> Stop {
-        Stop::NoMemory
+    fn from(want: NoMemory) -> Stop<S> {
+        Stop::Stopped(S::from(want))
     }
 }
 
-impl<T: Drop> From<AllocFailed<T>> for Stop {
-    ghost use Rattle.std.specs.Prelude.{◌≡◌};
-    ghost use Rattle.rk_replay.specs.declared.stop.Stop.{Stop};
+impl<S: From<NoMemory>> From<CheckErr> for Stop<S> {
+    ghost from_gives = { λ told stop. IsHandedOn S.from_gives told stop };
 
-    ghost from_gives = { λ _ e. e ≡ Stop.NoMemory };
-
-    fn from(_: AllocFailed<T>) -> Stop {
-        Stop::NoMemory
-    }
-}
-
-/// What a build answers whose budget is spent: the first record of the old table that isn't spoken, if there is
-/// one.
-pub(crate) fn spent<K: Maker>(maker: &mut K, old: &Table) -> Stop
-    ensures { IsLookedAt K.first old.now result }
-{
-    match check_with(maker, old) {
-        Ok(()) => Stop::Spent,
-        Err(CheckErr::Forged { rec, step }) => Stop::Forged { rec, step },
-        Err(CheckErr::NoMemory) => Stop::NoMemory,
+    fn from(told: CheckErr) -> Stop<S> {
+        match told {
+            CheckErr::Forged { rec, step } => Stop::Forged { rec, step },
+            CheckErr::NoMemory => Stop::Stopped(S::from(NoMemory)),
+        }
     }
 }

@@ -1,6 +1,4 @@
 // Builds of a script of one line, again and after a change.
-mod recorded;
-
 ghost use Rattle.std.specs.Prelude.{◌≡◌, ◌<◌};
 
 use crate::{BuiltWorld, Cause, Ran, Stop, build_world, check};
@@ -39,7 +37,7 @@ fn run<L: Ledger>(
     old: &Table,
     turns: u32,
     blank: Blank,
-) -> Result<BuiltWorld, Stop>
+) -> Result<BuiltWorld, Stop<NoMemory>>
     requires name { blank.name ≡ L.name }
     requires parts { blank.parts ≡ L.parts }
     requires some { 0 < L.parts }
@@ -52,7 +50,7 @@ fn run<L: Ledger>(
     }
 }
 
-fn build(alloc: Global, a: &[u8], old: &Table, turns: u32) -> Result<BuiltWorld, Stop> {
+fn build(alloc: Global, a: &[u8], old: &Table, turns: u32) -> Result<BuiltWorld, Stop<NoMemory>> {
     run::<Brand>(alloc, a, old, turns, Blank::new(1))
 }
 

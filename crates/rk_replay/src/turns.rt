@@ -1,5 +1,6 @@
 // What commands do after they asked, and once what they launched has exited.
-ghost use Rattle.std.specs.Prelude.{◌≡◌, ◌+◌, ◌<◌, ◌++◌, ◌∷◌, [], length, IfOk, IfErr, OnErr};
+ghost use Rattle.std.specs.Prelude.{◌≡◌, ◌+◌, ◌<◌, ◌++◌, ◌∷◌, [], length, IfOk, IfErr, OnErr, IfSome};
+ghost use Rattle.std.specs.Option.{IsSomeAnd};
 ghost use Rattle.rk_calls.specs.Given.{Given};
 ghost use Rattle.rk_calls.specs.Refs.{passed_refs};
 ghost use Rattle.rk_calls.specs.declared.answer.Answer.TheVariants.{Go, Joined};
@@ -8,12 +9,13 @@ ghost use Rattle.tr_record.specs.Rec.{rec_at, begun, stepped, count_of};
 ghost use Rattle.rk_runs.specs.Run.{step};
 ghost use Rattle.rk_check.specs.Started.{started};
 ghost use Rattle.rk_replay.specs.Activities.{stands, waits, IsWaiting, IsLaunched, made, Takes, given_up, counted};
-ghost use Rattle.rk_replay.specs.Stops.{IsForged};
+ghost use Rattle.rk_replay.specs.Stops.{Stops, IsForged};
 
 use crate::activity::{Activity, begin, settle};
 use crate::stop::Stop;
 use rk_base::{NoMemory, Steps};
 use rk_calls::{Answer, Answerer, Call, Key, Machine, Maker, RefMap};
+use rk_check::CheckErr;
 use rk_runs::{Active, Frame, ask, join};
 use std::mem;
 use std::sync::ledger::Ledger;
@@ -60,20 +62,24 @@ pub(crate) fn answer_call<K: Maker, W: Answerer, L: Ledger>(
     cost: u32,
     old: &Table,
     live: &mut Steps<L>,
-) -> Result<Answer, Stop>
+) -> Result<Answer, Stop<W::Stop>>
     requires waiting { IsWaiting old.now top.old.machine }
     requires here { top.old.place < length table.old }
     ensures place { IfOk result (λ _. top.new.place ≡ top.old.place) }
-    ensures given { IfOk result (λ a. record { answer = a; refs = top.new.refs; world = world.new } ≡ W.given world.old top.old.refs call) }
+    ensures given { IfOk result (λ a. IfSome (W.told world.old) (λ before. IsSomeAnd (W.told world.new) (λ now. record { answer = a; refs = top.new.refs; world = now } ≡ W.given before top.old.refs call))) }
     ensures table { IfOk result (λ a. table.new ≡ stepped top.old.place (step cost call a) table.old) }
     ensures state { IfOk result (λ a. stands K.Made.talk K.first old.now top.new.machine a ≡ waits K.Made.talk K.first old.now top.old.machine a) }
     ensures takes { IfOk result (λ a. Takes old.now top.old.machine a top.new.machine) }
     ensures starts { IfOk result (λ _. K.starts maker.new ≡ started (given_up top.old.machine top.new.machine) (K.starts maker.old)) }
     ensures live { IfOk result (λ _. live.new ≡ live.old + counted top.old.machine top.new.machine cost (rec_at top.old.place table.new)) }
     ensures still { OnErr result (live.new ≡ live.old) }
-    ensures forged { IfErr result (IsForged K.first old.now) }
+    ensures stops { IfErr result (Stops K.first old.now ⊥ (W.Stops world.old world.new)) }
+    ensures since { IfOk result (λ _. (now : W) (stop : W.Stop) → W.Stops world.new now stop → W.Stops world.old now stop) }
 {
-    let answer = ask(world, table, top.place, &mut top.refs, call, cost)?;
+    let answer = match ask(world, table, top.place, &mut top.refs, call, cost) {
+        Ok(answer) => answer,
+        Err(reason) => return Err(Stop::Stopped(reason)),
+    };
     settle(
         maker,
         &mut top.machine,
@@ -97,7 +103,7 @@ pub(crate) fn resume<K: Maker, L: Ledger>(
     exited: u32,
     old: &Table,
     live: &mut Steps<L>,
-) -> Result<Active<Activity<K::Made>>, Stop>
+) -> Result<Active<Activity<K::Made>>, CheckErr>
     requires waiting { IsWaiting old.now frame.waiting.machine }
     requires here { frame.waiting.place < length table.old }
     ensures place { IfOk result (λ a. a.place ≡ frame.waiting.place) }

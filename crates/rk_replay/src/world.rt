@@ -6,7 +6,7 @@ ghost use Rattle.rk_command.specs.First.{first_talk};
 ghost use Rattle.rk_kernel.specs.Do.{answered};
 ghost use Rattle.rk_runs.specs.Own.{total};
 ghost use Rattle.rk_runs.specs.Purse.{left};
-ghost use Rattle.rk_runs.specs.Run.{game, fresh, Done};
+ghost use Rattle.rk_runs.specs.Run.{game, fresh, Done, Spent};
 ghost use Rattle.rk_runs.specs.Spoken.{AreSpoken};
 ghost use Rattle.rk_replay.specs.Ran.{AreKept, ran_of, ran_total};
 ghost use Rattle.rk_replay.specs.Script.{script_key};
@@ -55,13 +55,13 @@ pub fn build_world<L: Ledger>(
     old: &Table,
     budget: &mut Budget,
     live: &mut Steps<L>,
-) -> Result<BuiltWorld, Stop>
+) -> Result<BuiltWorld, Stop<NoMemory>>
     // It ends as the run in which nothing is recorded yet, and leaves the same records. What didn't run is the
     // old table's.
     ensures done { IfOk result (λ b. AreSpoken first_talk old.now → fresh (game first_talk answered) (left budget.old) script_key top_refs world ≡ Done b.world b.status (left budget.new) b.table) }
     ensures spoken { IfOk result (λ b. AreSpoken first_talk old.now → AreSpoken first_talk b.table) }
     ensures kept { IfOk result (λ b. AreSpoken first_talk old.now → AreKept old.now b.table) }
-    ensures stops { IfErr result (Stops (game first_talk answered) old.now (fresh (game first_talk answered) (left budget.old) script_key top_refs world)) }
+    ensures stops { IfErr result (Stops first_talk old.now (fresh (game first_talk answered) (left budget.old) script_key top_refs world ≡ Spent) (λ _. Unit {0})) }
 
     // Whatever the old table: what ran, and why; their costs were counted.
     ensures ran { IfOk result (λ b. b.ran ≡ ran_of old.now b.table) }

@@ -15,12 +15,12 @@ use Rattle.rk_calls.specs.Given.{Given}
 use Rattle.rk_calls.specs.Fits.{is_launch}
 use Rattle.tr_record.specs.declared.records.Record.{Record}
 use Rattle.tr_record.specs.Rec.{begun, stepped, ended}
-use Rattle.rk_runs.specs.Run.{Game, Outcome, Done, Spent, On, step, answered, asked, spoken, run}
+use Rattle.rk_runs.specs.Run.{Game, Outcome, Done, Spent, On, step, after_answer, after_ask, after_spoke, run}
 use Rattle.rk_runs.specs.Running.{run-is}
 use Rattle.rk_runs.specs.Rest.{Pending, pending, rest, rest-push, rest-spent}
 
 -- each call but a launch is asked of the world
-pub asked-world : {W : Type 0} (g : Game W) (on : On W) (p place : ℕ) (refs : RefsHeld) (x : Says) (w : W) (t : List Record) (c : ℕ) (call : Call) → is_launch call ≡ false → asked g on p place refs x w t c call ≡ answered on p place (goes_on c x) t c call (g.given w refs call)
+pub asked-world : {W : Type 0} (g : Game W) (on : On W) (p place : ℕ) (refs : RefsHeld) (x : Says) (w : W) (t : List Record) (c : ℕ) (call : Call) → is_launch call ≡ false → after_ask g on p place refs x w t c call ≡ after_answer on p place (goes_on c x) t c call (g.given w refs call)
 asked-world g on p place refs x w t c (Launch key map) e = cc
 asked-world g on p place refs x w t c call e = refl
 
@@ -37,8 +37,8 @@ abbrev pub gives : {W : Type 0} → Answer → RefsHeld → W → Given W
 gives a refs w = record { answer = a; refs = refs; world = w }
 
 module _ {W : Type 0} (g : Game W) (o : Outcome W) (p place : ℕ) (refs : RefsHeld) (x : Says) (w : W) (t : List Record) (fs : List Pending) (i : Going g o p place refs x w t fs) (s : Spoke) (e : s ≡ speaks p x) where
-  goes : (s' : Spoke) → s ≡ s' → o ≡ rest g fs (spoken g (run g) p place refs x w t s')
-  goes s' es = i ∙ ap (rest g fs) (run-is g p place refs x w t ∙ ap (spoken g (run g) p place refs x w t) (sym e ∙ es))
+  goes : (s' : Spoke) → s ≡ s' → o ≡ rest g fs (after_spoke g (run g) p place refs x w t s')
+  goes s' es = i ∙ ap (rest g fs) (run-is g p place refs x w t ∙ ap (after_spoke g (run g) p place refs x w t) (sym e ∙ es))
 
   pub Going-ask : (wait : Answer → Says) → Goes s x wait → (call : Call) (c : ℕ) (a : Answer) (refs' : RefsHeld) (x' : Says) (w' : W) (t' : List Record) → s ≡ Calls call c → is_launch call ≡ false → gives a refs' w' ≡ g.given w refs call → t' ≡ stepped place (step c call a) t → x' ≡ wait a → Going g o (p - c) place refs' x' w' t' fs
   Going-ask wait gs call c a refs' x' w' t' es el eg et ex =
@@ -46,7 +46,7 @@ module _ {W : Type 0} (g : Game W) (o : Outcome W) (p place : ℕ) (refs : RefsH
       let hw : wait ≡ goes_on c x = λ i a. h a i in
       rw (ex, hw, et)
       (goes (Calls call c) es
-      ∙ ap (rest g fs) (asked-world g (run g) p place refs x w t c call el ∙ ap (answered (run g) p place (goes_on c x) t c call) (sym eg)))
+      ∙ ap (rest g fs) (asked-world g (run g) p place refs x w t c call el ∙ ap (after_answer (run g) p place (goes_on c x) t c call) (sym eg)))
 
   pub Going-launch : (wait : Answer → Says) → Goes s x wait → (call : Call) (key : KeyValue) (map : List (ℕ × ℕ)) (c new : ℕ) (refs' : RefsHeld) (x' : Says) (t' : List Record) (fs' : List Pending) → s ≡ Calls call c → call ≡ Launch key map → refs' ≡ passed_refs refs map → x' ≡ g.first key → new ≡ length t → t' ≡ begun key t → fs' ≡ fs ++ pending place refs key map c wait ∷ [] → Going g o (p - c) new refs' x' w t' fs'
   Going-launch wait gs call key map c new refs' x' t' fs' es ec er ex en et ef =

@@ -2,6 +2,7 @@ pub mod Following
 pub mod Freshing
 pub mod Going
 pub mod Lasting
+pub mod Laws
 pub mod Own
 pub mod Places
 pub mod Purse

@@ -5,7 +5,7 @@ use Rattle.rk_calls.specs.declared.answer.Answer.{Answer}
 use Rattle.rk_calls.specs.Talk.{Says}
 use Rattle.rk_calls.specs.Keys.{KeyValue}
 use Rattle.rk_calls.specs.Refs.{RefsHeld}
-use Rattle.rk_runs.specs.Run.{Game, Outcome, Spent, and_then, joined, run}
+use Rattle.rk_runs.specs.Run.{Game, Outcome, Spent, and_then, after_launch, run}
 
 -- a command that waits: its place and descriptors, what it launched at which cost, and what it says by the answer
 pub record Pending : Type 0 where
@@ -21,7 +21,7 @@ pending place refs key map c wait = record { place = place; refs = refs; key = k
 
 -- how it ends for the waiting command, when the launched one has ended so
 abbrev pub resumed : {W : Type 0} → Game W → Pending → Outcome W → Outcome W
-resumed g f o = and_then o (joined (run g) f.place f.refs f.wait f.cost (Launch f.key f.map))
+resumed g f o = and_then o (after_launch (run g) f.place f.refs f.wait f.cost (Launch f.key f.map))
 
 -- the same for a stack of them, of which the last was launched last
 abbrev pub rest : {W : Type 0} → Game W → List Pending → Outcome W → Outcome W

@@ -41,32 +41,32 @@ abbrev pub On : Type 0 → Type 0
 On W = ℕ → ℕ → RefsHeld → Says → W → List Record → Outcome W
 
 -- the world has given an answer to its call; by the answer it says this
-abbrev pub answered : {W : Type 0} → On W → ℕ → ℕ → (Answer → Says) → List Record → ℕ → Call → Given W → Outcome W
-answered on purse place wait t cost call it =
+abbrev pub after_answer : {W : Type 0} → On W → ℕ → ℕ → (Answer → Says) → List Record → ℕ → Call → Given W → Outcome W
+after_answer on purse place wait t cost call it =
     on (purse - cost) place it.refs (wait it.answer) it.world (stepped place (step cost call it.answer) t)
 
 -- a command that it launched has ended so
-abbrev pub joined : {W : Type 0} → On W → ℕ → RefsHeld → (Answer → Says) → ℕ → Call → W → ℕ → ℕ → List Record → Outcome W
-joined on place refs wait cost call w status left t =
+abbrev pub after_launch : {W : Type 0} → On W → ℕ → RefsHeld → (Answer → Says) → ℕ → Call → W → ℕ → ℕ → List Record → Outcome W
+after_launch on place refs wait cost call w status left t =
     on left place refs (wait (Joined status)) w (stepped place (step cost call (Joined status)) t)
 
 -- what the command at a place does after it asked a call: it launches a command, on the same world, purse and
 -- table, and waits for it; each other call is asked of the world
-abbrev pub asked : {W : Type 0} → Game W → On W → ℕ → ℕ → RefsHeld → Says → W → List Record → ℕ → Call → Outcome W
-asked g on purse place refs x w t cost (Launch key map) =
-    and_then (on (purse - cost) (length t) (passed_refs refs map) (g.first key) w (begun key t)) (joined on place refs (goes_on cost x) cost (Launch key map))
-asked g on purse place refs x w t cost call = answered on purse place (goes_on cost x) t cost call (g.given w refs call)
+abbrev pub after_ask : {W : Type 0} → Game W → On W → ℕ → ℕ → RefsHeld → Says → W → List Record → ℕ → Call → Outcome W
+after_ask g on purse place refs x w t cost (Launch key map) =
+    and_then (on (purse - cost) (length t) (passed_refs refs map) (g.first key) w (begun key t)) (after_launch on place refs (goes_on cost x) cost (Launch key map))
+after_ask g on purse place refs x w t cost call = after_answer on purse place (goes_on cost x) t cost call (g.given w refs call)
 
 -- what the command at a place does after it spoke
-abbrev pub spoken : {W : Type 0} → Game W → On W → ℕ → ℕ → RefsHeld → Says → W → List Record → Spoke → Outcome W
-spoken g on purse place refs x w t (Calls call cost) = asked g on purse place refs x w t cost call
-spoken g on purse place refs x w t (Exits status cost) = Done w status (purse - cost) (ended place status cost t)
-spoken g on purse place refs x w t Short = Spent
+abbrev pub after_spoke : {W : Type 0} → Game W → On W → ℕ → ℕ → RefsHeld → Says → W → List Record → Spoke → Outcome W
+after_spoke g on purse place refs x w t (Calls call cost) = after_ask g on purse place refs x w t cost call
+after_spoke g on purse place refs x w t (Exits status cost) = Done w status (purse - cost) (ended place status cost t)
+after_spoke g on purse place refs x w t Short = Spent
 
 -- within so many steps of it and of those that it launches
 abbrev pub runs : {W : Type 0} → Game W → ℕ → On W
 runs g zero purse place refs x w t = Spent
-runs g (suc n) purse place refs x w t = spoken g (runs g n) purse place refs x w t (speaks purse x)
+runs g (suc n) purse place refs x w t = after_spoke g (runs g n) purse place refs x w t (speaks purse x)
 
 -- each step costs at least 1, so the purse bounds their number
 unfoldable pub run : {W : Type 0} → Game W → On W

@@ -13,7 +13,7 @@ use Rattle.rk_calls.specs.Refs.{RefsHeld, passed_refs}
 use Rattle.rk_calls.specs.Given.{Given}
 use Rattle.tr_record.specs.declared.records.Record.{Record}
 use Rattle.tr_record.specs.Rec.{begun, stepped}
-use Rattle.rk_runs.specs.Run.{Game, Outcome, Done, Spent, On, and_then, step, answered, joined, asked, spoken, runs, run}
+use Rattle.rk_runs.specs.Run.{Game, Outcome, Done, Spent, On, and_then, step, after_answer, after_launch, after_ask, after_spoke, runs, run}
 
 paid_if : (p c : ℕ) (x : Spoke) (b : Bool) → leb c p ≡ b → (c ≤ p → IsPaid p x) → IsPaid p (cond b x Short)
 paid_if p c x true e h = h (leb-true c p e)
@@ -53,18 +53,18 @@ and_then_alike Spent f f' p h k = refl
 abbrev AllLeave : {W : Type 0} → On W → Type 0
 AllLeave {W} on = (q place : ℕ) (refs : RefsHeld) (x : Says) (w : W) (t : List Record) → Leaves q (on q place refs x w t)
 
-answered_leaves : {W : Type 0} (on : On W) → AllLeave on → (p place : ℕ) (wait : Answer → Says) (t : List Record) (c : ℕ) (call : Call) (it : Given W) → Leaves p (answered on p place wait t c call it)
+answered_leaves : {W : Type 0} (on : On W) → AllLeave on → (p place : ℕ) (wait : Answer → Says) (t : List Record) (c : ℕ) (call : Call) (it : Given W) → Leaves p (after_answer on p place wait t c call it)
 answered_leaves on h p place wait t c call it =
-    Leaves-more (answered on p place wait t c call it) (p - c) p (omega arith) (h (p - c) place it.refs (wait it.answer) it.world (stepped place (step c call it.answer) t))
+    Leaves-more (after_answer on p place wait t c call it) (p - c) p (omega arith) (h (p - c) place it.refs (wait it.answer) it.world (stepped place (step c call it.answer) t))
 
-asked_leaves : {W : Type 0} (g : Game W) (on : On W) → AllLeave on → (p place : ℕ) (refs : RefsHeld) (x : Says) (w : W) (t : List Record) (c : ℕ) (call : Call) → Leaves p (asked g on p place refs x w t c call)
+asked_leaves : {W : Type 0} (g : Game W) (on : On W) → AllLeave on → (p place : ℕ) (refs : RefsHeld) (x : Says) (w : W) (t : List Record) (c : ℕ) (call : Call) → Leaves p (after_ask g on p place refs x w t c call)
 asked_leaves g on h p place refs x w t c (Launch key map) =
-    and_then_leaves (on (p - c) (length t) (passed_refs refs map) (g.first key) w (begun key t)) (joined on place refs (goes_on c x) c (Launch key map)) p
+    and_then_leaves (on (p - c) (length t) (passed_refs refs map) (g.first key) w (begun key t)) (after_launch on place refs (goes_on c x) c (Launch key map)) p
     (Leaves-more (on (p - c) (length t) (passed_refs refs map) (g.first key) w (begun key t)) (p - c) p (omega arith) (h (p - c) (length t) (passed_refs refs map) (g.first key) w (begun key t)))
     (λ w' status left t'. h left place refs _ w' _)
 asked_leaves g on h p place refs x w t c call = answered_leaves on h p place (goes_on c x) t c call (g.given w refs call)
 
-spoken_leaves : {W : Type 0} (g : Game W) (on : On W) → AllLeave on → (p place : ℕ) (refs : RefsHeld) (x : Says) (w : W) (t : List Record) (s : Spoke) → Leaves p (spoken g on p place refs x w t s)
+spoken_leaves : {W : Type 0} (g : Game W) (on : On W) → AllLeave on → (p place : ℕ) (refs : RefsHeld) (x : Says) (w : W) (t : List Record) (s : Spoke) → Leaves p (after_spoke g on p place refs x w t s)
 spoken_leaves g on h p place refs x w t (Calls call c) = asked_leaves g on h p place refs x w t c call
 spoken_leaves g on h p place refs x w t (Exits status c) = omega arith
 spoken_leaves g on h p place refs x w t Short = tt
@@ -77,15 +77,15 @@ runs_leaves g (suc n) q place refs x w t = spoken_leaves g (runs g n) (runs_leav
 abbrev Agree : {W : Type 0} → ℕ → On W → On W → Type 0
 Agree {W} p on on' = (q place : ℕ) (refs : RefsHeld) (x : Says) (w : W) (t : List Record) → q < p → on q place refs x w t ≡ on' q place refs x w t
 
-asked_alike : {W : Type 0} (g : Game W) (on on' : On W) → AllLeave on → (p place : ℕ) (refs : RefsHeld) (x : Says) (w : W) (t : List Record) → Agree p on on' → (c : ℕ) (call : Call) → 1 ≤ c → c ≤ p → asked g on p place refs x w t c call ≡ asked g on' p place refs x w t c call
+asked_alike : {W : Type 0} (g : Game W) (on on' : On W) → AllLeave on → (p place : ℕ) (refs : RefsHeld) (x : Says) (w : W) (t : List Record) → Agree p on on' → (c : ℕ) (call : Call) → 1 ≤ c → c ≤ p → after_ask g on p place refs x w t c call ≡ after_ask g on' p place refs x w t c call
 asked_alike g on on' l p place refs x w t h c (Launch key map) some met =
-    and_then_alike (on (p - c) (length t) (passed_refs refs map) (g.first key) w (begun key t)) (joined on place refs (goes_on c x) c (Launch key map)) (joined on' place refs (goes_on c x) c (Launch key map)) (p - c)
+    and_then_alike (on (p - c) (length t) (passed_refs refs map) (g.first key) w (begun key t)) (after_launch on place refs (goes_on c x) c (Launch key map)) (after_launch on' place refs (goes_on c x) c (Launch key map)) (p - c)
     (l (p - c) (length t) (passed_refs refs map) (g.first key) w (begun key t))
     (λ w' status left t' b. h left place refs _ w' _ (omega arith))
-    ∙ ap (λ o. and_then o (joined on' place refs (goes_on c x) c (Launch key map))) (h (p - c) (length t) (passed_refs refs map) (g.first key) w (begun key t) (omega arith))
+    ∙ ap (λ o. and_then o (after_launch on' place refs (goes_on c x) c (Launch key map))) (h (p - c) (length t) (passed_refs refs map) (g.first key) w (begun key t) (omega arith))
 asked_alike g on on' l p place refs x w t h c call some met = h (p - c) place _ _ _ _ (omega arith)
 
-spoken_alike : {W : Type 0} (g : Game W) (on on' : On W) → AllLeave on → (p place : ℕ) (refs : RefsHeld) (x : Says) (w : W) (t : List Record) → Agree p on on' → (s : Spoke) → IsPaid p s → spoken g on p place refs x w t s ≡ spoken g on' p place refs x w t s
+spoken_alike : {W : Type 0} (g : Game W) (on on' : On W) → AllLeave on → (p place : ℕ) (refs : RefsHeld) (x : Says) (w : W) (t : List Record) → Agree p on on' → (s : Spoke) → IsPaid p s → after_spoke g on p place refs x w t s ≡ after_spoke g on' p place refs x w t s
 spoken_alike g on on' l p place refs x w t h (Calls call c) d = asked_alike g on on' l p place refs x w t h c call d.0 d.1
 spoken_alike g on on' l p place refs x w t h (Exits status c) d = refl
 spoken_alike g on on' l p place refs x w t h Short d = refl
@@ -98,7 +98,7 @@ runs_alike g (suc n) (suc m) p h k q place refs x w t b =
     (runs_alike g n m q (omega arith) (omega arith)) (speaks q x) (paid q x)
 
 -- a run goes on as it spoke
-pub run-is : {W : Type 0} (g : Game W) (p place : ℕ) (refs : RefsHeld) (x : Says) (w : W) (t : List Record) → run g p place refs x w t ≡ spoken g (run g) p place refs x w t (speaks p x)
+pub run-is : {W : Type 0} (g : Game W) (p place : ℕ) (refs : RefsHeld) (x : Says) (w : W) (t : List Record) → run g p place refs x w t ≡ after_spoke g (run g) p place refs x w t (speaks p x)
 unfolding run
 run-is g p place refs x w t =
     spoken_alike g (runs g p) (run g) (runs_leaves g p) p place refs x w t

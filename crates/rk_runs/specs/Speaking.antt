@@ -18,7 +18,7 @@ use Rattle.rk_calls.specs.Given.{Given}
 use Rattle.tr_record.specs.declared.records.Record.{Record}
 use Rattle.tr_record.specs.Rec.{rec_at, begun, stepped, ended}
 use Rattle.rk_runs.specs.Own.{total}
-use Rattle.rk_runs.specs.Run.{Game, Outcome, Done, Spent, On, and_then, step, answered, joined, asked, spoken, runs, run, fresh}
+use Rattle.rk_runs.specs.Run.{Game, Outcome, Done, Spent, On, and_then, step, after_answer, after_launch, after_ask, after_spoke, runs, run, fresh}
 use Rattle.rk_runs.specs.Spoken.{follow, Follows, IsSpoken, AreSpoken}
 use Rattle.rk_runs.specs.Places.{length-begun, length-stepped, length-ended, rec-begun, rec-begun_last, rec-stepped, rec-stepped_same, rec-ended, rec-ended_same}
 use Rattle.rk_runs.specs.Lasting.{asks-exact, ends-exact, AllLast, Lasts-follow}
@@ -146,7 +146,7 @@ stands-joined g t t' place x n e i = record {
 }
 
 module _ {W : Type 0} (g : Game W) (lasts : AllLast g.first) (fit : AnswersFit g) (on : On W) (ih : (p place : ℕ) (refs : RefsHeld) (x : Says) (w : W) (t : List Record) → Stands g t place x → Ends_spoken g t place p (on p place refs x w t)) where
-  after-child : (p place c : ℕ) (key : KeyValue) (map : List (ℕ × ℕ)) (refs : RefsHeld) (x : Says) (t : List Record) → Stands g t place x → speaks p x ≡ Calls (Launch key map) c → (o : Outcome W) → Ends_spoken g (begun key t) (length t) (p - c) o → Ends_spoken g t place p (and_then o (joined on place refs (goes_on c x) c (Launch key map)))
+  after-child : (p place c : ℕ) (key : KeyValue) (map : List (ℕ × ℕ)) (refs : RefsHeld) (x : Says) (t : List Record) → Stands g t place x → speaks p x ≡ Calls (Launch key map) c → (o : Outcome W) → Ends_spoken g (begun key t) (length t) (p - c) o → Ends_spoken g t place p (and_then o (after_launch on place refs (goes_on c x) c (Launch key map)))
   after-child p place c key map refs x t i e (Done w status left t2) h =
       let here : place < length t = i.here in
       let ne : place ≢ length t = omega arith in
@@ -163,7 +163,7 @@ module _ {W : Type 0} (g : Game W) (lasts : AllLast g.first) (fit : AnswersFit g
       (ih left place refs (goes_on c x (Joined status)) w (stepped place (step c (Launch key map) (Joined status)) t2) stands')
   after-child p place c key map refs x t i e Spent h = tt
 
-  spoken-answered : (p place c : ℕ) (call : Call) (x : Says) (t : List Record) (it : Given W) → fits call it.answer ≡ true → Stands g t place x → speaks p x ≡ Calls call c → Ends_spoken g t place p (answered on p place (goes_on c x) t c call it)
+  spoken-answered : (p place c : ℕ) (call : Call) (x : Says) (t : List Record) (it : Given W) → fits call it.answer ≡ true → Stands g t place x → speaks p x ≡ Calls call c → Ends_spoken g t place p (after_answer on p place (goes_on c x) t c call it)
   spoken-answered p place c call x t it ef i e =
       let met : c ≤ p = (subst (IsPaid p) e (paid p x)).1 in
       let tot = total-stepped place (step c call it.answer) t i.here in
@@ -171,12 +171,12 @@ module _ {W : Type 0} (g : Game W) (lasts : AllLast g.first) (fit : AnswersFit g
       (length-stepped place (step c call it.answer) t) (λ j ne. rec-stepped j place (step c call it.answer) t ne) (omega arith)
       (ih (p - c) place it.refs (goes_on c x it.answer) it.world (stepped place (step c call it.answer) t) (stands-step g lasts place t p c x it.answer call ef i e))
 
-  spoken-asked : (p place : ℕ) (refs : RefsHeld) (x : Says) (w : W) (t : List Record) → Stands g t place x → (c : ℕ) (call : Call) → speaks p x ≡ Calls call c → Ends_spoken g t place p (asked g on p place refs x w t c call)
+  spoken-asked : (p place : ℕ) (refs : RefsHeld) (x : Says) (w : W) (t : List Record) → Stands g t place x → (c : ℕ) (call : Call) → speaks p x ≡ Calls call c → Ends_spoken g t place p (after_ask g on p place refs x w t c call)
   spoken-asked p place refs x w t i c (Launch key map) e =
       after-child p place c key map refs x t i e (on (p - c) (length t) (passed_refs refs map) (g.first key) w (begun key t)) (ih (p - c) (length t) (passed_refs refs map) (g.first key) w (begun key t) (stands-first g t key))
   spoken-asked p place refs x w t i c call e = spoken-answered p place c call x t (g.given w refs call) (fit w refs call refl) i e
 
-  spoken-spoken : (p place : ℕ) (refs : RefsHeld) (x : Says) (w : W) (t : List Record) → Stands g t place x → (s : Spoke) → speaks p x ≡ s → Ends_spoken g t place p (spoken g on p place refs x w t s)
+  spoken-spoken : (p place : ℕ) (refs : RefsHeld) (x : Says) (w : W) (t : List Record) → Stands g t place x → (s : Spoke) → speaks p x ≡ s → Ends_spoken g t place p (after_spoke g on p place refs x w t s)
   spoken-spoken p place refs x w t i (Calls call c) e = spoken-asked p place refs x w t i c call e
   spoken-spoken p place refs x w t i (Exits status c) e = spoken-ended g lasts place t p c x status i e
   spoken-spoken p place refs x w t i Short e = tt

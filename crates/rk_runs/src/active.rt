@@ -1,11 +1,12 @@
 // Commands that run, and those that wait for one that they launched.
-ghost use Rattle.std.specs.Prelude.{◌≡◌, ◌<◌, length, IfOk, OnOk};
+ghost use Rattle.std.specs.Prelude.{◌≡◌, ◌<◌, length, IfOk, IfErr, OnOk, IfSome};
+ghost use Rattle.std.specs.Option.{IsSomeAnd};
 ghost use Rattle.rk_calls.specs.Given.{Given};
-ghost use Rattle.tr_record.specs.Rec.{begun, stepped};
+ghost use Rattle.tr_record.specs.Rec.{stepped};
 ghost use Rattle.rk_runs.specs.Run.{step};
 
 use rk_base::NoMemory;
-use rk_calls::{Answer, Answerer, Call, Key, Maker, RefMap, Refs};
+use rk_calls::{Answer, Answerer, Call, Key, RefMap, Refs};
 use tr_record::{Step, Table};
 
 /// A command that runs: the number of its record, its descriptors and its machine.
@@ -25,29 +26,7 @@ pub struct Frame<M> {
     pub cost: u32,
 }
 
-/// Starts the command of a key with these descriptors, and begins its record.
-pub fn begin<K: Maker>(
-    maker: &mut K,
-    table: &mut Table,
-    key: &Key,
-    refs: Refs,
-) -> Result<Active<K::Made>, NoMemory>
-    ensures says { IfOk result (λ a. K.Made.talk a.machine Answer.Go ≡ K.first key.now) }
-    ensures refs { IfOk result (λ a. a.refs ≡ refs) }
-    ensures place { IfOk result (λ a. a.place ≡ length table.old) }
-    ensures table { OnOk result (table.new ≡ begun key.now table.old) }
-{
-    let machine = maker.start(key)?;
-    let key = key.copy()?;
-    let place = table.begin(key)?;
-    Ok(Active {
-        place,
-        refs,
-        machine,
-    })
-}
-
-/// Asks the world a call, and records the step.
+/// Asks the world a call, and records the step. Nothing else stops it but want of memory.
 pub fn ask<W: Answerer>(
     world: &mut W,
     table: &mut Table,
@@ -55,10 +34,12 @@ pub fn ask<W: Answerer>(
     refs: &mut Refs,
     call: Call,
     cost: u32,
-) -> Result<Answer, NoMemory>
+) -> Result<Answer, W::Stop>
     requires { place < length table.old }
-    ensures given { IfOk result (λ a. record { answer = a; refs = refs.new; world = world.new } ≡ W.given world.old refs.old call) }
+    ensures given { IfOk result (λ a. IfSome (W.told world.old) (λ before. IsSomeAnd (W.told world.new) (λ now. record { answer = a; refs = refs.new; world = now } ≡ W.given before refs.old call))) }
     ensures table { IfOk result (λ a. table.new ≡ stepped place (step cost call a) table.old) }
+    ensures stops { IfErr result (W.Stops world.old world.new) }
+    ensures since { IfOk result (λ _. (now : W) (stop : W.Stop) → W.Stops world.new now stop → W.Stops world.old now stop) }
 {
     let answer = world.answer(refs, &call)?;
     let seen = answer.copy()?;

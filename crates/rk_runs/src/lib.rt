@@ -1,10 +1,10 @@
-//! Runs of commands that launch commands, over any maker of machines and any world.
+//! The parts of runs of commands that launch commands, over any maker of machines and any world.
 #![tactic(auto)]
 
 mod active;
+mod laws;
 mod purse;
-mod run;
 
 pub use active::{Active, Frame, ask, join};
+pub use laws::fresh_runs;
 pub use purse::pay;
-pub use run::{Halt, Ran, run_recorded};

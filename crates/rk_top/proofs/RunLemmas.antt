@@ -1,7 +1,9 @@
 -- The run that was made is the fresh run.
 use Rattle.std.proofs.Common.{◌≡◌, ℕ, List, [], sym, ap, subst, ◌∙◌, arith}
 use Rattle.rk_base.specs.Paid.{Paid}
+use Rattle.rk_calls.specs.Keys.{KeyValue}
 use Rattle.rk_calls.specs.Refs.{top_refs}
+use Rattle.rk_calls.specs.Talk.{Says}
 use Rattle.rk_tree.specs.Entries.{Entries}
 use Rattle.rk_tree.specs.Held.{Held}
 use Rattle.rk_tree.specs.Copies.{tree_of}
@@ -14,7 +16,7 @@ use Rattle.rk_kernel.specs.World.{World, fresh as fresh_of}
 use Rattle.rk_kernel.specs.Do.{answered}
 use Rattle.rk_command.specs.First.{first_talk}
 use Rattle.rk_runs.specs.Purse.{left}
-use Rattle.rk_runs.specs.Run.{Game, Outcome, Spent, game, fresh}
+use Rattle.rk_runs.specs.Run.{Outcome, game, fresh}
 use Rattle.rk_runs.specs.Spoken.{AreSpoken}
 use Rattle.tr_record.specs.declared.records.Record.{Record}
 use Rattle.rk_replay.specs.Stops.{Stops}
@@ -33,8 +35,8 @@ fresh_run-is steps entries budget tree world o limit used is_tree is_world run =
     ∙ run
 
 -- where the build's budget was spent
-pub spent-is : {W : Type 0} (g : Game W) (old : List Record) (o : Outcome W) (e : Stop) → e ≡ stop.Spent → Stops g old o e → AreSpoken g.first old × (o ≡ Spent)
-spent-is g old o e is stops = subst (Stops g old o) is stops
+pub spent-is : {S : Type 0} (first : KeyValue → Says) (old : List Record) (spent : Type 0) (stopped : S → Type 0) (e : Stop S) → e ≡ stop.Spent → Stops first old spent stopped e → AreSpoken first old × spent
+spent-is first old spent stopped e is stops = subst (Stops first old spent stopped) is stops
 
 -- what is put in turn is the whole
 pub copied : (copy it : Entries) (left : List (Text × Entry)) → puts copy left ≡ puts empty (entries it) → left ≡ [] → copy ≡ it

@@ -85,6 +85,6 @@ pub(crate) fn run<L: Ledger>(
         }
         Err(rk_replay::Stop::Forged { rec, step }) => Err(Stop::Forged { rec, step }),
         Err(rk_replay::Stop::Spent) => Err(Stop::Spent),
-        Err(rk_replay::Stop::NoMemory) => Err(Stop::NoMemory),
+        Err(rk_replay::Stop::Stopped(_)) => Err(Stop::NoMemory),
     }
 }

@@ -89,7 +89,10 @@ fn write(alloc: Global, table: &mut Table, place: usize, bytes: &[u8]) -> Result
 
 fn launch(alloc: Global, table: &mut Table, place: usize) -> Result<(), NoMemory> {
     let key = key(alloc, &["cat", "a"], b"b")?;
-    let call = Call::Launch(key, RefMap::with_output(alloc, 11)?);
+    let Some(map) = RefMap::from_vec(vec![in alloc; (0, 0), (1, 11)]?) else {
+        return Err(NoMemory);
+    };
+    let call = Call::Launch(key, map);
     let answer = Answer::Joined(0);
     add(
         table,

@@ -1,5 +1,5 @@
 -- Records of commands, in launch order.
-use Rattle.std.specs.Prelude.{◌≡◌, ℕ, ◌<◌, List, [], ◌∷◌, ◌++◌, length, take, slice_set, slice_index_or, count_by}
+use Rattle.std.specs.Prelude.{◌≡◌, ℕ, ◌<◌, List, [], ◌∷◌, ◌++◌, length, take, slice_set, slice_index_or, count_by, Option, find, ◌&&◌, ◌==◌}
 use Rattle.rk_calls.specs.Keys.{KeyValue, same_key}
 use Rattle.tr_record.specs.declared.records.Record.{Record}
 use Rattle.tr_record.specs.declared.steps.Step.{Step}
@@ -24,6 +24,10 @@ no_key = record { argv = []; wd = []; vars = [] }
 -- the record at a place
 abbrev pub rec_at : ℕ → List Record → Record
 rec_at i table = slice_index_or table i (fresh_rec no_key 0)
+
+-- the first record under a key and an ordinal
+unfoldable pub found : List Record → KeyValue → ℕ → Option Record
+found table key ordinal = find (λ rec. same_key rec.key key && (rec.ordinal == ordinal)) table
 
 -- a command of this key is launched
 unfoldable pub begun : KeyValue → List Record → List Record

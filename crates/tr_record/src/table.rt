@@ -1,7 +1,7 @@
 // The table of records.
 ghost use Rattle.std.specs.Prelude.{◌≡◌, ◌≢◌, ℕ, ◌<◌, [], length, option_copied, slice_get, IfOk, OnOk, OnErr, IfSome, IfNone};
 ghost use Rattle.tr_record.specs.Places.{pushed};
-ghost use Rattle.tr_record.specs.Rec.{rec_at, begun, stepped, ended, count_of, AreNumbered};
+ghost use Rattle.tr_record.specs.Rec.{rec_at, begun, stepped, ended, count_of, found, AreNumbered};
 
 use crate::index::{PlaceList, note, nth, places};
 use crate::{Record, Step, StepList};
@@ -148,13 +148,12 @@ impl Table {
         nth(places(&self.index, key), ordinal)
     }
 
-    /// The record of this key and ordinal; `None` exactly where there is none.
+    /// The first record of this key and ordinal; `None` exactly where there is none.
     pub fn find(&self, key: &Key, ordinal: u64) -> Option<&Record>
-        ensures some { IfSome result (λ rec. (rec.now.key ≡ key.now) × (rec.now.ordinal ≡ ordinal)) }
-        ensures none { IfNone result ((i : ℕ) → i < length self.now → (rec_at i self.now).key ≡ key.now → (rec_at i self.now).ordinal ≢ ordinal) }
+        ensures { option_copied result ≡ found self.now key.now ordinal }
     {
         match self.place(key, ordinal) {
-            Some(i) => Some(&self.records[i]),
+            Some(i) => Some(self.at(i)),
             None => None,
         }
     }

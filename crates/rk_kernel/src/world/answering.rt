@@ -4,10 +4,21 @@ use rk_base::{Errno, NoMemory};
 use rk_calls::{Answer, Answerer, Call, Refs};
 
 impl Answerer for World {
+    ghost use Rattle.std.specs.Prelude.{Some};
+    ghost use Rattle.rk_kernel.specs.World.{World};
     ghost use Rattle.rk_kernel.specs.Do.{answered};
     ghost use Rattle.rk_kernel.specs.Fitting.{answered-fits};
 
+    type Stop = NoMemory;
+
+    ghost Meaning = { World };
+
+    ghost told = { λ world. Some world };
+
     ghost given = { answered };
+
+    // Want of memory alone stops it, which says nothing.
+    ghost Stops = { λ before now stop. Unit {0} };
 
     // A launch is not the world's to answer: it is refused, and nothing changes.
     fn answer(&mut self, refs: &mut Refs, call: &Call) -> Result<Answer, NoMemory> {
@@ -34,4 +45,6 @@ impl Answerer for World {
     }
 
     ghost fitting = { answered-fits };
+
+    ghost memory = { λ before now want stop gives. tt };
 }

@@ -1,12 +1,14 @@
-use Rattle.std.proofs.Common.{◌≡◌, length, arith, refl, ap, ◌∙◌}
+use Rattle.std.proofs.Common.{◌≡◌, length, arith, refl, ap, ◌∙◌, ◌-◌}
 use Rattle.std.proofs.lemmas.Result.{err_from_is_err_and}
 use Rattle.rk_runs.specs.Lasting.{all-last}
 use Rattle.rk_runs.specs.Freshing.{Freshing-start, Freshing-ask, Freshing-launch, Freshing-short, Freshing-end, Freshing-join}
+use Rattle.rk_runs.specs.Purse.{left}
 use Rattle.rk_runs.specs.Run.{game}
 use Rattle.rk_runs.specs.Speaking.{fresh-spoken}
 use Rattle.rk_replay.proofs.Replaying.{ready, Replaying-start, Pays-start, Waiting-ask, Replaying-ask, Pays-ask, Replaying-launch, Pays-launch, Pays-end, join-place, Waiting-join, Replaying-join, Pays-join, pend, pend-push, pend-none, pend-empty, starts-first, starts-next, few-counted}
 use Rattle.rk_replay.proofs.Keeping.{all-kept}
-use Rattle.rk_replay.proofs.Stopping.{stops-forged, stops-looked}
+use Rattle.rk_replay.proofs.Stopping.{told-forged, stops-want, stops-forged, stops-since}
+use Rattle.rk_replay.proofs.Telling.{told-start, told-still, told-last, told-asked, told-first, told-kept}
 use Rattle.rk_replay.proofs.Totalling.{ran_count-length}
 use Rattle.rk_replay.proofs.build.build_with.Goals as goal
 
@@ -15,7 +17,8 @@ turns-init g c =
     let p = Pays-start _ _ _ _ _ c.new-table.ensures c.in_ok-top.ensures.launched c.in_ok-top.ensures.table in
     let z = pend-none _ c.new-stack.ensures.items in
     record {
-      goes = Freshing-start _ _ _ _ _ _ _ _ _ _ _ _ _ c.new-table.ensures c.in_ok-top.ensures.place c.in_ok-top.ensures.refs c.in_ok-refs.ensures c.in_ok-top.ensures.table c.in_ok-top.ensures.says c.new-stack.ensures.items;
+      goes = told-start _ _ (λ before. Freshing-start _ _ _ _ _ _ _ _ _ _ _ _ _ c.new-table.ensures c.in_ok-top.ensures.place c.in_ok-top.ensures.refs c.in_ok-refs.ensures c.in_ok-top.ensures.table c.in_ok-top.ensures.says c.new-stack.ensures.items);
+      since = λ now stop h. h;
       replays = Replaying-start _ _ _ _ _ _ c.new-table.ensures c.new-stack.ensures.items c.in_ok-top.ensures.launched c.in_ok-top.ensures.place c.in_ok-top.ensures.table;
       starts = starts-first _ _ _ _ c.in_ok-top.ensures.starts p.0;
       live = omega (arith, p.1);
@@ -27,10 +30,25 @@ turns-init g c =
 pub hear-requires : goal.hear-requires
 hear-requires g c = ready _ _ _ _ c.turns.invariant.replays
 
+pub returns-in_err-refs-clause-stops : goal.returns-in_err-refs-clause-stops
+returns-in_err-refs-clause-stops g c =
+    let p = err_from_is_err_and c.from_residual.result c.from_residual.ensures.1 in
+    rw p.1 (stops-want _ _ _ _ _ (g.met.W.Answerer.memory _ _) _ p.2)
+
+pub returns-in_err-top-clause-stops : goal.returns-in_err-top-clause-stops
+returns-in_err-top-clause-stops g c =
+    let p = err_from_is_err_and c.from_residual-in_err-top.result c.from_residual-in_err-top.ensures.1 in
+    rw p.1 (stops-want _ _ _ _ _ (g.met.W.Answerer.memory _ _) _ p.2)
+
 pub returns-in_err-call-clause-stops : goal.returns-in_err-call-clause-stops
 returns-in_err-call-clause-stops g c =
     let p = err_from_is_err_and c.from_residual-in_err-call.result c.from_residual-in_err-call.ensures.1 in
-    rw (p.1, p.2) (stops-forged (game g.K.Maker.first g.W.Answerer.given) _ _ _ c.in_err-call.ensures.forged)
+    rw p.1 (stops-forged _ _ _ _ _ (g.met.W.Answerer.memory _ _) _ _ c.in_err-call.ensures.forged p.2)
+
+pub returns-in_err-launch_below-in-Launch-clause-stops : goal.returns-in_err-launch_below-in-Launch-clause-stops
+returns-in_err-launch_below-in-Launch-clause-stops g c =
+    let p = err_from_is_err_and c.from_residual-in_err-launch_below-in-Launch.result c.from_residual-in_err-launch_below-in-Launch.ensures.1 in
+    rw p.1 (stops-want _ _ _ _ _ (g.met.W.Answerer.memory _ _) _ p.2)
 
 pub turns-preserved-in-Launch : goal.turns-preserved-in-Launch
 turns-preserved-in-Launch g c =
@@ -38,10 +56,12 @@ turns-preserved-in-Launch g c =
     let n = pend-push _ _ _ c.in_ok-launch_below-in-Launch.ensures.stack in
     record {
       goes =
-          Freshing-launch _ _ _ _ _ _ _ _ _ _ _ c.turns.invariant.goes _ _ (λ q. rw c.left.ensures.left at (c.in_ok-call.ensures.spoke q)) c.in_ok-call.ensures.goes
+          told-still _ _ _ _ c.turns.invariant.goes
+          (λ before now i. Freshing-launch _ _ _ _ _ _ _ _ _ _ _ i _ _ (λ q. rw c.left.ensures.left at (c.in_ok-call.ensures.spoke q)) c.in_ok-call.ensures.goes
           _ _ _ _ _ _ _ _ _ _ c.in-Call.is c.pay-cost.ensures.cost (omega arith) c.in-Launch.is
           c.in_ok-launch_below-in-Launch.ensures.refs refl c.in_ok-launch_below-in-Launch.ensures.says c.in_ok-launch_below-in-Launch.ensures.place c.in_ok-launch_below-in-Launch.ensures.table
-          c.in_ok-launch_below-in-Launch.ensures.stack;
+          c.in_ok-launch_below-in-Launch.ensures.stack);
+      since = c.turns.invariant.since;
       replays =
           Replaying-launch _ _ _ _ c.turns.invariant.replays _ _ c.in_ok-call.ensures.on _ _ _ _ _ _ _ _ c.in-Call.is c.pay-cost.ensures.cost c.in-Launch.is
           c.in_ok-launch_below-in-Launch.ensures.launched c.in_ok-launch_below-in-Launch.ensures.place c.in_ok-launch_below-in-Launch.ensures.table
@@ -64,10 +84,12 @@ turns-preserved-in_default g c =
     let p = Pays-ask _ _ _ _ c.turns.invariant.replays _ _ c.in_ok-call.ensures.on _ _ _ _ _ _ c.in-Call.is c.pay-cost.ensures.cost c.in_ok-answer-in_default.ensures.table c.in_ok-answer-in_default.ensures.takes in
     record {
       goes =
-          Freshing-ask _ _ _ _ _ _ _ _ _ _ _ c.turns.invariant.goes _ _ (λ q. rw c.left.ensures.left at (c.in_ok-call.ensures.spoke q)) c.in_ok-call.ensures.goes
+          told-asked _ (g.W.Answerer.told c.turns.world) (g.W.Answerer.told c.answer_call.new.world) _ _ _ c.turns.invariant.goes c.in_ok-answer-in_default.ensures.given
+          (λ before now after i given. Freshing-ask _ _ _ _ _ _ _ _ _ _ _ i _ _ (λ q. rw c.left.ensures.left at (c.in_ok-call.ensures.spoke q)) c.in_ok-call.ensures.goes
           _ _ _ _ _ _ _ _ _ c.in-Call.is c.pay-cost.ensures.cost (omega arith)
           c.in_default.not-Launch
-          c.in_ok-answer-in_default.ensures.given c.in_ok-answer-in_default.ensures.table c.in_ok-answer-in_default.ensures.place refl c.in_ok-answer-in_default.ensures.state;
+          given c.in_ok-answer-in_default.ensures.table c.in_ok-answer-in_default.ensures.place refl c.in_ok-answer-in_default.ensures.state);
+      since = λ now stop h. c.turns.invariant.since now stop (c.in_ok-answer-in_default.ensures.since now stop h);
       replays =
           Replaying-ask _ _ _ _ c.turns.invariant.replays _ _ c.in_ok-call.ensures.on _ _ _ _ _ _ c.in-Call.is c.pay-cost.ensures.cost
           c.in_ok-answer-in_default.ensures.table c.in_ok-answer-in_default.ensures.place c.in_ok-answer-in_default.ensures.takes;
@@ -85,7 +107,7 @@ returns-in_err-answer-in_default g c =
       done = rw p.1 tt;
       spoken = rw p.1 tt;
       kept = rw p.1 tt;
-      stops = rw (p.1, p.2) (stops-forged (game g.K.Maker.first g.W.Answerer.given) _ _ _ c.in_err-answer-in_default.ensures.forged);
+      stops = rw (p.1, p.2) (stops-since _ _ _ _ _ (λ reason h. c.turns.invariant.since _ reason h) _ c.in_err-answer-in_default.ensures.stops);
       ran = rw p.1 tt;
       starts = rw p.1 tt;
       live = rw p.1 tt;
@@ -97,20 +119,30 @@ returns-in_err-answer-in_default g c =
 pub returns-in_err-ran-in-None-clause-stops : goal.returns-in_err-ran-in-None-clause-stops
 returns-in_err-ran-in-None-clause-stops g c =
     let p = err_from_is_err_and c.from_residual-in_err-ran-in-None.result c.from_residual-in_err-ran-in-None.ensures.1 in
-    rw (p.1, p.2) tt
+    rw p.1 (stops-want _ _ _ _ _ (g.met.W.Answerer.memory _ _) _ p.2)
 
+-- the run, as it ends
 pub returns-in-None-clause-done : goal.returns-in-None-clause-done
-returns-in-None-clause-done g c = λ q.
+returns-in-None-clause-done g c =
     let z : length c.turns.stack.items ≡ 0 = omega (arith, c.in-None.ensures.cases.0, c.turns.stack.ok.0) in
-    Freshing-end _ _ _ _ _ _ _ _ _ _ _ c.turns.invariant.goes _ _ (λ q. rw c.left.ensures.left at (c.in_ok-call.ensures.spoke q)) c.in_ok-call.ensures.goes
-    _ _ _ _ _ c.in-Exit.is c.pay-cost-in-Exit.ensures.cost (omega arith) c.end.ensures z q
+    told-last (g.W.Answerer.told c.args.world.now) (g.W.Answerer.told c.turns.world) _ _ c.turns.invariant.goes
+    (λ before now i q.
+    Freshing-end _ _ _ _ _ _ _ _ _ _ _ i _ _ (λ q. rw c.left.ensures.left at (c.in_ok-call.ensures.spoke q)) c.in_ok-call.ensures.goes
+    _ _ _ _ _ c.in-Exit.is c.pay-cost-in-Exit.ensures.cost (omega arith) c.end.ensures z q)
 
 pub returns-in-None-clause-spoken : goal.returns-in-None-clause-spoken
-returns-in-None-clause-spoken g c = λ q.
-    fresh-spoken (game g.K.Maker.first g.W.Answerer.given) (all-last g.K.Maker.first g.met.K.Maker.command) g.met.W.Answerer.fitting _ _ _ _ _ _ _ _ (returns-in-None-clause-done g c q)
+returns-in-None-clause-spoken g c =
+    let z : length c.turns.stack.items ≡ 0 = omega (arith, c.in-None.ensures.cases.0, c.turns.stack.ok.0) in
+    told-first (g.W.Answerer.told c.args.world.now) (g.W.Answerer.told c.turns.world) _ _ c.turns.invariant.goes
+    (λ before now i q.
+    fresh-spoken (game g.K.Maker.first g.W.Answerer.given) (all-last g.K.Maker.first g.met.K.Maker.command) g.met.W.Answerer.fitting _ _ _ _ _ _ _ _
+    (Freshing-end _ _ _ _ _ _ _ _ _ _ _ i _ _ (λ q. rw c.left.ensures.left at (c.in_ok-call.ensures.spoke q)) c.in_ok-call.ensures.goes
+    _ _ _ (left c.turns.budget - c.pay-cost-in-Exit.result) _ c.in-Exit.is c.pay-cost-in-Exit.ensures.cost refl c.end.ensures z q))
 
 pub returns-in-None-clause-kept : goal.returns-in-None-clause-kept
-returns-in-None-clause-kept g c = λ q. all-kept g.K.Maker.first (all-last g.K.Maker.first g.met.K.Maker.command) _ _ q (returns-in-None-clause-spoken g c q)
+returns-in-None-clause-kept g c =
+    told-kept (g.W.Answerer.told c.args.world.now) _ _ _ (returns-in-None-clause-spoken g c)
+    (λ q spoken. all-kept g.K.Maker.first (all-last g.K.Maker.first g.met.K.Maker.command) _ _ q spoken)
 
 pub returns-in-None-clause-starts : goal.returns-in-None-clause-starts
 returns-in-None-clause-starts g c =
@@ -142,7 +174,7 @@ resume-requires-clause-here g c = join-place _ _ _ _ c.turns.invariant.replays _
 pub returns-in_err-top-in-Some-clause-stops : goal.returns-in_err-top-in-Some-clause-stops
 returns-in_err-top-in-Some-clause-stops g c =
     let p = err_from_is_err_and c.from_residual-in_err-top-in-Some.result c.from_residual-in_err-top-in-Some.ensures.1 in
-    rw (p.1, p.2) (stops-forged (game g.K.Maker.first g.W.Answerer.given) _ _ _ c.in_err-top-in-Some.ensures.forged)
+    rw p.1 (stops-forged _ _ _ _ _ (g.met.W.Answerer.memory _ _) _ _ c.in_err-top-in-Some.ensures.forged p.2)
 
 pub turns-preserved : goal.turns-preserved
 turns-preserved g c =
@@ -150,9 +182,11 @@ turns-preserved g c =
     let n = pend-push _ _ _ c.in-Some.ensures.items in
     record {
       goes =
-          Freshing-join _ _ _ _ _ _ _ _ _ _ _ c.turns.invariant.goes _ _ (λ q. rw c.left.ensures.left at (c.in_ok-call.ensures.spoke q)) c.in_ok-call.ensures.goes
+          told-still _ _ _ _ c.turns.invariant.goes
+          (λ before now i. Freshing-join _ _ _ _ _ _ _ _ _ _ _ i _ _ (λ q. rw c.left.ensures.left at (c.in_ok-call.ensures.spoke q)) c.in_ok-call.ensures.goes
           _ _ _ _ _ _ _ _ _ c.in-Exit.is c.pay-cost-in-Exit.ensures.cost (omega arith) c.end.ensures c.in-Some.ensures.items
-          c.in_ok-top-in-Some.ensures.table c.in_ok-top-in-Some.ensures.place c.in_ok-top-in-Some.ensures.refs c.in_ok-top-in-Some.ensures.state;
+          c.in_ok-top-in-Some.ensures.table c.in_ok-top-in-Some.ensures.place c.in_ok-top-in-Some.ensures.refs c.in_ok-top-in-Some.ensures.state);
+      since = c.turns.invariant.since;
       replays =
           Replaying-join _ _ _ _ c.turns.invariant.replays _ _ c.in_ok-call.ensures.on _ _ _ _ _ _ c.in-Exit.is c.end.ensures c.in-Some.ensures.items
           _ _ c.in_ok-top-in-Some.ensures.table c.in_ok-top-in-Some.ensures.place c.in_ok-top-in-Some.ensures.takes;
@@ -163,7 +197,16 @@ turns-preserved g c =
       few = few-counted c.args.old.now c.resume.new.table c.args.live.now c.resume.new.live c.args.budget.now c.pay-cost-in-Exit.new.budget (pend c.pop.new.self.items) (omega (arith, p.counts.live, c.in_ok-top-in-Some.ensures.live, c.exit_counted-counted.ensures)) (omega (arith, p.total, n)) (omega arith) c.pay-cost-in-Exit.ensures.within;
     }
 
+pub returns-in_err-check_with-in-Short-clause-stops : goal.returns-in_err-check_with-in-Short-clause-stops
+returns-in_err-check_with-in-Short-clause-stops g c =
+    let p = err_from_is_err_and c.from_residual-in_err-check_with-in-Short.result c.from_residual-in_err-check_with-in-Short.ensures.1 in
+    rw p.1 (stops-forged _ _ _ _ _ (g.met.W.Answerer.memory _ _) _ _ (told-forged _ _ _ c.in_err-check_with-in-Short.ensures.first) p.2)
+
 pub returns-in-Short-clause-stops : goal.returns-in-Short-clause-stops
 returns-in-Short-clause-stops g c =
-    stops-looked (game g.K.Maker.first g.W.Answerer.given) _ _ _ c.spent.ensures
-    (Freshing-short _ _ _ _ _ _ _ _ _ _ _ c.turns.invariant.goes _ _ (λ q. rw c.left.ensures.left at (c.in_ok-call.ensures.spoke q)) c.in_ok-call.ensures.goes c.in-Short.is)
+    let spoken = c.in_ok-check_with-in-Short.ensures.spoken in (
+      spoken,
+      told-first (g.W.Answerer.told c.args.world.now) (g.W.Answerer.told c.turns.world) _ _ c.turns.invariant.goes
+          (λ before now i.
+          Freshing-short _ _ _ _ _ _ _ _ _ _ _ i _ _ (λ q. rw c.left.ensures.left at (c.in_ok-call.ensures.spoke q)) c.in_ok-call.ensures.goes c.in-Short.is spoken),
+    )

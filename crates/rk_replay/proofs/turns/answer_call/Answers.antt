@@ -2,4 +2,4 @@ use Rattle.rk_runs.specs.Places.{length-stepped}
 use Rattle.rk_replay.proofs.turns.answer_call.Goals as goal
 
 pub settle-requires-clause-here : goal.settle-requires-clause-here
-settle-requires-clause-here g c = rw (c.in_ok-answer.ensures.table, length-stepped) c.requires.here
+settle-requires-clause-here g c = rw (c.in-Ok.ensures.table, length-stepped) c.requires.here

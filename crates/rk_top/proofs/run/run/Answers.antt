@@ -26,5 +26,5 @@ returns-in-Ok-clause-runs g c =
 
 pub returns-in-Err-Spent-clause-runs : goal.returns-in-Err-Spent-clause-runs
 returns-in-Err-Spent-clause-runs g c =
-    let s = spent-is (game first_talk answered) _ _ _ c.in-Err-Spent.field-0-is c.in-Err-Spent.ensures.stops in
+    let s = spent-is first_talk _ _ _ _ c.in-Err-Spent.field-0-is c.in-Err-Spent.ensures.stops in
     (s.0, fresh_run-is _ _ _ _ _ _ c.budget-budget.ensures.limit c.budget-budget.ensures.used (c.in_ok-tree.ensures.tree ∙ ap (λ (s : Entries). tree_of (with_rows s c.args.attrs.now)) c.in_ok-copy.ensures) c.in_ok-world.ensures s.1)
