@@ -2,6 +2,7 @@ pub mod AttributesLemmas
 pub mod FirstLemmas
 pub mod HeldLemmas
 pub mod HiddenLemmas
+pub mod ImportLemmas
 pub mod ListingLemmas
 pub mod OrderLemmas
 pub mod ReadingLemmas

@@ -73,7 +73,7 @@ told-no_state (Some held) items o whole listed o_is none = (state_is held items 
 
 -- The state files.
 
-hidden_item : (held : Held) (items : List Item) → IsWhole held → items ≡ items_of held root → item_named hidden items ≡ option_map (item_of hidden) (standing held hidden_dir)
+pub hidden_item : (held : Held) (items : List Item) → IsWhole held → items ≡ items_of held root → item_named hidden items ≡ option_map (item_of hidden) (standing held hidden_dir)
 hidden_item held items whole is = ap (item_named hidden) is ∙ item_named-is held root hidden whole root-canonical hidden-is_name
 
 no_item : (o : Option Standing) → option_map (item_of hidden) o ≡ None → o ≡ None
@@ -89,7 +89,7 @@ dir_item (Some Special) name h = cc
 abbrev pub found : Bool → Option Text → Option Text → Hidden
 found rkr db attrs = record { rkr = rkr; state = record { db = db; attrs = attrs } }
 
-found_is : (held : Held) (rkr : Bool) (db attrs : Option Text) → is_dir (standing held hidden_dir) ≡ rkr → bytes_in (standing held db_file) ≡ db → bytes_in (standing held attrs_file) ≡ attrs → found rkr db attrs ≡ state_of held
+pub found_is : (held : Held) (rkr : Bool) (db attrs : Option Text) → is_dir (standing held hidden_dir) ≡ rkr → bytes_in (standing held db_file) ≡ db → bytes_in (standing held attrs_file) ≡ attrs → found rkr db attrs ≡ state_of held
 found_is held rkr db attrs r d a =
     ap (λ (b : Bool). found b db attrs) (sym r) ∙ ap (λ (x : Option Text). found (is_dir (standing held hidden_dir)) x attrs) (sym d)
     ∙ ap (found (is_dir (standing held hidden_dir)) (bytes_in (standing held db_file))) (sym a)

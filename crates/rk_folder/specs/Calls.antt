@@ -22,6 +22,12 @@ Caused before now allowed (Ok it) = (now ≡ before) × (allowed ≡ true)
 Caused before now allowed (Err Failed) = (before ≤ now) × MatchBool allowed (Rose before now) (now ≡ before)
 Caused before now allowed (Err NoMemory) = now ≡ before
 
+-- want of memory raises the count of it, and nothing else does
+abbrev pub MemoryCaused : {T : Type 0} → ℕ → ℕ → Result T FolderErr → Type 0
+MemoryCaused before now (Ok it) = now ≡ before
+MemoryCaused before now (Err Failed) = now ≡ before
+MemoryCaused before now (Err NoMemory) = (before ≤ now) × Rose before now
+
 abbrev pub IsNoFault : {T : Type 0} → Result T FolderErr → Type 0
 IsNoFault (Ok it) = Unit {0}
 IsNoFault (Err Failed) = ⊥

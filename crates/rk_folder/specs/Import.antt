@@ -1,5 +1,5 @@
 -- What a folder is to a build: its files and directories outside `.rkr`, and its state files.
-use Rattle.std.specs.Prelude.{◌≡◌, ◌≤◌, ℕ, Option, Some, None, IfSome, option_map, Result, Ok, Err, if◌then◌else◌}
+use Rattle.std.specs.Prelude.{◌≡◌, ◌≤◌, ℕ, Bool, true, Option, Some, None, IfSome, option_map, Result, Ok, Err, if◌then◌else◌}
 use Rattle.std.specs.List.{filter_map}
 use Rattle.std.specs.FinMap.{entries}
 use Rattle.rk_base.specs.Text.{Text, is_within}
@@ -7,6 +7,7 @@ use Rattle.rk_tree.specs.Entries.{Entries}
 use Rattle.rk_tree.specs.Rows.{map_of}
 use Rattle.rk_tree.specs.declared.entry.Entry.{Entry}
 use Rattle.rk_tree.specs.declared.entry.Entry.TheVariants as entry
+use Rattle.tr_codec.specs.Attrs.{file_mode, dir_mode}
 use Rattle.rk_folder.specs.Counts.{Rose}
 use Rattle.rk_folder.specs.Told.{Held, standing, is_dir, bytes_in}
 use Rattle.rk_folder.specs.Hidden.{hidden_dir, attrs_file, db_file}
@@ -17,10 +18,10 @@ use Rattle.rk_folder.specs.declared.importing.ImportErr.{ImportErr}
 use Rattle.rk_folder.specs.declared.importing.ImportErr.TheVariants as err
 use Rattle.rk_folder.specs.declared.hidden_files.Hidden.{Hidden}
 
--- a file's mode is 0644, a directory's 0755
+-- a file and a directory have their default modes, 0644 and 0755
 abbrev pub entry_of : Standing → Option Entry
-entry_of (File bytes) = Some (entry.File 420 bytes)
-entry_of Dir = Some (entry.Dir 493)
+entry_of (File bytes) = Some (entry.File file_mode bytes)
+entry_of Dir = Some (entry.Dir dir_mode)
 entry_of Special = None
 
 abbrev pub imported : Text × Standing → Option (Text × Entry)
@@ -51,6 +52,23 @@ ReadCaused before now (Ok it) = now ≡ before
 ReadCaused before now (Err (err.Special path)) = now ≡ before
 ReadCaused before now (Err err.ReadFault) = (before ≤ now) × Rose before now
 ReadCaused before now (Err err.NoMemory) = now ≡ before
+
+-- an import that ends otherwise than by want of memory had no call that wanted any
+abbrev pub MemoryCounted : {T : Type 0} → ℕ → ℕ → Result T ImportErr → Type 0
+MemoryCounted before now (Ok it) = now ≡ before
+MemoryCounted before now (Err (err.Special path)) = now ≡ before
+MemoryCounted before now (Err err.ReadFault) = now ≡ before
+MemoryCounted before now (Err err.NoMemory) = before ≤ now
+
+abbrev pub IsNoReadFault : {T : Type 0} → Result T ImportErr → Type 0
+IsNoReadFault (Ok it) = Unit {0}
+IsNoReadFault (Err (err.Special path)) = Unit {0}
+IsNoReadFault (Err err.ReadFault) = ⊥
+IsNoReadFault (Err err.NoMemory) = Unit {0}
+
+-- a steady folder stays steady, and its import is no read fault
+abbrev pub ReadSteadily : {T : Type 0} → Bool → Bool → Result T ImportErr → Type 0
+ReadSteadily before now result = (now ≡ before) × (before ≡ true → IsNoReadFault result)
 
 -- nothing is special
 abbrev pub IsPlain : Held → Type 0

@@ -14,16 +14,18 @@ abbrev pub told_by : MemFolder → Option Held
 told_by folder = Some (held_by folder)
 
 -- What it keeps beside: the calls that are to fail, how many calls there were, the changes that were
--- called for, how many lists and reads were faults, and how many of the other calls.
+-- called for, how many lists and reads were faults, how many of the other calls, and how many calls had no
+-- memory.
 pub record Kept : Type 0 where
   pub failing : List Failing
   pub calls : ℕ
   pub changes : List Change
   pub read_faults : ℕ
   pub write_faults : ℕ
+  pub memory_failures : ℕ
 
 abbrev pub kept_by : MemFolder → Kept
-kept_by folder = record { failing = folder.failing.items; calls = folder.calls; changes = folder.changes.items; read_faults = folder.read_faults; write_faults = folder.write_faults }
+kept_by folder = record { failing = folder.failing.items; calls = folder.calls; changes = folder.changes.items; read_faults = folder.read_faults; write_faults = folder.write_faults; memory_failures = folder.memory_failures }
 
 -- no call is to fail
 abbrev pub is_steady : MemFolder → Bool

@@ -1,6 +1,7 @@
 -- Which calls of a folder are to be faults.
-use Rattle.std.specs.Prelude.{◌≡◌, ◌==◌, ◌+◌, ◌-◌, ◌^◌, min, ℕ, List, Bool, Option, Some, None, Result, Ok, Err, IsSome, find, option_map, MatchBool}
+use Rattle.std.specs.Prelude.{zero, suc, ◌≡◌, ◌==◌, ℕ, List, Bool, Option, Some, None, Result, Ok, Err, IsSome, find, option_map, MatchBool}
 use Rattle.rk_base.specs.Text.{Text}
+use Rattle.rk_folder.specs.Counts.{one_more}
 use Rattle.rk_folder.specs.Told.{Held, with_standing}
 use Rattle.rk_folder.specs.declared.folder.Standing.TheVariants.{File}
 use Rattle.rk_folder.specs.declared.folder.FolderErr.{FolderErr}
@@ -16,10 +17,6 @@ pub record Schedule : Type 0 where
   pub failing : List Failing
   pub calls : ℕ
 
--- a number of calls and one more, up to the last value
-abbrev pub one_more : ℕ → ℕ
-one_more calls = min (calls + 1) (2 ^ 64 - 1)
-
 -- how the call of this number is to fail: the first that has its number counts
 abbrev pub failing_at : List Failing → ℕ → Option Failing
 failing_at failing call = find (λ it. it.0 == call) failing
@@ -29,6 +26,11 @@ next_fault schedule = failing_at schedule.failing (one_more schedule.calls)
 
 abbrev pub after_call : Schedule → Schedule
 after_call schedule = record schedule { calls = one_more schedule.calls }
+
+-- so many calls later
+abbrev pub after_calls : ℕ → Schedule → Schedule
+after_calls zero schedule = schedule
+after_calls (suc n) schedule = after_call (after_calls n schedule)
 
 -- a call that is allowed is a fault where one is scheduled, and only there
 abbrev pub Befalls : {T : Type 0} → Schedule → Bool → Result T FolderErr → Type 0

@@ -8,7 +8,7 @@ use Rattle.rk_tree.specs.Entries as tree
 use Rattle.rk_tree.specs.Entries.{Entries}
 use Rattle.rk_tree.specs.declared.entry.Entry.{Entry}
 use Rattle.rk_tree.specs.declared.entry.Entry.TheVariants as entry
-use Rattle.rk_folder.specs.Told.{Held, standing, is_dir, is_file}
+use Rattle.rk_folder.specs.Told.{Held, standing, is_dir, is_file, items_of}
 use Rattle.rk_folder.specs.Listing.{first_listed}
 use Rattle.rk_folder.specs.Specials.{is_special, is_fault, paths_of, or_else}
 use Rattle.rk_folder.specs.Import.{imported}
@@ -21,6 +21,10 @@ use Rattle.rk_folder.specs.declared.importing.StateFile.{StateFile}
 use Rattle.rk_folder.specs.declared.importing.StateFile.TheVariants as state
 use Rattle.rk_folder.specs.declared.importing.ImportErr.{ImportErr}
 use Rattle.rk_folder.specs.declared.importing.ImportErr.TheVariants as err
+
+-- these are the items of the root
+abbrev pub ListsRoot : Option Held → List Item → Type 0
+ListsRoot told items = IfSome told (λ held. items ≡ items_of held root)
 
 -- the folder allows a call, where it tells what it holds
 abbrev pub MayCall : Option Held → (Held → Bool) → Type 0
@@ -36,6 +40,14 @@ is_named name item.Odd = false
 abbrev pub item_named : Text → List Item → Option Item
 item_named name [] = None
 item_named name (it ∷ its) = if is_named name it then Some it else item_named name its
+
+-- a directory is listed
+abbrev pub is_dir_item : Option Item → Bool
+is_dir_item None = false
+is_dir_item (Some (item.File name)) = false
+is_dir_item (Some (item.Dir name)) = true
+is_dir_item (Some (item.Special name)) = false
+is_dir_item (Some item.Odd) = false
 
 abbrev pub is_odd_item : Item → Bool
 is_odd_item (item.File n) = false

@@ -1,9 +1,9 @@
-// A folder: what it holds where it tells that, how deep it reaches, and two counts of faults.
+// A folder: what it holds where it tells that, how deep it reaches, two counts of faults, and one of want of memory.
 ghost use Rattle.std.specs.Prelude.{◌≡◌, ◌≤◌, ℕ, Bool, Option, IfOk, OnOk};
 ghost use Rattle.rk_base.specs.Text.{depth};
 ghost use Rattle.rk_folder.specs.Told.{Held, can_list, can_read, can_write, can_make_dir, can_remove_file, can_remove_dir, can_rename, with_standing, without, renamed};
 ghost use Rattle.rk_folder.specs.Whole.{TellsWhole};
-ghost use Rattle.rk_folder.specs.Calls.{allows, Caused, Lists, Reads, Changes, Writes, Steadily};
+ghost use Rattle.rk_folder.specs.Calls.{allows, Caused, MemoryCaused, Lists, Reads, Changes, Writes, Steadily};
 ghost use Rattle.rk_folder.specs.Schedule.{Schedule, OnSchedule, Leaves};
 ghost use Rattle.rk_folder.specs.declared.folder.Standing.TheVariants.{Dir};
 ghost use Rattle.rk_folder.specs.declared.folder.FolderErr.TheVariants as err;
@@ -73,8 +73,8 @@ impl<T: Drop> From<AllocFailed<T>> for FolderErr {
 /// Files and directories that are listed, read and changed.
 ///
 /// A call that what the folder holds doesn't allow is `Failed` and is no fault. Every other
-/// `Failed` is a fault and raises the count for its kind, up to 2^64 - 1. Want of memory is no fault,
-/// and changes nothing that it holds.
+/// `Failed` is a fault and raises the count for its kind, up to 2^64 - 1. Want of memory is no fault;
+/// it raises a count of its own, and changes nothing that it holds.
 pub trait Folder {
     /// What it holds, where it tells that.
     ghost told: { Self → Option Held };
@@ -84,6 +84,9 @@ pub trait Folder {
 
     /// How many of the other calls were faults.
     ghost write_faults: { Self → ℕ };
+
+    /// How many calls had no memory.
+    ghost memory_failures: { Self → ℕ };
 
     /// More names than this no path has that is listed.
     ghost reach: { Self → ℕ };
@@ -99,6 +102,7 @@ pub trait Folder {
         ensures items { IfOk result (λ items. Lists (told self.old) dir.now items.items) }
         ensures within { OnOk result (depth dir.now ≤ reach self.old) }
         ensures cause { Caused (read_faults self.old) (read_faults self.new) (allows (told self.old) (can_list dir.now)) result }
+        ensures memory { MemoryCaused (memory_failures self.old) (memory_failures self.new) result }
         ensures steady { Steadily (steady self.old) (steady self.new) (allows (told self.old) (can_list dir.now)) result }
         ensures schedule { OnSchedule (schedule self.old) (schedule self.new) (allows (told self.old) (can_list dir.now)) result }
 
@@ -110,6 +114,7 @@ pub trait Folder {
     fn read(&mut self, alloc: Global, file: &Path) -> Result<Got, FolderErr>
         ensures got { IfOk result (Reads (told self.old) file.now) }
         ensures cause { Caused (read_faults self.old) (read_faults self.new) (allows (told self.old) (can_read file.now)) result }
+        ensures memory { MemoryCaused (memory_failures self.old) (memory_failures self.new) result }
         ensures steady { Steadily (steady self.old) (steady self.new) (allows (told self.old) (can_read file.now)) result }
         ensures schedule { OnSchedule (schedule self.old) (schedule self.new) (allows (told self.old) (can_read file.now)) result }
 
@@ -122,6 +127,7 @@ pub trait Folder {
     fn write(&mut self, alloc: Global, file: &Path, bytes: &[u8]) -> Result<(), FolderErr>
         ensures held { Writes file.now bytes.now (allows (told self.old) (can_write file.now)) (told self.old) (told self.new) result }
         ensures cause { Caused (write_faults self.old) (write_faults self.new) (allows (told self.old) (can_write file.now)) result }
+        ensures memory { MemoryCaused (memory_failures self.old) (memory_failures self.new) result }
         ensures steady { Steadily (steady self.old) (steady self.new) (allows (told self.old) (can_write file.now)) result }
         ensures schedule { OnSchedule (schedule self.old) (schedule self.new) (allows (told self.old) (can_write file.now)) result }
         ensures left { Leaves file.now (schedule self.old) (allows (told self.old) (can_write file.now)) (told self.old) (told self.new) result }
@@ -131,6 +137,7 @@ pub trait Folder {
     fn make_dir(&mut self, alloc: Global, dir: &Path) -> Result<(), FolderErr>
         ensures held { Changes (with_standing dir.now Dir) (told self.old) (told self.new) result }
         ensures cause { Caused (write_faults self.old) (write_faults self.new) (allows (told self.old) (can_make_dir dir.now)) result }
+        ensures memory { MemoryCaused (memory_failures self.old) (memory_failures self.new) result }
         ensures steady { Steadily (steady self.old) (steady self.new) (allows (told self.old) (can_make_dir dir.now)) result }
         ensures schedule { OnSchedule (schedule self.old) (schedule self.new) (allows (told self.old) (can_make_dir dir.now)) result }
         ensures other { read_faults self.new ≡ read_faults self.old };
@@ -139,6 +146,7 @@ pub trait Folder {
     fn remove_file(&mut self, alloc: Global, file: &Path) -> Result<(), FolderErr>
         ensures held { Changes (without file.now) (told self.old) (told self.new) result }
         ensures cause { Caused (write_faults self.old) (write_faults self.new) (allows (told self.old) (can_remove_file file.now)) result }
+        ensures memory { MemoryCaused (memory_failures self.old) (memory_failures self.new) result }
         ensures steady { Steadily (steady self.old) (steady self.new) (allows (told self.old) (can_remove_file file.now)) result }
         ensures schedule { OnSchedule (schedule self.old) (schedule self.new) (allows (told self.old) (can_remove_file file.now)) result }
         ensures other { read_faults self.new ≡ read_faults self.old };
@@ -147,6 +155,7 @@ pub trait Folder {
     fn remove_dir(&mut self, alloc: Global, dir: &Path) -> Result<(), FolderErr>
         ensures held { Changes (without dir.now) (told self.old) (told self.new) result }
         ensures cause { Caused (write_faults self.old) (write_faults self.new) (allows (told self.old) (can_remove_dir dir.now)) result }
+        ensures memory { MemoryCaused (memory_failures self.old) (memory_failures self.new) result }
         ensures steady { Steadily (steady self.old) (steady self.new) (allows (told self.old) (can_remove_dir dir.now)) result }
         ensures schedule { OnSchedule (schedule self.old) (schedule self.new) (allows (told self.old) (can_remove_dir dir.now)) result }
         ensures other { read_faults self.new ≡ read_faults self.old };
@@ -155,6 +164,7 @@ pub trait Folder {
     fn rename(&mut self, alloc: Global, from: &Path, to: &Path) -> Result<(), FolderErr>
         ensures held { Changes (renamed from.now to.now) (told self.old) (told self.new) result }
         ensures cause { Caused (write_faults self.old) (write_faults self.new) (allows (told self.old) (can_rename from.now to.now)) result }
+        ensures memory { MemoryCaused (memory_failures self.old) (memory_failures self.new) result }
         ensures steady { Steadily (steady self.old) (steady self.new) (allows (told self.old) (can_rename from.now to.now)) result }
         ensures schedule { OnSchedule (schedule self.old) (schedule self.new) (allows (told self.old) (can_rename from.now to.now)) result }
         ensures other { read_faults self.new ≡ read_faults self.old };

@@ -10,7 +10,7 @@ ghost use Rattle.rk_tree.specs.Entries.{IsWholeSnapshot};
 ghost use Rattle.rk_folder.specs.Told as told;
 ghost use Rattle.rk_folder.specs.Hidden.{hidden_dir, attrs_name, db_name};
 ghost use Rattle.rk_folder.specs.Specials.{first_special, state_special};
-ghost use Rattle.rk_folder.specs.Import.{Tells, ReadCaused, snapshot_of};
+ghost use Rattle.rk_folder.specs.Import.{Tells, ReadCaused, MemoryCounted, ReadSteadily, snapshot_of};
 ghost use Rattle.rk_folder.specs.Steps as steps;
 ghost use Rattle.rk_folder.specs.Steps.{MayCall};
 ghost use Rattle.rk_folder.specs.declared.folder.Item.TheVariants as item;
@@ -21,10 +21,7 @@ use crate::{Folder, FolderErr, Got, Item};
 use rk_base::{Bytes, Name, NoMemory, Path};
 use rk_tree::{Entry, Snapshot};
 use std::alloc::Global;
-
-const FILE_MODE: u16 = 0o644;
-
-const DIR_MODE: u16 = 0o755;
+use tr_codec::{DIR_MODE, FILE_MODE};
 
 /// Why a folder wasn't imported.
 #[derive(Debug, Drop)]
@@ -66,6 +63,8 @@ pub(crate) fn list<F: Folder>(
     ensures items { Tells (F.told folder.old) steps.nothing_special (λ held items. items.items ≡ told.items_of held dir.now) result }
     ensures within { OnOk result (depth dir.now ≤ F.reach folder.old) }
     ensures cause { ReadCaused (F.read_faults folder.old) (F.read_faults folder.new) result }
+    ensures memory { MemoryCounted (F.memory_failures folder.old) (F.memory_failures folder.new) result }
+    ensures steady { ReadSteadily (F.steady folder.old) (F.steady folder.new) result }
     ensures held { F.told folder.new ≡ F.told folder.old }
     ensures writes { F.write_faults folder.new ≡ F.write_faults folder.old }
     ensures reach { F.reach folder.new ≡ F.reach folder.old }
@@ -83,6 +82,8 @@ pub(crate) fn bytes_of<F: Folder>(
     requires { MayCall (F.told folder.old) (told.can_read file.now) }
     ensures bytes { Tells (F.told folder.old) steps.nothing_special (λ held bytes. bytes ≡ told.bytes_in (told.standing held file.now)) result }
     ensures cause { ReadCaused (F.read_faults folder.old) (F.read_faults folder.new) result }
+    ensures memory { MemoryCounted (F.memory_failures folder.old) (F.memory_failures folder.new) result }
+    ensures steady { ReadSteadily (F.steady folder.old) (F.steady folder.new) result }
     ensures held { F.told folder.new ≡ F.told folder.old }
     ensures writes { F.write_faults folder.new ≡ F.write_faults folder.old }
 {
@@ -97,6 +98,8 @@ fn content<F: Folder>(alloc: Global, folder: &mut F, file: &Path) -> Result<Byte
     requires { MayCall (F.told folder.old) (told.can_read file.now) }
     ensures bytes { Tells (F.told folder.old) steps.nothing_special (λ held bytes. bytes ≡ steps.content_in (told.bytes_in (told.standing held file.now))) result }
     ensures cause { ReadCaused (F.read_faults folder.old) (F.read_faults folder.new) result }
+    ensures memory { MemoryCounted (F.memory_failures folder.old) (F.memory_failures folder.new) result }
+    ensures steady { ReadSteadily (F.steady folder.old) (F.steady folder.new) result }
     ensures held { F.told folder.new ≡ F.told folder.old }
     ensures writes { F.write_faults folder.new ≡ F.write_faults folder.old }
     ensures reach { F.reach folder.new ≡ F.reach folder.old }
@@ -175,6 +178,8 @@ pub(crate) fn look_at_state<F: Folder>(alloc: Global, folder: &mut F) -> Result<
     requires { MayCall (F.told folder.old) (told.can_list hidden_dir) }
     ensures look { Tells (F.told folder.old) state_special (λ held it. Unit {0}) result }
     ensures cause { ReadCaused (F.read_faults folder.old) (F.read_faults folder.new) result }
+    ensures memory { MemoryCounted (F.memory_failures folder.old) (F.memory_failures folder.new) result }
+    ensures steady { ReadSteadily (F.steady folder.old) (F.steady folder.new) result }
     ensures held { F.told folder.new ≡ F.told folder.old }
     ensures writes { F.write_faults folder.new ≡ F.write_faults folder.old }
     ensures reach { F.reach folder.new ≡ F.reach folder.old }
@@ -248,6 +253,8 @@ fn take_file<F: Folder>(
     ensures placed { OnOk result (tree.is_dir (get snapshot.new dir.now) ≡ true) }
     ensures taken { Tells (F.told folder.old) (λ held. steps.first_within held (join dir.now name.now)) (λ held it. snapshot.new ≡ steps.with_within held (join dir.now name.now) snapshot.old) result }
     ensures cause { ReadCaused (F.read_faults folder.old) (F.read_faults folder.new) result }
+    ensures memory { MemoryCounted (F.memory_failures folder.old) (F.memory_failures folder.new) result }
+    ensures steady { ReadSteadily (F.steady folder.old) (F.steady folder.new) result }
     ensures held { F.told folder.new ≡ F.told folder.old }
     ensures writes { F.write_faults folder.new ≡ F.write_faults folder.old }
     ensures reach { F.reach folder.new ≡ F.reach folder.old }
@@ -280,6 +287,8 @@ fn take_dir<F: Folder>(
     ensures placed { OnOk result (tree.is_dir (get snapshot.new dir.now) ≡ true) }
     ensures taken { Tells (F.told folder.old) (λ held. steps.first_within held (join dir.now name.now)) (λ held it. snapshot.new ≡ steps.with_within held (join dir.now name.now) snapshot.old) result }
     ensures cause { ReadCaused (F.read_faults folder.old) (F.read_faults folder.new) result }
+    ensures memory { MemoryCounted (F.memory_failures folder.old) (F.memory_failures folder.new) result }
+    ensures steady { ReadSteadily (F.steady folder.old) (F.steady folder.new) result }
     ensures held { F.told folder.new ≡ F.told folder.old }
     ensures writes { F.write_faults folder.new ≡ F.write_faults folder.old }
     ensures reach { F.reach folder.new ≡ F.reach folder.old }
@@ -310,6 +319,8 @@ fn take_item<F: Folder>(
     ensures placed { OnOk result (tree.is_dir (get snapshot.new dir.now) ≡ true) }
     ensures taken { Tells (F.told folder.old) (λ held. steps.special_in held dir.now item.now) (λ held it. snapshot.new ≡ steps.with_item held dir.now snapshot.old item.now) result }
     ensures cause { ReadCaused (F.read_faults folder.old) (F.read_faults folder.new) result }
+    ensures memory { MemoryCounted (F.memory_failures folder.old) (F.memory_failures folder.new) result }
+    ensures steady { ReadSteadily (F.steady folder.old) (F.steady folder.new) result }
     ensures held { F.told folder.new ≡ F.told folder.old }
     ensures writes { F.write_faults folder.new ≡ F.write_faults folder.old }
     ensures reach { F.reach folder.new ≡ F.reach folder.old }
@@ -340,6 +351,8 @@ fn take_items<F: Folder>(
     ensures placed { OnOk result (tree.is_dir (get snapshot.new dir.now) ≡ true) }
     ensures taken { Tells (F.told folder.old) (λ held. steps.first_fault (steps.special_in held dir.now) items.now) (λ held it. snapshot.new ≡ steps.with_items held dir.now snapshot.old items.now) result }
     ensures cause { ReadCaused (F.read_faults folder.old) (F.read_faults folder.new) result }
+    ensures memory { MemoryCounted (F.memory_failures folder.old) (F.memory_failures folder.new) result }
+    ensures steady { ReadSteadily (F.steady folder.old) (F.steady folder.new) result }
     ensures held { F.told folder.new ≡ F.told folder.old }
     ensures writes { F.write_faults folder.new ≡ F.write_faults folder.old }
     ensures reach { F.reach folder.new ≡ F.reach folder.old }
@@ -367,6 +380,8 @@ fn take_all<F: Folder>(
     ensures placed { OnOk result (tree.is_dir (get snapshot.new dir.now) ≡ true) }
     ensures taken { Tells (F.told folder.old) (λ held. steps.first_within held dir.now) (λ held it. snapshot.new ≡ steps.with_within held dir.now snapshot.old) result }
     ensures cause { ReadCaused (F.read_faults folder.old) (F.read_faults folder.new) result }
+    ensures memory { MemoryCounted (F.memory_failures folder.old) (F.memory_failures folder.new) result }
+    ensures steady { ReadSteadily (F.steady folder.old) (F.steady folder.new) result }
     ensures held { F.told folder.new ≡ F.told folder.old }
     ensures writes { F.write_faults folder.new ≡ F.write_faults folder.old }
     ensures reach { F.reach folder.new ≡ F.reach folder.old }
@@ -388,22 +403,29 @@ fn root_entry(alloc: Global) -> Result<Snapshot, NoMemory>
     Ok(snapshot)
 }
 
-/// The files and directories of a folder outside `.rkr`, a file with the mode 0644 and a directory with
-/// 0755. It is listed and read name by name, ascending, a directory's contents before the next name,
-/// and what is special is told where it is met.
-pub fn import<F: Folder>(alloc: Global, folder: &mut F) -> Result<Snapshot, ImportErr>
+/// The files and directories outside `.rkr`, a file with the mode 0644 and a directory with 0755, by what is
+/// listed in the root. What is special, or out of its place in `.rkr`, is told where it is met.
+pub(crate) fn entries_listed<F: Folder>(
+    alloc: Global,
+    folder: &mut F,
+    items: &[Item],
+) -> Result<Snapshot, ImportErr>
+    requires { steps.ListsRoot (F.told folder.old) items.now }
     ensures told { Tells (F.told folder.old) first_special (λ held s. s ≡ snapshot_of held) result }
     ensures whole { IfOk result IsWholeSnapshot }
-
-    // A read fault comes only where the count of them rose.
     ensures cause { ReadCaused (F.read_faults folder.old) (F.read_faults folder.new) result }
-
+    ensures memory { MemoryCounted (F.memory_failures folder.old) (F.memory_failures folder.new) result }
+    ensures steady { ReadSteadily (F.steady folder.old) (F.steady folder.new) result }
     ensures held { F.told folder.new ≡ F.told folder.old }
     ensures writes { F.write_faults folder.new ≡ F.write_faults folder.old }
 {
-    let mut snapshot = root_entry(alloc)?;
-    match take_all(alloc, folder, &Path::root(alloc)?, &mut snapshot) {
-        Ok(()) => Ok(snapshot),
+    let root = Path::root(alloc)?;
+    if has_odd(items) {
+        return Err(ImportErr::Special(root));
+    }
+    let mut entries = root_entry(alloc)?;
+    match take_items(alloc, folder, &root, items, &mut entries) {
+        Ok(()) => Ok(entries),
         Err(e) => Err(e),
     }
 }

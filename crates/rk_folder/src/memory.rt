@@ -1,6 +1,7 @@
 // A folder in memory. Calls of given numbers fail.
 ghost use Rattle.std.specs.Prelude.{◌≡◌, ◌++◌, ◌∷◌, IfOk, OnOk, OnErr, [], option_copied, Some, None, true, false, nat_lt};
-ghost use Rattle.rk_folder.specs.Schedule.{one_more, failing_at};
+ghost use Rattle.rk_folder.specs.Counts.{one_more};
+ghost use Rattle.rk_folder.specs.Schedule.{failing_at};
 ghost use Rattle.rk_folder.specs.Told as told;
 ghost use Rattle.rk_folder.specs.Whole.{IsWhole};
 ghost use Rattle.rk_folder.specs.declared.folder.Standing.TheVariants.{File, Dir, Special};
@@ -20,6 +21,65 @@ pub enum Change {
     Rename(Path, Path),
 }
 
+// Each keeps a change that is called for, and tells whether it is allowed.
+
+fn write_allowed(held: &HeldRows, changes: &mut Vec<Change>, file: &Path) -> Result<bool, NoMemory>
+    ensures { IfOk result (λ b. b ≡ told.can_write file.now held.now) }
+{
+    changes.push(Change::Write(file.copy()?))?;
+    let allowed = held.can_write(file)?;
+    Ok(allowed)
+}
+
+fn make_dir_allowed(
+    held: &HeldRows,
+    changes: &mut Vec<Change>,
+    dir: &Path,
+) -> Result<bool, NoMemory>
+    ensures { IfOk result (λ b. b ≡ told.can_make_dir dir.now held.now) }
+{
+    changes.push(Change::MakeDir(dir.copy()?))?;
+    let allowed = held.can_make_dir(dir)?;
+    Ok(allowed)
+}
+
+fn remove_file_allowed(
+    held: &HeldRows,
+    changes: &mut Vec<Change>,
+    file: &Path,
+) -> Result<bool, NoMemory>
+    ensures { IfOk result (λ b. b ≡ told.can_remove_file file.now held.now) }
+{
+    changes.push(Change::RemoveFile(file.copy()?))?;
+    Ok(held.can_remove_file(file))
+}
+
+fn remove_dir_allowed(
+    alloc: Global,
+    held: &HeldRows,
+    changes: &mut Vec<Change>,
+    dir: &Path,
+) -> Result<bool, NoMemory>
+    ensures { IfOk result (λ b. b ≡ told.can_remove_dir dir.now held.now) }
+{
+    changes.push(Change::RemoveDir(dir.copy()?))?;
+    let allowed = held.can_remove_dir(alloc, dir)?;
+    Ok(allowed)
+}
+
+fn rename_allowed(
+    held: &HeldRows,
+    changes: &mut Vec<Change>,
+    from: &Path,
+    to: &Path,
+) -> Result<bool, NoMemory>
+    ensures { IfOk result (λ b. b ≡ told.can_rename from.now to.now held.now) }
+{
+    changes.push(Change::Rename(from.copy()?, to.copy()?))?;
+    let allowed = held.can_rename(from, to)?;
+    Ok(allowed)
+}
+
 /// A folder in memory, with the numbers of the calls that are to fail, the changes that were called
 /// for, and its counts.
 #[derive(Drop)]
@@ -31,6 +91,7 @@ pub struct MemFolder {
     changes: Vec<Change>,
     read_faults: u64,
     write_faults: u64,
+    memory_failures: u64,
     ghost whole: { IsWhole held },
 }
 
@@ -59,7 +120,7 @@ impl MemFolder {
     pub fn new(alloc: Global) -> Result<MemFolder, NoMemory>
         ensures held { IfOk result (λ f. held_by f ≡ told.root_alone) }
         ensures steady { IfOk result (λ f. is_steady f ≡ true) }
-        ensures kept { IfOk result (λ f. kept_by f ≡ record { failing = []; calls = 0; changes = []; read_faults = 0; write_faults = 0 }) }
+        ensures kept { IfOk result (λ f. kept_by f ≡ record { failing = []; calls = 0; changes = []; read_faults = 0; write_faults = 0; memory_failures = 0 }) }
     {
         let held = HeldRows::new(alloc)?;
         Ok(MemFolder {
@@ -69,6 +130,7 @@ impl MemFolder {
             changes: Vec::new(alloc),
             read_faults: 0,
             write_faults: 0,
+            memory_failures: 0,
         })
     }
 
@@ -185,6 +247,13 @@ impl MemFolder {
     {
         self.write_faults
     }
+
+    /// How many calls had no memory.
+    pub fn memory_failures(&self) -> u64
+        ensures { result ≡ (kept_by self.now).memory_failures }
+    {
+        self.memory_failures
+    }
 }
 
 impl Folder for MemFolder {
@@ -195,6 +264,8 @@ impl Folder for MemFolder {
     ghost read_faults = { λ m. m.read_faults };
 
     ghost write_faults = { λ m. m.write_faults };
+
+    ghost memory_failures = { λ m. m.memory_failures };
 
     ghost reach = { λ m. told.reach_of m.held };
 
@@ -213,7 +284,11 @@ impl Folder for MemFolder {
             self.read_faults = self.read_faults.saturating_add(1);
             return Err(FolderErr::Failed);
         }
-        Ok(self.held.items(alloc, dir)?)
+        let Ok(items) = self.held.items(alloc, dir) else {
+            self.memory_failures = self.memory_failures.saturating_add(1);
+            return Err(FolderErr::NoMemory);
+        };
+        Ok(items)
     }
 
     fn read(&mut self, alloc: Global, file: &Path) -> Result<Got, FolderErr> {
@@ -225,7 +300,11 @@ impl Folder for MemFolder {
             self.read_faults = self.read_faults.saturating_add(1);
             return Err(FolderErr::Failed);
         }
-        match self.held.bytes_at(file)? {
+        let Ok(bytes) = self.held.bytes_at(file) else {
+            self.memory_failures = self.memory_failures.saturating_add(1);
+            return Err(FolderErr::NoMemory);
+        };
+        match bytes {
             Some(bytes) => Ok(Got::Content(bytes)),
             None => Ok(Got::Absent),
         }
@@ -233,14 +312,26 @@ impl Folder for MemFolder {
 
     fn write(&mut self, alloc: Global, file: &Path, bytes: &[u8]) -> Result<(), FolderErr> {
         let fault = counted(&mut self.calls, &self.failing);
-        self.changes.push(Change::Write(file.copy()?))?;
-        if !self.held.can_write(file)? {
+        let Ok(allowed) = write_allowed(&self.held, &mut self.changes, file) else {
+            self.memory_failures = self.memory_failures.saturating_add(1);
+            return Err(FolderErr::NoMemory);
+        };
+        if !allowed {
             return Err(FolderErr::Failed);
         }
         match fault {
-            None => Ok(self.held.put_file(alloc, file, bytes)?),
+            None => {
+                if self.held.put_file(alloc, file, bytes).is_err() {
+                    self.memory_failures = self.memory_failures.saturating_add(1);
+                    return Err(FolderErr::NoMemory);
+                }
+                Ok(())
+            }
             Some(fault) => {
-                self.held.spoil(alloc, file, fault.1.as_ref())?;
+                if self.held.spoil(alloc, file, fault.1.as_ref()).is_err() {
+                    self.memory_failures = self.memory_failures.saturating_add(1);
+                    return Err(FolderErr::NoMemory);
+                }
                 self.write_faults = self.write_faults.saturating_add(1);
                 Err(FolderErr::Failed)
             }
@@ -249,21 +340,31 @@ impl Folder for MemFolder {
 
     fn make_dir(&mut self, alloc: Global, dir: &Path) -> Result<(), FolderErr> {
         let fault = counted(&mut self.calls, &self.failing);
-        self.changes.push(Change::MakeDir(dir.copy()?))?;
-        if !self.held.can_make_dir(dir)? {
+        let Ok(allowed) = make_dir_allowed(&self.held, &mut self.changes, dir) else {
+            self.memory_failures = self.memory_failures.saturating_add(1);
+            return Err(FolderErr::NoMemory);
+        };
+        if !allowed {
             return Err(FolderErr::Failed);
         }
         if fault.is_some() {
             self.write_faults = self.write_faults.saturating_add(1);
             return Err(FolderErr::Failed);
         }
-        Ok(self.held.put_dir(dir)?)
+        if self.held.put_dir(dir).is_err() {
+            self.memory_failures = self.memory_failures.saturating_add(1);
+            return Err(FolderErr::NoMemory);
+        }
+        Ok(())
     }
 
     fn remove_file(&mut self, alloc: Global, file: &Path) -> Result<(), FolderErr> {
         let fault = counted(&mut self.calls, &self.failing);
-        self.changes.push(Change::RemoveFile(file.copy()?))?;
-        if !self.held.can_remove_file(file) {
+        let Ok(allowed) = remove_file_allowed(&self.held, &mut self.changes, file) else {
+            self.memory_failures = self.memory_failures.saturating_add(1);
+            return Err(FolderErr::NoMemory);
+        };
+        if !allowed {
             return Err(FolderErr::Failed);
         }
         if fault.is_some() {
@@ -276,8 +377,11 @@ impl Folder for MemFolder {
 
     fn remove_dir(&mut self, alloc: Global, dir: &Path) -> Result<(), FolderErr> {
         let fault = counted(&mut self.calls, &self.failing);
-        self.changes.push(Change::RemoveDir(dir.copy()?))?;
-        if !self.held.can_remove_dir(alloc, dir)? {
+        let Ok(allowed) = remove_dir_allowed(alloc, &self.held, &mut self.changes, dir) else {
+            self.memory_failures = self.memory_failures.saturating_add(1);
+            return Err(FolderErr::NoMemory);
+        };
+        if !allowed {
             return Err(FolderErr::Failed);
         }
         if fault.is_some() {
@@ -290,14 +394,21 @@ impl Folder for MemFolder {
 
     fn rename(&mut self, alloc: Global, from: &Path, to: &Path) -> Result<(), FolderErr> {
         let fault = counted(&mut self.calls, &self.failing);
-        self.changes.push(Change::Rename(from.copy()?, to.copy()?))?;
-        if !self.held.can_rename(from, to)? {
+        let Ok(allowed) = rename_allowed(&self.held, &mut self.changes, from, to) else {
+            self.memory_failures = self.memory_failures.saturating_add(1);
+            return Err(FolderErr::NoMemory);
+        };
+        if !allowed {
             return Err(FolderErr::Failed);
         }
         if fault.is_some() {
             self.write_faults = self.write_faults.saturating_add(1);
             return Err(FolderErr::Failed);
         }
-        Ok(self.held.move_file(alloc, from, to)?)
+        if self.held.move_file(alloc, from, to).is_err() {
+            self.memory_failures = self.memory_failures.saturating_add(1);
+            return Err(FolderErr::NoMemory);
+        }
+        Ok(())
     }
 }

@@ -1,13 +1,14 @@
 // A real directory as a folder. It tells nothing of what it holds, and counts its faults.
 ghost use Rattle.std.specs.Prelude.{◌≡◌, ◌≤◌, None, OnOk, IsOk, true, false};
 ghost use Rattle.rk_base.specs.Text.{depth};
-ghost use Rattle.rk_folder.specs.Calls.{Caused};
+ghost use Rattle.rk_folder.specs.Calls.{Caused, MemoryCaused};
 
 use crate::{Folder, FolderErr, Got, Item};
 use rk_base::{Bytes, Name, Path, PathFault};
 use std::alloc::Global;
-use std::fs::{File, Files};
+use std::fs::{File, Files, Permissions};
 use std::io::{ErrorKind, Read, Write};
+use std::os::unix::fs::MetadataExt;
 use std::{fs, io, str};
 
 /// A path has at most so many names.
@@ -17,7 +18,7 @@ const DEEPEST: usize = 4096;
 const MOST_NAMES: usize = 1 << 20;
 
 /// A file has at most so many bytes.
-const LONGEST: usize = 1 << 32;
+const LONGEST: u64 = 1 << 32;
 
 /// The folder below one directory. Links, devices and the like are special, and a file name that
 /// is no name is odd.
@@ -27,6 +28,7 @@ pub struct RealFolder<R: Files + AllocGlobal + Drop> {
     top: String,
     read_faults: u64,
     write_faults: u64,
+    memory_failures: u64,
 }
 
 // The path of the real file: what the folder's top is, and then the path's text.
@@ -39,9 +41,9 @@ fn place_of(alloc: Global, top: &str, path: &Path) -> io::Result<String> {
     Ok(place)
 }
 
-// All bytes of a reader, of which there are not too many.
-fn all_bytes(alloc: Global, reader: &mut impl Read) -> io::Result<Vec<u8>> {
-    let mut bytes = Vec::new(alloc);
+// All bytes of a reader, of which there are not too many: about so many.
+fn all_bytes(alloc: Global, reader: &mut impl Read, about: usize) -> io::Result<Vec<u8>> {
+    let mut bytes = Vec::with_capacity(alloc, about)?;
     let mut piece = [0u8; 4096];
     for _ in 0..u64::MAX {
         let n = reader.read(&mut piece)?;
@@ -49,32 +51,58 @@ fn all_bytes(alloc: Global, reader: &mut impl Read) -> io::Result<Vec<u8>> {
             return Ok(bytes);
         }
         bytes.extend_from_slice(&piece[..n])?;
-        if bytes.len() > LONGEST {
+        if bytes.len() as u64 > LONGEST {
             break;
         }
     }
     Err(io::Error::from(ErrorKind::FileTooLarge))
 }
 
+// Nothing stands at a path, be it that what is before it is a file.
+fn is_absent(e: &io::Error) -> bool {
+    matches!(e.kind(), ErrorKind::NotFound | ErrorKind::NotADirectory)
+}
+
+// A file that is too long is told by its length, before it is read.
 fn content(rt: &impl Files, alloc: Global, place: &str) -> io::Result<Got> {
     match fs::symlink_metadata(rt, place) {
-        Ok(it) if it.is_file() => {
+        Ok(it) if !it.is_file() => Err(io::Error::from(ErrorKind::InvalidInput)),
+        Ok(it) if it.len() > LONGEST => Err(io::Error::from(ErrorKind::FileTooLarge)),
+        Ok(it) => {
             let mut file = File::open(rt, place)?;
-            let bytes = all_bytes(alloc, &mut file)?;
+            let bytes = all_bytes(alloc, &mut file, it.len() as usize)?;
             match Bytes::new(alloc, bytes) {
                 Ok(bytes) => Ok(Got::Content(bytes)),
                 Err(_) => Err(io::Error::from(ErrorKind::OutOfMemory)),
             }
         }
-        Ok(_) => Err(io::Error::from(ErrorKind::InvalidInput)),
-        Err(e) if e.kind() == ErrorKind::NotFound => Ok(Got::Absent),
+        Err(e) if is_absent(&e) => Ok(Got::Absent),
         Err(e) => Err(e),
     }
 }
 
-fn put_content(rt: &impl Files, place: &str, bytes: &[u8]) -> io::Result<()> {
+fn overwrite(rt: &impl Files, place: &str, bytes: &[u8]) -> io::Result<()> {
     let mut file = File::create(rt, place)?;
     file.write_all(bytes)
+}
+
+// A file of these bytes with this mode, in place of the name that the file there has here.
+fn make_anew(rt: &impl Files, place: &str, mode: Permissions, bytes: &[u8]) -> io::Result<()> {
+    fs::remove_file(rt, place)?;
+    let mut file = File::create_new(rt, place)?;
+    file.write_all(bytes)?;
+    fs::set_permissions(rt, place, mode)
+}
+
+// What has another name too keeps its bytes there.
+fn put_content(rt: &impl Files, place: &str, bytes: &[u8]) -> io::Result<()> {
+    match fs::symlink_metadata(rt, place) {
+        Ok(it) if !it.is_file() => Err(io::Error::from(ErrorKind::InvalidInput)),
+        Ok(it) if it.nlink() > 1 => make_anew(rt, place, it.permissions(), bytes),
+        Ok(_) => overwrite(rt, place, bytes),
+        Err(e) if e.kind() == ErrorKind::NotFound => overwrite(rt, place, bytes),
+        Err(e) => Err(e),
+    }
 }
 
 // The name of a real file, where it is one.
@@ -86,12 +114,13 @@ fn name_of(alloc: Global, bytes: &[u8]) -> io::Result<Option<Name>> {
     }
 }
 
-// What stands at a name in the directory at this place, which ends in a slash.
+// What stands at a name in the directory at this place.
 fn item_at(rt: &impl Files, alloc: Global, place: &str, bytes: &[u8]) -> io::Result<Item> {
     let (Some(name), Ok(text)) = (name_of(alloc, bytes)?, str::from_utf8(bytes)) else {
         return Ok(Item::Odd);
     };
     let mut below = String::from_str(alloc, place)?;
+    below.push_str("/")?;
     below.push_str(text)?;
     let it = fs::symlink_metadata(rt, below.as_str())?;
     Ok(if it.is_file() {
@@ -118,9 +147,10 @@ fn sorted_names(alloc: Global, listing: &[u8]) -> io::Result<Vec<&[u8]>> {
     Ok(names)
 }
 
+// The place has no last slash, so that a link that was put there is not followed.
 fn items_at(rt: &impl Files, alloc: Global, place: &str) -> io::Result<Vec<Item>> {
     let mut dir = rt.open_dir(place)?;
-    let listing = all_bytes(alloc, &mut dir)?;
+    let listing = all_bytes(alloc, &mut dir, 0)?;
     let mut items = Vec::new(alloc);
     let mut odd = false;
     for name in &sorted_names(alloc, &listing)? {
@@ -141,22 +171,27 @@ fn items_of(rt: &impl Files, alloc: Global, top: &str, dir: &Path) -> io::Result
     if dir.depth() > DEEPEST {
         return Err(io::Error::from(ErrorKind::FilesystemLoop));
     }
-    let mut place = place_of(alloc, top, dir)?;
-    if !dir.is_root() {
-        place.push_str("/")?;
-    }
+    let place = place_of(alloc, top, dir)?;
     let items = items_at(rt, alloc, place.as_str())?;
     Ok(items)
 }
 
 // The answer of a call. Each error but want of memory is a fault.
-fn answer<T: Drop>(done: io::Result<T>, faults: &mut u64) -> Result<T, FolderErr>
+fn answer<T: Drop>(
+    done: io::Result<T>,
+    faults: &mut u64,
+    memory_failures: &mut u64,
+) -> Result<T, FolderErr>
     ensures cause { Caused faults.old faults.new true result }
+    ensures memory { MemoryCaused memory_failures.old memory_failures.new result }
     ensures ok { OnOk result (IsOk done) }
 {
     match done {
         Ok(it) => Ok(it),
-        Err(e) if e.kind() == ErrorKind::OutOfMemory => Err(FolderErr::NoMemory),
+        Err(e) if e.kind() == ErrorKind::OutOfMemory => {
+            *memory_failures = memory_failures.saturating_add(1);
+            Err(FolderErr::NoMemory)
+        }
         Err(_) => {
             *faults = faults.saturating_add(1);
             Err(FolderErr::Failed)
@@ -172,6 +207,7 @@ impl<R: Files + AllocGlobal + Drop> RealFolder<R> {
             top,
             read_faults: 0,
             write_faults: 0,
+            memory_failures: 0,
         }
     }
 
@@ -214,6 +250,8 @@ impl<R: Files + AllocGlobal + Drop> Folder for RealFolder<R> {
 
     ghost write_faults = { λ f. f.write_faults };
 
+    ghost memory_failures = { λ f. f.memory_failures };
+
     ghost reach = { λ _. 4096 };
 
     ghost steady = { λ _. false };
@@ -224,36 +262,36 @@ impl<R: Files + AllocGlobal + Drop> Folder for RealFolder<R> {
 
     fn list(&mut self, alloc: Global, dir: &Path) -> Result<Vec<Item>, FolderErr> {
         let items = items_of(&self.rt, alloc, self.top.as_str(), dir);
-        answer(items, &mut self.read_faults)
+        answer(items, &mut self.read_faults, &mut self.memory_failures)
     }
 
     fn read(&mut self, alloc: Global, file: &Path) -> Result<Got, FolderErr> {
         let got = self.read_at(alloc, file);
-        answer(got, &mut self.read_faults)
+        answer(got, &mut self.read_faults, &mut self.memory_failures)
     }
 
     fn write(&mut self, alloc: Global, file: &Path, bytes: &[u8]) -> Result<(), FolderErr> {
         let done = self.write_at(alloc, file, bytes);
-        answer(done, &mut self.write_faults)
+        answer(done, &mut self.write_faults, &mut self.memory_failures)
     }
 
     fn make_dir(&mut self, alloc: Global, dir: &Path) -> Result<(), FolderErr> {
         let done = self.make_dir_at(alloc, dir);
-        answer(done, &mut self.write_faults)
+        answer(done, &mut self.write_faults, &mut self.memory_failures)
     }
 
     fn remove_file(&mut self, alloc: Global, file: &Path) -> Result<(), FolderErr> {
         let done = self.remove_file_at(alloc, file);
-        answer(done, &mut self.write_faults)
+        answer(done, &mut self.write_faults, &mut self.memory_failures)
     }
 
     fn remove_dir(&mut self, alloc: Global, dir: &Path) -> Result<(), FolderErr> {
         let done = self.remove_dir_at(alloc, dir);
-        answer(done, &mut self.write_faults)
+        answer(done, &mut self.write_faults, &mut self.memory_failures)
     }
 
     fn rename(&mut self, alloc: Global, from: &Path, to: &Path) -> Result<(), FolderErr> {
         let done = self.rename_at(alloc, from, to);
-        answer(done, &mut self.write_faults)
+        answer(done, &mut self.write_faults, &mut self.memory_failures)
     }
 }

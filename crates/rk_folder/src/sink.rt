@@ -1,7 +1,8 @@
 // Where output goes, with a count of faults.
-ghost use Rattle.std.specs.Prelude.{◌≡◌, ◌++◌, ◌∷◌, [], ℕ, List, Bool, true, false, Option, Some, None, OnOk, OnErr, take};
+ghost use Rattle.std.specs.Prelude.{◌≡◌, ◌++◌, ◌∷◌, [], ℕ, List, Bool, true, false, Option, Some, None, OnOk, OnErr, take, option_copied};
 ghost use Rattle.rk_base.specs.Canonical.{is_empty};
-ghost use Rattle.rk_folder.specs.Sinks.{Puts, PutCaused, PutSteadily};
+ghost use Rattle.rk_folder.specs.Counts.{one_more};
+ghost use Rattle.rk_folder.specs.Sinks.{Puts, PutCaused, PutMemoryCaused, PutSteadily, PutSchedule, OnPutSchedule, failing_put, put_schedule_of};
 
 use rk_base::NoMemory;
 use std::alloc::Global;
@@ -24,14 +25,22 @@ pub trait Sink {
     /// How many puts were faults, up to 2^64 - 1.
     ghost faults: { Self → ℕ };
 
+    /// How many puts had no memory, up to 2^64 - 1.
+    ghost memory_failures: { Self → ℕ };
+
     /// Whether no put is a fault.
     ghost steady: { Self → Bool };
+
+    /// Which puts are to be faults, where it tells that.
+    ghost schedule: { Self → Option PutSchedule };
 
     /// Puts the bytes out. At an error a front of them went out.
     fn put(&mut self, bytes: &[u8]) -> Result<(), SinkErr>
         ensures put { Puts bytes.now (so_far self.old) (so_far self.new) result }
         ensures cause { PutCaused (faults self.old) (faults self.new) result }
-        ensures steady { PutSteadily (steady self.old) (steady self.new) result };
+        ensures memory { PutMemoryCaused (memory_failures self.old) (memory_failures self.new) result }
+        ensures steady { PutSteadily (steady self.old) (steady self.new) result }
+        ensures schedule { OnPutSchedule (schedule self.old) (schedule self.new) bytes.now (so_far self.old) (so_far self.new) result };
 }
 
 /// A sink in memory. Puts of given numbers fail.
@@ -42,6 +51,7 @@ pub struct MemSink {
     failing: Vec<(u64, usize)>,
     puts: u64,
     faults: u64,
+    memory_failures: u64,
 }
 
 impl Model for MemSink {
@@ -49,16 +59,19 @@ impl Model for MemSink {
 
     ghost Value = { Sunk };
 
-    ghost view = { λ s. record { bytes = s.bytes.items; failing = s.failing.items; puts = s.puts; faults = s.faults } };
+    ghost view = { λ s. record { bytes = s.bytes.items; failing = s.failing.items; puts = s.puts; faults = s.faults; memory_failures = s.memory_failures } };
 }
 
-// How many bytes go out of the put of this number, where it is to fail.
-fn failing_at(failing: &[(u64, usize)], number: u64) -> Option<usize>
-    ensures { is_empty failing.now ≡ true → result ≡ None }
+// Counts a put, and finds how it is to fail.
+fn counted<'a>(puts: &mut u64, failing: &'a [(u64, usize)]) -> Option<&'a (u64, usize)>
+    ensures puts { puts.new ≡ one_more puts.old }
+    ensures fault { option_copied result ≡ failing_put failing.now (one_more puts.old) }
 {
-    for (put, after) in failing {
-        if *put == number {
-            return Some(*after);
+    *puts = puts.saturating_add(1);
+    let put = *puts;
+    for it in failing {
+        if it.0 == put {
+            return Some(it);
         }
     }
     None
@@ -73,13 +86,14 @@ fn front(bytes: &[u8], n: usize) -> &[u8]
 impl MemSink {
     /// A sink that nothing was put in, and of which no put fails.
     pub fn new(alloc: Global) -> MemSink
-        ensures { result ≡ record { bytes = []; failing = []; puts = 0; faults = 0 } }
+        ensures { result ≡ record { bytes = []; failing = []; puts = 0; faults = 0; memory_failures = 0 } }
     {
         MemSink {
             bytes: Vec::new(alloc),
             failing: Vec::new(alloc),
             puts: 0,
             faults: 0,
+            memory_failures: 0,
         }
     }
 
@@ -105,6 +119,13 @@ impl MemSink {
     {
         self.faults
     }
+
+    /// How many puts had no memory.
+    pub fn memory_failures(&self) -> u64
+        ensures { result ≡ self.now.memory_failures }
+    {
+        self.memory_failures
+    }
 }
 
 impl Sink for MemSink {
@@ -112,22 +133,30 @@ impl Sink for MemSink {
 
     ghost faults = { λ s. s.faults };
 
+    ghost memory_failures = { λ s. s.memory_failures };
+
     ghost steady = { λ s. is_empty s.failing };
 
+    ghost schedule = { λ s. Some (put_schedule_of s) };
+
     fn put(&mut self, bytes: &[u8]) -> Result<(), SinkErr> {
-        self.puts = self.puts.saturating_add(1);
-        match failing_at(&self.failing, self.puts) {
-            Some(after) => {
-                if self.bytes.extend_from_slice(front(bytes, after)).is_err() {
+        let fault = counted(&mut self.puts, &self.failing);
+        match fault {
+            None => {
+                if self.bytes.extend_from_slice(bytes).is_err() {
+                    self.memory_failures = self.memory_failures.saturating_add(1);
+                    return Err(SinkErr::NoMemory);
+                }
+                Ok(())
+            }
+            Some(it) => {
+                if self.bytes.extend_from_slice(front(bytes, it.1)).is_err() {
+                    self.memory_failures = self.memory_failures.saturating_add(1);
                     return Err(SinkErr::NoMemory);
                 }
                 self.faults = self.faults.saturating_add(1);
                 Err(SinkErr::Failed)
             }
-            None => match self.bytes.extend_from_slice(bytes) {
-                Ok(()) => Ok(()),
-                Err(_) => Err(SinkErr::NoMemory),
-            },
         }
     }
 }
@@ -163,7 +192,11 @@ impl<W: Write + Drop> Sink for RealSink<W> {
 
     ghost faults = { λ s. s.faults };
 
+    ghost memory_failures = { λ _. 0 };
+
     ghost steady = { λ _. false };
+
+    ghost schedule = { λ _. None };
 
     fn put(&mut self, bytes: &[u8]) -> Result<(), SinkErr> {
         if write_whole(&mut self.writer, bytes) {

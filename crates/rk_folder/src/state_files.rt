@@ -1,10 +1,11 @@
 // The state files of a folder.
-ghost use Rattle.std.specs.Prelude.{◌≡◌, Some, IfSome};
+ghost use Rattle.std.specs.Prelude.{◌≡◌, Some, None, IfSome, option_copied};
 ghost use Rattle.rk_folder.specs.Told.{standing};
 ghost use Rattle.rk_folder.specs.Hidden.{hidden_dir};
 ghost use Rattle.rk_folder.specs.declared.folder.Standing.TheVariants.{Dir};
-ghost use Rattle.rk_folder.specs.Specials.{hidden_special};
-ghost use Rattle.rk_folder.specs.Import.{Tells, ReadCaused, state_of};
+ghost use Rattle.rk_folder.specs.Specials.{hidden_special, state_special};
+ghost use Rattle.rk_folder.specs.Steps.{ListsRoot, is_dir_item, nothing_special};
+ghost use Rattle.rk_folder.specs.Import.{Tells, ReadCaused, MemoryCounted, ReadSteadily, state_of};
 
 use crate::hidden_files::{HIDDEN, attrs_file, db_file, hidden_dir};
 use crate::importing::{bytes_of, list, look_at_state, named};
@@ -21,18 +22,68 @@ fn found(rkr: bool, db: Option<Bytes>, attrs: Option<Bytes>) -> Hidden
     }
 }
 
-// The state files in `.rkr`, which is a directory.
-fn state_in<F: Folder>(alloc: Global, folder: &mut F) -> Result<Hidden, ImportErr>
-    requires { IfSome (F.told folder.old) (λ held. standing held hidden_dir ≡ Some Dir) }
-    ensures told { Tells (F.told folder.old) hidden_special (λ held s. s ≡ state_of held) result }
+// A directory is listed.
+fn is_dir(item: Option<&Item>) -> bool
+    ensures { result ≡ is_dir_item (option_copied item.entry) }
+{
+    matches!(item, Some(Item::Dir(_)))
+}
+
+// Reads the state files in `.rkr`, which is a directory.
+fn state_read<F: Folder>(alloc: Global, folder: &mut F) -> Result<Hidden, ImportErr>
+    requires dir { IfSome (F.told folder.old) (λ held. standing held hidden_dir ≡ Some Dir) }
+    requires plain { IfSome (F.told folder.old) (λ held. state_special held ≡ None) }
+    ensures told { Tells (F.told folder.old) nothing_special (λ held s. s ≡ state_of held) result }
     ensures cause { ReadCaused (F.read_faults folder.old) (F.read_faults folder.new) result }
+    ensures memory { MemoryCounted (F.memory_failures folder.old) (F.memory_failures folder.new) result }
+    ensures steady { ReadSteadily (F.steady folder.old) (F.steady folder.new) result }
     ensures held { F.told folder.new ≡ F.told folder.old }
     ensures writes { F.write_faults folder.new ≡ F.write_faults folder.old }
 {
-    look_at_state(alloc, folder)?;
     let attrs = bytes_of(alloc, folder, &attrs_file(alloc)?)?;
     let db = bytes_of(alloc, folder, &db_file(alloc)?)?;
     Ok(found(true, db, attrs))
+}
+
+// Looks at `.rkr`, and at the state files in it, by what is listed in the root.
+fn look_at_hidden<F: Folder>(alloc: Global, folder: &mut F, items: &[Item]) -> Result<(), ImportErr>
+    requires { ListsRoot (F.told folder.old) items.now }
+    ensures look { Tells (F.told folder.old) hidden_special (λ held it. Unit {0}) result }
+    ensures cause { ReadCaused (F.read_faults folder.old) (F.read_faults folder.new) result }
+    ensures memory { MemoryCounted (F.memory_failures folder.old) (F.memory_failures folder.new) result }
+    ensures steady { ReadSteadily (F.steady folder.old) (F.steady folder.new) result }
+    ensures held { F.told folder.new ≡ F.told folder.old }
+    ensures writes { F.write_faults folder.new ≡ F.write_faults folder.old }
+{
+    match named(items, HIDDEN) {
+        None => Ok(()),
+        Some(Item::Dir(_)) => look_at_state(alloc, folder),
+        Some(Item::File(_)) => Err(ImportErr::Special(hidden_dir(alloc)?)),
+        Some(Item::Special(_)) => Err(ImportErr::Special(hidden_dir(alloc)?)),
+        Some(Item::Odd) => Err(ImportErr::Special(hidden_dir(alloc)?)),
+    }
+}
+
+/// Whether `.rkr` stands, and its state files, by what is listed in the root, where none of them is special.
+pub(crate) fn state_listed<F: Folder>(
+    alloc: Global,
+    folder: &mut F,
+    items: &[Item],
+) -> Result<Hidden, ImportErr>
+    requires listed { ListsRoot (F.told folder.old) items.now }
+    requires plain { IfSome (F.told folder.old) (λ held. hidden_special held ≡ None) }
+    ensures told { Tells (F.told folder.old) nothing_special (λ held s. s ≡ state_of held) result }
+    ensures cause { ReadCaused (F.read_faults folder.old) (F.read_faults folder.new) result }
+    ensures memory { MemoryCounted (F.memory_failures folder.old) (F.memory_failures folder.new) result }
+    ensures steady { ReadSteadily (F.steady folder.old) (F.steady folder.new) result }
+    ensures held { F.told folder.new ≡ F.told folder.old }
+    ensures writes { F.write_faults folder.new ≡ F.write_faults folder.old }
+{
+    if !is_dir(named(items, HIDDEN)) {
+        return Ok(found(false, None, None));
+    }
+    let hidden = state_read(alloc, folder)?;
+    Ok(hidden)
 }
 
 /// The state files of a folder. Nothing else of it is looked at.
@@ -41,16 +92,13 @@ pub fn state<F: Folder>(alloc: Global, folder: &mut F) -> Result<Hidden, ImportE
 
     // A read fault comes only where the count of them rose.
     ensures cause { ReadCaused (F.read_faults folder.old) (F.read_faults folder.new) result }
-
+    ensures memory { MemoryCounted (F.memory_failures folder.old) (F.memory_failures folder.new) result }
+    ensures steady { ReadSteadily (F.steady folder.old) (F.steady folder.new) result }
     ensures held { F.told folder.new ≡ F.told folder.old }
     ensures writes { F.write_faults folder.new ≡ F.write_faults folder.old }
 {
     let items = list(alloc, folder, &Path::root(alloc)?)?;
-    match named(&items, HIDDEN) {
-        None => Ok(found(false, None, None)),
-        Some(Item::Dir(_)) => state_in(alloc, folder),
-        Some(Item::File(_)) => Err(ImportErr::Special(hidden_dir(alloc)?)),
-        Some(Item::Special(_)) => Err(ImportErr::Special(hidden_dir(alloc)?)),
-        Some(Item::Odd) => Err(ImportErr::Special(hidden_dir(alloc)?)),
-    }
+    look_at_hidden(alloc, folder, &items)?;
+    let hidden = state_listed(alloc, folder, &items)?;
+    Ok(hidden)
 }

@@ -1,9 +1,9 @@
-// Each call that takes memory, once where there is enough, and what no clause says of a real folder.
+// Each call that takes memory, once where there is enough, and what no clause says of real folders and streams.
 mod attributes;
+mod real;
+mod sinks;
 
-use crate::{
-    Folder, FolderErr, Got, Item, MemFolder, MemSink, RealFolder, RealSink, Sink, SinkErr, import,
-};
+use crate::{Folder, FolderErr, Got, Item, MemFolder, import, state};
 use rk_base::{NoMemory, Path};
 use rk_tree::{Entry, Snapshot};
 use std::alloc::Global;
@@ -20,10 +20,15 @@ fn is_content(got: &Got, bytes: &[u8]) -> bool {
     matches!(got, Got::Content(it) if it.as_slice() == bytes)
 }
 
-// What is listed, by its names, each ended by what it is.
-fn shown(alloc: Global, items: &[Item]) -> Result<Vec<u8>, NoMemory> {
+fn is_entry(snapshot: &Snapshot, path: &Path, bytes: &[u8]) -> bool {
+    matches!(snapshot.get(path), Some(Entry::File(0o644, it)) if it.as_slice() == bytes)
+}
+
+// What is listed in a directory, each name ended by what stands there.
+fn listing<F: Folder>(alloc: Global, folder: &mut F, dir: &[u8]) -> Result<Vec<u8>, Fail> {
+    let items = folder.list(alloc, &at(alloc, dir)?)?;
     let mut text = Vec::new(alloc);
-    for item in items {
+    for item in &items {
         let (name, mark) = match item {
             Item::File(name) => (name.as_slice(), b' '),
             Item::Dir(name) => (name.as_slice(), b'/'),
@@ -36,46 +41,74 @@ fn shown(alloc: Global, items: &[Item]) -> Result<Vec<u8>, NoMemory> {
     Ok(text)
 }
 
-// Whether a file that is written is read so again.
-fn keeps<F: Folder>(
+// Whether a file has these bytes.
+fn holds<F: Folder>(
     alloc: Global,
     folder: &mut F,
-    file: &Path,
+    file: &[u8],
     bytes: &[u8],
 ) -> Result<bool, Fail> {
-    folder.write(alloc, file, bytes)?;
-    let got = folder.read(alloc, file)?;
+    let got = folder.read(alloc, &at(alloc, file)?)?;
     Ok(is_content(&got, bytes))
 }
 
-#[test]
-fn keeps_a_file_in_memory(rt: HostRuntime) -> Result<(), Fail> {
-    let alloc = rt.alloc();
-    let mut folder = MemFolder::new(alloc)?;
-    let file = at(alloc, b"/f")?;
-    assert!(rt; keeps(alloc, &mut folder, &file, b"two\n")?);
-    assert_eq!(rt; folder.changes().len(), 1);
+// A directory in a directory, with a file in each, and the state files.
+fn fill<F: Folder>(alloc: Global, folder: &mut F) -> Result<(), Fail> {
+    folder.make_dir(alloc, &at(alloc, b"/d")?)?;
+    folder.make_dir(alloc, &at(alloc, b"/d/e")?)?;
+    folder.write(alloc, &at(alloc, b"/d/a")?, b"1\n")?;
+    folder.write(alloc, &at(alloc, b"/d/e/b")?, b"2\n")?;
+    folder.make_dir(alloc, &at(alloc, b"/.rkr")?)?;
+    folder.write(alloc, &at(alloc, b"/.rkr/db")?, b"D")?;
     Ok(())
 }
 
-#[test]
-fn keeps_a_file_in_a_real_folder(rt: HostRuntime) -> Result<(), Fail> {
-    let alloc = rt.alloc();
-    let mut folder = RealFolder::new(rt, String::from_str(alloc, ".")?);
-    let file = at(alloc, b"/rk_folder_test")?;
-    assert!(rt; keeps(alloc, &mut folder, &file, b"two\n")?);
-    folder.remove_file(alloc, &file)?;
+// Whether all of it is imported.
+fn imports<F: Folder>(alloc: Global, folder: &mut F) -> Result<bool, Fail> {
+    let found = import(alloc, folder)?;
+    let hidden = state(alloc, folder)?;
+    let entries = &found.entries;
+    let files = is_entry(entries, &at(alloc, b"/d/a")?, b"1\n")
+        && is_entry(entries, &at(alloc, b"/d/e/b")?, b"2\n");
+    let dir = matches!(entries.get(&at(alloc, b"/d/e")?), Some(Entry::Dir(0o755)));
+    let same = found.hidden.rkr && hidden.rkr && hidden.state.attrs.is_none();
+    let db = matches!(&found.hidden.state.db, Some(db) if db.as_slice() == b"D".as_slice());
+    Ok(files && dir && same && db && entries.len() == 5)
+}
+
+fn clear<F: Folder>(alloc: Global, folder: &mut F) -> Result<(), Fail> {
+    folder.remove_file(alloc, &at(alloc, b"/.rkr/db")?)?;
+    folder.remove_dir(alloc, &at(alloc, b"/.rkr")?)?;
+    folder.remove_file(alloc, &at(alloc, b"/d/e/b")?)?;
+    folder.remove_file(alloc, &at(alloc, b"/d/a")?)?;
+    folder.remove_dir(alloc, &at(alloc, b"/d/e")?)?;
+    folder.remove_dir(alloc, &at(alloc, b"/d")?)?;
     Ok(())
 }
 
+// Whether a folder takes each call that it allows, and tells what it then holds.
+fn takes_all<F: Folder>(alloc: Global, folder: &mut F) -> Result<bool, Fail> {
+    fill(alloc, folder)?;
+    let imported = imports(alloc, folder)?;
+    clear(alloc, folder)?;
+    let listed = listing(alloc, folder, b"/")?;
+    Ok(imported && listed.is_empty())
+}
+
 #[test]
-fn lists_what_is_set(rt: HostRuntime) -> Result<(), Fail> {
+fn takes_all_in_memory(rt: HostRuntime) -> Result<(), Fail> {
     let alloc = rt.alloc();
     let mut folder = MemFolder::new(alloc)?;
+    assert!(rt; takes_all(alloc, &mut folder)?);
+    assert_eq!(rt; folder.changes().len(), 12);
     folder.set_file(alloc, &at(alloc, b"/b")?, b"1")?;
+    folder.rename(alloc, &at(alloc, b"/b")?, &at(alloc, b"/a")?)?;
     folder.set_dir(&at(alloc, b"/a.d")?)?;
-    let root = folder.list(alloc, &Path::root(alloc)?)?;
-    assert_eq!(rt; shown(alloc, &root)?.as_slice(), b"a.d/b ".as_slice());
+    folder.set_odd(&at(alloc, b"/")?)?;
+    assert_eq!(rt;
+        listing(alloc, &mut folder, b"/")?.as_slice(),
+        b"a a.d/?".as_slice()
+    );
     Ok(())
 }
 
@@ -88,67 +121,4 @@ fn fails_where_it_is_told(rt: HostRuntime) -> Result<(), Fail> {
     assert!(rt; matches!(folder.read(alloc, &file), Err(FolderErr::Failed)));
     assert_eq!(rt; folder.read_faults(), 1);
     Ok(())
-}
-
-#[test]
-fn puts_a_part_where_it_fails(rt: HostRuntime) -> Result<(), Fail> {
-    let alloc = rt.alloc();
-    let mut sink = MemSink::new(alloc);
-    sink.fail_at(1, 1)?;
-    assert!(rt; matches!(sink.put(b"ab"), Err(SinkErr::Failed)));
-    assert_eq!(rt; sink.bytes(), b"a".as_slice());
-    Ok(())
-}
-
-#[test]
-fn puts_through_a_stream(rt: HostRuntime) -> Result<(), Fail> {
-    let mut sink = RealSink::new(rt.stdout());
-    sink.put(b"ab\n")?;
-    sink.put(b"")?;
-    Ok(())
-}
-
-#[test]
-fn imports_files(rt: HostRuntime) -> Result<(), Fail> {
-    let alloc = rt.alloc();
-    let mut folder = MemFolder::new(alloc)?;
-    folder.set_file(alloc, &at(alloc, b"/a")?, b"1")?;
-    folder.set_dir(&at(alloc, b"/d")?)?;
-    folder.set_file(alloc, &at(alloc, b"/d/a")?, b"2")?;
-    let snapshot = import(alloc, &mut folder)?;
-    assert_eq!(rt; snapshot.len(), 4);
-    Ok(())
-}
-
-// A directory in a directory, with a file in each.
-fn fill<F: Folder>(alloc: Global, folder: &mut F) -> Result<(), Fail> {
-    folder.make_dir(alloc, &at(alloc, b"/d")?)?;
-    folder.make_dir(alloc, &at(alloc, b"/d/e")?)?;
-    folder.write(alloc, &at(alloc, b"/d/a")?, b"1\n")?;
-    folder.write(alloc, &at(alloc, b"/d/e/b")?, b"2\n")?;
-    Ok(())
-}
-
-fn is_entry(snapshot: &Snapshot, path: &Path, bytes: &[u8]) -> bool {
-    matches!(snapshot.get(path), Some(Entry::File(0o644, it)) if it.as_slice() == bytes)
-}
-
-fn clear<F: Folder>(alloc: Global, folder: &mut F) -> Result<(), Fail> {
-    folder.remove_file(alloc, &at(alloc, b"/d/e/b")?)?;
-    folder.remove_file(alloc, &at(alloc, b"/d/a")?)?;
-    folder.remove_dir(alloc, &at(alloc, b"/d/e")?)?;
-    folder.remove_dir(alloc, &at(alloc, b"/d")?)?;
-    Ok(())
-}
-
-#[test]
-fn imports_real_directories(rt: HostRuntime) -> Result<(), Fail> {
-    let alloc = rt.alloc();
-    let mut folder = RealFolder::new(rt, String::from_str(alloc, ".")?);
-    fill(alloc, &mut folder)?;
-    let snapshot = import(alloc, &mut folder)?;
-    assert!(rt; matches!(snapshot.get(&at(alloc, b"/d/e")?), Some(Entry::Dir(0o755))));
-    assert!(rt; is_entry(&snapshot, &at(alloc, b"/d/a")?, b"1\n"));
-    assert!(rt; is_entry(&snapshot, &at(alloc, b"/d/e/b")?, b"2\n"));
-    clear(alloc, &mut folder)
 }

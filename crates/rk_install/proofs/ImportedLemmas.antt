@@ -1,25 +1,22 @@
 -- A folder in which nothing is special holds just what is imported of it.
-use Rattle.std.proofs.Common.{◌≡◌, inl, inr, List, [], ◌∷◌, Bool, true, false, Option, Some, None, option_map, refl, sym, ap, ◌∙◌, cond}
-use Rattle.std.specs.List.{filter_map, cons_option}
-use Rattle.std.specs.Ordering.{eq_by_cmp}
-use Rattle.std.specs.FinMap.{entries, entries_sorted, find, get, get-entries}
-use Rattle.rk_base.specs.Text.{Text, text_cmp, parent, is_within}
+use Rattle.std.proofs.Common.{◌≡◌, inl, inr, Bool, true, false, Option, Some, None, option_map, refl, sym, ap, ◌∙◌, cond}
+use Rattle.std.specs.FinMap.{get}
+use Rattle.std.specs.Option.{option_and_then}
+use Rattle.rk_base.specs.Text.{Text, parent, is_within}
 use Rattle.rk_tree.specs.declared.entry.Entry.{Entry}
-use Rattle.rk_tree.specs.declared.entry.Entry.TheVariants as entry
-use Rattle.rk_tree.proofs.TextLemmas.{told_apart}
-use Rattle.rk_tree.proofs.RowsLemmas.{get-found}
 use Rattle.rk_folder.specs.Told.{Held, standing, is_file, is_dir, is_nothing, bytes_in}
 use Rattle.rk_folder.specs.Whole.{IsWhole}
 use Rattle.rk_folder.specs.Specials.{state_fault, hidden_fault, state_special, first_special}
-use Rattle.rk_folder.specs.Import.{entry_of, imported, snapshot_of}
+use Rattle.rk_folder.specs.Import.{entry_of, snapshot_of}
+use Rattle.rk_folder.proofs.ImportLemmas.{hidden-plain}
+use Rattle.rk_folder.proofs.SnapshotLemmas.{get-snapshot_of}
 use Rattle.rk_folder.specs.declared.folder.Standing.{Standing}
 use Rattle.rk_folder.specs.declared.folder.Standing.TheVariants.{File, Dir, Special}
 use Rattle.rk_install.specs.declared.holding.Holding.{Holding}
 use Rattle.rk_install.specs.Holdings.{hidden_dir, db_file, attrs_file, placed, dir_where, Holds, IsBuilt, MayBecome}
 use Rattle.rk_install.specs.Imported.{holding_of}
 use Rattle.rk_install.proofs.HiddenLemmas.{attrs_parent, db_parent}
-use Rattle.rk_install.proofs.OrderLemmas.{InOrder, in_order_first, in_order_rest, find_below, find_first, find_other}
-use Rattle.rk_install.proofs.SeenLemmas.{no_fault, stands-outside, hidden-plain, odd-within}
+use Rattle.rk_install.proofs.SeenLemmas.{no_fault, stands-outside, odd-within}
 
 -- What is imported of what stands at a path.
 
@@ -28,40 +25,14 @@ abbrev pub shown : Option Standing → Bool → Option Entry
 shown None within = None
 shown (Some it) within = cond within None (entry_of it)
 
-abbrev imported_row : Text → Bool → Option Entry → Option (Text × Entry)
-imported_row path within it = cond within None (option_map (λ e. (path, e)) it)
-
-row_here : (rest : List (Text × Entry)) (path : Text) (within : Bool) (it : Standing) → find text_cmp path rest ≡ None → find text_cmp path (cons_option (imported_row path within (entry_of it)) rest) ≡ shown (Some it) within
-row_here rest path true it none = none
-row_here rest path false (File bytes) none = find_first (path, entry.File 420 bytes) rest
-row_here rest path false Dir none = find_first (path, entry.Dir 493) rest
-row_here rest path false Special none = none
-
-row_other : (rest : List (Text × Entry)) (path other : Text) (within : Bool) (it : Option Entry) → eq_by_cmp text_cmp path other ≡ false → find text_cmp path (cons_option (imported_row other within it) rest) ≡ find text_cmp path rest
-row_other rest path other true it e = refl
-row_other rest path other false None e = refl
-row_other rest path other false (Some it) e = find_other path (other, it) rest e
-
-find_imported : (rows : List (Text × Standing)) → InOrder rows → (path : Text) → find text_cmp path (filter_map imported rows) ≡ shown (find text_cmp path rows) (is_within hidden_dir path)
-find_imported [] o path = refl
-find_imported (row ∷ rows) o path = elim (told_apart path row.0) [
-  | inl same ↦
-      let none : find text_cmp row.0 (filter_map imported rows) ≡ None = find_imported rows (in_order_rest row rows o) row.0 ∙ ap (λ (it : Option Standing). shown it (is_within hidden_dir row.0)) (find_below row.0 rows (in_order_first row rows o)) in
-      ap (λ (p : Text). find text_cmp p (filter_map imported (row ∷ rows))) same.0
-      ∙ row_here (filter_map imported rows) row.0 (is_within hidden_dir row.0) row.1 none
-      ∙ sym (ap (λ (p : Text). shown (find text_cmp p (row ∷ rows)) (is_within hidden_dir p)) same.0 ∙ ap (λ (it : Option Standing). shown it (is_within hidden_dir row.0)) (find_first row rows))
-  | inr other ↦
-      row_other (filter_map imported rows) path row.0 (is_within hidden_dir row.0) (entry_of row.1) other.1
-      ∙ find_imported rows (in_order_rest row rows o) path
-      ∙ sym (ap (λ (it : Option Standing). shown it (is_within hidden_dir path)) (find_other path row rows other.1))
-]
+shown_is : (o : Option Standing) (within : Bool) → cond within None (option_and_then entry_of o) ≡ shown o within
+shown_is None true = refl
+shown_is None false = refl
+shown_is (Some it) within = refl
 
 -- what an imported folder has at a path, whatever it holds
 pub get-imported : (held : Held) (path : Text) → get (snapshot_of held) path ≡ shown (standing held path) (is_within hidden_dir path)
-get-imported held path =
-    get-found (filter_map imported (entries held.places)) path
-    ∙ find_imported (entries held.places) (entries_sorted held.places) path
-    ∙ sym (ap (λ (it : Option Standing). shown it (is_within hidden_dir path)) (get-entries held.places path))
+get-imported held path = get-snapshot_of held path ∙ shown_is (standing held path) (is_within hidden_dir path)
 
 -- What stands is what is imported.
 

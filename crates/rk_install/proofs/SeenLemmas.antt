@@ -7,12 +7,11 @@ use Rattle.rk_tree.proofs.TextLemmas.{same_itself, or_right}
 use Rattle.rk_folder.specs.Told.{Held, standing, is_file, is_dir, is_nothing, is_odd}
 use Rattle.rk_folder.specs.Whole.{IsWhole}
 use Rattle.rk_folder.specs.Listing.{IsFirst}
-use Rattle.rk_folder.specs.Specials.{or_else, is_special, is_fault, first_special, hidden_special}
+use Rattle.rk_folder.specs.Specials.{or_else, is_special, is_fault, first_special}
 use Rattle.rk_folder.specs.declared.folder.Standing.{Standing}
 use Rattle.rk_folder.specs.declared.folder.Standing.TheVariants.{File, Dir, Special}
 use Rattle.rk_folder.proofs.FirstLemmas.{first_special-is}
-use Rattle.rk_folder.proofs.SpecialLemmas.{special-none, special-fault, dir-fault}
-use Rattle.rk_folder.proofs.HiddenLemmas.{special-hidden}
+use Rattle.rk_folder.proofs.SpecialLemmas.{special-fault, dir-fault}
 use Rattle.rk_install.specs.Holdings.{hidden_dir}
 
 clash : (b : Bool) → b ≡ true → b ≡ false → ⊥
@@ -63,7 +62,3 @@ module _ (held : Held) (whole : IsWhole held) (plain : first_special held ≡ No
   -- only the hidden directory, and what is below it, hold odd names
   pub odd-within : list_all (λ dir. is_within hidden_dir dir) held.odd ≡ true
   odd-within = all_within held.odd (λ dir h. h) whole.odd_dirs
-
-  -- nothing of the hidden directory is special
-  pub hidden-plain : hidden_special held ≡ None
-  hidden-plain = sym (special-hidden held whole) ∙ special-none held hidden_dir (λ q h t. clash _ t (none_special held plain q))

@@ -1,9 +1,10 @@
 -- Calls that change a folder, one after another.
-use Rattle.std.specs.Prelude.{◌≡◌, ◌≢◌, ◌⊎◌, option_map, ℕ, List, [], ◌∷◌, Bool, true, Option, Some, None, IfSome, Result, Ok, Err}
+use Rattle.std.specs.Prelude.{◌≡◌, ◌≢◌, ◌≤◌, ◌⊎◌, option_map, ℕ, List, [], ◌∷◌, Bool, true, Option, Some, None, IfSome, Result, Ok, Err}
 use Rattle.rk_base.specs.Text.{Text}
 use Rattle.rk_folder.specs.Told.{Held, standing, can_write, can_make_dir, can_remove_file, can_remove_dir, with_standing, without}
 use Rattle.rk_folder.specs.Calls.{Damages}
 use Rattle.rk_folder.specs.Counts.{Rose}
+use Rattle.rk_folder.specs.Schedule.{Schedule, after_calls}
 use Rattle.rk_folder.specs.declared.folder.Standing.{Standing}
 use Rattle.rk_folder.specs.declared.folder.Standing.TheVariants.{File, Dir}
 use Rattle.rk_install.specs.declared.ops.Op.{Op}
@@ -63,6 +64,17 @@ abbrev pub Caused : {T : Type 0} → ℕ → ℕ → Result T InstallErr → Typ
 Caused before now (Ok it) = now ≡ before
 Caused before now (Err WriteFault) = Rose before now
 Caused before now (Err NoMemory) = now ≡ before
+
+-- want of memory only where the folder's count of it rose
+abbrev pub MemoryCaused : {T : Type 0} → ℕ → ℕ → Result T InstallErr → Type 0
+MemoryCaused before now (Ok it) = now ≡ before
+MemoryCaused before now (Err WriteFault) = now ≡ before
+MemoryCaused before now (Err NoMemory) = Rose before now
+
+-- each call was made once; at an error one at least, and no more than all
+abbrev pub CountsCalls : {T : Type 0} → ℕ → Option Schedule → Option Schedule → Result T InstallErr → Type 0
+CountsCalls n before now (Ok it) = now ≡ option_map (after_calls n) before
+CountsCalls n before now (Err e) = (k : ℕ) × ((1 ≤ k) × (k ≤ n) × (now ≡ option_map (after_calls k) before))
 
 abbrev pub IsNoFault : {T : Type 0} → Result T InstallErr → Type 0
 IsNoFault (Ok it) = Unit {0}

@@ -7,11 +7,7 @@ ghost use Rattle.rk_install.specs.Attributes.{row_of, attr_row, attrs_of, RowsKe
 use rk_base::{NoMemory, Path};
 use rk_tree::{Entry, Snapshot};
 use std::alloc::Global;
-use tr_codec::{AttrRow, Attrs};
-
-const FILE_MODE: u16 = 0o644;
-
-const DIR_MODE: u16 = 0o755;
+use tr_codec::{AttrRow, Attrs, DIR_MODE, FILE_MODE};
 
 fn file_row(mode: u16) -> Option<AttrRow>
     ensures { result ≡ row_of (Entry.File mode []) }

@@ -1,6 +1,7 @@
 // Making the planned calls.
-ghost use Rattle.std.specs.Prelude.{◌≡◌, OnOk, IfErr, option_map};
-ghost use Rattle.rk_install.specs.Changes.{step, after_all, MayCall, MayRun, Caused, Steadily, LeftBy, Partly};
+ghost use Rattle.std.specs.Prelude.{◌≡◌, OnOk, IfErr, option_map, length};
+ghost use Rattle.rk_install.specs.Changes.{step, after_all, MayCall, MayRun, Caused, MemoryCaused, CountsCalls, Steadily, LeftBy, Partly};
+ghost use Rattle.rk_folder.specs.Schedule.{after_call};
 
 use crate::{Op, Plan};
 use rk_folder::{Folder, FolderErr};
@@ -21,7 +22,9 @@ fn call<F: Folder>(alloc: Global, folder: &mut F, op: &Op) -> Result<(), Install
     ensures held { OnOk result (F.told folder.new ≡ option_map (step op.now) (F.told folder.old)) }
     ensures left { IfErr result (LeftBy op.now (F.told folder.old) (F.told folder.new)) }
     ensures cause { Caused (F.write_faults folder.old) (F.write_faults folder.new) result }
+    ensures memory { MemoryCaused (F.memory_failures folder.old) (F.memory_failures folder.new) result }
     ensures steady { Steadily (F.steady folder.old) (F.steady folder.new) result }
+    ensures calls { F.schedule folder.new ≡ option_map after_call (F.schedule folder.old) }
     ensures reads { F.read_faults folder.new ≡ F.read_faults folder.old }
 {
     let done = match op {
@@ -38,7 +41,7 @@ fn call<F: Folder>(alloc: Global, folder: &mut F, op: &Op) -> Result<(), Install
 }
 
 /// Makes the planned calls, one after another, up to the first that fails. It takes no memory but what the
-/// folder's own calls take.
+/// folder's own calls take, and makes each call once.
 ///
 /// `WriteFault` where a call was a fault, `NoMemory` where a call had no memory. The calls before it then
 /// stand, and a failed write may have left any bytes in its file.
@@ -47,7 +50,10 @@ pub fn install<F: Folder>(alloc: Global, folder: &mut F, plan: &Plan) -> Result<
     ensures held { OnOk result (F.told folder.new ≡ option_map (after_all plan.now) (F.told folder.old)) }
     ensures part { IfErr result (Partly plan.now (F.told folder.old) (F.told folder.new)) }
     ensures cause { Caused (F.write_faults folder.old) (F.write_faults folder.new) result }
+    ensures memory { MemoryCaused (F.memory_failures folder.old) (F.memory_failures folder.new) result }
     ensures steady { Steadily (F.steady folder.old) (F.steady folder.new) result }
+    // Each call is made once.
+    ensures calls { CountsCalls (length plan.now) (F.schedule folder.old) (F.schedule folder.new) result }
     ensures reads { F.read_faults folder.new ≡ F.read_faults folder.old }
 {
     let ops = plan.as_slice();

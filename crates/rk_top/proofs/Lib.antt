@@ -1,7 +1,6 @@
 pub mod BuildLemmas
 pub mod FoundLemmas
 pub mod KeptLemmas
-pub mod LookLemmas
 pub mod PrepareLemmas
 pub mod ReadBackLemmas
 pub mod RunLemmas

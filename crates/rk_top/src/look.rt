@@ -4,7 +4,7 @@ ghost use Rattle.rk_tree.specs.Entries.{IsWholeSnapshot};
 ghost use Rattle.rk_top.specs.Stages.{LooksSo, ReadsCounted, stop_of};
 
 use crate::stop::{Refusal, Stop};
-use rk_folder::{Folder, Hidden, ImportErr, import, state};
+use rk_folder::{Folder, Hidden, ImportErr, Imported, import};
 use rk_install::Holding;
 use std::alloc::Global;
 
@@ -26,12 +26,11 @@ pub(crate) fn look<F: Folder>(alloc: Global, folder: &mut F) -> Result<Holding, 
     ensures look { LooksSo (F.told folder.old) result }
     ensures whole { IfOk result (λ holding. IsWholeSnapshot holding.entries) }
 {
-    let entries = match import(alloc, folder) {
-        Ok(entries) => entries,
-        Err(e) => return Err(stop_of(e)),
-    };
-    match state(alloc, folder) {
-        Ok(Hidden { rkr, state }) => Ok(Holding {
+    match import(alloc, folder) {
+        Ok(Imported {
+            entries,
+            hidden: Hidden { rkr, state },
+        }) => Ok(Holding {
             entries,
             rkr,
             state,

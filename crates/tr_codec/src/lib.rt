@@ -24,7 +24,7 @@ pub use attrs::{read_attrs, write_attrs};
 pub use fault::{CodecErr, Damage};
 pub use laws::{one_attrs, one_table, read_back, read_back_attrs};
 pub use reading::read_db;
-pub use rows::{AttrRow, Attrs};
+pub use rows::{AttrRow, Attrs, DIR_MODE, FILE_MODE};
 pub use sound::has_spelling;
 pub use writing::write_db;
 

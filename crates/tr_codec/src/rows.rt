@@ -9,9 +9,11 @@ use rk_base::{Bytes, Path};
 use std::alloc::Global;
 use std::marker::Model;
 
-const FILE_MODE: u16 = 0o644;
+/// The mode of a file that has no row.
+pub const FILE_MODE: u16 = 0o644;
 
-const DIR_MODE: u16 = 0o755;
+/// The mode of a directory that has no row.
+pub const DIR_MODE: u16 = 0o755;
 
 /// What isn't as usual at a path: the mode of a file that isn't 0644, the mode of a directory that isn't 0755, or a
 /// symbolic link with its text.

@@ -31,7 +31,7 @@ fn tree(alloc: Global) -> Result<Tree, Fail> {
     folder.set_file(alloc, &at(alloc, b"/a")?, b"1")?;
     folder.set_file(alloc, &at(alloc, b"/b")?, b"2")?;
     folder.set_file(alloc, &at(alloc, b"/c")?, b"3")?;
-    let snapshot = import(alloc, &mut folder)?;
+    let snapshot = import(alloc, &mut folder)?.entries;
     let tree = tree_of(alloc, snapshot, &rows(alloc)?)?;
     Ok(tree)
 }

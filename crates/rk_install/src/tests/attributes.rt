@@ -26,7 +26,7 @@ fn rows(alloc: Global, with_more: bool) -> Result<Attrs, NoMemory> {
 fn kept(alloc: Global, rows: &Attrs) -> Result<Bytes, Fail> {
     let mut folder = MemFolder::new(alloc)?;
     folder.set_file(alloc, &path(alloc, "/a")?, b"1")?;
-    let snapshot = import(alloc, &mut folder)?;
+    let snapshot = import(alloc, &mut folder)?.entries;
     let tree = tree_of(alloc, snapshot, rows)?;
     let attrs = attrs_of(alloc, &tree.snapshot()?)?;
     let bytes = write_attrs(alloc, &attrs)?;

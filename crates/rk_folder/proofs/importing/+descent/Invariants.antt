@@ -23,6 +23,8 @@ abbrev pub invariant-take_items-loop-item : goal.invariant-take_items-loop-item
 invariant-take_items-loop-item g l = record {
   held : g.F.Folder.told l.folder ≡ g.F.Folder.told l.fn.folder;
   reads : g.F.Folder.read_faults l.folder ≡ g.F.Folder.read_faults l.fn.folder;
+  memory : g.F.Folder.memory_failures l.folder ≡ g.F.Folder.memory_failures l.fn.folder;
+  steady : g.F.Folder.steady l.folder ≡ g.F.Folder.steady l.fn.folder;
   writes : g.F.Folder.write_faults l.folder ≡ g.F.Folder.write_faults l.fn.folder;
   reach : g.F.Folder.reach l.folder ≡ g.F.Folder.reach l.fn.folder;
   agree : MayCall (g.F.Folder.told l.fn.folder) (λ held. list_all (agrees held l.dir) (drop l.item-index l.items));

@@ -1,0 +1,46 @@
+// All that a folder holds for a build, found in one pass.
+ghost use Rattle.std.specs.Prelude.{◌≡◌, IfOk};
+ghost use Rattle.rk_tree.specs.Entries.{IsWholeSnapshot};
+ghost use Rattle.rk_folder.specs.Specials.{first_special};
+ghost use Rattle.rk_folder.specs.Import.{Tells, ReadCaused, MemoryCounted, ReadSteadily, snapshot_of, state_of};
+
+use crate::importing::{entries_listed, list};
+use crate::state_files::state_listed;
+use crate::{Folder, Hidden, ImportErr};
+use rk_base::Path;
+use rk_tree::Snapshot;
+use std::alloc::Global;
+
+/// What a build finds in a folder.
+#[derive(Drop)]
+pub struct Imported {
+    /// The files and directories outside `.rkr`.
+    pub entries: Snapshot,
+    pub hidden: Hidden,
+}
+
+/// The files and directories of a folder outside `.rkr`, a file with the mode 0644 and a directory with
+/// 0755, and the state files. Each directory is listed once, and each file read once: name by name,
+/// ascending, a directory's contents before the next name, and the state files last. What is special is
+/// told where it is met.
+pub fn import<F: Folder>(alloc: Global, folder: &mut F) -> Result<Imported, ImportErr>
+    ensures told { Tells (F.told folder.old) first_special (λ held it. (it.entries ≡ snapshot_of held) × (it.hidden ≡ state_of held)) result }
+    ensures whole { IfOk result (λ it. IsWholeSnapshot it.entries) }
+
+    // A read fault comes only where the count of them rose.
+    ensures cause { ReadCaused (F.read_faults folder.old) (F.read_faults folder.new) result }
+
+    // Each call of the folder had memory, where this one had.
+    ensures memory { MemoryCounted (F.memory_failures folder.old) (F.memory_failures folder.new) result }
+
+    // A steady folder has no fault.
+    ensures steady { ReadSteadily (F.steady folder.old) (F.steady folder.new) result }
+
+    ensures held { F.told folder.new ≡ F.told folder.old }
+    ensures writes { F.write_faults folder.new ≡ F.write_faults folder.old }
+{
+    let items = list(alloc, folder, &Path::root(alloc)?)?;
+    let entries = entries_listed(alloc, folder, &items)?;
+    let hidden = state_listed(alloc, folder, &items)?;
+    Ok(Imported { entries, hidden })
+}
