@@ -1,0 +1,11 @@
+pub mod Bytes
+pub mod Blanks
+pub mod Folded
+pub mod Tokens
+pub mod Operators
+pub mod Reserved
+pub mod Expansions
+pub mod Quoting
+pub mod Commands
+pub mod Words
+pub mod Clauses

@@ -1,0 +1,62 @@
+// A text as it is read, without its joined lines (XCU 2.2.1).
+ghost use Rattle.std.specs.Prelude.{◌≡◌, ◌≤◌, length, slice_index, drop};
+ghost use Rattle.sh_lex.specs.Bytes.{class_is};
+ghost use Rattle.sh_lex.specs.Folded.{folded, run as run_lem};
+
+use crate::blanks::past_joins;
+use crate::bytes::{Class, is_in};
+
+// The first byte, 0 where none is left.
+pub(crate) fn first(text: &[u8]) -> u8
+    ensures { result ≡ slice_index (folded text.now) 0 }
+{
+    match past_joins(text) {
+        [] => 0,
+        [c, ..] => *c,
+    }
+}
+
+// What stands behind the first byte.
+pub(crate) fn rest(text: &[u8]) -> &[u8]
+    ensures { folded result.now ≡ drop 1 (folded text.now) }
+{
+    let here = past_joins(text);
+    match here {
+        [] => here,
+        [_, ..] => here.split_at(1).1,
+    }
+}
+
+/// What is left of a text behind so many bytes, joined lines not counted.
+pub fn skip(text: &[u8], count: usize) -> &[u8]
+    ensures { folded result.now ≡ drop count (folded text.now) }
+{
+    let mut left = text;
+    for at in 0..count {
+        left = rest(left);
+    }
+    left
+}
+
+/// The byte at a place of a text, joined lines not counted; 0 past its end.
+pub fn byte(text: &[u8], place: usize) -> u8
+    ensures { result ≡ slice_index (folded text.now) place }
+{
+    first(skip(text, place))
+}
+
+/// How many bytes in front of a text are of a class, joined lines not counted.
+pub fn run(class: Class, text: &[u8]) -> usize
+    ensures count { result ≡ run_lem (class_is class) (folded text.now) }
+    ensures within { result ≤ length text.now }
+{
+    let mut left = text;
+    for at in 0..text.len() {
+        if is_in(class, first(left)) {
+            left = rest(left);
+        } else {
+            return at;
+        }
+    }
+    text.len()
+}

@@ -1,0 +1,75 @@
+// Operators (XCU 2.10.1).
+ghost use Rattle.std.specs.Prelude.{◌≡◌};
+ghost use Rattle.sh_lex.specs.Operators.{operator as operator_lem, redirect as redirect_lem, more_by};
+
+use sh_rules::Kind;
+
+/// The redirection operator that begins with these three bytes (XCU 2.7), and its length.
+pub fn redirect(c: u8, d: u8, e: u8) -> Option<(Kind, usize)>
+    ensures { result ≡ redirect_lem c d e }
+{
+    if c == b'<' {
+        if d == b'<' {
+            if e == b'-' {
+                Some((Kind::Here, 3))
+            } else {
+                Some((Kind::Here, 2))
+            }
+        } else if d == b'&' {
+            Some((Kind::Redirect, 2))
+        } else if d == b'>' {
+            None
+        } else {
+            Some((Kind::Redirect, 1))
+        }
+    } else if c == b'>' {
+        if d == b'>' || d == b'&' || d == b'|' {
+            Some((Kind::Redirect, 2))
+        } else {
+            Some((Kind::Redirect, 1))
+        }
+    } else {
+        None
+    }
+}
+
+/// The same behind one digit, the number of its descriptor.
+pub fn numbered(d: u8, e: u8, f: u8) -> Option<(Kind, usize)>
+    ensures { result ≡ more_by 1 (redirect_lem d e f) }
+{
+    match redirect(d, e, f) {
+        None => None,
+        Some((kind, n)) => Some((kind, 1 + n)),
+    }
+}
+
+/// The control operator that begins with these two bytes, and its length.
+pub fn operator(c: u8, d: u8) -> Option<(Kind, usize)>
+    ensures { result ≡ operator_lem c d }
+{
+    if c == b'\n' {
+        Some((Kind::Newline, 1))
+    } else if c == b';' {
+        if d == b';' {
+            Some((Kind::DoubleSemi, 2))
+        } else {
+            Some((Kind::Semi, 1))
+        }
+    } else if c == b'&' {
+        if d == b'&' {
+            Some((Kind::AndIf, 2))
+        } else {
+            None
+        }
+    } else if c == b'|' {
+        if d == b'|' {
+            Some((Kind::OrIf, 2))
+        } else {
+            Some((Kind::Pipe, 1))
+        }
+    } else if c == b')' {
+        Some((Kind::RightParen, 1))
+    } else {
+        None
+    }
+}
