@@ -48,23 +48,23 @@ fn leaves_other_names<F: Folder>(
     alloc: Global,
     folder: &mut F,
 ) -> Result<bool, Fail> {
-    fs::hard_link(rt, "./b", "./other")?;
-    fs::set_permissions(rt, "./b", Permissions::from_mode(0o700))?;
+    fs::hard_link(rt, "real/b", "real/other")?;
+    fs::set_permissions(rt, "real/b", Permissions::from_mode(0o700))?;
     folder.write(alloc, &at(alloc, b"/b")?, b"new\n")?;
-    let mode = fs::metadata(rt, "./b")?.mode() & 0o777;
+    let mode = fs::metadata(rt, "real/b")?.mode() & 0o777;
     let other = holds(alloc, folder, b"/other", b"1\n")?;
     let new = holds(alloc, folder, b"/b", b"new\n")?;
-    fs::remove_file(rt, "./other")?;
+    fs::remove_file(rt, "real/other")?;
     Ok(mode == 0o700 && other && new)
 }
 
 // A file of more than 2^32 bytes; none of them is read.
 fn refuses_long<F: Folder, R: Files>(rt: &R, alloc: Global, folder: &mut F) -> Result<bool, Fail> {
-    let file = File::create(rt, "./long")?;
+    let file = File::create(rt, "real/long")?;
     file.set_len((1 << 32) + 1)?;
     drop(file);
     let refused = folder.read(alloc, &at(alloc, b"/long")?);
-    fs::remove_file(rt, "./long")?;
+    fs::remove_file(rt, "real/long")?;
     Ok(matches!(refused, Err(FolderErr::Failed)))
 }
 
@@ -75,7 +75,7 @@ fn tells_link<F: Folder>(
     folder: &mut F,
     text: &str,
 ) -> Result<bool, Fail> {
-    let mut place = String::from_str(alloc, ".")?;
+    let mut place = String::from_str(alloc, "real")?;
     place.push_str(text)?;
     symlink(rt, "a.d", place.as_str())?;
     let told = match import(alloc, folder) {
@@ -96,7 +96,8 @@ fn tells_links<F: Folder>(rt: &impl Files, alloc: Global, folder: &mut F) -> Res
 #[test]
 fn keeps_real_files(rt: HostRuntime) -> Result<(), Fail> {
     let alloc = rt.alloc();
-    let folder = &mut RealFolder::new(rt.clone()?, String::from_str(alloc, ".")?);
+    fs::create_dir(&rt, "real")?;
+    let folder = &mut RealFolder::new(rt.clone()?, String::from_str(alloc, "real")?);
     let rows = [
         ("each call", takes_all(alloc, folder)?),
         ("a shorter text", cuts_off(alloc, folder)?),
@@ -110,5 +111,6 @@ fn keeps_real_files(rt: HostRuntime) -> Result<(), Fail> {
     for (row, kept) in rows {
         assert!(rt; kept, "{row}");
     }
+    fs::remove_dir_all(&rt, "real")?;
     Ok(())
 }
