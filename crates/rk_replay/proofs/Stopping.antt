@@ -1,5 +1,5 @@
 -- Why a build stops.
-use Rattle.std.proofs.Common.{◌≡◌, List, subst, sym}
+use Rattle.std.proofs.Common.{List, subst, sym}
 use Rattle.rk_base.specs.declared.memory.NoMemory.{NoMemory}
 use Rattle.rk_calls.specs.Talk.{Says}
 use Rattle.rk_calls.specs.Keys.{KeyValue}
