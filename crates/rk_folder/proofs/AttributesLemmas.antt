@@ -13,8 +13,7 @@ use Rattle.rk_base.specs.Canonical.{is_canonical, is_empty}
 use Rattle.rk_base.proofs.CanonicalLemmas.{both, denied}
 use Rattle.rk_tree.specs.Copies.{put_found}
 use Rattle.rk_tree.specs.Entries.{Entries, is_dir, is_nul, IsFit, IsWholeSnapshot}
-use Rattle.rk_tree.specs.declared.entry.Entry.{Entry}
-use Rattle.rk_tree.specs.declared.entry.Entry.TheVariants.{File, Dir, Link}
+use Rattle.rk_tree.specs.Node.{Node as Entry, File, Dir, Link}
 use Rattle.rk_tree.proofs.TextLemmas.{told_apart, ties_itself}
 use Rattle.tr_codec.specs.Attrs.{file_mode, dir_mode, is_mode, is_link_text, suits, is_row, ascend_from, ascend}
 use Rattle.tr_codec.specs.declared.rows.AttrRow.{AttrRow}

@@ -12,8 +12,8 @@ use Rattle.rk_tree.proofs.TextLemmas.{ties_itself, parent-root, root_seen}
 use Rattle.rk_tree.proofs.RowsLemmas.{row_at, get-map_of, same_maps}
 use Rattle.rk_tree.specs.Entries as tree
 use Rattle.rk_tree.specs.Entries.{Entries, IsFit, IsWholeSnapshot}
-use Rattle.rk_tree.specs.declared.entry.Entry.{Entry}
-use Rattle.rk_tree.specs.declared.entry.Entry.TheVariants as entry
+use Rattle.rk_tree.specs.Node.{Node as Entry}
+use Rattle.rk_tree.specs.Node as entry
 use Rattle.rk_folder.specs.Told.{Held, standing, is_nothing, is_file, is_dir, item_in, item_of, items_of, odd_in, is_odd}
 use Rattle.rk_folder.specs.Whole.{IsWhole}
 use Rattle.rk_folder.specs.Hidden.{hidden_dir}

@@ -8,8 +8,8 @@ use Rattle.rk_base.proofs.CanonicalLemmas.{both, join-canonical}
 use Rattle.rk_tree.proofs.TextLemmas.{same_is}
 use Rattle.rk_tree.specs.Entries as tree
 use Rattle.rk_tree.specs.Entries.{Entries, IsFit, IsWholeSnapshot}
-use Rattle.rk_tree.specs.declared.entry.Entry.{Entry}
-use Rattle.rk_tree.specs.declared.entry.Entry.TheVariants as entry
+use Rattle.rk_tree.specs.Node.{Node as Entry}
+use Rattle.rk_tree.specs.Node as entry
 use Rattle.rk_folder.specs.Told.{Held, standing, is_file, is_dir, bytes_in, can_list, items_of}
 use Rattle.rk_folder.specs.Whole.{IsWhole, TellsWhole}
 use Rattle.rk_folder.specs.Hidden.{hidden_dir}

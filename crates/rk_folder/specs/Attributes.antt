@@ -5,8 +5,7 @@ use Rattle.std.specs.FinMap.{get, find}
 use Rattle.rk_base.specs.Text.{Text, text_cmp, parent}
 use Rattle.rk_tree.specs.Copies.{put_found}
 use Rattle.rk_tree.specs.Entries.{Entries, is_dir}
-use Rattle.rk_tree.specs.declared.entry.Entry.{Entry}
-use Rattle.rk_tree.specs.declared.entry.Entry.TheVariants.{File, Dir, Link}
+use Rattle.rk_tree.specs.Node.{Node as Entry, File, Dir, Link}
 use Rattle.tr_codec.specs.Attrs.{are_rows}
 use Rattle.tr_codec.specs.declared.rows.AttrRow.{AttrRow}
 use Rattle.tr_codec.specs.declared.rows.AttrRow.TheVariants as row

@@ -6,8 +6,8 @@ use Rattle.rk_base.specs.Text.{Text, root, join, is_within, same_text}
 use Rattle.rk_base.specs.Canonical.{is_name}
 use Rattle.rk_tree.specs.Entries as tree
 use Rattle.rk_tree.specs.Entries.{Entries}
-use Rattle.rk_tree.specs.declared.entry.Entry.{Entry}
-use Rattle.rk_tree.specs.declared.entry.Entry.TheVariants as entry
+use Rattle.rk_tree.specs.Node.{Node as Entry}
+use Rattle.rk_tree.specs.Node as entry
 use Rattle.rk_folder.specs.Told.{Held, standing, is_dir, is_file, items_of}
 use Rattle.rk_folder.specs.Listing.{first_listed}
 use Rattle.rk_folder.specs.Specials.{is_special, is_fault, paths_of, or_else}

@@ -1,46 +1,50 @@
 // The tree of a folder, with its attributes.
-ghost use Rattle.std.specs.Prelude.{◌≡◌, IfOk, OnOk, option_copied};
+ghost use Rattle.std.specs.Prelude.{◌≡◌, IfOk, OnOk, option_copied, option_map};
 ghost use Rattle.std.specs.FinMap.{get};
 ghost use Rattle.rk_base.specs.Text.{parent};
 ghost use Rattle.rk_tree.specs.Copies as tree;
-ghost use Rattle.rk_tree.specs.Entries.{is_dir, IsWholeSnapshot};
+ghost use Rattle.rk_tree.specs.Entries.{is_dir, node_of, IsWholeSnapshot};
 ghost use Rattle.rk_folder.specs.Attributes.{file_with, dir_with, link_in, put_by, with_row, with_rows, RowsApply};
 
 use rk_base::{Bytes, NoMemory, Path};
-use rk_tree::{Entry, Snapshot, Tree};
+use rk_tree::{Entry, Node, Snapshot, Tree};
 use std::alloc::Global;
 use tr_codec::{AttrRow, Attrs};
 
 // The file with this mode, where one stands.
-fn file_with(mode: u16, it: Option<&Entry>) -> Result<Option<Entry>, NoMemory>
-    ensures { IfOk result (λ e. e ≡ file_with mode (option_copied it.entry)) }
+fn file_with(mode: u16, it: Option<&Node>) -> Result<Option<Entry>, NoMemory>
+    ensures { IfOk result (λ e. option_map node_of e ≡ file_with mode (option_copied it.entry)) }
 {
     match it {
         None => Ok(None),
-        Some(Entry::File(_, bytes)) => {
-            let bytes = bytes.copy()?;
-            Ok(Some(Entry::File(mode, bytes)))
-        }
-        Some(Entry::Dir(_)) => Ok(None),
-        Some(Entry::Link(_)) => Ok(None),
+        Some(it) => match it.entry() {
+            Entry::File(_, bytes) => {
+                let bytes = bytes.copy()?;
+                Ok(Some(Entry::File(mode, bytes)))
+            }
+            Entry::Dir(_) => Ok(None),
+            Entry::Link(_) => Ok(None),
+        },
     }
 }
 
 // The directory with this mode, where one stands.
-fn dir_with(mode: u16, it: Option<&Entry>) -> Option<Entry>
-    ensures { result ≡ dir_with mode (option_copied it.entry) }
+fn dir_with(mode: u16, it: Option<&Node>) -> Option<Entry>
+    ensures { option_map node_of result ≡ dir_with mode (option_copied it.entry) }
 {
     match it {
         None => None,
-        Some(Entry::File(_, _)) => None,
-        Some(Entry::Dir(_)) => Some(Entry::Dir(mode)),
-        Some(Entry::Link(_)) => None,
+        Some(it) => match it.entry() {
+            Entry::File(_, _) => None,
+            Entry::Dir(_) => Some(Entry::Dir(mode)),
+            Entry::Link(_) => None,
+        },
     }
 }
 
 // The link, where nothing stands in a directory.
-fn link_in(text: &Bytes, in_dir: bool, it: Option<&Entry>) -> Result<Option<Entry>, NoMemory>
-    ensures { IfOk result (λ e. e ≡ link_in text.now in_dir (option_copied it.entry)) }
+fn link_in(text: &Bytes, in_dir: bool, it: Option<&Node>) -> Result<Option<Entry>, NoMemory>
+    ensures { IfOk result (λ e. option_map node_of e ≡ link_in text.now in_dir (option_copied it.entry)) }
 {
     match it {
         None => {
@@ -55,8 +59,8 @@ fn link_in(text: &Bytes, in_dir: bool, it: Option<&Entry>) -> Result<Option<Entr
 }
 
 // What a row puts at its path.
-fn put_by(row: &AttrRow, in_dir: bool, it: Option<&Entry>) -> Result<Option<Entry>, NoMemory>
-    ensures { IfOk result (λ e. e ≡ put_by row.now in_dir (option_copied it.entry)) }
+fn put_by(row: &AttrRow, in_dir: bool, it: Option<&Node>) -> Result<Option<Entry>, NoMemory>
+    ensures { IfOk result (λ e. option_map node_of e ≡ put_by row.now in_dir (option_copied it.entry)) }
 {
     match row {
         AttrRow::FileMode(mode) => {
@@ -71,14 +75,12 @@ fn put_by(row: &AttrRow, in_dir: bool, it: Option<&Entry>) -> Result<Option<Entr
     }
 }
 
-fn is_dir(it: Option<&Entry>) -> bool
+fn is_dir(it: Option<&Node>) -> bool
     ensures { result ≡ is_dir (option_copied it.entry) }
 {
     match it {
         None => false,
-        Some(Entry::File(_, _)) => false,
-        Some(Entry::Dir(_)) => true,
-        Some(Entry::Link(_)) => false,
+        Some(it) => it.is_dir(),
     }
 }
 

@@ -19,7 +19,7 @@ ghost use Rattle.rk_folder.specs.declared.importing.ImportErr.TheVariants as err
 use crate::hidden_files::{ATTRS, DB, attrs_file, db_file, hidden_dir};
 use crate::{Folder, FolderErr, Got, Item};
 use rk_base::{Bytes, Name, NoMemory, Path};
-use rk_tree::{Entry, Snapshot};
+use rk_tree::{Entry, Node, Snapshot};
 use std::alloc::Global;
 use tr_codec::{DIR_MODE, FILE_MODE};
 
@@ -213,13 +213,11 @@ fn path_in(alloc: Global, dir: &Path, name: &Name) -> Result<Path, NoMemory>
     Ok(path)
 }
 
-fn is_dir(it: Option<&Entry>) -> bool
+fn is_dir(it: Option<&Node>) -> bool
     ensures { result ≡ tree.is_dir (option_copied it.entry) }
 {
     match it {
-        Some(Entry::Dir(_)) => true,
-        Some(Entry::File(_, _)) => false,
-        Some(Entry::Link(_)) => false,
+        Some(it) => it.is_dir(),
         None => false,
     }
 }
@@ -228,7 +226,7 @@ fn is_dir(it: Option<&Entry>) -> bool
 // it holds is held to that.
 #[tactic(auto, unfolding(crate::specs::Steps::laid))]
 fn lay(snapshot: &mut Snapshot, path: Path, it: Entry) -> Result<(), NoMemory>
-    ensures { OnOk result (snapshot.new ≡ steps.laid path it snapshot.old) }
+    ensures { OnOk result (snapshot.new ≡ steps.laid path (tree.node_of it) snapshot.old) }
 {
     if is_dir(snapshot.get(&path)) {
         return Ok(());

@@ -21,7 +21,10 @@ fn is_content(got: &Got, bytes: &[u8]) -> bool {
 }
 
 fn is_entry(snapshot: &Snapshot, path: &Path, bytes: &[u8]) -> bool {
-    matches!(snapshot.get(path), Some(Entry::File(0o644, it)) if it.as_slice() == bytes)
+    match snapshot.get(path) {
+        Some(it) => matches!(it.entry(), Entry::File(0o644, it) if it.as_slice() == bytes),
+        None => false,
+    }
 }
 
 // What is listed in a directory, each name ended by what stands there.
@@ -70,7 +73,10 @@ fn imports<F: Folder>(alloc: Global, folder: &mut F) -> Result<bool, Fail> {
     let entries = &found.entries;
     let files = is_entry(entries, &at(alloc, b"/d/a")?, b"1\n")
         && is_entry(entries, &at(alloc, b"/d/e/b")?, b"2\n");
-    let dir = matches!(entries.get(&at(alloc, b"/d/e")?), Some(Entry::Dir(0o755)));
+    let dir = match entries.get(&at(alloc, b"/d/e")?) {
+        Some(it) => matches!(it.entry(), Entry::Dir(0o755)),
+        None => false,
+    };
     let same = found.hidden.rkr && hidden.rkr && hidden.state.attrs.is_none();
     let db = matches!(&found.hidden.state.db, Some(db) if db.as_slice() == b"D".as_slice());
     Ok(files && dir && same && db && entries.len() == 5)

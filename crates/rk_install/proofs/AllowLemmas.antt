@@ -9,7 +9,7 @@ use Rattle.std.specs.FinMap.{find}
 use Rattle.rk_base.specs.Text.{Text, text_cmp}
 use Rattle.rk_folder.specs.Told.{Held, standing}
 use Rattle.rk_folder.specs.declared.folder.Standing.{Standing}
-use Rattle.rk_tree.specs.declared.entry.Entry.{Entry}
+use Rattle.rk_tree.specs.Node.{Node as Entry}
 use Rattle.rk_install.specs.declared.ops.Op.{Op}
 use Rattle.rk_install.specs.Changes.{allowed, step, after_all, AllowsAll}
 use Rattle.rk_install.proofs.OrderLemmas.{clash, Below, InOrder, below_first, below_rest, in_order_first, in_order_rest, find_below, find_first, find_other, below_cons, less-not_tied, less_clash}

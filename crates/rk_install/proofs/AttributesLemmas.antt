@@ -8,8 +8,7 @@ use Rattle.std.specs.FinMap.{entries, entries_sorted, find, get, get-entries}
 use Rattle.std.proofs.lemmas.Bool.{le-leb, eqb-true}
 use Rattle.rk_base.specs.Text.{Text, text_cmp, root, hidden, join, parent, is_root, is_within}
 use Rattle.rk_tree.specs.Entries.{Entries, is_dir, IsFit, IsWholeSnapshot}
-use Rattle.rk_tree.specs.declared.entry.Entry.{Entry}
-use Rattle.rk_tree.specs.declared.entry.Entry.TheVariants.{File, Dir, Link}
+use Rattle.rk_tree.specs.Node.{Node as Entry, File, Dir, Link}
 use Rattle.rk_tree.proofs.TextLemmas.{same_is, told_apart}
 use Rattle.rk_tree.proofs.RowsLemmas.{get-found, same_maps}
 use Rattle.tr_codec.specs.Attrs.{file_mode, dir_mode, is_mode, is_link_text, suits, is_row, ascend_from, ascend, are_rows}

@@ -3,7 +3,7 @@ use Rattle.std.proofs.Common.{◌≡◌, inl, inr, Bool, true, false, Option, So
 use Rattle.std.specs.FinMap.{get}
 use Rattle.std.specs.Option.{option_and_then}
 use Rattle.rk_base.specs.Text.{Text, parent, is_within}
-use Rattle.rk_tree.specs.declared.entry.Entry.{Entry}
+use Rattle.rk_tree.specs.Node.{Node as Entry}
 use Rattle.rk_folder.specs.Told.{Held, standing, is_file, is_dir, is_nothing, bytes_in}
 use Rattle.rk_folder.specs.Whole.{IsWhole}
 use Rattle.rk_folder.specs.Specials.{state_fault, hidden_fault, state_special, first_special}

@@ -9,7 +9,7 @@ use Rattle.rk_base.specs.Text.{Text, text_cmp}
 use Rattle.rk_folder.specs.Told.{Held, standing}
 use Rattle.rk_folder.specs.declared.folder.Standing.{Standing}
 use Rattle.rk_folder.specs.declared.folder.Standing.TheVariants.{File, Dir}
-use Rattle.rk_tree.specs.declared.entry.Entry.{Entry}
+use Rattle.rk_tree.specs.Node.{Node as Entry}
 use Rattle.rk_install.specs.declared.ops.Op.{Op}
 use Rattle.rk_install.specs.declared.ops.Op.TheVariants.{RemoveFile, RemoveDir, MakeDir, Write}
 use Rattle.rk_install.specs.Changes.{step, after_all, AllowsAll, path_of, left_by}

@@ -5,8 +5,7 @@ use Rattle.std.specs.FinMap.{entries}
 use Rattle.rk_base.specs.Text.{Text}
 use Rattle.rk_tree.specs.Entries.{Entries, IsWholeSnapshot}
 use Rattle.rk_tree.specs.Rows.{map_of}
-use Rattle.rk_tree.specs.declared.entry.Entry.{Entry}
-use Rattle.rk_tree.specs.declared.entry.Entry.TheVariants.{File, Dir, Link}
+use Rattle.rk_tree.specs.Node.{Node as Entry, File, Dir, Link}
 use Rattle.tr_codec.specs.Attrs.{file_mode, dir_mode}
 use Rattle.tr_codec.specs.declared.rows.AttrRow.{AttrRow}
 use Rattle.tr_codec.specs.declared.rows.AttrRow.TheVariants as row

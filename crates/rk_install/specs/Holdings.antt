@@ -9,8 +9,8 @@ use Rattle.rk_folder.specs.declared.folder.Standing.{Standing}
 use Rattle.rk_folder.specs.declared.folder.Standing.TheVariants.{File, Dir}
 use Rattle.rk_folder.specs.Whole.{IsWhole}
 use Rattle.rk_tree.specs.Entries.{IsWholeSnapshot}
-use Rattle.rk_tree.specs.declared.entry.Entry.{Entry}
-use Rattle.rk_tree.specs.declared.entry.Entry.TheVariants as entry
+use Rattle.rk_tree.specs.Node.{Node as Entry}
+use Rattle.rk_tree.specs.Node as entry
 use Rattle.rk_install.specs.declared.holding.Holding.{Holding}
 
 -- what an entry is in a folder: a link isn't there

@@ -2,15 +2,16 @@
 ghost use Rattle.std.specs.Prelude.{◌≡◌, ◌++◌, [], IfOk, OnOk};
 ghost use Rattle.std.specs.List.{cons_option};
 ghost use Rattle.rk_tree.specs.Entries.{IsWholeSnapshot};
+ghost use Rattle.rk_tree.specs.Node.{File, Dir};
 ghost use Rattle.rk_install.specs.Attributes.{row_of, attr_row, attrs_of, RowsKeep, PlainHeld, BuiltHeld};
 
 use rk_base::{NoMemory, Path};
-use rk_tree::{Entry, Snapshot};
+use rk_tree::{Entry, Node, Snapshot};
 use std::alloc::Global;
 use tr_codec::{AttrRow, Attrs, DIR_MODE, FILE_MODE};
 
 fn file_row(mode: u16) -> Option<AttrRow>
-    ensures { result ≡ row_of (Entry.File mode []) }
+    ensures { result ≡ row_of (File mode []) }
 {
     if mode == FILE_MODE {
         None
@@ -20,7 +21,7 @@ fn file_row(mode: u16) -> Option<AttrRow>
 }
 
 fn dir_row(mode: u16) -> Option<AttrRow>
-    ensures { result ≡ row_of (Entry.Dir mode) }
+    ensures { result ≡ row_of (Dir mode) }
 {
     if mode == DIR_MODE {
         None
@@ -30,10 +31,10 @@ fn dir_row(mode: u16) -> Option<AttrRow>
 }
 
 // A mode that isn't the default, or a link.
-fn row_of(it: &Entry) -> Result<Option<AttrRow>, NoMemory>
+fn row_of(it: &Node) -> Result<Option<AttrRow>, NoMemory>
     ensures { IfOk result (λ row. row ≡ row_of it.now) }
 {
-    match it {
+    match it.entry() {
         Entry::File(mode, _) => Ok(file_row(*mode)),
         Entry::Dir(mode) => Ok(dir_row(*mode)),
         Entry::Link(text) => {
@@ -43,7 +44,7 @@ fn row_of(it: &Entry) -> Result<Option<AttrRow>, NoMemory>
     }
 }
 
-fn push_row(rows: &mut Vec<(Path, AttrRow)>, path: &Path, it: &Entry) -> Result<(), NoMemory>
+fn push_row(rows: &mut Vec<(Path, AttrRow)>, path: &Path, it: &Node) -> Result<(), NoMemory>
     ensures { OnOk result (rows.new.items ≡ rows.old.items ++ cons_option (attr_row (path.now, it.now)) []) }
 {
     match row_of(it)? {

@@ -9,35 +9,44 @@ ghost use Rattle.rk_install.specs.Planned.{removal, making, writing, removal_of,
 
 use crate::{Holding, Op, Plan};
 use rk_base::{Bytes, NoMemory, Path, PathFault};
-use rk_tree::{Entry, Snapshot};
+use rk_tree::{Entry, Node, Snapshot};
 use std::alloc::Global;
 
-fn is_file(it: Option<&Entry>) -> bool
+fn is_file(it: Option<&Node>) -> bool
     ensures { result ≡ is_file (placed (option_copied it.entry)) }
 {
-    matches!(it, Some(Entry::File(_, _)))
+    match it {
+        Some(it) => matches!(it.entry(), Entry::File(_, _)),
+        None => false,
+    }
 }
 
-fn is_dir(it: Option<&Entry>) -> bool
+fn is_dir(it: Option<&Node>) -> bool
     ensures { result ≡ is_dir (placed (option_copied it.entry)) }
 {
-    matches!(it, Some(Entry::Dir(_)))
+    match it {
+        Some(it) => matches!(it.entry(), Entry::Dir(_)),
+        None => false,
+    }
 }
 
-fn is_file_of(bytes: &Bytes, it: Option<&Entry>) -> bool
+fn is_file_of(bytes: &Bytes, it: Option<&Node>) -> bool
     ensures { result ≡ is_file_of bytes.now (placed (option_copied it.entry)) }
 {
     match it {
-        Some(Entry::File(_, old)) => old.same(bytes),
-        _ => false,
+        Some(it) => match it.entry() {
+            Entry::File(_, old) => old.same(bytes),
+            _ => false,
+        },
+        None => false,
     }
 }
 
 // The call that takes away what stood at a path, where nothing of its kind stands there afterwards.
-fn removal(path: &Path, it: &Entry, after: Option<&Entry>) -> Result<Option<Op>, NoMemory>
+fn removal(path: &Path, it: &Node, after: Option<&Node>) -> Result<Option<Op>, NoMemory>
     ensures { IfOk result (λ op. op ≡ removal path.now it.now (placed (option_copied after.entry))) }
 {
-    match it {
+    match it.entry() {
         Entry::File(_, _) if !is_file(after) => Ok(Some(Op::RemoveFile(path.copy()?))),
         Entry::Dir(_) if !is_dir(after) => Ok(Some(Op::RemoveDir(path.copy()?))),
         _ => Ok(None),
@@ -45,20 +54,20 @@ fn removal(path: &Path, it: &Entry, after: Option<&Entry>) -> Result<Option<Op>,
 }
 
 // The call that makes a directory, where none stood before.
-fn making(path: &Path, it: &Entry, before: Option<&Entry>) -> Result<Option<Op>, NoMemory>
+fn making(path: &Path, it: &Node, before: Option<&Node>) -> Result<Option<Op>, NoMemory>
     ensures { IfOk result (λ op. op ≡ making path.now it.now (placed (option_copied before.entry))) }
 {
-    match it {
+    match it.entry() {
         Entry::Dir(_) if !is_dir(before) => Ok(Some(Op::MakeDir(path.copy()?))),
         _ => Ok(None),
     }
 }
 
 // The call that writes a file, where none of its bytes stood before.
-fn writing(path: &Path, it: &Entry, before: Option<&Entry>) -> Result<Option<Op>, NoMemory>
+fn writing(path: &Path, it: &Node, before: Option<&Node>) -> Result<Option<Op>, NoMemory>
     ensures { IfOk result (λ op. op ≡ writing path.now it.now (placed (option_copied before.entry))) }
 {
-    match it {
+    match it.entry() {
         Entry::File(_, bytes) if !is_file_of(bytes, before) => {
             let path = path.copy()?;
             Ok(Some(Op::Write(path, bytes.copy()?)))

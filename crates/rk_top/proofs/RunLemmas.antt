@@ -5,10 +5,10 @@ use Rattle.rk_calls.specs.Keys.{KeyValue}
 use Rattle.rk_calls.specs.Refs.{top_refs}
 use Rattle.rk_calls.specs.Talk.{Says}
 use Rattle.rk_tree.specs.Entries.{Entries}
-use Rattle.rk_tree.specs.Held.{Held}
+use Rattle.rk_tree.specs.Hierarchy.{Hierarchy}
 use Rattle.rk_tree.specs.Copies.{tree_of}
 use Rattle.rk_tree.specs.Rows.{map_of}
-use Rattle.rk_tree.specs.declared.entry.Entry.{Entry}
+use Rattle.rk_tree.specs.Node.{Node}
 use Rattle.rk_tree.proofs.RowsLemmas.{get-found, puts, puts-map_of, same_maps}
 use Rattle.rk_base.specs.Text.{Text}
 use Rattle.std.specs.FinMap.{empty, entries, entries_sorted, get-entries}
@@ -25,7 +25,7 @@ use Rattle.rk_replay.specs.declared.stop.Stop.TheVariants as stop
 use Rattle.rk_replay.specs.Script.{script_key}
 use Rattle.rk_top.specs.Run.{fresh_run}
 
-pub fresh_run-is : (steps : ℕ) (entries : Entries) (budget : Paid) (tree : Held) (world : World) (o : Outcome World) → budget.limit ≡ steps → budget.used ≡ 0 → tree ≡ tree_of entries → world ≡ fresh_of tree → fresh (game first_talk answered) (left budget) script_key top_refs world ≡ o → fresh_run steps entries ≡ o
+pub fresh_run-is : (steps : ℕ) (entries : Entries) (budget : Paid) (tree : Hierarchy) (world : World) (o : Outcome World) → budget.limit ≡ steps → budget.used ≡ 0 → tree ≡ tree_of entries → world ≡ fresh_of tree → fresh (game first_talk answered) (left budget) script_key top_refs world ≡ o → fresh_run steps entries ≡ o
 unfolding fresh_run
 fresh_run-is steps entries budget tree world o limit used is_tree is_world run =
     let turns : left budget ≡ steps = omega arith in
@@ -39,7 +39,7 @@ pub spent-is : {S : Type 0} (first : KeyValue → Says) (old : List Record) (spe
 spent-is first old spent stopped e is stops = subst (Stops first old spent stopped) is stops
 
 -- what is put in turn is the whole
-pub copied : (copy it : Entries) (left : List (Text × Entry)) → puts copy left ≡ puts empty (entries it) → left ≡ [] → copy ≡ it
+pub copied : (copy it : Entries) (left : List (Text × Node)) → puts copy left ≡ puts empty (entries it) → left ≡ [] → copy ≡ it
 copied copy it left so_far done =
-    sym (ap (λ (rows : List (Text × Entry)). puts copy rows) done) ∙ so_far ∙ puts-map_of (entries it) (entries_sorted it)
+    sym (ap (λ (rows : List (Text × Node)). puts copy rows) done) ∙ so_far ∙ puts-map_of (entries it) (entries_sorted it)
     ∙ same_maps (map_of (entries it)) it (λ q. get-found (entries it) q ∙ sym (get-entries it q))

@@ -39,7 +39,7 @@ fn copy_of(alloc: Global, entries: &Snapshot) -> Result<Snapshot, NoMemory>
 {
     let mut copy = Snapshot::new(alloc);
     for (path, it) in entries.rows() {
-        copy.put(path.copy()?, it.copy()?)?;
+        copy.put(path.copy()?, it.entry().copy()?)?;
     }
     Ok(copy)
 }

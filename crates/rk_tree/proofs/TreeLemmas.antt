@@ -60,6 +60,11 @@ pub err_view : {A E : Type 0} (r : Result A E) (nodes : List Inode) (tree : Hier
 err_view (Ok x) nodes tree t s = tt
 err_view (Err e) nodes tree t s = view_by nodes tree t s
 
+-- what is seen after a success
+pub ok_view : {A E : Type 0} (r : Result A E) (new after : List Inode) (then : Hierarchy) → OnOk r (new ≡ after) → IsTree after then → (s : Shown new) → OnOk r (hierarchy_of s.paths new ≡ then)
+ok_view (Ok x) new after then ok t s = view_by new then (tree_same after new then ok t) s
+ok_view (Err e) new after then ok t s = tt
+
 -- a fact of what the nodes make is one of the tree
 pub over : (nodes : List Inode) (tree : Hierarchy) (t : IsTree nodes tree) (Q : Hierarchy → Type 0) → Q (hierarchy_of t.paths nodes) → Q tree
 over nodes tree t Q q = subst Q t.is q

@@ -7,7 +7,7 @@ use Rattle.rk_base.specs.Text.{Text, text_cmp, root, parent, join, hidden, is_wi
 use Rattle.rk_base.specs.Canonical.{is_name, is_canonical}
 use Rattle.rk_tree.specs.Node.{Node, File, Dir, Link}
 use Rattle.rk_tree.specs.Entries.{is_dir, IsFit}
-use Rattle.rk_tree.specs.Hierarchy.{Hierarchy, Paths, top, node, number_at, path_of, child, with_node, linked, added, with_path, set_node, changed_at, change_node, replaced, with_mode}
+use Rattle.rk_tree.specs.Hierarchy.{Hierarchy, Paths, top, node, number_at, path_of, child, with_node, linked, added, with_path, set_node, changed_at, change_node, over_written, replaced, with_mode}
 use Rattle.rk_tree.specs.Whole.{IsPlaced, IsWhole, MayHold}
 use Rattle.rk_tree.proofs.RowsLemmas.{insert_cases}
 use Rattle.rk_tree.proofs.TextLemmas.{parent-root, within-join, hidden-back, root_seen, name_at_root}
@@ -273,6 +273,16 @@ pub alike_mode : (mode : ℕ) (it : Node) → is_dir (Some (with_mode mode it)) 
 alike_mode mode (File old bytes) = refl
 alike_mode mode (Dir old) = refl
 alike_mode mode (Link text) = refl
+
+pub alike_written : (at : ℕ) (bytes : List ℕ) (it : Node) → is_dir (Some (over_written at bytes it)) ≡ is_dir (Some it)
+alike_written at bytes (File mode old) = refl
+alike_written at bytes (Dir mode) = refl
+alike_written at bytes (Link text) = refl
+
+pub fit_written : (at : ℕ) (bytes : List ℕ) (it : Node) → IsFit it → IsFit (over_written at bytes it)
+fit_written at bytes (File mode old) h = h
+fit_written at bytes (Dir mode) h = h
+fit_written at bytes (Link text) h = h
 
 pub fit_replaced : (bytes : List ℕ) (it : Node) → IsFit it → IsFit (replaced bytes it)
 fit_replaced bytes (File mode old) h = h

@@ -4,7 +4,7 @@ use Rattle.std.specs.Coded.{Coded, code_by, coded×, coded_ℕ, coded_list}
 use Rattle.std.specs.Option.{option_and_then}
 use Rattle.std.specs.List.{fold, filter_map}
 use Rattle.std.specs.FinMap.{FinMap, empty, entries, get, insert, remove, code}
-use Rattle.rk_base.specs.Text.{Text, text_cmp, same_text, parent, name_of, join, is_in, is_within, moved}
+use Rattle.rk_base.specs.Text.{Text, text_cmp, same_text, parent, name_of, join, is_in, is_within, moved, written}
 use Rattle.rk_base.specs.Canonical.{is_name}
 use Rattle.rk_tree.specs.Node.{Node, File, Dir, Link, node_code}
 
@@ -164,6 +164,16 @@ replaced bytes (Link text) = Link text
 -- a file's bytes are replaced
 abbrev pub set_bytes : Hierarchy → ℕ → List ℕ → Hierarchy
 set_bytes tree n bytes = change_node tree n (replaced bytes)
+
+-- the node with bytes written over its own from a place on, if it is a file
+abbrev pub over_written : ℕ → List ℕ → Node → Node
+over_written at bytes (File mode old) = File mode (written old at bytes)
+over_written at bytes (Dir mode) = Dir mode
+over_written at bytes (Link text) = Link text
+
+-- bytes are written over a file's from a place on; a gap before it becomes zero bytes
+abbrev pub write : Hierarchy → ℕ → ℕ → List ℕ → Hierarchy
+write tree n at bytes = change_node tree n (over_written at bytes)
 
 -- the node with this mode; a link has none of its own
 abbrev pub with_mode : ℕ → Node → Node

@@ -89,3 +89,9 @@ abbrev pub Changes : {A : Type 0} → Option Errno → Hierarchy → Hierarchy �
 Changes refusal old after new (Ok it) = (refusal ≡ None) × (new ≡ after)
 Changes refusal old after new (Err (No e)) = (refusal ≡ Some e) × (new ≡ old)
 Changes refusal old after new (Err NoMemory) = new ≡ old
+
+-- the same of a change that takes no memory: it never lacks any
+abbrev pub ChangesFreely : {A : Type 0} → Option Errno → Hierarchy → Hierarchy → Hierarchy → Result A Refused → Type 0
+ChangesFreely refusal old after new (Ok it) = (refusal ≡ None) × (new ≡ after)
+ChangesFreely refusal old after new (Err (No e)) = (refusal ≡ Some e) × (new ≡ old)
+ChangesFreely refusal old after new (Err NoMemory) = ⊥

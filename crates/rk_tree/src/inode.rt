@@ -1,5 +1,5 @@
 // Nodes, each with its place and its names.
-ghost use Rattle.std.specs.Prelude.{◌≡◌, ◌++◌, ◌∷◌, [], IfOk, OnOk, OnErr, not, length, slice_get, option_copied, Some};
+ghost use Rattle.std.specs.Prelude.{◌≡◌, ℕ, List, ◌++◌, ◌∷◌, [], IfOk, OnOk, OnErr, not, length, slice_get, option_copied, Some};
 ghost use Rattle.std.specs.FinMap.{entries, keys};
 ghost use Rattle.rk_base.specs.Canonical.{is_empty};
 ghost use Rattle.rk_tree.specs.Hierarchy as hierarchy;
@@ -218,6 +218,23 @@ pub(crate) fn replace_bytes(nodes: &mut Vec<Inode>, n: NodeId, bytes: Bytes)
     match nodes.get_mut(n.number()) {
         None => {}
         Some(inode) => inode.node.set_bytes(bytes),
+    }
+}
+
+/// Writes bytes over a file's; any other node stays as it is. After want of memory the file's bytes may
+/// be any.
+pub(crate) fn write_over(
+    nodes: &mut Vec<Inode>,
+    n: NodeId,
+    at: usize,
+    bytes: &[u8],
+) -> Result<(), NoMemory>
+    ensures ok { OnOk result (nodes.new.items ≡ change (as_node (hierarchy.over_written at bytes.now)) nodes.old.items n) }
+    ensures any { (text : List ℕ) × (nodes.new.items ≡ change (as_node (hierarchy.replaced text)) nodes.old.items n) }
+{
+    match nodes.get_mut(n.number()) {
+        None => Ok(()),
+        Some(inode) => inode.node.write(at, bytes),
     }
 }
 

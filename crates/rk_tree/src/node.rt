@@ -1,10 +1,11 @@
 // Nodes.
-ghost use Rattle.std.specs.Prelude.{◌≡◌, ◌↔◌, IsTrue, IfOk, Some};
+ghost use Rattle.std.specs.Prelude.{◌≡◌, ◌↔◌, ℕ, List, IsTrue, IfOk, OnOk, Some};
 ghost use Rattle.rk_tree.specs.Entries.{is_dir, kind_of, node_of};
-ghost use Rattle.rk_tree.specs.Hierarchy.{file_bytes, mode_of, replaced, text_of, with_mode};
+ghost use Rattle.rk_tree.specs.Hierarchy.{file_bytes, mode_of, over_written, replaced, text_of, with_mode};
 
 use crate::Entry;
 use rk_base::{Bytes, Kind, NoMemory};
+use std::alloc::Global;
 use std::marker::Model;
 
 /// A node: what an entry says. It stands in a tree, and at a path of a snapshot.
@@ -99,6 +100,41 @@ impl Node {
     {
         let entry = self.entry.copy()?;
         Ok(Node { entry })
+    }
+
+    /// The bytes of a file, shared with it; none for any other node.
+    pub fn copy_bytes(&self, alloc: Global) -> Result<Bytes, NoMemory>
+        ensures { IfOk result (λ b. b ≡ file_bytes (Some self.now)) }
+    {
+        match &self.entry {
+            Entry::File(_, bytes) => bytes.copy(),
+            Entry::Dir(_) => Bytes::from_slice(alloc, b""),
+            Entry::Link(_) => Bytes::from_slice(alloc, b""),
+        }
+    }
+
+    /// The text of a link, shared with it; none for any other node.
+    pub fn copy_link_text(&self, alloc: Global) -> Result<Bytes, NoMemory>
+        ensures { IfOk result (λ b. b ≡ text_of (Some self.now)) }
+    {
+        match &self.entry {
+            Entry::File(_, _) => Bytes::from_slice(alloc, b""),
+            Entry::Dir(_) => Bytes::from_slice(alloc, b""),
+            Entry::Link(text) => text.copy(),
+        }
+    }
+
+    // Bytes are written over a file's; any other node stays as it is. After want of memory the file's
+    // bytes may be any.
+    pub(crate) fn write(&mut self, at: usize, bytes: &[u8]) -> Result<(), NoMemory>
+        ensures ok { OnOk result (self.new ≡ over_written at bytes.now self.old) }
+        ensures any { (text : List ℕ) × (self.new ≡ replaced text self.old) }
+    {
+        match &mut self.entry {
+            Entry::File(_, old) => old.write_at(at, bytes),
+            Entry::Dir(_) => Ok(()),
+            Entry::Link(_) => Ok(()),
+        }
     }
 
     // A file's bytes are replaced; any other node stays as it is.

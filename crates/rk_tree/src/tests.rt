@@ -2,7 +2,7 @@
 ghost use Rattle.std.specs.Prelude.{IsTrue};
 ghost use Rattle.rk_tree.specs.Whole.{MayHold};
 
-use crate::{Entry, Refused, Snapshot, Tree};
+use crate::{Entry, Node, NodeId, Refused, Snapshot, Tree};
 use rk_base::{Bytes, Errno, Name, NoMemory, Path, PathFault};
 use std::alloc::Global;
 use std::test::Fail;
@@ -49,8 +49,8 @@ fn trees(rt: HostRuntime) -> Result<(), Fail> {
     let shown = tree.snapshot()?;
     assert_eq!(rt; shown.len(), 1);
     let again = Tree::of_snapshot(alloc, &shown)?;
-    assert!(rt; again.is_dir(0));
-    assert_eq!(rt; again.mode(0), 0o755);
+    assert!(rt; again.is_dir(NodeId::root()));
+    assert_eq!(rt; again.mode(NodeId::root()), 0o755);
     Ok(())
 }
 
@@ -58,9 +58,10 @@ fn trees(rt: HostRuntime) -> Result<(), Fail> {
 fn roots(rt: HostRuntime) -> Result<(), Fail> {
     let alloc = rt.alloc();
     let tree = Tree::new(alloc)?;
-    assert_eq!(rt; tree.child(0, b"g"), None);
-    assert_eq!(rt; tree.parent(0), Some(0));
-    assert_eq!(rt; tree.bytes(0).len(), 0);
+    let root = tree.root();
+    assert_eq!(rt; tree.child(root, b"g"), None);
+    assert_eq!(rt; tree.parent(root), Some(root));
+    assert_eq!(rt; tree.bytes(root).len(), 0);
     Ok(())
 }
 
@@ -72,14 +73,14 @@ fn name(alloc: Global, text: &[u8]) -> Result<Name, NoMemory> {
 }
 
 // The name, which isn't the hidden one, in a directory.
-fn may_hold(tree: &Tree, dir: usize, name: &Name) -> bool
+fn may_hold(tree: &Tree, dir: NodeId, name: &Name) -> bool
     ensures { IsTrue result → MayHold tree.now dir name.now }
 {
     let text = name.as_slice();
     tree.is_dir(dir) && text != b".rkr".as_slice()
 }
 
-fn adds(tree: &mut Tree, dir: usize, name: &Name, it: Entry) -> Option<usize> {
+fn adds(tree: &mut Tree, dir: NodeId, name: &Name, it: Entry) -> Option<NodeId> {
     if !may_hold(tree, dir, name) {
         return None;
     }
@@ -89,7 +90,7 @@ fn adds(tree: &mut Tree, dir: usize, name: &Name, it: Entry) -> Option<usize> {
     }
 }
 
-fn links(tree: &mut Tree, dir: usize, name: &Name, n: usize) -> Option<()> {
+fn links(tree: &mut Tree, dir: NodeId, name: &Name, n: NodeId) -> Option<()> {
     if !may_hold(tree, dir, name) {
         return None;
     }
@@ -105,10 +106,10 @@ fn grown(alloc: Global) -> Result<Option<Tree>, NoMemory> {
     let d = name(alloc, b"d")?;
     let f = name(alloc, b"f")?;
     let one = Bytes::from_slice(alloc, b"1\n")?;
-    if adds(&mut tree, 0, &d, Entry::Dir(0o755)).is_none() {
+    if adds(&mut tree, NodeId::new(0), &d, Entry::Dir(0o755)).is_none() {
         return Ok(None);
     }
-    if adds(&mut tree, 1, &f, Entry::File(0o644, one)).is_none() {
+    if adds(&mut tree, NodeId::new(1), &f, Entry::File(0o644, one)).is_none() {
         return Ok(None);
     }
     Ok(Some(tree))
@@ -120,7 +121,7 @@ fn additions(rt: HostRuntime) -> Result<(), Fail> {
     let tree = grown(alloc)?.ok_or("no tree")?;
     let shown = tree.snapshot()?;
     assert_eq!(rt; shown.len(), 3);
-    assert_eq!(rt; tree.mode(2), 0o644);
+    assert_eq!(rt; tree.mode(NodeId::new(2)), 0o644);
     Ok(())
 }
 
@@ -130,12 +131,12 @@ fn additions(rt: HostRuntime) -> Result<(), Fail> {
 fn no_names(rt: HostRuntime) -> Result<(), Fail> {
     let alloc = rt.alloc();
     let tree = grown(alloc)?.ok_or("no tree")?;
-    if !tree.is_dir(0) {
+    if !tree.is_dir(NodeId::new(0)) {
         return Err(Fail::from("no root"));
     }
-    assert_eq!(rt; tree.child(0, b"d"), Some(1));
-    assert_eq!(rt; tree.child(0, b"d/f"), None);
-    assert_eq!(rt; tree.child(0, b""), None);
+    assert_eq!(rt; tree.child(NodeId::new(0), b"d"), Some(NodeId::new(1)));
+    assert_eq!(rt; tree.child(NodeId::new(0), b"d/f"), None);
+    assert_eq!(rt; tree.child(NodeId::new(0), b""), None);
     Ok(())
 }
 
@@ -144,12 +145,12 @@ fn hard_links(rt: HostRuntime) -> Result<(), Fail> {
     let alloc = rt.alloc();
     let mut tree = grown(alloc)?.ok_or("no tree")?;
     let g = name(alloc, b"g")?;
-    links(&mut tree, 0, &g, 2).ok_or("no link")?;
-    tree.set_bytes(2, Bytes::from_slice(alloc, b"two")?);
+    links(&mut tree, NodeId::new(0), &g, NodeId::new(2)).ok_or("no link")?;
+    tree.set_bytes(NodeId::new(2), Bytes::from_slice(alloc, b"two")?);
     let shown = tree.snapshot()?;
     let at = path(alloc, b"/g")?;
     let it = shown.get(&at).ok_or("no file")?;
-    let want = Entry::File(0o644, Bytes::from_slice(alloc, b"two")?);
+    let want = Node::new(Entry::File(0o644, Bytes::from_slice(alloc, b"two")?));
     assert!(rt; it.same(&want));
     Ok(())
 }
@@ -160,11 +161,21 @@ fn removals(rt: HostRuntime) -> Result<(), Fail> {
     let mut tree = grown(alloc)?.ok_or("no tree")?;
     let d = name(alloc, b"d")?;
     let f = name(alloc, b"f")?;
-    assert!(rt; matches!(tree.remove(0, &d), Err(Refused::No(Errno::NotEmpty))));
-    assert!(rt; tree.remove(1, &f).is_ok());
-    assert!(rt; tree.remove(0, &d).is_ok());
-    assert!(rt; matches!(tree.remove(0, &d), Err(Refused::No(Errno::NoEntry))));
-    assert_eq!(rt; tree.bytes(2).len(), 2);
+    assert!(rt;
+        matches!(
+            tree.remove(NodeId::new(0), &d),
+            Err(Refused::No(Errno::NotEmpty))
+        )
+    );
+    assert!(rt; tree.remove(NodeId::new(1), &f).is_ok());
+    assert!(rt; tree.remove(NodeId::new(0), &d).is_ok());
+    assert!(rt;
+        matches!(
+            tree.remove(NodeId::new(0), &d),
+            Err(Refused::No(Errno::NoEntry))
+        )
+    );
+    assert_eq!(rt; tree.bytes(NodeId::new(2)).len(), 2);
     Ok(())
 }
 
@@ -172,13 +183,18 @@ fn removals(rt: HostRuntime) -> Result<(), Fail> {
 fn modes(rt: HostRuntime) -> Result<(), Fail> {
     let alloc = rt.alloc();
     let mut tree = Tree::new(alloc)?;
-    assert!(rt; tree.set_mode(0, 0o555).is_ok());
-    assert_eq!(rt; tree.mode(0), 0o555);
-    assert!(rt; matches!(tree.set_mode(0, 0o1000), Err(Refused::No(Errno::Invalid))));
+    assert!(rt; tree.set_mode(NodeId::new(0), 0o555).is_ok());
+    assert_eq!(rt; tree.mode(NodeId::new(0)), 0o555);
+    assert!(rt;
+        matches!(
+            tree.set_mode(NodeId::new(0), 0o1000),
+            Err(Refused::No(Errno::Invalid))
+        )
+    );
     Ok(())
 }
 
-fn renames(tree: &mut Tree, dir: usize, name: &Name, to: usize, new: &Name) -> bool {
+fn renames(tree: &mut Tree, dir: NodeId, name: &Name, to: NodeId, new: &Name) -> bool {
     may_hold(tree, to, new) && tree.rename(dir, name, to, new).is_ok()
 }
 
@@ -196,21 +212,21 @@ fn renamings(rt: HostRuntime) -> Result<(), Fail> {
     let e = name(alloc, b"e")?;
     let f = name(alloc, b"f")?;
     let g = name(alloc, b"g")?;
-    assert!(rt; renames(&mut tree, 0, &d, 0, &e));
+    assert!(rt; renames(&mut tree, NodeId::new(0), &d, NodeId::new(0), &e));
     let shown = tree.snapshot()?;
     assert!(rt; stands(&shown, alloc, b"/e/f")?);
     assert!(rt; !stands(&shown, alloc, b"/d")?);
     adds(
         &mut tree,
-        1,
+        NodeId::new(1),
         &g,
         Entry::File(0o600, Bytes::from_slice(alloc, b"g")?),
     )
     .ok_or("no file")?;
-    assert!(rt; renames(&mut tree, 1, &f, 1, &g));
+    assert!(rt; renames(&mut tree, NodeId::new(1), &f, NodeId::new(1), &g));
     let shown = tree.snapshot()?;
     assert_eq!(rt; shown.len(), 3);
-    assert_eq!(rt; tree.bytes(3).len(), 1);
+    assert_eq!(rt; tree.bytes(NodeId::new(3)).len(), 1);
     Ok(())
 }
 
@@ -221,15 +237,15 @@ fn lists(rt: HostRuntime) -> Result<(), Fail> {
     let c = name(alloc, b"c")?;
     adds(
         &mut tree,
-        0,
+        NodeId::new(0),
         &c,
         Entry::Link(Bytes::from_slice(alloc, b"d")?),
     )
     .ok_or("no link")?;
-    if !tree.is_dir(0) {
+    if !tree.is_dir(NodeId::new(0)) {
         return Err(Fail::from("no root"));
     }
-    let list = tree.list(0)?;
+    let list = tree.list(NodeId::new(0))?;
     assert_eq!(rt; list.len(), 2);
     let names = list.as_slice();
     let first = names.first().ok_or("no name")?;

@@ -1,5 +1,5 @@
 // The tree of a world.
-ghost use Rattle.std.specs.Prelude.{◌≡◌, ◌≤◌, option_copied, option_map, IfOk, IfSome, true, Some, [], ◌∷◌};
+ghost use Rattle.std.specs.Prelude.{◌≡◌, ◌≤◌, ℕ, List, OnOk, option_copied, option_map, IfOk, IfSome, true, Some, [], ◌∷◌};
 ghost use Rattle.std.specs.FinMap.{empty, insert};
 ghost use Rattle.rk_base.specs.Text.{root};
 ghost use Rattle.rk_tree.specs.Entries.{is_dir, kind_of};
@@ -15,7 +15,7 @@ mod copying;
 mod refusing;
 mod renaming;
 
-use crate::inode::{Inode, names_of, node_at, number_under, place_at, replace_bytes};
+use crate::inode::{Inode, names_of, node_at, number_under, place_at, replace_bytes, write_over};
 use crate::{Entry, Node, NodeId};
 use rk_base::{Bytes, Kind, Name, NameList, NoMemory};
 use std::alloc::Global;
@@ -126,6 +126,28 @@ impl Tree {
         }
     }
 
+    /// The bytes of a file, shared with it; none for any other node.
+    pub fn copy_bytes(&self, n: NodeId) -> Result<Bytes, NoMemory>
+        ensures { IfOk result (λ b. b ≡ hierarchy.file_bytes (hierarchy.node self.now n)) }
+    {
+        let alloc = *self.nodes.allocator();
+        match self.look(n) {
+            None => Bytes::from_slice(alloc, b""),
+            Some(it) => it.copy_bytes(alloc),
+        }
+    }
+
+    /// The text of a link, shared with it; none for any other node.
+    pub fn copy_link_text(&self, n: NodeId) -> Result<Bytes, NoMemory>
+        ensures { IfOk result (λ b. b ≡ hierarchy.text_of (hierarchy.node self.now n)) }
+    {
+        let alloc = *self.nodes.allocator();
+        match self.look(n) {
+            None => Bytes::from_slice(alloc, b""),
+            Some(it) => it.copy_link_text(alloc),
+        }
+    }
+
     /// The text of a link; none for any other node.
     pub fn link_text(&self, n: NodeId) -> &[u8]
         ensures { result.now ≡ hierarchy.text_of (hierarchy.node self.now n) }
@@ -186,5 +208,15 @@ impl Tree {
         ensures { self.new ≡ hierarchy.set_bytes self.old n bytes }
     {
         replace_bytes(&mut self.nodes, n, bytes);
+    }
+
+    /// Writes bytes over a file's from an offset on, and zero bytes into a gap before it: in place, where
+    /// the file's bytes are its own. Any other node stays as it is. After want of memory the file's bytes
+    /// may be any, and all else is as it was.
+    pub fn write(&mut self, n: NodeId, at: usize, bytes: &[u8]) -> Result<(), NoMemory>
+        ensures ok { OnOk result (self.new ≡ hierarchy.write self.old n at bytes.now) }
+        ensures any { (text : List ℕ) × (self.new ≡ hierarchy.set_bytes self.old n text) }
+    {
+        write_over(&mut self.nodes, n, at, bytes)
     }
 }

@@ -2,7 +2,7 @@
 ghost use Rattle.std.specs.Prelude.{◌≡◌, IfOk, OnOk, OnErr, length, true, false, Some, None};
 ghost use Rattle.rk_tree.specs.Entries.{is_dir, node_of, IsFit};
 ghost use Rattle.rk_tree.specs.Hierarchy as hierarchy;
-ghost use Rattle.rk_tree.specs.Refusals.{Changes, add_refusal, has_names, is_there, link_refusal, mode_refusal, remove_refusal};
+ghost use Rattle.rk_tree.specs.Refusals.{Changes, ChangesFreely, add_refusal, has_names, is_there, link_refusal, mode_refusal, remove_refusal};
 ghost use Rattle.rk_tree.specs.Whole.{MayHold};
 
 use crate::inode::{Inode, add_under, put_name, put_place, replace_mode, take_name};
@@ -94,9 +94,10 @@ impl Tree {
 
     /// A name stands for nothing; the node stays, for its other names and for who has it open.
     /// Refusals: `NoEntry` where the name stands for nothing, `NotEmpty` where it stands for a
-    /// directory in which names stand, `Denied` where the directory that loses it lacks `w`.
+    /// directory in which names stand, `Denied` where the directory that loses it lacks `w`. It takes no
+    /// memory.
     pub fn remove(&mut self, dir: NodeId, name: &Name) -> Result<(), Refused>
-        ensures { Changes (remove_refusal self.old dir name.now) self.old (hierarchy.removed self.old dir name.now) self.new result }
+        ensures { ChangesFreely (remove_refusal self.old dir name.now) self.old (hierarchy.removed self.old dir name.now) self.new result }
     {
         match self.found(dir, name) {
             None => Err(Refused::No(Errno::NoEntry)),
@@ -111,9 +112,9 @@ impl Tree {
     }
 
     /// The mode of a file or a directory is replaced; a link has none, and stays as it is. Refusals:
-    /// `Invalid` for a mode above 0777, `NoEntry` where there is no node of this number.
+    /// `Invalid` for a mode above 0777, `NoEntry` where this is no node of the tree. It takes no memory.
     pub fn set_mode(&mut self, n: NodeId, mode: u16) -> Result<(), Refused>
-        ensures { Changes (mode_refusal self.old n mode) self.old (hierarchy.set_mode self.old n mode) self.new result }
+        ensures { ChangesFreely (mode_refusal self.old n mode) self.old (hierarchy.set_mode self.old n mode) self.new result }
     {
         match self.mode_refusal(n, mode) {
             Some(e) => Err(Refused::No(e)),

@@ -3,7 +3,7 @@ use Rattle.std.specs.FinMap.{empty, get, insert}
 use Rattle.rk_base.specs.Text.{Text, root}
 use Rattle.rk_tree.specs.Entries as tree
 use Rattle.rk_tree.specs.Entries.{Entries, IsWholeSnapshot}
-use Rattle.rk_tree.specs.declared.entry.Entry.TheVariants.{Dir}
+use Rattle.rk_tree.specs.Node.{Dir}
 use Rattle.rk_folder.specs.Steps.{root_entry}
 use Rattle.rk_folder.proofs.SnapshotLemmas.{root_entry-whole, root_entry-dir}
 use Rattle.rk_folder.proofs.importing.root_entry.Goals as goal

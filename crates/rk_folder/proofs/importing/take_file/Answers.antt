@@ -1,7 +1,7 @@
 use Rattle.std.proofs.Common.{ap, ◌∙◌}
 use Rattle.rk_tree.specs.Entries as tree
 use Rattle.rk_tree.specs.Entries.{Entries}
-use Rattle.rk_tree.specs.declared.entry.Entry.TheVariants as entry
+use Rattle.rk_tree.specs.Node as entry
 use Rattle.std.specs.FinMap.{get}
 use Rattle.rk_folder.proofs.SnapshotLemmas.{laid-keeps}
 use Rattle.rk_folder.proofs.TakenLemmas.{not_hidden, laid_file-whole, told-hidden_file, told-file}

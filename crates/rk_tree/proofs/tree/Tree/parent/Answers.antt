@@ -9,7 +9,7 @@ use Rattle.rk_tree.proofs.UnderLemmas.{parent-root_is, parent-by}
 use Rattle.rk_tree.proofs.tree.Tree.parent.Goals as goal
 
 pub returns-then-is_root : goal.returns-then-is_root
-returns-then-is_root c = 
+returns-then-is_root c =
     ap (λ (n : ℕ). Some n) (root-yes c.args.dir c.is_root.ensures c.if-is_root.true)
     ∙ parent-root_is c.args.self.now c.args.dir c.look-root.ensures.whole (root-yes c.args.dir c.is_root.ensures c.if-is_root.true)
 
