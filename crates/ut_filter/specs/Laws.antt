@@ -1,77 +1,60 @@
 -- What holds of every filter, whatever it makes of its inputs.
-use Rattle.std.specs.Prelude.{ℕ, ◌+◌, List, [], ◌∷◌, ◌++◌, codes, Option, Some, None, Result, Ok, Err, Bool, true, false, if◌then◌else◌}
+use Rattle.std.specs.Prelude.{ℕ, ◌+◌, List, [], ◌∷◌, ◌++◌, codes, Option, Some, None, Result, Ok, Err}
 use Rattle.rk_base.specs.Text.{Text, same_text}
 use Rattle.rk_base.specs.Canonical.{is_empty}
 use Rattle.rk_base.specs.Errno.{word}
 use Rattle.rk_base.specs.declared.errno.Errno.{Errno}
-use Rattle.rk_calls.specs.declared.answer.Answer.{Answer}
-use Rattle.rk_calls.specs.declared.call.Call.{Call}
 use Rattle.rk_calls.specs.declared.call.How.TheVariants.{Read as ForReading, Make}
 use Rattle.rk_calls.specs.declared.call.Call.TheVariants.{Open, Read, Write}
 use Rattle.rk_calls.specs.Brought.{brought}
-use Rattle.rk_calls.specs.Laws.{Lasts-exits, Lasts-ask}
 use Rattle.rk_calls.specs.Lines.{error_line}
 use Rattle.rk_calls.specs.Places.{absolute}
-use Rattle.rk_calls.specs.Proper.{IsProper, AsksProperly, proper-exits, proper-ask}
-use Rattle.rk_calls.specs.Talk.{Says, Lasts, ask, exits}
+use Rattle.rk_calls.specs.Talk.{Says}
 use Rattle.rk_calls.specs.Turns.{turns}
+use Rattle.rk_calls.specs.Views.{IsCommandTalk, talk-exits, talk-ask, talk-if}
 use Rattle.ut_filter.specs.declared.made.Made.{Made}
 use Rattle.ut_filter.specs.Filters.{Job, Seen, added, complains, tells, told, puts, emptied, writes, opened, reads, reads_all, nothing, dash, filters}
 
--- fewer turns only cut it, and a mode in a call that it asks is at most 0777
-abbrev pub IsGood : Says → Type 0
-IsGood x = Lasts x × AsksProperly x
+pub talk-complains : (text : Text) (status : ℕ) → IsCommandTalk (complains text status)
+talk-complains text status = talk-ask (Write 2 text) (1 + turns text) _ tt (λ a. talk-exits status 0)
 
-good-exits : (status : ℕ) → IsGood (exits status 0)
-good-exits status = (Lasts-exits status 0, proper-exits status 0)
+talk-tells : (errors : Text) (status : ℕ) → IsCommandTalk (tells errors status)
+talk-tells errors status = talk-if (is_empty errors) _ _ (talk-exits status 0) (talk-complains errors status)
 
-good-ask : (call : Call) (c : ℕ) (next : Answer → Says) → IsProper call → ((a : Answer) → IsGood (next a)) → IsGood (ask call c next)
-good-ask call c next h k = (Lasts-ask call c next (λ a. (k a).0), proper-ask call c next h (λ a. (k a).1))
+talk-told : (job : Job) (place errors : Text) (status : ℕ) (r : Result Text Errno) → IsCommandTalk (told job place errors status r)
+talk-told job place errors status (Ok bytes) = talk-tells errors status
+talk-told job place errors status (Err errno) = talk-tells (errors ++ error_line job.name place (word errno)) job.failed
 
-good-if : (b : Bool) (x y : Says) → IsGood x → IsGood y → IsGood (if b then x else y)
-good-if true x y h k = h
-good-if false x y h k = k
+talk-puts : (job : Job) (place : Text) (number : ℕ) (made : Made) → IsCommandTalk (puts job place number made)
+talk-puts job place number made =
+    talk-if (is_empty made.output) _ _ (talk-tells made.errors made.status)
+    (talk-ask (Write number made.output) (1 + turns made.output) _ tt (λ a. talk-told job place made.errors made.status (brought a)))
 
-pub good-complains : (text : Text) (status : ℕ) → IsGood (complains text status)
-good-complains text status = good-ask (Write 2 text) (1 + turns text) _ tt (λ a. good-exits status)
+talk-emptied : (job : Job) (file : Text) (number : ℕ) (made : Made) (r : Result Text Errno) → IsCommandTalk (emptied job file number made r)
+talk-emptied job file number made (Ok bytes) = talk-puts job file number made
+talk-emptied job file number made (Err errno) = talk-tells (made.errors ++ error_line job.name file (word errno)) job.failed
 
-good-tells : (errors : Text) (status : ℕ) → IsGood (tells errors status)
-good-tells errors status = good-if (is_empty errors) _ _ (good-exits status) (good-complains errors status)
+talk-writes : (job : Job) (wd : Text) (next : ℕ) (made : Made) (out : Option Text) → IsCommandTalk (writes job wd next made out)
+talk-writes job wd next made None = talk-puts job (codes "output") 1 made
+talk-writes job wd next made (Some file) = talk-ask (Open (absolute wd file) Make) 1 _ tt (λ a. talk-emptied job file next made (brought a))
 
-good-told : (job : Job) (place errors : Text) (status : ℕ) (r : Result Text Errno) → IsGood (told job place errors status r)
-good-told job place errors status (Ok bytes) = good-tells errors status
-good-told job place errors status (Err errno) = good-tells (errors ++ error_line job.name place (word errno)) job.failed
+module _ (on : Seen → Says) (goes : (s : Seen) → IsCommandTalk (on s)) where
+  talk-opened : (operand : Text) (seen : Seen) (r : Result Text Errno) → IsCommandTalk (opened operand on seen r)
+  talk-opened operand seen (Err errno) = goes (added operand seen (Err errno))
+  talk-opened operand seen (Ok bytes) = talk-ask (Read seen.next) 1 _ tt (λ a. goes (added operand (record seen { next = seen.next + 1 }) (brought a)))
 
-good-puts : (job : Job) (place : Text) (number : ℕ) (made : Made) → IsGood (puts job place number made)
-good-puts job place number made =
-    good-if (is_empty made.output) _ _ (good-tells made.errors made.status)
-    (good-ask (Write number made.output) (1 + turns made.output) _ tt (λ a. good-told job place made.errors made.status (brought a)))
+  talk-reads : (wd operand : Text) (seen : Seen) → IsCommandTalk (reads wd operand on seen)
+  talk-reads wd operand seen =
+      talk-if (same_text operand dash) _ _ (talk-ask (Read 0) 1 _ tt (λ a. goes (added operand seen (brought a))))
+      (talk-ask (Open (absolute wd operand) ForReading) 1 _ tt (λ a. talk-opened operand seen (brought a)))
 
-good-emptied : (job : Job) (file : Text) (number : ℕ) (made : Made) (r : Result Text Errno) → IsGood (emptied job file number made r)
-good-emptied job file number made (Ok bytes) = good-puts job file number made
-good-emptied job file number made (Err errno) = good-tells (made.errors ++ error_line job.name file (word errno)) job.failed
+talk-reads_all : (job : Job) (wd : Text) (operands : List Text) (seen : Seen) → IsCommandTalk (reads_all job wd operands seen)
+talk-reads_all job wd [] seen = talk-writes job wd seen.next (job.makes seen.inputs) job.out
+talk-reads_all job wd (operand ∷ more) seen = talk-reads (reads_all job wd more) (talk-reads_all job wd more) wd operand seen
 
-good-writes : (job : Job) (wd : Text) (next : ℕ) (made : Made) (out : Option Text) → IsGood (writes job wd next made out)
-good-writes job wd next made None = good-puts job (codes "output") 1 made
-good-writes job wd next made (Some file) = good-ask (Open (absolute wd file) Make) 1 _ tt (λ a. good-emptied job file next made (brought a))
+pub talk-filters : (job : Job) (wd : Text) (inputs : List Text) → IsCommandTalk (filters job wd inputs)
+talk-filters job wd inputs = talk-reads_all job wd inputs nothing
 
-module _ (on : Seen → Says) (good : (s : Seen) → IsGood (on s)) where
-  good-opened : (operand : Text) (seen : Seen) (r : Result Text Errno) → IsGood (opened operand on seen r)
-  good-opened operand seen (Err errno) = good (added operand seen (Err errno))
-  good-opened operand seen (Ok bytes) = good-ask (Read seen.next) 1 _ tt (λ a. good (added operand (record seen { next = seen.next + 1 }) (brought a)))
-
-  good-reads : (wd operand : Text) (seen : Seen) → IsGood (reads wd operand on seen)
-  good-reads wd operand seen =
-      good-if (same_text operand dash) _ _ (good-ask (Read 0) 1 _ tt (λ a. good (added operand seen (brought a))))
-      (good-ask (Open (absolute wd operand) ForReading) 1 _ tt (λ a. good-opened operand seen (brought a)))
-
-good-reads_all : (job : Job) (wd : Text) (operands : List Text) (seen : Seen) → IsGood (reads_all job wd operands seen)
-good-reads_all job wd [] seen = good-writes job wd seen.next (job.makes seen.inputs) job.out
-good-reads_all job wd (operand ∷ more) seen = good-reads (reads_all job wd more) (good-reads_all job wd more) wd operand seen
-
-pub good-filters : (job : Job) (wd : Text) (inputs : List Text) → IsGood (filters job wd inputs)
-good-filters job wd inputs = good-reads_all job wd inputs nothing
-
--- whatever a filter makes of its inputs
-abbrev pub EachIsGood : Type 0
-EachIsGood = (job : Job) (wd : Text) (inputs : List Text) → IsGood (filters job wd inputs)
+-- Whatever a filter makes of its inputs, fewer turns only cut what it says, and its calls are proper.
+abbrev pub EachIsCommandTalk : Type 0
+EachIsCommandTalk = (job : Job) (wd : Text) (inputs : List Text) → IsCommandTalk (filters job wd inputs)

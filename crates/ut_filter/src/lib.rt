@@ -13,7 +13,7 @@ mod work;
 
 pub use filter::Filter;
 pub use inputs::or_dash;
-pub use laws::filters_are_good;
+pub use laws::filters_say_what_commands_may;
 pub use made::{Input, InputList, Made};
 pub use refusals::refusal_lines;
 pub use work::Work;
