@@ -8,6 +8,3 @@ mod steps;
 
 pub use glob::{Component, Glob, Globbing};
 pub use paths::PathList;
-
-#[cfg(test)]
-mod tests;
