@@ -1,0 +1,98 @@
+// `head`.
+ghost use Rattle.std.specs.Prelude.{◌≡◌, ◌≤◌, ◌++◌, [], IfOk, OnOk, codes, length};
+ghost use Rattle.ut_text.specs.Heads.{first_lines, header, part_of, parts};
+
+use crate::status::status_of;
+use rk_base::{Bytes, NoMemory};
+use std::alloc::Global;
+use ut_filter::{Input, Made, Work, refusal_lines};
+
+/// How many lines `head` shows of each input, and whether headers stand before them.
+#[derive(Clone, Copy, Debug, Drop)]
+pub struct Head {
+    pub number: u64,
+    pub headed: bool,
+}
+
+// The first lines of a text.
+fn first_lines(number: u64, text: &[u8]) -> &[u8]
+    ensures { result.now ≡ first_lines number text.now }
+{
+    let mut left = number;
+    let mut at = 0;
+    'bytes: while at < text.len() && left > 0 {
+        if text[at] == b'\n' {
+            left -= 1;
+        }
+        at += 1;
+    }
+    text.split_at(at).0
+}
+
+fn put_header(name: &[u8], output: &mut Vec<u8>) -> Result<(), NoMemory>
+    ensures { OnOk result (output.new.items ≡ output.old.items ++ header name.now output.old.items) }
+{
+    if !output.is_empty() {
+        output.push(b'\n')?;
+    }
+    output.extend_from_slice(b"==> ")?;
+    output.extend_from_slice(name)?;
+    output.extend_from_slice(b" <==\n")?;
+    Ok(())
+}
+
+impl Head {
+    fn add(&self, input: &Input, output: &mut Vec<u8>) -> Result<(), NoMemory>
+        ensures { OnOk result (output.new.items ≡ part_of self.now output.old.items input.now) }
+    {
+        match &input.brought {
+            Err(_) => Ok(()),
+            Ok(bytes) => {
+                if self.headed {
+                    put_header(input.operand.as_slice(), output)?;
+                }
+                output.extend_from_slice(first_lines(self.number, bytes.as_slice()))?;
+                Ok(())
+            }
+        }
+    }
+
+    fn output(&self, alloc: Global, inputs: &[Input]) -> Result<Bytes, NoMemory>
+        ensures { IfOk result (λ o. o ≡ parts self.now [] inputs.now) }
+    {
+        let mut output = Vec::new(alloc);
+        'inputs: for input in inputs {
+            self.add(input, &mut output)?;
+        }
+        Bytes::new(alloc, output)
+    }
+}
+
+impl Work for Head {
+    ghost use Rattle.ut_text.specs.Heads.{head_job};
+
+    ghost job = { head_job };
+
+    fn name(&self) -> &'static [u8] {
+        b"head"
+    }
+
+    fn failed(&self) -> u8 {
+        1
+    }
+
+    fn out(&self) -> Option<&Bytes> {
+        None
+    }
+
+    fn make(&self, alloc: Global, inputs: &[Input]) -> Result<Made, NoMemory> {
+        let output = self.output(alloc, inputs)?;
+        let errors = refusal_lines(alloc, b"head", inputs)?;
+        let status = status_of(1, &errors);
+        Ok(Made {
+            output,
+            errors,
+            status,
+        })
+    }
+}
