@@ -27,12 +27,7 @@ fn finds_tokens_of_commands(rt: HostRuntime) -> Result<(), Fail> {
     );
     assert!(rt; matches!(command_look(true, all, b"x=1"), Some((Kind::Assignment, 2))));
     assert!(rt; matches!(command_look(true, all, b"2>&1"), Some((Kind::Redirect, 3))));
-    assert!(rt;
-        matches!(
-            command_look(true, all, b"22>&1"),
-            Some((Kind::CommandText, 2))
-        )
-    );
+    assert!(rt; matches!(command_look(true, all, b"22>&1"), None));
     assert!(rt; matches!(command_look(true, all, b"& b"), None));
     assert!(rt; matches!(command_look(true, all, b"&\\\n& b"), Some((Kind::AndIf, 2))));
     assert!(rt; matches!(command_look(true, all, b""), Some((Kind::End, 0))));
