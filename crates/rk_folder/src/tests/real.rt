@@ -1,6 +1,6 @@
 // A real folder, of which no clause tells what it holds.
-use super::{at, holds, is_content, listing, takes_all};
-use crate::{Folder, FolderErr, Got, ImportErr, RealFolder, import, state};
+use super::{at, holds, listing, takes_all};
+use crate::{Folder, FolderErr, Got, ImportErr, Imported, RealFolder, import};
 use std::alloc::Global;
 use std::fs;
 use std::fs::{File, Files, OpenFile, Permissions};
@@ -68,6 +68,10 @@ fn refuses_long<F: Folder, R: Files>(rt: &R, alloc: Global, folder: &mut F) -> R
     Ok(matches!(refused, Err(FolderErr::Failed)))
 }
 
+fn is_special(found: &Result<Imported, ImportErr>, text: &str) -> bool {
+    matches!(found, Err(ImportErr::Special(path)) if path.text() == text.as_bytes())
+}
+
 // Whether a link is told as special, where it stands, and nothing else.
 fn tells_link<F: Folder>(
     rt: &impl Files,
@@ -78,10 +82,8 @@ fn tells_link<F: Folder>(
     let mut place = String::from_str(alloc, "real")?;
     place.push_str(text)?;
     symlink(rt, "a.d", place.as_str())?;
-    let told = match import(alloc, folder) {
-        Err(ImportErr::Special(path)) => path.text() == text.as_bytes(),
-        _ => false,
-    };
+    let found = import(alloc, folder);
+    let told = is_special(&found, text);
     fs::remove_file(rt, place.as_str())?;
     Ok(told)
 }
@@ -97,20 +99,15 @@ fn tells_links<F: Folder>(rt: &impl Files, alloc: Global, folder: &mut F) -> Res
 fn keeps_real_files(rt: HostRuntime) -> Result<(), Fail> {
     let alloc = rt.alloc();
     fs::create_dir(&rt, "real")?;
-    let folder = &mut RealFolder::new(rt.clone()?, String::from_str(alloc, "real")?);
-    let rows = [
-        ("each call", takes_all(alloc, folder)?),
-        ("a shorter text", cuts_off(alloc, folder)?),
-        ("ascending names", lists_ascending(alloc, folder)?),
-        ("absent files", tells_absent(alloc, folder)?),
-        ("a rename over a file", renames_over(alloc, folder)?),
-        ("other names", leaves_other_names(&rt, alloc, folder)?),
-        ("a long file", refuses_long(&rt, alloc, folder)?),
-        ("links", tells_links(&rt, alloc, folder)?),
-    ];
-    for (row, kept) in rows {
-        assert!(rt; kept, "{row}");
-    }
+    let mut folder = RealFolder::new(rt.clone()?, String::from_str(alloc, "real")?);
+    assert!(rt; takes_all(alloc, &mut folder)?, "each call");
+    assert!(rt; cuts_off(alloc, &mut folder)?, "a shorter text");
+    assert!(rt; lists_ascending(alloc, &mut folder)?, "ascending names");
+    assert!(rt; tells_absent(alloc, &mut folder)?, "absent files");
+    assert!(rt; renames_over(alloc, &mut folder)?, "a rename over a file");
+    assert!(rt; leaves_other_names(&rt, alloc, &mut folder)?, "other names");
+    assert!(rt; refuses_long(&rt, alloc, &mut folder)?, "a long file");
+    assert!(rt; tells_links(&rt, alloc, &mut folder)?, "links");
     fs::remove_dir_all(&rt, "real")?;
     Ok(())
 }

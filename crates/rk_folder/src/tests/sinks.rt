@@ -5,22 +5,21 @@ use std::io::Write;
 use std::test::Fail;
 use std::{fs, io};
 
-/// Takes so many bytes at a time; none of them is a fault of its own.
+/// Takes at most so many bytes at a time, or fails.
 #[derive(Drop)]
-struct Narrow<'a> {
-    taken: &'a mut Vec<u8>,
+struct Narrow {
+    file: File,
     most: usize,
     fails: bool,
 }
 
-impl Write for Narrow<'_> {
+impl Write for Narrow {
     fn write(&mut self, buf: &[u8]) -> io::Result<usize> {
         if self.fails {
             return Err(io::Error::from(io::ErrorKind::BrokenPipe));
         }
         let n = buf.len().min(self.most);
-        self.taken.extend_from_slice(&buf[..n])?;
-        Ok(n)
+        self.file.write(&buf[..n])
     }
 
     fn flush(&mut self) -> io::Result<()> {
@@ -28,27 +27,30 @@ impl Write for Narrow<'_> {
     }
 }
 
-// What `abc` put through such a stream answers.
-fn put_through(taken: &mut Vec<u8>, most: usize, fails: bool) -> Result<(), SinkErr> {
-    let mut sink = RealSink::new(Narrow { taken, most, fails });
-    sink.put(b"")?;
-    sink.put(b"abc")
+// Whether `abc` put through such a stream has this answer, and these bytes of it go out.
+fn is_put(
+    rt: &HostRuntime,
+    most: usize,
+    fails: bool,
+    answer: Result<(), SinkErr>,
+    bytes: &[u8],
+) -> Result<bool, Fail> {
+    let file = File::create(rt, "narrow")?;
+    let mut sink = RealSink::new(Narrow { file, most, fails });
+    let nothing = sink.put(b"");
+    let done = sink.put(b"abc");
+    drop(sink);
+    let text = fs::read(rt, "narrow")?;
+    Ok(nothing == Ok(()) && done == answer && text.as_slice() == bytes)
 }
 
 #[test]
 fn puts_all_or_fails(rt: HostRuntime) -> Result<(), Fail> {
-    let alloc = rt.alloc();
-    let rows = [
-        (3, false, Ok(()), b"abc".as_slice()),
-        (1, false, Ok(()), b"abc"),
-        (0, false, Err(SinkErr::Failed), b""),
-        (3, true, Err(SinkErr::Failed), b""),
-    ];
-    for (most, fails, answer, bytes) in rows {
-        let mut taken = Vec::new(alloc);
-        assert!(rt; put_through(&mut taken, most, fails) == answer);
-        assert_eq!(rt; taken.as_slice(), bytes);
-    }
+    assert!(rt; is_put(&rt, 3, false, Ok(()), b"abc")?);
+    assert!(rt; is_put(&rt, 1, false, Ok(()), b"abc")?);
+    assert!(rt; is_put(&rt, 0, false, Err(SinkErr::Failed), b"")?);
+    assert!(rt; is_put(&rt, 3, true, Err(SinkErr::Failed), b"")?);
+    fs::remove_file(&rt, "narrow")?;
     Ok(())
 }
 
@@ -59,6 +61,7 @@ fn puts_in_a_file(rt: HostRuntime) -> Result<(), Fail> {
     sink.put(b"c\n")?;
     drop(sink);
     assert_eq!(rt; fs::read(&rt, "put")?.as_slice(), b"abc\n".as_slice());
+    fs::remove_file(&rt, "put")?;
     Ok(())
 }
 
