@@ -3,8 +3,8 @@ ghost use Rattle.std.specs.Prelude.{◌<◌, IfOk, length};
 
 use crate::output::with_output;
 use crate::{Command, Commands};
-use rk_base::{Bytes, Errno, NoMemory, Path};
-use rk_calls::{Answer, Call, How, Key, Maker, Spoke, VarList, WordList, advance, same_call};
+use rk_base::{Bytes, Errno, NoMemory, Path, VarList, WordList};
+use rk_calls::{Answer, Call, How, Key, Maker, Spoke, advance, same_call};
 use std::alloc::Global;
 use std::test::Fail;
 
