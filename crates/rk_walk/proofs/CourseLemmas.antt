@@ -2,7 +2,7 @@
 use Rattle.std.proofs.Common.{◌≡◌, ◌<◌, ◌≤◌, ◌^◌, ◌-◌, ℕ, zero, suc, ◌+◌, List, [], ◌∷◌, ◌++◌, length, Bool, true, false, cond, not, ◌||◌, ◌&&◌, Option, Some, None, Ok, Err, MatchOption, lit≤, refl, sym, ap, subst, ◌∙◌, append_assoc, append-nil, arith, length-append}
 use Rattle.std.specs.List.{list_all}
 use Rattle.rk_base.specs.Text.{Text, is_slash}
-use Rattle.rk_tree.specs.Held.{Held, top}
+use Rattle.rk_tree.specs.Hierarchy.{Hierarchy, top}
 use Rattle.rk_base.specs.Canonical.{is_empty}
 use Rattle.rk_walk.specs.Walk.{Spot, parts, parts_from, closed, is_after, IsFirst, walk, at_part, leads, again_by, start, joined, is_mark, only_slashes, step_means}
 use Rattle.rk_walk.specs.Course.{Course, course_leads, IsKept, Follows, Advances, marked}
@@ -94,55 +94,55 @@ pub ends : (rest : Text) (marks : List Text) → list_all is_mark marks ≡ true
 ends rest marks h = ap not (empty-append rest (joined marks) ∙ ap (λ (b : Bool). is_empty rest && b) (empty_joined marks h)) ∙ not_and (is_empty rest) (is_empty marks)
 
 -- nothing is ahead and no mark is left
-pub arrived : (held : Held) (follow : Bool) (course : Course) → ((more : Text) → parts (course.ahead ++ more) ≡ parts more) → course.marks ≡ [] → course_leads held follow course ≡ Ok (Found course.here)
+pub arrived : (tree : Hierarchy) (follow : Bool) (course : Course) → ((more : Text) → parts (course.ahead ++ more) ≡ parts more) → course.marks ≡ [] → course_leads tree follow course ≡ Ok (Found course.here)
 unfolding parts
-arrived held follow course none over =
-    ap (λ (ms : List Text). walk held follow (again_by course.links held follow) course.here (parts (course.ahead ++ joined ms))) over
-    ∙ ap (walk held follow (again_by course.links held follow) course.here) (none [])
+arrived tree follow course none over =
+    ap (λ (ms : List Text). walk tree follow (again_by course.links tree follow) course.here (parts (course.ahead ++ joined ms))) over
+    ∙ ap (walk tree follow (again_by course.links tree follow) course.here) (none [])
 
 -- nothing is ahead, and the last mark is next
-pub popped : (held : Held) (follow : Bool) (old new : Course) (ahead : Text) (marks : List Text) → ((more : Text) → parts (old.ahead ++ more) ≡ parts more) → new ≡ record old { ahead = ahead; marks = marks } → old.marks ≡ marks ++ ahead ∷ [] → IsKept old → Follows held follow old new
-popped held follow old new ahead marks none is was kept =
-    subst (λ (c : Course). Follows held follow old c) (sym is) (record {
+pub popped : (tree : Hierarchy) (follow : Bool) (old new : Course) (ahead : Text) (marks : List Text) → ((more : Text) → parts (old.ahead ++ more) ≡ parts more) → new ≡ record old { ahead = ahead; marks = marks } → old.marks ≡ marks ++ ahead ∷ [] → IsKept old → Follows tree follow old new
+popped tree follow old new ahead marks none is was kept =
+    subst (λ (c : Course). Follows tree follow old c) (sym is) (record {
       kept = record {
         marks_are = both_left (list_all is_mark marks) (list_all is_mark (ahead ∷ [])) (sym (all-append is_mark marks (ahead ∷ [])) ∙ ap (list_all is_mark) (sym was) ∙ kept.marks_are);
         room = omega (arith, kept.room, ap length was, length-append marks (ahead ∷ []));
       };
       falls = omega (arith, ap (λ (ms : List Text). length (joined ms)) was, ap length (joined-push marks ahead), length-append ahead (joined marks), ap length was, length-append marks (ahead ∷ []));
-      same = ap (walk held follow (again_by old.links held follow) old.here) (none (joined old.marks) ∙ ap parts (ap joined was ∙ joined-push marks ahead));
+      same = ap (walk tree follow (again_by old.links tree follow) old.here) (none (joined old.marks) ∙ ap parts (ap joined was ∙ joined-push marks ahead));
     })
 
 -- what the component means there
-pub met : (held : Held) (follow : Bool) (course : Course) (name rest : Text) (slash last : Bool) (step : Step) (at : ℕ) → at ≡ course.here.node → IsKept course → IsFirst course.ahead name rest → slash ≡ (not (is_empty rest) || not (is_empty course.marks)) → last ≡ (only_slashes rest && list_all only_slashes course.marks)
-    → ((again : Text → Text → Spot) (on : Here → Spot) (after : Text) → not (is_empty after) ≡ slash → at_part held follow again on at (record { name = name; after = after }) last ≡ step_means again on after step)
-    → course_leads held follow course ≡ step_means (again_by course.links held follow course.here.node) (λ on. walk held follow (again_by course.links held follow) on (parts (rest ++ joined course.marks))) (rest ++ joined course.marks) step
-met held follow course name rest slash last step at is_at kept first is_slashed is_final does =
-    ap (walk held follow (again_by course.links held follow) course.here) (first.parts_are (joined course.marks) (after_joined course.marks kept.marks_are))
-    ∙ ap (λ (b : Bool). at_part held follow (again_by course.links held follow course.here.node) (λ on. walk held follow (again_by course.links held follow) on (parts (rest ++ joined course.marks))) course.here.node (record { name = name; after = rest ++ joined course.marks }) b) (is_last rest course.marks ∙ sym is_final)
-    ∙ ap (λ (n : ℕ). at_part held follow (again_by course.links held follow course.here.node) (λ on. walk held follow (again_by course.links held follow) on (parts (rest ++ joined course.marks))) n (record { name = name; after = rest ++ joined course.marks }) last) (sym is_at)
-    ∙ does (again_by course.links held follow course.here.node) (λ on. walk held follow (again_by course.links held follow) on (parts (rest ++ joined course.marks))) (rest ++ joined course.marks) (ends rest course.marks kept.marks_are ∙ sym is_slashed)
+pub met : (tree : Hierarchy) (follow : Bool) (course : Course) (name rest : Text) (slash last : Bool) (step : Step) (at : ℕ) → at ≡ course.here.node → IsKept course → IsFirst course.ahead name rest → slash ≡ (not (is_empty rest) || not (is_empty course.marks)) → last ≡ (only_slashes rest && list_all only_slashes course.marks)
+    → ((again : Text → Text → Spot) (on : Here → Spot) (after : Text) → not (is_empty after) ≡ slash → at_part tree follow again on at (record { name = name; after = after }) last ≡ step_means again on after step)
+    → course_leads tree follow course ≡ step_means (again_by course.links tree follow course.here.node) (λ on. walk tree follow (again_by course.links tree follow) on (parts (rest ++ joined course.marks))) (rest ++ joined course.marks) step
+met tree follow course name rest slash last step at is_at kept first is_slashed is_final does =
+    ap (walk tree follow (again_by course.links tree follow) course.here) (first.parts_are (joined course.marks) (after_joined course.marks kept.marks_are))
+    ∙ ap (λ (b : Bool). at_part tree follow (again_by course.links tree follow course.here.node) (λ on. walk tree follow (again_by course.links tree follow) on (parts (rest ++ joined course.marks))) course.here.node (record { name = name; after = rest ++ joined course.marks }) b) (is_last rest course.marks ∙ sym is_final)
+    ∙ ap (λ (n : ℕ). at_part tree follow (again_by course.links tree follow course.here.node) (λ on. walk tree follow (again_by course.links tree follow) on (parts (rest ++ joined course.marks))) n (record { name = name; after = rest ++ joined course.marks }) last) (sym is_at)
+    ∙ does (again_by course.links tree follow course.here.node) (λ on. walk tree follow (again_by course.links tree follow) on (parts (rest ++ joined course.marks))) (rest ++ joined course.marks) (ends rest course.marks kept.marks_are ∙ sym is_slashed)
 
 -- the walk goes on after a component
-pub went_on : (held : Held) (follow : Bool) (old new : Course) (name rest : Text) (next : Here) → IsKept old → IsFirst old.ahead name rest → new ≡ record old { here = next; ahead = rest }
-    → course_leads held follow old ≡ walk held follow (again_by old.links held follow) next (parts (rest ++ joined old.marks)) → Follows held follow old new
-went_on held follow old new name rest next kept first is same =
-    subst (λ (c : Course). Follows held follow old c) (sym is) (record {
+pub went_on : (tree : Hierarchy) (follow : Bool) (old new : Course) (name rest : Text) (next : Here) → IsKept old → IsFirst old.ahead name rest → new ≡ record old { here = next; ahead = rest }
+    → course_leads tree follow old ≡ walk tree follow (again_by old.links tree follow) next (parts (rest ++ joined old.marks)) → Follows tree follow old new
+went_on tree follow old new name rest next kept first is same =
+    subst (λ (c : Course). Follows tree follow old c) (sym is) (record {
       kept = record { marks_are = kept.marks_are; room = kept.room };
       falls = omega (arith, first.shorter);
       same = same;
     })
 
-leads-walk : (links : ℕ) (held : Held) (follow : Bool) (at : ℕ) (text after : Text) → leads links held follow at text after ≡ walk held follow (again_by links held follow) (start at text) (parts (text ++ after))
+leads-walk : (links : ℕ) (tree : Hierarchy) (follow : Bool) (at : ℕ) (text after : Text) → leads links tree follow at text after ≡ walk tree follow (again_by links tree follow) (start at text) (parts (text ++ after))
 unfolding leads
-leads-walk zero held follow at text after = refl
-leads-walk (suc links) held follow at text after = refl
+leads-walk zero tree follow at text after = refl
+leads-walk (suc links) tree follow at text after = refl
 
 one_less : (k : ℕ) → k ≡ suc k - 1
 one_less k = omega arith
 
-again-leads : (links : ℕ) (held : Held) (follow : Bool) (at : ℕ) (text after : Text) → 0 < links → again_by links held follow at text after ≡ leads (links - 1) held follow at text after
-again-leads zero held follow at text after some = absurd (omega arith)
-again-leads (suc links) held follow at text after some = ap (λ (k : ℕ). leads k held follow at text after) (one_less links)
+again-leads : (links : ℕ) (tree : Hierarchy) (follow : Bool) (at : ℕ) (text after : Text) → 0 < links → again_by links tree follow at text after ≡ leads (links - 1) tree follow at text after
+again-leads zero tree follow at text after some = absurd (omega arith)
+again-leads (suc links) tree follow at text after some = ap (λ (k : ℕ). leads k tree follow at text after) (one_less links)
 
 joined_marked : (marks : List Text) (rest : Text) → joined (marked marks rest) ≡ rest ++ joined marks
 joined_marked marks [] = refl
@@ -161,33 +161,33 @@ room_marked marks [] = omega arith
 room_marked marks (b ∷ bs) = omega (arith, length-append marks ((b ∷ bs) ∷ []))
 
 -- a link is followed
-pub followed : (held : Held) (follow : Bool) (old new : Course) (name rest text : Text) → IsKept old → IsFirst old.ahead name rest → 0 < old.links → length text < 2 ^ 64
+pub followed : (tree : Hierarchy) (follow : Bool) (old new : Course) (name rest text : Text) → IsKept old → IsFirst old.ahead name rest → 0 < old.links → length text < 2 ^ 64
     → new ≡ record { here = start old.here.node text; ahead = text; marks = marked old.marks rest; links = old.links - 1 }
-    → course_leads held follow old ≡ again_by old.links held follow old.here.node text (rest ++ joined old.marks) → Follows held follow old new
-followed held follow old new name rest text kept first some fits is same =
-    subst (λ (c : Course). Follows held follow old c) (sym is) (record {
+    → course_leads tree follow old ≡ again_by old.links tree follow old.here.node text (rest ++ joined old.marks) → Follows tree follow old new
+followed tree follow old new name rest text kept first some fits is same =
+    subst (λ (c : Course). Follows tree follow old c) (sym is) (record {
       kept = record {
         marks_are = marked_are old.marks rest kept.marks_are first.goes_on;
         room = omega (arith, kept.room, room_marked old.marks rest);
       };
       falls = omega (arith, first.shorter, ap length (joined_marked old.marks rest), length-append rest (joined old.marks), room_marked old.marks rest);
-      same = same ∙ again-leads old.links held follow old.here.node text _ some ∙ leads-walk (old.links - 1) held follow old.here.node text (rest ++ joined old.marks)
-          ∙ ap (λ (t : Text). walk held follow (again_by (old.links - 1) held follow) (start old.here.node text) (parts (text ++ t))) (sym (joined_marked old.marks rest));
+      same = same ∙ again-leads old.links tree follow old.here.node text _ some ∙ leads-walk (old.links - 1) tree follow old.here.node text (rest ++ joined old.marks)
+          ∙ ap (λ (t : Text). walk tree follow (again_by (old.links - 1) tree follow) (start old.here.node text) (parts (text ++ t))) (sym (joined_marked old.marks rest));
     })
 
 -- no link more may be followed
-pub looped : (held : Held) (follow : Bool) (old : Course) (text after : Text) → old.links ≡ 0 → course_leads held follow old ≡ again_by old.links held follow old.here.node text after → course_leads held follow old ≡ Err Loops
-looped held follow old text after none same = same ∙ ap (λ (k : ℕ). again_by k held follow old.here.node text after) none
+pub looped : (tree : Hierarchy) (follow : Bool) (old : Course) (text after : Text) → old.links ≡ 0 → course_leads tree follow old ≡ again_by old.links tree follow old.here.node text after → course_leads tree follow old ≡ Err Loops
+looped tree follow old text after none same = same ∙ ap (λ (k : ℕ). again_by k tree follow old.here.node text after) none
 
 -- what a step that follows a link comes to
-pub linked : (held : Held) (follow : Bool) (old new : Course) (name rest text label : Text) (result : Option Spot) → IsKept old → IsFirst old.ahead name rest → text ≡ label
+pub linked : (tree : Hierarchy) (follow : Bool) (old new : Course) (name rest text label : Text) (result : Option Spot) → IsKept old → IsFirst old.ahead name rest → text ≡ label
     → MatchOption result ((0 < old.links) × (length text < 2 ^ 64) × (new ≡ record { here = start old.here.node text; ahead = text; marks = marked old.marks rest; links = old.links - 1 })) (λ spot. (old.links ≡ 0) × (spot ≡ Err Loops))
-    → course_leads held follow old ≡ again_by old.links held follow old.here.node label (rest ++ joined old.marks) → Advances held follow old new result
-linked held follow old new name rest text label None kept first is does same =
-    followed held follow old new name rest text kept first does.0 does.1 does.2 (same ∙ ap (λ (t : Text). again_by old.links held follow old.here.node t (rest ++ joined old.marks)) (sym is))
-linked held follow old new name rest text label (Some spot) kept first is does same = looped held follow old label _ does.0 same ∙ sym does.1
+    → course_leads tree follow old ≡ again_by old.links tree follow old.here.node label (rest ++ joined old.marks) → Advances tree follow old new result
+linked tree follow old new name rest text label None kept first is does same =
+    followed tree follow old new name rest text kept first does.0 does.1 does.2 (same ∙ ap (λ (t : Text). again_by old.links tree follow old.here.node t (rest ++ joined old.marks)) (sym is))
+linked tree follow old new name rest text label (Some spot) kept first is does same = looped tree follow old label _ does.0 same ∙ sym does.1
 
 -- the walk begins
-pub begun : (held : Held) (follow : Bool) (path : Text) (course : Course) → course ≡ record { here = start top path; ahead = path; marks = []; links = 32 } → IsKept course × (leads 32 held follow top path [] ≡ course_leads held follow course)
-begun held follow path course is =
-    subst (λ (c : Course). IsKept c × (leads 32 held follow top path [] ≡ course_leads held follow c)) (sym is) (record { marks_are = refl; room = lit≤ tt }, leads-walk 32 held follow top path [])
+pub begun : (tree : Hierarchy) (follow : Bool) (path : Text) (course : Course) → course ≡ record { here = start top path; ahead = path; marks = []; links = 32 } → IsKept course × (leads 32 tree follow top path [] ≡ course_leads tree follow course)
+begun tree follow path course is =
+    subst (λ (c : Course). IsKept c × (leads 32 tree follow top path [] ≡ course_leads tree follow c)) (sym is) (record { marks_are = refl; room = lit≤ tt }, leads-walk 32 tree follow top path [])

@@ -1,3 +1,3 @@
 pub mod PartLemmas
 pub mod CourseLemmas
-pub mod FreeLemmas
+pub mod PlaceLemmas

@@ -1,12 +1,13 @@
 // Places.
 use crate::Label;
+use rk_tree::NodeId;
 
 /// Where a path has led so far: a node, the directory and the name under which it was found, and whether a
 /// slash stands after it. `up` is `None` for the root and after `.` and `..`.
 #[derive(Debug, Drop)]
 pub struct Here<'a> {
-    pub node: usize,
-    pub up: Option<(usize, Label<'a>)>,
+    pub node: NodeId,
+    pub up: Option<(NodeId, Label<'a>)>,
     pub slash: bool,
 }
 
@@ -15,7 +16,7 @@ pub struct Here<'a> {
 pub enum Place<'a> {
     Found(Here<'a>),
     Absent {
-        dir: usize,
+        dir: NodeId,
         name: Label<'a>,
         slash: bool,
     },

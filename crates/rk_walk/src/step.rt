@@ -2,15 +2,15 @@
 ghost use Rattle.std.specs.Prelude.{◌≡◌, List, ℕ, not, true, false, Some};
 ghost use Rattle.rk_base.specs.Canonical.{is_empty, is_name};
 ghost use Rattle.rk_tree.specs.Entries.{is_dir};
-ghost use Rattle.rk_tree.specs.Held as held;
+ghost use Rattle.rk_tree.specs.Hierarchy as hierarchy;
 ghost use Rattle.rk_walk.specs.Walk.{Spot, at_child, at_part, step_means};
 ghost use Rattle.rk_walk.specs.declared.place.Here.{Here as Standing};
 ghost use Rattle.rk_walk.specs.declared.place.Place.TheVariants.{Found};
 ghost use Rattle.rk_walk.specs.declared.step.Step.TheVariants.{Ends};
 
-use crate::{Here, Label, Place};
-use rk_base::{Errno, is_name};
-use rk_tree::{Entry, Tree};
+use crate::{Here, Label, Place, has_x};
+use rk_base::{Errno, Kind, is_name};
+use rk_tree::{NodeId, Tree};
 use std::marker::Model;
 
 // A link's text.
@@ -50,24 +50,18 @@ pub(crate) enum Step<'a> {
     Fails(Errno),
 }
 
-fn has_x(mode: u16) -> bool
-    ensures { result ≡ held.has_x mode }
-{
-    mode / 64 % 2 == 1
-}
-
 // What a name in a directory does.
 fn at_name<'a>(
     tree: &'a Tree,
     follow: bool,
-    at: usize,
+    at: NodeId,
     name: &'a [u8],
     slash: bool,
     last: bool,
 ) -> Step<'a>
-    requires dir { is_dir (held.node tree.now at) ≡ true }
+    requires dir { is_dir (hierarchy.node tree.now at) ≡ true }
     requires name { is_name name.now ≡ true }
-    ensures { (again : List ℕ → List ℕ → Spot) (on : Standing → Spot) (after : List ℕ) → not (is_empty after) ≡ slash → at_child tree.now follow again on at (record { name = name.now; after = after }) last (held.child tree.now at name.now) ≡ step_means again on after result }
+    ensures { (again : List ℕ → List ℕ → Spot) (on : Standing → Spot) (after : List ℕ) → not (is_empty after) ≡ slash → at_child tree.now follow again on at (record { name = name.now; after = after }) last (hierarchy.child tree.now at name.now) ≡ step_means again on after result }
 {
     let Some(n) = tree.child(at, name) else {
         return if last {
@@ -80,23 +74,22 @@ fn at_name<'a>(
             Step::Fails(Errno::NoEntry)
         };
     };
-    match tree.node(n) {
-        None => Step::Fails(Errno::NoEntry),
-        Some(Entry::Dir(_)) => Step::On(Here {
+    match tree.kind(n) {
+        Kind::Dir => Step::On(Here {
             node: n,
             up: Some((at, Label::new(name))),
             slash,
         }),
-        Some(Entry::File(_, _)) => {
+        Kind::File => {
             if slash {
                 Step::Fails(Errno::NotDir)
             } else {
                 found(n, at, name)
             }
         }
-        Some(Entry::Link(text)) => {
+        Kind::Link => {
             if slash || follow {
-                Step::Follow(LinkText::new(text.as_slice()))
+                Step::Follow(LinkText::new(tree.link_text(n)))
             } else {
                 found(n, at, name)
             }
@@ -104,7 +97,7 @@ fn at_name<'a>(
     }
 }
 
-fn found<'a>(node: usize, at: usize, name: &'a [u8]) -> Step<'a>
+fn found<'a>(node: NodeId, at: NodeId, name: &'a [u8]) -> Step<'a>
     requires { is_name name.now ≡ true }
     ensures { result ≡ Ends (Found (record { node = node; up = Some (at, name.now); slash = false })) }
 {
@@ -119,7 +112,7 @@ fn found<'a>(node: usize, at: usize, name: &'a [u8]) -> Step<'a>
 pub(crate) fn component<'a>(
     tree: &'a Tree,
     follow: bool,
-    at: usize,
+    at: NodeId,
     name: &'a [u8],
     slash: bool,
     last: bool,
@@ -152,7 +145,7 @@ pub(crate) fn component<'a>(
     if !is_name(name) {
         return Step::Fails(Errno::Invalid);
     }
-    if at == 0 && name == b".rkr".as_slice() {
+    if at.is_root() && name == b".rkr".as_slice() {
         return Step::Fails(Errno::Denied);
     }
     at_name(tree, follow, at, name, slash, last)

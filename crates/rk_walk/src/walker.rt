@@ -2,18 +2,18 @@
 ghost use Rattle.std.specs.Prelude.{IfOk, ◌≡◌, ◌<◌, [], ◌∷◌, Ok, Err, MatchBool, MatchOption, not, ◌||◌, ◌&&◌, ◌^◌, ◌++◌, ◌-◌, length};
 ghost use Rattle.std.specs.List.{list_all};
 ghost use Rattle.rk_base.specs.Canonical.{is_empty};
-ghost use Rattle.rk_tree.specs.Held.{top};
-ghost use Rattle.rk_walk.specs.Walk.{IsFreePlace, has_nul, leads, resolve, only_slashes, start, IsFirst};
+ghost use Rattle.rk_tree.specs.Hierarchy.{top};
+ghost use Rattle.rk_walk.specs.Walk.{IsPlaceOf, has_nul, leads, resolve, only_slashes, start, IsFirst};
 ghost use Rattle.rk_walk.specs.Course.{Advances, Course, IsKept, marked};
 ghost use Rattle.rk_walk.specs.declared.place.Place.TheVariants.{Found};
 ghost use Rattle.rk_base.specs.declared.errno.Errno.TheVariants.{Loops};
 
 use crate::marks::{Marks, only_slashes};
 use crate::step::{Step, component};
-use crate::text::first_part;
+use crate::text::{first_part, has_nul};
 use crate::{Here, Label, Place};
 use rk_base::Errno;
-use rk_tree::Tree;
+use rk_tree::{NodeId, Tree};
 use std::marker::Model;
 
 // Where the walk stands: here, with this text ahead, then the marks.
@@ -26,11 +26,11 @@ pub(crate) struct Walker<'a> {
 }
 
 // A text that begins with a slash starts at the root.
-fn start<'a>(at: usize, text: &[u8]) -> Here<'a>
+fn start<'a>(at: NodeId, text: &[u8]) -> Here<'a>
     ensures { result ≡ start at text.now }
 {
     let node = match text {
-        [first, ..] => { if *first == b'/' { 0 } else { at } }
+        [first, ..] => { if *first == b'/' { NodeId::root() } else { at } }
         [] => at,
     };
     Here {
@@ -53,7 +53,7 @@ impl<'a> Walker<'a> {
         ensures { result ≡ record { here = start top path.now; ahead = path.now; marks = []; links = 32 } }
     {
         Walker {
-            here: start(0, path),
+            here: start(NodeId::root(), path),
             ahead: path,
             marks: Marks::new(),
             links: 32,
@@ -108,7 +108,7 @@ impl<'a> Walker<'a> {
         self.here = start(self.here.node, text);
     }
 
-    fn node(&self) -> usize
+    fn node(&self) -> NodeId
         ensures { result ≡ self.entry.now.here.node }
     {
         self.here.node
@@ -200,17 +200,12 @@ pub(crate) fn leads<'a>(tree: &'a Tree, path: &'a [u8], follow: bool) -> Result<
     }
 }
 
-fn has_nul(path: &[u8]) -> bool
-    ensures { result ≡ has_nul path.now }
-{
-    path.iter().any(|b| *b == 0)
-}
-
 /// Where a path leads, with its last link followed or not.
 pub fn resolve<'a>(tree: &'a Tree, path: &'a [u8], follow: bool) -> Result<Place<'a>, Errno>
     ensures place { result ≡ resolve tree.now path.now follow }
-    ensures free { IfOk result (IsFreePlace tree.now) }
+    ensures stands { IfOk result (IsPlaceOf tree.now) }
 {
+    let _root = tree.root();
     match path {
         [] => Err(Errno::NoEntry),
         [first, ..] => {

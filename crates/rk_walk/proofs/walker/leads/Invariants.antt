@@ -1,5 +1,5 @@
 use Rattle.std.proofs.Common.{◌≡◌, []}
-use Rattle.rk_tree.specs.Held.{top}
+use Rattle.rk_tree.specs.Hierarchy.{top}
 use Rattle.rk_walk.specs.Walk.{leads}
 use Rattle.rk_walk.specs.Course.{IsKept, course_leads, left_of}
 use Rattle.rk_walk.proofs.walker.leads.Given as goal
