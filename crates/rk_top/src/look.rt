@@ -27,14 +27,14 @@ pub(crate) fn look<F: Folder>(alloc: Global, folder: &mut F) -> Result<Holding, 
     ensures whole { IfOk result (λ holding. IsWholeSnapshot holding.entries) }
 {
     match import(alloc, folder) {
-        Ok(Imported {
-            entries,
-            hidden: Hidden { rkr, state },
-        }) => Ok(Holding {
-            entries,
-            rkr,
-            state,
-        }),
+        Ok(Imported { entries, hidden }) => {
+            let Hidden { rkr, state } = hidden;
+            Ok(Holding {
+                entries,
+                rkr,
+                state,
+            })
+        }
         Err(e) => Err(stop_of(e)),
     }
 }
