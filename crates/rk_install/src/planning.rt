@@ -16,7 +16,11 @@ fn is_file(it: Option<&Node>) -> bool
     ensures { result ≡ is_file (placed (option_copied it.entry)) }
 {
     match it {
-        Some(it) => matches!(it.entry(), Entry::File(_, _)),
+        Some(it) => match it.entry() {
+            Entry::File(_, _) => true,
+            Entry::Dir(_) => false,
+            Entry::Link(_) => false,
+        },
         None => false,
     }
 }
@@ -25,7 +29,11 @@ fn is_dir(it: Option<&Node>) -> bool
     ensures { result ≡ is_dir (placed (option_copied it.entry)) }
 {
     match it {
-        Some(it) => matches!(it.entry(), Entry::Dir(_)),
+        Some(it) => match it.entry() {
+            Entry::File(_, _) => false,
+            Entry::Dir(_) => true,
+            Entry::Link(_) => false,
+        },
         None => false,
     }
 }
@@ -36,7 +44,8 @@ fn is_file_of(bytes: &Bytes, it: Option<&Node>) -> bool
     match it {
         Some(it) => match it.entry() {
             Entry::File(_, old) => old.same(bytes),
-            _ => false,
+            Entry::Dir(_) => false,
+            Entry::Link(_) => false,
         },
         None => false,
     }
@@ -47,9 +56,19 @@ fn removal(path: &Path, it: &Node, after: Option<&Node>) -> Result<Option<Op>, N
     ensures { IfOk result (λ op. op ≡ removal path.now it.now (placed (option_copied after.entry))) }
 {
     match it.entry() {
-        Entry::File(_, _) if !is_file(after) => Ok(Some(Op::RemoveFile(path.copy()?))),
-        Entry::Dir(_) if !is_dir(after) => Ok(Some(Op::RemoveDir(path.copy()?))),
-        _ => Ok(None),
+        Entry::File(_, _) => {
+            if is_file(after) {
+                return Ok(None);
+            }
+            Ok(Some(Op::RemoveFile(path.copy()?)))
+        }
+        Entry::Dir(_) => {
+            if is_dir(after) {
+                return Ok(None);
+            }
+            Ok(Some(Op::RemoveDir(path.copy()?)))
+        }
+        Entry::Link(_) => Ok(None),
     }
 }
 
@@ -58,8 +77,14 @@ fn making(path: &Path, it: &Node, before: Option<&Node>) -> Result<Option<Op>, N
     ensures { IfOk result (λ op. op ≡ making path.now it.now (placed (option_copied before.entry))) }
 {
     match it.entry() {
-        Entry::Dir(_) if !is_dir(before) => Ok(Some(Op::MakeDir(path.copy()?))),
-        _ => Ok(None),
+        Entry::File(_, _) => Ok(None),
+        Entry::Dir(_) => {
+            if is_dir(before) {
+                return Ok(None);
+            }
+            Ok(Some(Op::MakeDir(path.copy()?)))
+        }
+        Entry::Link(_) => Ok(None),
     }
 }
 
@@ -68,11 +93,15 @@ fn writing(path: &Path, it: &Node, before: Option<&Node>) -> Result<Option<Op>, 
     ensures { IfOk result (λ op. op ≡ writing path.now it.now (placed (option_copied before.entry))) }
 {
     match it.entry() {
-        Entry::File(_, bytes) if !is_file_of(bytes, before) => {
+        Entry::File(_, bytes) => {
+            if is_file_of(bytes, before) {
+                return Ok(None);
+            }
             let path = path.copy()?;
             Ok(Some(Op::Write(path, bytes.copy()?)))
         }
-        _ => Ok(None),
+        Entry::Dir(_) => Ok(None),
+        Entry::Link(_) => Ok(None),
     }
 }
 
