@@ -20,6 +20,11 @@ enum Asked {
     Link,
     RenameFile,
     RenameDir,
+    Append,
+    Gap,
+    Pipe,
+    PipeLine,
+    FileLine,
 }
 
 fn named(word: &str) -> Option<Asked> {
@@ -32,6 +37,11 @@ fn named(word: &str) -> Option<Asked> {
         "link" => Some(Asked::Link),
         "rename" => Some(Asked::RenameFile),
         "rename_dir" => Some(Asked::RenameDir),
+        "append" => Some(Asked::Append),
+        "gap" => Some(Asked::Gap),
+        "pipe" => Some(Asked::Pipe),
+        "pipe_line" => Some(Asked::PipeLine),
+        "file_line" => Some(Asked::FileLine),
         _ => None,
     }
 }
@@ -146,6 +156,66 @@ impl Bench {
         self.rename(from, to)
     }
 
+    fn write(&mut self, r: u64) -> Result<(), NoMemory> {
+        let bytes = Bytes::from_slice(self.alloc, b"fifteen letters\n")?;
+        self.ask(&Call::Write(r, bytes))
+    }
+
+    fn open_file(&mut self, how: How) -> Result<(), NoMemory> {
+        let path = Bytes::from_slice(self.alloc, b"/f")?;
+        self.ask(&Call::Open(path, how))
+    }
+
+    fn write_lines(&mut self, r: u64, lines: u32) -> Result<(), NoMemory> {
+        'lines: for _ in 0..lines {
+            self.write(r)?;
+        }
+        Ok(())
+    }
+
+    // A file that was emptied after so many lines were written by number 10, whose next write is past the end.
+    fn make_gap(&mut self, lines: u32) -> Result<(), NoMemory> {
+        self.open_file(How::Make)?;
+        self.write_lines(10, lines)?;
+        self.open_file(How::Make)
+    }
+
+    fn make_pipe(&mut self, lines: u32) -> Result<(), NoMemory> {
+        self.ask(&Call::Pipe)?;
+        self.write_lines(11, lines)
+    }
+
+    // A file of so many lines, open to be read by number 11.
+    fn make_file(&mut self, lines: u32) -> Result<(), NoMemory> {
+        self.open_file(How::Append)?;
+        self.write_lines(10, lines)?;
+        self.open_file(How::Read)
+    }
+
+    fn fill_all(&mut self, entries: u32) -> Result<(), NoMemory> {
+        'dirs: for i in 0..entries / 100 {
+            self.fill(i)?;
+        }
+        Ok(())
+    }
+
+    // What stands before the first turn: so many entries, or lines.
+    fn make(&mut self, asked: Asked, entries: u32) -> Result<(), NoMemory> {
+        match asked {
+            Asked::Append => self.open_file(How::Append),
+            Asked::Gap => self.make_gap(entries),
+            Asked::Pipe => self.ask(&Call::Pipe),
+            Asked::PipeLine => self.make_pipe(entries),
+            Asked::FileLine => self.make_file(entries),
+            _ => self.fill_all(entries),
+        }
+    }
+
+    fn through_pipe(&mut self) -> Result<(), NoMemory> {
+        self.write(11)?;
+        self.ask(&Call::Read(10))
+    }
+
     // Asks once, in the directory of this number.
     fn turn(&mut self, asked: Asked, i: u32) -> Result<(), NoMemory> {
         match asked {
@@ -157,19 +227,22 @@ impl Bench {
             Asked::Link => self.link(i),
             Asked::RenameFile => self.rename_file(i),
             Asked::RenameDir => self.rename_dir(i),
+            Asked::Append => self.write(10),
+            Asked::Gap => self.write(10),
+            Asked::Pipe => self.through_pipe(),
+            Asked::PipeLine => self.ask(&Call::ReadLine(10)),
+            Asked::FileLine => self.ask(&Call::ReadLine(11)),
         }
     }
 }
 
-// So many entries, and then so many turns.
+// So many entries or lines, and then so many turns.
 fn run(alloc: Global, asked: Asked, entries: u32, turns: u32) -> Result<(), NoMemory> {
     let mut bench = Bench::new(alloc)?;
-    let dirs = entries / 100;
-    'dirs: for i in 0..dirs {
-        bench.fill(i)?;
-    }
+    bench.make(asked, entries)?;
+    let middle = entries / 200;
     'turns: for _ in 0..turns {
-        bench.turn(asked, dirs / 2)?;
+        bench.turn(asked, middle)?;
     }
     Ok(())
 }

@@ -11,8 +11,9 @@ use Rattle.rk_calls.specs.Refs.{RefsHeld, ref_at, with_opened}
 use Rattle.rk_walk.specs.Walk.{Spot, resolve}
 use Rattle.rk_kernel.specs.World.{World, rest_of, line_of, after_read, after_read_line, after_write, with_pipe}
 use Rattle.rk_kernel.specs.Changes.{mkdir_at, rmdir_at, unlink_at, rename_at, symlink_at, link_at, chmod_at}
-use Rattle.rk_kernel.specs.Questions.{found, met, stat_at, list_at, read_link_at, walk_at, same_at}
-use Rattle.rk_kernel.specs.Rows.{refused, told, unless, strict, open_at}
+use Rattle.rk_kernel.specs.Opening.{open_at}
+use Rattle.rk_kernel.specs.Questions.{stat_at, list_at, read_link_at, walk_at, same_at}
+use Rattle.rk_kernel.specs.Rows.{refused, told, unless, strict, at_place}
 use Rattle.rk_kernel.specs.declared.description.Description.{Description}
 
 -- Read
@@ -64,21 +65,21 @@ itself world path = strict (resolve world.tree path false)
 
 -- by cases on the call; a launch is not the world's to answer
 abbrev pub answered : World → RefsHeld → Call → Given World
-answered world refs (call.Open path how) = open_at world refs how (followed world path)
+answered world refs (call.Open path how) = at_place world refs (followed world path) (open_at world refs how)
 answered world refs (call.Read r) = read_ref world refs (ref_at refs r)
 answered world refs (call.ReadLine r) = read_line_ref world refs (ref_at refs r)
 answered world refs (call.Write r bytes) = write_ref world refs bytes (ref_at refs r)
-answered world refs (call.Stat path follow) = told world refs (stat_at world.tree (found (resolve world.tree path follow)))
-answered world refs (call.List path) = told world refs (list_at world.tree (found (resolve world.tree path true)))
-answered world refs (call.ReadLink path) = told world refs (read_link_at world.tree (found (resolve world.tree path false)))
-answered world refs (call.Walk path) = told world refs (walk_at world.tree (found (resolve world.tree path true)))
-answered world refs (call.Same a b) = told world refs (same_at (met (resolve world.tree a true)) (met (resolve world.tree b true)))
-answered world refs (call.Mkdir path mode) = mkdir_at world refs mode (resolve world.tree path false)
-answered world refs (call.Rmdir path) = rmdir_at world refs (itself world path)
-answered world refs (call.Unlink path) = unlink_at world refs (itself world path)
-answered world refs (call.Rename a b) = rename_at world refs (itself world a) (resolve world.tree b false)
-answered world refs (call.Symlink text path) = symlink_at world refs text (itself world path)
-answered world refs (call.Link a b) = link_at world refs (itself world a) (itself world b)
-answered world refs (call.Chmod path mode) = chmod_at world refs mode (followed world path)
+answered world refs (call.Stat path follow) = at_place world refs (resolve world.tree path follow) (stat_at world refs)
+answered world refs (call.List path) = at_place world refs (followed world path) (list_at world refs)
+answered world refs (call.ReadLink path) = at_place world refs (itself world path) (read_link_at world refs)
+answered world refs (call.Walk path) = at_place world refs (followed world path) (walk_at world refs)
+answered world refs (call.Same a b) = at_place world refs (followed world a) (λ first. at_place world refs (followed world b) (same_at world refs first))
+answered world refs (call.Mkdir path mode) = at_place world refs (resolve world.tree path false) (mkdir_at world refs mode)
+answered world refs (call.Rmdir path) = at_place world refs (itself world path) (rmdir_at world refs)
+answered world refs (call.Unlink path) = at_place world refs (itself world path) (unlink_at world refs)
+answered world refs (call.Rename a b) = at_place world refs (itself world a) (λ from. at_place world refs (resolve world.tree b false) (rename_at world refs from))
+answered world refs (call.Symlink text path) = at_place world refs (itself world path) (symlink_at world refs text)
+answered world refs (call.Link a b) = at_place world refs (itself world a) (λ from. at_place world refs (itself world b) (link_at world refs from))
+answered world refs (call.Chmod path mode) = at_place world refs (followed world path) (chmod_at world refs mode)
 answered world refs call.Pipe = piped world refs
 answered world refs (call.Launch key map) = refused world refs Invalid

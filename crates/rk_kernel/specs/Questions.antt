@@ -1,5 +1,5 @@
--- What is answered to a call that changes nothing: first its refusals, in order.
-use Rattle.std.specs.Prelude.{ℕ, ◌%◌, [], ◌∷◌, false, not, ◌==◌, if◌then◌else◌, Option, Some, None, Result, Ok, Err}
+-- The calls that change nothing, at the places that their paths lead to.
+use Rattle.std.specs.Prelude.{ℕ, ◌%◌, List, [], ◌∷◌, Bool, true, false, not, Option, Some, None}
 use Rattle.rk_base.specs.Text.{Text}
 use Rattle.rk_base.specs.Canonical.{is_empty}
 use Rattle.rk_base.specs.declared.errno.Errno.{Errno}
@@ -7,24 +7,14 @@ use Rattle.rk_base.specs.declared.errno.Errno.TheVariants.{NoEntry, NotDir, Deni
 use Rattle.rk_base.specs.declared.kind.Kind.TheVariants as kind
 use Rattle.rk_calls.specs.declared.answer.Answer.{Answer}
 use Rattle.rk_calls.specs.declared.answer.Answer.TheVariants as answer
-use Rattle.rk_tree.specs.Entries.{is_dir}
-use Rattle.rk_tree.specs.Held.{Held, node, mode_of, has_r, has_x, names, path_of}
-use Rattle.rk_tree.specs.Refusals.{first_of}
-use Rattle.rk_tree.specs.declared.entry.Entry.{Entry}
-use Rattle.rk_tree.specs.declared.entry.Entry.TheVariants.{File, Dir, Link}
-use Rattle.rk_walk.specs.Walk.{Spot}
+use Rattle.rk_calls.specs.Given.{Given}
+use Rattle.rk_calls.specs.Refs.{RefsHeld}
+use Rattle.rk_tree.specs.Hierarchy.{has_r, has_x, names, path_of, text_of}
+use Rattle.rk_tree.specs.Node.{Node, File, Dir, Link}
+use Rattle.rk_walk.specs.declared.place.Place.{Place}
 use Rattle.rk_walk.specs.declared.place.Place.TheVariants.{Found, Absent}
-
--- the node that a path leads to; an absent name is no entry
-abbrev pub found : Spot → Result ℕ Errno
-found (Err e) = Err e
-found (Ok (Absent dir name slash)) = Err NoEntry
-found (Ok (Found at)) = Ok at.node
-
--- a refusal, or else this answer
-abbrev pub or_else : Option Errno → Answer → Answer
-or_else None it = it
-or_else (Some e) it = answer.No e
+use Rattle.rk_kernel.specs.World.{World}
+use Rattle.rk_kernel.specs.Rows.{told, unless, is_absent, node_at, dir_at, mode_at, same_node}
 
 -- Stat: the kind, the mode, and whether it is a file without bytes
 
@@ -32,62 +22,58 @@ or_else (Some e) it = answer.No e
 abbrev pub permissions : ℕ → ℕ
 permissions mode = mode % 512
 
-abbrev pub stat_of : Option Entry → Answer
+abbrev pub stat_of : Option Node → Answer
 stat_of None = answer.No NoEntry
 stat_of (Some (File mode bytes)) = answer.Stat kind.File (permissions mode) (is_empty bytes)
 stat_of (Some (Dir mode)) = answer.Stat kind.Dir (permissions mode) false
 stat_of (Some (Link text)) = answer.Stat kind.Link 511 false
 
-abbrev pub stat_at : Held → Result ℕ Errno → Answer
-stat_at tree (Err e) = answer.No e
-stat_at tree (Ok n) = stat_of (node tree n)
+abbrev pub stat_at : World → RefsHeld → Place → Given World
+stat_at world refs place = unless world refs ((is_absent place, NoEntry) ∷ []) (told world refs (stat_of (node_at world place)))
 
--- List: the names in a directory, which needs `r`
+-- List: the names in a directory
 
-abbrev pub list_refusal : Option Entry → Option Errno
-list_refusal it = first_of ((not (is_dir it), NotDir) ∷ (not (has_r (mode_of it)), Denied) ∷ [])
+abbrev pub names_at : World → Place → List Text
+names_at world (Found at) = names world.tree at.node
+names_at world (Absent dir name slash) = []
 
-abbrev pub list_at : Held → Result ℕ Errno → Answer
-list_at tree (Err e) = answer.No e
-list_at tree (Ok n) = or_else (list_refusal (node tree n)) (answer.Names (names tree n))
+abbrev pub list_refusals : World → Place → List (Bool × Errno)
+list_refusals world place = (is_absent place, NoEntry) ∷ (not (dir_at world place), NotDir) ∷ (not (has_r (mode_at world place)), Denied) ∷ []
+
+abbrev pub list_at : World → RefsHeld → Place → Given World
+list_at world refs place = unless world refs (list_refusals world place) (told world refs (answer.Names (names_at world place)))
 
 -- ReadLink: the text of a link
 
-abbrev pub text_in : Option Entry → Answer
-text_in None = answer.No Invalid
-text_in (Some (File mode bytes)) = answer.No Invalid
-text_in (Some (Dir mode)) = answer.No Invalid
-text_in (Some (Link text)) = answer.Text text
+abbrev pub is_link : Option Node → Bool
+is_link (Some (Link text)) = true
+is_link _ = false
 
-abbrev pub read_link_at : Held → Result ℕ Errno → Answer
-read_link_at tree (Err e) = answer.No e
-read_link_at tree (Ok n) = text_in (node tree n)
+abbrev pub read_link_refusals : World → Place → List (Bool × Errno)
+read_link_refusals world place = (is_absent place, NoEntry) ∷ (not (is_link (node_at world place)), Invalid) ∷ []
 
--- Walk: the path of a directory, which needs `x`
+abbrev pub read_link_at : World → RefsHeld → Place → Given World
+read_link_at world refs place = unless world refs (read_link_refusals world place) (told world refs (answer.Text (text_of (node_at world place))))
 
-abbrev pub walk_refusal : Option Entry → Option Errno
-walk_refusal it = first_of ((not (is_dir it), NotDir) ∷ (not (has_x (mode_of it)), Denied) ∷ [])
+-- Walk: the canonical path of a directory
 
+-- a directory that a path leads to has a path
 abbrev pub place_of : Option Text → Answer
 place_of None = answer.No NoEntry
 place_of (Some path) = answer.Place path
 
-abbrev pub walk_at : Held → Result ℕ Errno → Answer
-walk_at tree (Err e) = answer.No e
-walk_at tree (Ok n) = or_else (walk_refusal (node tree n)) (place_of (path_of tree n))
+abbrev pub path_at : World → Place → Option Text
+path_at world (Found at) = path_of world.tree at.node
+path_at world (Absent dir name slash) = None
+
+abbrev pub walk_refusals : World → Place → List (Bool × Errno)
+walk_refusals world place = (is_absent place, NoEntry) ∷ (not (dir_at world place), NotDir) ∷ (not (has_x (mode_at world place)), Denied) ∷ []
+
+abbrev pub walk_at : World → RefsHeld → Place → Given World
+walk_at world refs place = unless world refs (walk_refusals world place) (told world refs (place_of (path_at world place)))
 
 -- Same: whether two paths lead to one node
 
--- what a path meets: a node, or none under its last name; none with a slash after it is no entry
-abbrev pub met : Spot → Result (Option ℕ) Errno
-met (Err e) = Err e
-met (Ok (Absent dir name slash)) = if slash then Err NoEntry else Ok None
-met (Ok (Found at)) = Ok (Some at.node)
-
--- a path that leads nowhere comes before a name that is absent
-abbrev pub same_at : Result (Option ℕ) Errno → Result (Option ℕ) Errno → Answer
-same_at (Err e) b = answer.No e
-same_at (Ok a) (Err e) = answer.No e
-same_at (Ok None) (Ok b) = answer.No NoEntry
-same_at (Ok (Some n)) (Ok None) = answer.No NoEntry
-same_at (Ok (Some n)) (Ok (Some m)) = answer.Same (n == m)
+abbrev pub same_at : World → RefsHeld → Place → Place → Given World
+same_at world refs a b =
+    unless world refs ((is_absent a, NoEntry) ∷ (is_absent b, NoEntry) ∷ []) (told world refs (answer.Same (same_node a b)))

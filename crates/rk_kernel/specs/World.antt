@@ -1,25 +1,25 @@
 -- The world: a tree, the open descriptions, the pipes, the output and the error text.
 use Rattle.std.specs.Prelude.{ℕ, ◌+◌, List, [], ◌∷◌, ◌++◌, length, take, drop, position, Bool, true, false, ◌==◌, if◌then◌else◌, Option, Some, None, slice_get, slice_set, refl}
 use Rattle.std.specs.Coded.{Coded, code_by, coded×, coded_ℕ, coded_list}
-use Rattle.rk_base.specs.Text.{Text, written}
+use Rattle.rk_base.specs.Text.{Text}
 use Rattle.rk_tree.specs.Entries.{Entries}
-use Rattle.rk_tree.specs.Held.{Held, node, file_bytes, set_bytes}
+use Rattle.rk_tree.specs.Hierarchy.{Hierarchy, node, file_bytes, write}
 use Rattle.rk_tree.specs.Copies.{tree_of}
 use Rattle.rk_kernel.specs.declared.description.Description.{Description}
 use Rattle.rk_kernel.specs.declared.description.Source.{Source}
 use Rattle.rk_kernel.specs.declared.description.Source.TheVariants as source
 
 pub record World : Type 0 where
-  pub tree : Held
+  pub tree : Hierarchy
   pub opens : List Description
   pub pipes : List Text
   pub out : Text
   pub err : Text
 
 -- by which a proof tells two of them apart
-abbrev pub world_code : Coded Held → Coded Description → Coded World
+abbrev pub world_code : Coded Hierarchy → Coded Description → Coded World
 world_code tree d =
-    code_by (Held × (List Description × (List Text × (Text × Text)))) (coded× tree (coded× (coded_list d) (coded× (coded_list (coded_list coded_ℕ)) (coded× (coded_list coded_ℕ) (coded_list coded_ℕ)))))
+    code_by (Hierarchy × (List Description × (List Text × (Text × Text)))) (coded× tree (coded× (coded_list d) (coded× (coded_list (coded_list coded_ℕ)) (coded× (coded_list coded_ℕ) (coded_list coded_ℕ)))))
     (λ w. (w.tree, (w.opens, (w.pipes, (w.out, w.err))))) (λ p. record { tree = p.0; opens = p.1.0; pipes = p.1.1.0; out = p.1.1.1.0; err = p.1.1.1.1 }) (λ _. refl)
 
 -- The world in which nothing has run.
@@ -34,7 +34,7 @@ abbrev pub error_text : Description
 error_text = record { source = source.ErrorText; offset = 0; read = false; write = true; append = false }
 
 -- of a tree
-abbrev pub fresh : Held → World
+abbrev pub fresh : Hierarchy → World
 fresh tree = record { tree = tree; opens = empty_input ∷ output ∷ error_text ∷ []; pipes = []; out = []; err = [] }
 
 -- of a snapshot's tree
@@ -107,13 +107,13 @@ after_read_line world k d source.Nothing = world
 abbrev pub place_in : Description → Text → ℕ
 place_in d old = if d.append then length old else d.offset
 
-abbrev pub after_file_write : World → ℕ → Description → Text → ℕ → Text → ℕ → World
-after_file_write world k d bytes n old at =
-    record (with_offset world k d (at + length bytes)) { tree = set_bytes world.tree n (written old at bytes) }
+-- the world after bytes were written to a file from a place on
+abbrev pub after_file_write : World → ℕ → Description → Text → ℕ → ℕ → World
+after_file_write world k d bytes n at = record (with_offset world k d (at + length bytes)) { tree = write world.tree n at bytes }
 
 -- the world after bytes were written by the description of this number
 abbrev pub after_write : World → ℕ → Description → Text → Source → World
-after_write world k d bytes (source.Node n) = let old = file_bytes (node world.tree n) in after_file_write world k d bytes n old (place_in d old)
+after_write world k d bytes (source.Node n) = after_file_write world k d bytes n (place_in d (file_bytes (node world.tree n)))
 after_write world k d bytes (source.Pipe p) = record world { pipes = slice_set world.pipes p (text_of (slice_get world.pipes p) ++ bytes) }
 after_write world k d bytes source.Output = record world { out = world.out ++ bytes }
 after_write world k d bytes source.ErrorText = record world { err = world.err ++ bytes }
@@ -121,7 +121,7 @@ after_write world k d bytes source.Nothing = world
 
 -- Changes of a part.
 
-abbrev pub with_tree : World → Held → World
+abbrev pub with_tree : World → Hierarchy → World
 with_tree world tree = record world { tree = tree }
 
 -- a description more

@@ -1,14 +1,15 @@
 // Open descriptions.
 ghost use Rattle.std.specs.Prelude.{◌≡◌};
-ghost use Rattle.rk_kernel.specs.Rows.{description};
+ghost use Rattle.rk_kernel.specs.Opening.{description};
 ghost use Rattle.rk_kernel.specs.World.{empty_input, output, error_text, read_end, write_end};
 
 use rk_calls::How;
+use rk_tree::NodeId;
 
 /// What is read or written.
 #[derive(Clone, Copy, Debug)]
 pub enum Source {
-    /// The file that is this node of the tree.
+    /// The file that is the node of this number of the tree.
     Node(usize),
     /// The pipe of this number.
     Pipe(usize),
@@ -66,26 +67,26 @@ impl Description {
     }
 
     // That of a file that was opened so.
-    pub(crate) fn of(how: How, node: usize) -> Description
+    pub(crate) fn of(how: How, node: NodeId) -> Description
         ensures { result ≡ description how node }
     {
         match how {
             How::Read => Description {
-                source: Source::Node(node),
+                source: Source::Node(node.number()),
                 offset: 0,
                 read: true,
                 write: false,
                 append: false,
             },
             How::Make => Description {
-                source: Source::Node(node),
+                source: Source::Node(node.number()),
                 offset: 0,
                 read: false,
                 write: true,
                 append: false,
             },
             How::Append => Description {
-                source: Source::Node(node),
+                source: Source::Node(node.number()),
                 offset: 0,
                 read: false,
                 write: true,

@@ -2,6 +2,7 @@
 #![tactic(auto)]
 
 mod description;
+mod pipe;
 mod spot;
 #[cfg(test)]
 mod tests;

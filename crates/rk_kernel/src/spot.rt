@@ -1,28 +1,28 @@
 // Where a path led, with a name of its own: a place borrows the tree, which a call then changes.
 ghost use Rattle.std.specs.Prelude.{◌≡◌, IfOk, Ok};
-ghost use Rattle.rk_tree.specs.Held.{Held};
-ghost use Rattle.rk_walk.specs.Walk.{resolve, MayHoldUp};
+ghost use Rattle.rk_tree.specs.Hierarchy.{Hierarchy};
+ghost use Rattle.rk_walk.specs.Walk.{resolve, IsFound};
 ghost use Rattle.rk_walk.specs.declared.place.Place.TheVariants.{Found};
 ghost use Rattle.rk_kernel.specs.Rows.{strict};
-ghost use Rattle.rk_kernel.specs.Spot.{spot_means, IsFreeSpot};
+ghost use Rattle.rk_kernel.specs.Spot.{spot_means, IsSpotOf};
 
 use rk_base::{Errno, Name, NoMemory};
-use rk_tree::Tree;
+use rk_tree::{NodeId, Tree};
 use rk_walk::{Here, Place};
 use std::alloc::Global;
 
 #[derive(Drop)]
 pub(crate) enum Spot {
     // The node, the directory and the name under which it was found, and whether a slash stands after it.
-    Found(usize, Option<(usize, Name)>, bool),
+    Found(NodeId, Option<(NodeId, Name)>, bool),
     // The directory, the name, and whether a slash stands after it.
-    Absent(usize, Name, bool),
+    Absent(NodeId, Name, bool),
     Fails(Errno),
 }
 
 fn found(alloc: Global, here: &Here<'_>) -> Result<Spot, NoMemory>
     ensures means { IfOk result (λ s. spot_means s ≡ Ok (Found here.entry.now)) }
-    ensures free { IfOk result (λ s. (tree : Held) → MayHoldUp tree here.entry.now.up → IsFreeSpot tree s) }
+    ensures stands { IfOk result (λ s. (tree : Hierarchy) → IsFound tree here.entry.now.node here.entry.now.up → IsSpotOf tree s) }
 {
     match &here.up {
         None => Ok(Spot::Found(here.node, None, here.slash)),
@@ -41,7 +41,7 @@ pub(crate) fn spot_at(
     follow: bool,
 ) -> Result<Spot, NoMemory>
     ensures means { IfOk result (λ s. spot_means s ≡ resolve tree.now path.now follow) }
-    ensures free { IfOk result (IsFreeSpot tree.now) }
+    ensures stands { IfOk result (IsSpotOf tree.now) }
 {
     match rk_walk::resolve(tree, path, follow) {
         Err(e) => Ok(Spot::Fails(e)),
@@ -60,7 +60,7 @@ pub(crate) fn spot_at(
 
 fn without_slash(spot: Spot) -> Spot
     ensures means { spot_means result ≡ strict (spot_means spot) }
-    ensures free { (tree : Held) → IsFreeSpot tree spot → IsFreeSpot tree result }
+    ensures stands { (tree : Hierarchy) → IsSpotOf tree spot → IsSpotOf tree result }
 {
     match spot {
         Spot::Found(n, up, slash) => Spot::Found(n, up, slash),
@@ -83,7 +83,7 @@ pub(crate) fn strict_spot_at(
     follow: bool,
 ) -> Result<Spot, NoMemory>
     ensures means { IfOk result (λ s. spot_means s ≡ strict (resolve tree.now path.now follow)) }
-    ensures free { IfOk result (IsFreeSpot tree.now) }
+    ensures stands { IfOk result (IsSpotOf tree.now) }
 {
     let spot = spot_at(alloc, tree, path, follow)?;
     Ok(without_slash(spot))

@@ -1,7 +1,8 @@
-// What no clause says: that the calls which take memory succeed where there is enough. The table of refusals
-// and the rows on files that are renamed, linked and removed are shown as a command sees them.
+// What no clause says: that the calls which take memory succeed where there is enough. Each row of the table of calls
+// that ends well, each refusal, and what becomes of files that are renamed and removed are shown as a command sees them.
 mod changes;
 mod refusals;
+mod rows;
 
 use crate::World;
 use rk_base::{Bytes, Errno, NoMemory};
@@ -122,63 +123,4 @@ impl Asked {
         let read = self.gives(Ask::Read(r), bytes)?;
         Ok(opened && read)
     }
-}
-
-#[test]
-fn makes_writes_and_reads(rt: HostRuntime) -> Result<(), Fail> {
-    let mut w = Asked::new(rt.alloc())?;
-    assert!(rt;
-        w.takes(&[
-            Ask::Open(b"/f", How::Make),
-            Ask::Write(10, b"ab\n"),
-            Ask::Write(1, b"out")
-        ])?
-    );
-    assert!(rt; w.holds(b"/f", 11, b"ab\n")?);
-    assert!(rt; w.gives(Ask::Read(11), b"")?);
-    assert!(rt; w.gives(Ask::Read(0), b"")?);
-    assert_eq!(rt; w.world.out().len(), 3);
-    assert_eq!(rt; w.world.err().len(), 0);
-    assert_eq!(rt; w.world.snapshot()?.len(), 2);
-    Ok(())
-}
-
-#[test]
-fn reads_lines_and_appends(rt: HostRuntime) -> Result<(), Fail> {
-    let mut w = Asked::new(rt.alloc())?;
-    assert!(rt;
-        w.takes(&[
-            Ask::Open(b"/f", How::Make),
-            Ask::Write(10, b"a\nb"),
-            Ask::Open(b"/f", How::Read)
-        ])?
-    );
-    assert!(rt; w.gives(Ask::ReadLine(11), b"a\n")?);
-    assert!(rt; w.gives(Ask::ReadLine(11), b"b")?);
-    assert!(rt; w.gives(Ask::ReadLine(11), b"")?);
-    assert!(rt;
-        w.takes(&[
-            Ask::Open(b"/f", How::Append),
-            Ask::Write(12, b"c"),
-            Ask::Write(10, b"d")
-        ])?
-    );
-    assert!(rt; w.holds(b"/f", 13, b"a\nbd")?);
-    Ok(())
-}
-
-#[test]
-fn pipes(rt: HostRuntime) -> Result<(), Fail> {
-    let mut w = Asked::new(rt.alloc())?;
-    assert!(rt; w.takes(&[Ask::Pipe, Ask::Write(11, b"a\nb"), Ask::Write(11, b"c\n")])?);
-    assert!(rt; w.gives(Ask::ReadLine(10), b"a\n")?);
-    assert!(rt; w.gives(Ask::Read(10), b"bc\n")?);
-    assert!(rt; w.gives(Ask::Read(10), b"")?);
-    assert!(rt;
-        w.refuses_all(&[
-            (Ask::Read(11), Errno::BadRef),
-            (Ask::Write(10, b"x"), Errno::BadRef)
-        ])?
-    );
-    Ok(())
 }

@@ -1,9 +1,9 @@
 // The world.
-ghost use Rattle.std.specs.Prelude.{◌≡◌, IfOk, slice_get, slice_set};
+ghost use Rattle.std.specs.Prelude.{◌≡◌, ◌≤◌, IfOk, drop, length, slice_get, slice_set};
 ghost use Rattle.rk_tree.specs.Copies.{snapshot_of};
 ghost use Rattle.rk_tree.specs.Entries.{IsWholeSnapshot};
 ghost use Rattle.rk_tree.specs.Whole.{IsWhole};
-ghost use Rattle.rk_kernel.specs.World.{fresh, with_offset};
+ghost use Rattle.rk_kernel.specs.World.{fresh, text_of, with_offset};
 
 mod answering;
 mod asking;
@@ -12,10 +12,12 @@ mod opening;
 mod piping;
 mod reading;
 mod renaming;
+mod trees;
 mod writing;
 
 use crate::Description;
-use rk_base::{Bytes, NoMemory};
+use crate::pipe::{Pipe, skip_in};
+use rk_base::NoMemory;
 use rk_tree::{Snapshot, Tree};
 use std::alloc::Global;
 use std::marker::Model;
@@ -26,7 +28,7 @@ use std::marker::Model;
 pub struct World {
     tree: Tree,
     opens: Vec<Description>,
-    pipes: Vec<Bytes>,
+    pipes: Vec<Pipe>,
     out: Vec<u8>,
     err: Vec<u8>,
 }
@@ -36,11 +38,10 @@ impl Model for World {
 
     ghost Value = { World };
 
-    ghost use Rattle.rk_tree.specs.contracts.entry.Entry as entry;
     ghost use Rattle.rk_kernel.specs.contracts.description.Description as description;
-    ghost use Rattle.rk_tree.specs.Held.{held_code};
+    ghost use Rattle.rk_tree.specs.Hierarchy.{hierarchy_code};
 
-    ghost coded = { world_code (held_code entry.the_row.coded) description.the_row.coded };
+    ghost coded = { world_code hierarchy_code description.the_row.coded };
 
     ghost view = { λ w. record { tree = w.tree; opens = w.opens.items; pipes = w.pipes.items; out = w.out.items; err = w.err.items } };
 }
@@ -70,7 +71,7 @@ impl World {
         ensures tree { result.now ≡ self.now.tree }
         ensures whole { IsWhole self.now.tree }
     {
-        let _root = self.tree.node(0);
+        let _root = self.tree.root();
         &self.tree
     }
 
@@ -115,11 +116,11 @@ impl World {
         }
     }
 
-    fn set_pipe(&mut self, p: usize, bytes: Bytes)
-        ensures { self.new ≡ record self.old { pipes = slice_set self.old.pipes p bytes } }
+    // So many bytes of a pipe were read.
+    fn skip(&mut self, p: usize, n: usize)
+        requires { n ≤ length (text_of (slice_get self.old.pipes p)) }
+        ensures { self.new ≡ record self.old { pipes = slice_set self.old.pipes p (drop n (text_of (slice_get self.old.pipes p))) } }
     {
-        if let Some(slot) = self.pipes.get_mut(p) {
-            *slot = bytes;
-        }
+        skip_in(&mut self.pipes, p, n);
     }
 }

@@ -34,13 +34,15 @@ impl NodeId {
         self.number == 0
     }
 
-    pub(crate) fn new(number: usize) -> NodeId
+    /// The node of a number.
+    pub fn new(number: usize) -> NodeId
         ensures { result ≡ number }
     {
         NodeId { number }
     }
 
-    pub(crate) fn number(self) -> usize
+    /// Its number, for who keeps it among other numbers.
+    pub fn number(self) -> usize
         ensures { result ≡ self }
     {
         self.number

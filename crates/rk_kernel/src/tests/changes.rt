@@ -1,6 +1,6 @@
 // What changes leave.
 use super::{Ask, Asked};
-use rk_base::{Errno, Kind};
+use rk_base::Errno;
 use rk_calls::{Answer, How};
 use std::test::Fail;
 
@@ -23,24 +23,6 @@ fn an_open_file_is_kept(rt: HostRuntime) -> Result<(), Fail> {
 }
 
 #[test]
-fn a_hard_link_is_the_same_file(rt: HostRuntime) -> Result<(), Fail> {
-    let mut w = Asked::new(rt.alloc())?;
-    assert!(rt;
-        w.takes(&[
-            Ask::Open(b"/a", How::Make),
-            Ask::Link(b"/a", b"/b"),
-            Ask::Open(b"/b", How::Append),
-            Ask::Write(11, b"y")
-        ])?
-    );
-    assert!(rt; w.holds(b"/a", 12, b"y")?);
-    assert!(rt; matches!(w.answer(Ask::Same(b"/a", b"/b"))?, Answer::Same(true)));
-    assert!(rt; w.takes(&[Ask::Rename(b"/a", b"/b"), Ask::Unlink(b"/b")])?);
-    assert!(rt; w.holds(b"/a", 13, b"y")?);
-    Ok(())
-}
-
-#[test]
 fn a_directory_moves_with_what_is_below(rt: HostRuntime) -> Result<(), Fail> {
     let mut w = Asked::new(rt.alloc())?;
     assert!(rt;
@@ -57,42 +39,6 @@ fn a_directory_moves_with_what_is_below(rt: HostRuntime) -> Result<(), Fail> {
     assert!(rt; w.refuses(Ask::Walk(b"/d"), Errno::NoEntry)?);
     let names = w.answer(Ask::List(b"/"))?;
     assert!(rt; matches!(&names, Answer::Names(it) if it.len() == 1));
-    Ok(())
-}
-
-#[test]
-fn modes_are_told(rt: HostRuntime) -> Result<(), Fail> {
-    let mut w = Asked::new(rt.alloc())?;
-    assert!(rt;
-        w.takes(&[
-            Ask::Open(b"/f", How::Make),
-            Ask::Symlink(b"f", b"/l"),
-            Ask::Chmod(b"/l", 0o640)
-        ])?
-    );
-    let file = w.answer(Ask::Stat(b"/l", true))?;
-    assert!(rt;
-        matches!(
-            &file,
-            Answer::Stat {
-                kind: Kind::File,
-                mode: 0o640,
-                empty: true
-            }
-        )
-    );
-    let link = w.answer(Ask::Stat(b"/l", false))?;
-    assert!(rt;
-        matches!(
-            &link,
-            Answer::Stat {
-                kind: Kind::Link,
-                mode: 0o777,
-                empty: false
-            }
-        )
-    );
-    assert!(rt; w.gives(Ask::ReadLink(b"/l"), b"f")?);
     Ok(())
 }
 

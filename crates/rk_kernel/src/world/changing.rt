@@ -1,34 +1,27 @@
 // Calls that change the tree at one path, or give a node a second name.
-ghost use Rattle.std.specs.Prelude.{◌≡◌, IfOk, true, false};
-ghost use Rattle.std.specs.List.{list_any};
-ghost use Rattle.rk_base.specs.Canonical.{is_empty};
+ghost use Rattle.std.specs.Prelude.{◌≡◌, ◌++◌, ◌∷◌, [], IfOk, true, false, Some};
+ghost use Rattle.rk_base.specs.declared.errno.Errno.TheVariants.{Denied, NotEmpty};
 ghost use Rattle.rk_calls.specs.declared.call.Call.TheVariants as call;
-ghost use Rattle.rk_tree.specs.Entries.{is_nul};
-ghost use Rattle.rk_tree.specs.Held.{Held};
-ghost use Rattle.rk_tree.specs.Whole.{MayHold};
-ghost use Rattle.rk_walk.specs.Walk.{resolve};
-ghost use Rattle.rk_kernel.specs.Changes as changes;
+ghost use Rattle.rk_tree.specs.Entries.{is_dir, node_of};
+ghost use Rattle.rk_tree.specs.Hierarchy.{node, child, added, linked, removed, set_mode};
+ghost use Rattle.rk_tree.specs.Refusals.{entry_checks, has_names, is_there, lacks_w, mode_checks};
+ghost use Rattle.rk_walk.specs.Walk.{resolve, IsFreeName};
 ghost use Rattle.rk_kernel.specs.Do as all;
-ghost use Rattle.rk_kernel.specs.Rows.{strict};
-ghost use Rattle.rk_kernel.specs.Spot.{spot_means, IsFreeSpot};
+ghost use Rattle.rk_kernel.specs.Rows.{done, strict, unless};
+ghost use Rattle.rk_kernel.specs.Spot.{spot_means, IsSpotOf};
 
 use crate::World;
 use crate::spot::{Spot, spot_at, strict_spot_at};
 use rk_base::{Bytes, Errno, Name, NoMemory};
 use rk_calls::{Answer, Refs};
-use rk_tree::{Entry, Refused};
-
-fn has_nul(text: &[u8]) -> bool
-    ensures { result ≡ list_any is_nul text.now }
-{
-    text.iter().any(|b| *b == 0)
-}
+use rk_tree::{Entry, NodeId};
+use rk_walk::has_nul;
 
 impl World {
     // Where a path leads, its last link followed.
     pub(super) fn followed(&self, path: &Bytes) -> Result<Spot, NoMemory>
         ensures means { IfOk result (λ s. spot_means s ≡ strict (resolve self.now.tree path.now true)) }
-        ensures free { IfOk result (IsFreeSpot self.now.tree) }
+        ensures stands { IfOk result (IsSpotOf self.now.tree) }
     {
         strict_spot_at(self.allocator(), &self.tree, path.as_slice(), true)
     }
@@ -36,21 +29,49 @@ impl World {
     // Where a path leads, its last link not followed.
     pub(super) fn itself(&self, path: &Bytes) -> Result<Spot, NoMemory>
         ensures means { IfOk result (λ s. spot_means s ≡ strict (resolve self.now.tree path.now false)) }
-        ensures free { IfOk result (IsFreeSpot self.now.tree) }
+        ensures stands { IfOk result (IsSpotOf self.now.tree) }
     {
         strict_spot_at(self.allocator(), &self.tree, path.as_slice(), false)
     }
 
-    // A new node under a name.
-    fn make(&mut self, refs: &Refs, dir: usize, name: &Name, it: Entry) -> Result<Answer, NoMemory>
-        requires { MayHold self.old.tree dir name.now }
-        ensures { IfOk result (λ a. record { answer = a; refs = refs.now; world = self.new } ≡ changes.made self.old refs.now dir name.now it) }
+    // A new node under a name that stands for nothing.
+    fn make(&mut self, refs: &Refs, dir: NodeId, name: &Name, it: Entry) -> Result<Answer, NoMemory>
+        requires { IsFreeName self.old.tree dir name.now }
+        ensures { IfOk result (λ a. record { answer = a; refs = refs.now; world = self.new } ≡ unless self.old refs.now (entry_checks (node_of it) ++ (lacks_w self.old.tree dir, Denied) ∷ []) (done self.old refs.now (added self.old.tree dir name.now (node_of it)))) }
     {
-        match self.tree.add(dir, name, it) {
-            Ok(_) => Ok(Answer::Done),
-            Err(Refused::No(e)) => Ok(Answer::No(e)),
-            Err(Refused::NoMemory) => Err(NoMemory),
-        }
+        let answer = self.add_node(refs, dir, name, it)?;
+        Ok(answer)
+    }
+
+    // A node under a name more, which stands for nothing.
+    fn links(
+        &mut self,
+        refs: &Refs,
+        dir: NodeId,
+        name: &Name,
+        n: NodeId,
+    ) -> Result<Answer, NoMemory>
+        requires there { is_there (node self.old.tree n) ≡ true }
+        requires free { IsFreeName self.old.tree dir name.now }
+        ensures { IfOk result (λ a. record { answer = a; refs = refs.now; world = self.new } ≡ unless self.old refs.now ((is_dir (node self.old.tree n), Denied) ∷ (lacks_w self.old.tree dir, Denied) ∷ []) (done self.old refs.now (linked self.old.tree dir name.now n))) }
+    {
+        let answer = self.link_node(refs, dir, name, n)?;
+        Ok(answer)
+    }
+
+    // The name of a node stands for nothing.
+    fn removes(
+        &mut self,
+        refs: &Refs,
+        dir: NodeId,
+        name: &Name,
+        _n: NodeId,
+    ) -> Result<Answer, NoMemory>
+        requires { child self.old.tree dir name.now ≡ Some _n }
+        ensures { IfOk result (λ a. record { answer = a; refs = refs.now; world = self.new } ≡ unless self.old refs.now ((has_names self.old.tree _n, NotEmpty) ∷ (lacks_w self.old.tree dir, Denied) ∷ []) (done self.old refs.now (removed self.old.tree dir name.now))) }
+    {
+        let answer = self.remove_name(refs, dir, name)?;
+        Ok(answer)
     }
 
     /// Makes a directory.
@@ -98,27 +119,6 @@ impl World {
         }
     }
 
-    // A second name for a node.
-    fn link_to(&mut self, refs: &Refs, n: usize, spot: Spot) -> Result<Answer, NoMemory>
-        requires { IsFreeSpot self.old.tree spot }
-        ensures { IfOk result (λ a. record { answer = a; refs = refs.now; world = self.new } ≡ changes.link_to self.old refs.now n (spot_means spot)) }
-    {
-        match spot {
-            Spot::Fails(e) => Ok(Answer::No(e)),
-            Spot::Absent(dir, name, _) => match self.tree.link(dir, &name, n) {
-                Ok(()) => Ok(Answer::Done),
-                Err(Refused::No(e)) => Ok(Answer::No(e)),
-                Err(Refused::NoMemory) => Err(NoMemory),
-            },
-            Spot::Found(_, _, _) => {
-                if self.tree.is_dir(n) {
-                    return Ok(Answer::No(Errno::Denied));
-                }
-                Ok(Answer::No(Errno::Exists))
-            }
-        }
-    }
-
     /// Gives what stands at the first path a second name.
     pub(super) fn link(&mut self, refs: &Refs, a: &Bytes, b: &Bytes) -> Result<Answer, NoMemory>
         ensures { IfOk result (λ x. record { answer = x; refs = refs.now; world = self.new } ≡ all.answered self.old refs.now (call.Link a.now b.now)) }
@@ -132,20 +132,15 @@ impl World {
                 Spot::Absent(_, _, _) => Ok(Answer::No(Errno::NoEntry)),
                 Spot::Found(_, _, _) => Ok(Answer::No(Errno::NoEntry)),
             },
-            Spot::Found(n, _, _) => self.link_to(refs, n, to),
-        }
-    }
-
-    // The name under which a node was found stands for nothing.
-    fn without(&mut self, refs: &Refs, up: Option<(usize, Name)>) -> Result<Answer, NoMemory>
-        ensures { IfOk result (λ a. record { answer = a; refs = refs.now; world = self.new } ≡ changes.without self.old refs.now up) }
-    {
-        match up {
-            None => Ok(Answer::No(Errno::Invalid)),
-            Some((dir, name)) => match self.tree.remove(dir, &name) {
-                Ok(()) => Ok(Answer::Done),
-                Err(Refused::No(e)) => Ok(Answer::No(e)),
-                Err(Refused::NoMemory) => Err(NoMemory),
+            Spot::Found(n, _, _) => match to {
+                Spot::Fails(e) => Ok(Answer::No(e)),
+                Spot::Absent(dir, name, _) => self.links(refs, dir, &name, n),
+                Spot::Found(_, _, _) => {
+                    if self.tree.is_dir(n) {
+                        return Ok(Answer::No(Errno::Denied));
+                    }
+                    Ok(Answer::No(Errno::Exists))
+                }
             },
         }
     }
@@ -155,34 +150,15 @@ impl World {
         ensures { IfOk result (λ a. record { answer = a; refs = refs.now; world = self.new } ≡ all.answered self.old refs.now (call.Unlink path.now)) }
     {
         let spot = self.itself(path)?;
-        match spot {
-            Spot::Fails(e) => Ok(Answer::No(e)),
+        match &spot {
+            Spot::Fails(e) => Ok(Answer::No(*e)),
             Spot::Absent(_, _, _) => Ok(Answer::No(Errno::NoEntry)),
-            Spot::Found(n, up, _) => {
-                if self.tree.is_dir(n) {
+            Spot::Found(_, None, _) => Ok(Answer::No(Errno::IsDir)),
+            Spot::Found(n, Some(up), _) => {
+                if self.tree.is_dir(*n) {
                     return Ok(Answer::No(Errno::IsDir));
                 }
-                self.without(refs, up)
-            }
-        }
-    }
-
-    // Removes the name of a directory.
-    fn rmdir_named(
-        &mut self,
-        refs: &Refs,
-        n: usize,
-        up: Option<(usize, Name)>,
-    ) -> Result<Answer, NoMemory>
-        ensures { IfOk result (λ a. record { answer = a; refs = refs.now; world = self.new } ≡ changes.rmdir_named self.old refs.now n up) }
-    {
-        match up {
-            None => Ok(Answer::No(Errno::Invalid)),
-            Some(up) => {
-                if !self.tree.is_dir(n) {
-                    return Ok(Answer::No(Errno::NotDir));
-                }
-                self.without(refs, Some(up))
+                self.removes(refs, up.0, &up.1, *n)
             }
         }
     }
@@ -192,11 +168,26 @@ impl World {
         ensures { IfOk result (λ a. record { answer = a; refs = refs.now; world = self.new } ≡ all.answered self.old refs.now (call.Rmdir path.now)) }
     {
         let spot = self.itself(path)?;
-        match spot {
-            Spot::Fails(e) => Ok(Answer::No(e)),
+        match &spot {
+            Spot::Fails(e) => Ok(Answer::No(*e)),
             Spot::Absent(_, _, _) => Ok(Answer::No(Errno::NoEntry)),
-            Spot::Found(n, up, _) => self.rmdir_named(refs, n, up),
+            Spot::Found(_, None, _) => Ok(Answer::No(Errno::Invalid)),
+            Spot::Found(n, Some(up), _) => {
+                if !self.tree.is_dir(*n) {
+                    return Ok(Answer::No(Errno::NotDir));
+                }
+                self.removes(refs, up.0, &up.1, *n)
+            }
         }
+    }
+
+    // A node with another mode.
+    fn set_mode(&mut self, refs: &Refs, n: NodeId, mode: u16) -> Result<Answer, NoMemory>
+        requires { is_there (node self.old.tree n) ≡ true }
+        ensures { IfOk result (λ a. record { answer = a; refs = refs.now; world = self.new } ≡ unless self.old refs.now (mode_checks mode) (done self.old refs.now (set_mode self.old.tree n mode))) }
+    {
+        let answer = self.change_mode(refs, n, mode)?;
+        Ok(answer)
     }
 
     /// Gives a file or a directory another mode.
@@ -212,11 +203,7 @@ impl World {
                 }
                 Ok(Answer::No(Errno::NoEntry))
             }
-            Spot::Found(n, _, _) => match self.tree.set_mode(n, mode) {
-                Ok(()) => Ok(Answer::Done),
-                Err(Refused::No(e)) => Ok(Answer::No(e)),
-                Err(Refused::NoMemory) => Err(NoMemory),
-            },
+            Spot::Found(n, _, _) => self.set_mode(refs, n, mode),
         }
     }
 }

@@ -1,22 +1,22 @@
 // Open.
 ghost use Rattle.std.specs.Prelude.{◌≡◌, IfOk, OnOk};
 ghost use Rattle.rk_calls.specs.declared.call.Call.TheVariants.{Open};
-ghost use Rattle.rk_tree.specs.Held as held;
 ghost use Rattle.rk_tree.specs.Whole.{MayHold};
+ghost use Rattle.rk_walk.specs.Walk.{IsFreeName};
+ghost use Rattle.rk_walk.specs.declared.place.Place.TheVariants.{Absent, Found};
 ghost use Rattle.rk_kernel.specs.World.{with_tree};
-ghost use Rattle.rk_kernel.specs.Rows as rows;
-ghost use Rattle.rk_kernel.specs.Spot.{spot_means};
+ghost use Rattle.rk_kernel.specs.Opening as opening;
 ghost use Rattle.rk_kernel.specs.Do as all;
-ghost use Rattle.rk_kernel.specs.declared.spot.Spot.TheVariants.{Absent, Found};
 
 use crate::spot::{Spot, strict_spot_at};
 use crate::{Description, World};
 use rk_base::{Bytes, Errno, Name, NoMemory};
 use rk_calls::{Answer, How, Refs};
-use rk_tree::{Entry, Refused};
+use rk_tree::{Entry, NodeId, Refused};
+use rk_walk::{has_r, has_w};
 
 fn is_read(how: How) -> bool
-    ensures { result ≡ rows.is_read how }
+    ensures { result ≡ opening.is_read how }
 {
     match how {
         How::Read => true,
@@ -25,20 +25,8 @@ fn is_read(how: How) -> bool
     }
 }
 
-pub(super) fn has_r(mode: u16) -> bool
-    ensures { result ≡ held.has_r mode }
-{
-    mode / 256 % 2 == 1
-}
-
-pub(super) fn has_w(mode: u16) -> bool
-    ensures { result ≡ held.has_w mode }
-{
-    mode / 128 % 2 == 1
-}
-
 fn lacks(how: How, mode: u16) -> bool
-    ensures { result ≡ rows.lacks how mode }
+    ensures { result ≡ opening.lacks how mode }
 {
     match how {
         How::Read => !has_r(mode),
@@ -49,8 +37,8 @@ fn lacks(how: How, mode: u16) -> bool
 
 impl World {
     // A description more, under the command's next number.
-    fn opens(&mut self, refs: &mut Refs, how: How, node: usize) -> Result<Answer, NoMemory>
-        ensures { IfOk result (λ a. record { answer = a; refs = refs.new; world = self.new } ≡ rows.opened self.old refs.old self.old.tree how node) }
+    fn opens(&mut self, refs: &mut Refs, how: How, node: NodeId) -> Result<Answer, NoMemory>
+        ensures { IfOk result (λ a. record { answer = a; refs = refs.new; world = self.new } ≡ opening.opened self.old refs.old self.old.tree how node) }
     {
         let d = self.opens.len();
         self.opens.push(Description::of(how, node))?;
@@ -58,34 +46,47 @@ impl World {
         Ok(Answer::Opened)
     }
 
-    fn open_absent(
-        &mut self,
-        refs: &mut Refs,
-        how: How,
-        dir: usize,
-        name: Name,
-        slash: bool,
-    ) -> Result<Answer, NoMemory>
-        requires { MayHold self.old.tree dir name }
-        ensures { IfOk result (λ a. record { answer = a; refs = refs.new; world = self.new } ≡ rows.open_at self.old refs.old how (spot_means (Absent dir name slash))) }
+    // An empty file under a name that stands for nothing.
+    fn make_file(&mut self, dir: NodeId, name: &Name) -> Result<Result<NodeId, Errno>, NoMemory>
+        requires { MayHold self.old.tree dir name.now }
+        ensures { IfOk result (opening.MakesFile self.old dir name.now self.new) }
     {
-        if is_read(how) {
-            return Ok(Answer::No(Errno::NoEntry));
-        }
         let none = Bytes::from_slice(self.allocator(), b"")?;
-        match self.tree.add(dir, &name, Entry::File(0o644, none)) {
-            Ok(n) => {
-                let answer = self.opens(refs, how, n)?;
-                Ok(answer)
-            }
-            Err(Refused::No(e)) => Ok(Answer::No(e)),
+        match self.tree.add(dir, name, Entry::File(0o644, none)) {
+            Ok(n) => Ok(Ok(n)),
+            Err(Refused::No(e)) => Ok(Err(e)),
             Err(Refused::NoMemory) => Err(NoMemory),
         }
     }
 
+    #[tactic(auto, using(crate::proofs::RowLemmas::made))]
+    fn open_absent(
+        &mut self,
+        refs: &mut Refs,
+        how: How,
+        dir: NodeId,
+        name: Name,
+        slash: bool,
+    ) -> Result<Answer, NoMemory>
+        requires { IsFreeName self.old.tree dir name }
+        ensures { IfOk result (λ a. record { answer = a; refs = refs.new; world = self.new } ≡ opening.open_at self.old refs.old how (Absent dir name slash)) }
+    {
+        if is_read(how) {
+            return Ok(Answer::No(Errno::NoEntry));
+        }
+        let made = self.make_file(dir, &name)?;
+        match made {
+            Ok(n) => {
+                let answer = self.opens(refs, how, n)?;
+                Ok(answer)
+            }
+            Err(e) => Ok(Answer::No(e)),
+        }
+    }
+
     // Make empties what is there.
-    fn empties(&mut self, how: How, n: usize) -> Result<(), NoMemory>
-        ensures { OnOk result (self.new ≡ with_tree self.old (rows.emptied how self.old.tree n)) }
+    fn empties(&mut self, how: How, n: NodeId) -> Result<(), NoMemory>
+        ensures { OnOk result (self.new ≡ with_tree self.old (opening.emptied how self.old.tree n)) }
     {
         match how {
             How::Read => Ok(()),
@@ -102,11 +103,11 @@ impl World {
         &mut self,
         refs: &mut Refs,
         how: How,
-        n: usize,
-        up: Option<(usize, Name)>,
+        n: NodeId,
+        up: Option<(NodeId, Name)>,
         slash: bool,
     ) -> Result<Answer, NoMemory>
-        ensures { IfOk result (λ a. record { answer = a; refs = refs.new; world = self.new } ≡ rows.open_at self.old refs.old how (spot_means (Found n up slash))) }
+        ensures { IfOk result (λ a. record { answer = a; refs = refs.new; world = self.new } ≡ opening.open_at self.old refs.old how (Found (record { node = n; up = up; slash = slash }))) }
     {
         if self.tree.is_dir(n) {
             return Ok(Answer::No(Errno::IsDir));

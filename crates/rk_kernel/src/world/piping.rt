@@ -2,8 +2,9 @@
 ghost use Rattle.std.specs.Prelude.{◌≡◌, IfOk};
 ghost use Rattle.rk_kernel.specs.Do as all;
 
+use crate::pipe::Pipe;
 use crate::{Description, World};
-use rk_base::{Bytes, NoMemory};
+use rk_base::NoMemory;
 use rk_calls::{Answer, Refs};
 
 impl World {
@@ -11,10 +12,10 @@ impl World {
     pub(super) fn pipe(&mut self, refs: &mut Refs) -> Result<Answer, NoMemory>
         ensures { IfOk result (λ a. record { answer = a; refs = refs.new; world = self.new } ≡ all.piped self.old refs.old) }
     {
-        let none = Bytes::from_slice(self.allocator(), b"")?;
         let p = self.pipes.len();
         let d = self.opens.len();
-        self.pipes.push(none)?;
+        let pipe = Pipe::new(self.allocator());
+        self.pipes.push(pipe)?;
         self.opens.push(Description::read_end(p))?;
         self.opens.push(Description::write_end(p))?;
         refs.push(d)?;

@@ -1,16 +1,19 @@
 // Read.
-ghost use Rattle.std.specs.Prelude.{◌≡◌, ◌<◌, IfOk, OnOk, IfSome, drop, length, position, option_copied};
+ghost use Rattle.std.specs.Prelude.{◌≡◌, ◌<◌, ◌≤◌, IfOk, IfSome, drop, length, position, option_copied};
 ghost use Rattle.rk_calls.specs.declared.call.Call.TheVariants.{Read, ReadLine};
+ghost use Rattle.rk_tree.specs.Hierarchy.{file_bytes, node};
 ghost use Rattle.rk_kernel.specs.World.{after_line, after_read, after_read_line, is_newline, line_end, line_of, rest_of, text_of};
 ghost use Rattle.rk_kernel.specs.Do as all;
 
+use crate::pipe::Pipe;
 use crate::{Description, Source, World};
 use rk_base::{Bytes, Errno, NoMemory};
 use rk_calls::{Answer, Refs};
+use rk_tree::NodeId;
 use std::alloc::Global;
 
 /// What stands after so many bytes.
-pub(super) fn after(text: &[u8], n: usize) -> &[u8]
+fn after(text: &[u8], n: usize) -> &[u8]
     ensures { result.now ≡ drop n text.now }
 {
     if n <= text.len() {
@@ -20,12 +23,12 @@ pub(super) fn after(text: &[u8], n: usize) -> &[u8]
     }
 }
 
-/// The bytes of a pipe; none where there is no pipe.
-pub(super) fn bytes_of(pipe: Option<&Bytes>) -> &[u8]
+// What is left in a pipe; nothing where there is no pipe.
+fn left_in(pipe: Option<&Pipe>) -> &[u8]
     ensures { result.now ≡ text_of (option_copied pipe.entry) }
 {
     match pipe {
-        Some(bytes) => bytes.as_slice(),
+        Some(pipe) => pipe.rest(),
         None => b"",
     }
 }
@@ -47,13 +50,14 @@ fn line_of(text: &[u8]) -> &[u8]
     }
 }
 
-// What stands after the first line.
-fn after_line(text: &[u8]) -> &[u8]
-    ensures { result.now ≡ after_line text.now }
+// How long the first line of a text is.
+fn line_length(text: &[u8]) -> usize
+    ensures within { result ≤ length text.now }
+    ensures rest { drop result text.now ≡ after_line text.now }
 {
     match newline(text) {
-        None => b"",
-        Some(i) => text.split_at(i + 1).1,
+        None => text.len(),
+        Some(i) => i + 1,
     }
 }
 
@@ -68,13 +72,31 @@ fn line_end(text: &[u8], offset: usize) -> usize
 }
 
 impl World {
+    // The bytes of the file that is the node of a number.
+    pub(super) fn file(&self, n: usize) -> &[u8]
+        ensures { result.now ≡ file_bytes (node self.now.tree n) }
+    {
+        self.tree.bytes(NodeId::new(n))
+    }
+
+    // The bytes of a file from an offset on; a whole file shares its own.
+    fn file_from(&self, alloc: Global, n: usize, offset: usize) -> Result<Bytes, NoMemory>
+        ensures { IfOk result (λ b. b ≡ drop offset (file_bytes (node self.now.tree n))) }
+    {
+        if offset == 0 {
+            self.tree.copy_bytes(NodeId::new(n))
+        } else {
+            Bytes::from_slice(alloc, after(self.file(n), offset))
+        }
+    }
+
     // What there is to read.
     fn rest_of(&self, alloc: Global, offset: usize, source: Source) -> Result<Bytes, NoMemory>
         ensures { IfOk result (λ b. b ≡ rest_of self.now offset source) }
     {
         match source {
-            Source::Node(n) => Bytes::from_slice(alloc, after(self.tree.bytes(n), offset)),
-            Source::Pipe(p) => Bytes::from_slice(alloc, bytes_of(self.pipes.get(p))),
+            Source::Node(n) => self.file_from(alloc, n, offset),
+            Source::Pipe(p) => Bytes::from_slice(alloc, left_in(self.pipes.get(p))),
             Source::Output => Bytes::from_slice(alloc, b""),
             Source::ErrorText => Bytes::from_slice(alloc, b""),
             Source::Nothing => Bytes::from_slice(alloc, b""),
@@ -82,23 +104,21 @@ impl World {
     }
 
     // The offset goes to the end, and a pipe is emptied.
-    fn after_read(&mut self, k: usize, d: Description) -> Result<(), NoMemory>
-        ensures { OnOk result (self.new ≡ after_read self.old k d d.source) }
+    fn after_read(&mut self, k: usize, d: Description)
+        ensures { self.new ≡ after_read self.old k d d.source }
     {
         match d.source {
             Source::Node(n) => {
-                let end = self.tree.bytes(n).len();
+                let end = self.file(n).len();
                 self.set_offset(k, d, end);
-                Ok(())
             }
             Source::Pipe(p) => {
-                let none = Bytes::from_slice(self.allocator(), b"")?;
-                self.set_pipe(p, none);
-                Ok(())
+                let all = left_in(self.pipes.get(p)).len();
+                self.skip(p, all);
             }
-            Source::Output => Ok(()),
-            Source::ErrorText => Ok(()),
-            Source::Nothing => Ok(()),
+            Source::Output => {}
+            Source::ErrorText => {}
+            Source::Nothing => {}
         }
     }
 
@@ -115,7 +135,7 @@ impl World {
                         return Ok(Answer::No(Errno::BadRef));
                     }
                     let bytes = self.rest_of(self.allocator(), d.offset, d.source)?;
-                    self.after_read(k, d)?;
+                    self.after_read(k, d);
                     Ok(Answer::Content(bytes))
                 }
             },
@@ -127,8 +147,8 @@ impl World {
         ensures { IfOk result (λ b. b ≡ line_of (rest_of self.now offset source)) }
     {
         match source {
-            Source::Node(n) => Bytes::from_slice(alloc, line_of(after(self.tree.bytes(n), offset))),
-            Source::Pipe(p) => Bytes::from_slice(alloc, line_of(bytes_of(self.pipes.get(p)))),
+            Source::Node(n) => Bytes::from_slice(alloc, line_of(after(self.file(n), offset))),
+            Source::Pipe(p) => Bytes::from_slice(alloc, line_of(left_in(self.pipes.get(p)))),
             Source::Output => Bytes::from_slice(alloc, b""),
             Source::ErrorText => Bytes::from_slice(alloc, b""),
             Source::Nothing => Bytes::from_slice(alloc, b""),
@@ -136,24 +156,21 @@ impl World {
     }
 
     // The offset goes after the line, and the line leaves the pipe.
-    fn after_read_line(&mut self, k: usize, d: Description) -> Result<(), NoMemory>
-        ensures { OnOk result (self.new ≡ after_read_line self.old k d d.source) }
+    fn after_read_line(&mut self, k: usize, d: Description)
+        ensures { self.new ≡ after_read_line self.old k d d.source }
     {
         match d.source {
             Source::Node(n) => {
-                let end = line_end(self.tree.bytes(n), d.offset);
+                let end = line_end(self.file(n), d.offset);
                 self.set_offset(k, d, end);
-                Ok(())
             }
             Source::Pipe(p) => {
-                let rest = after_line(bytes_of(self.pipes.get(p)));
-                let rest = Bytes::from_slice(self.allocator(), rest)?;
-                self.set_pipe(p, rest);
-                Ok(())
+                let line = line_length(left_in(self.pipes.get(p)));
+                self.skip(p, line);
             }
-            Source::Output => Ok(()),
-            Source::ErrorText => Ok(()),
-            Source::Nothing => Ok(()),
+            Source::Output => {}
+            Source::ErrorText => {}
+            Source::Nothing => {}
         }
     }
 
@@ -170,7 +187,7 @@ impl World {
                         return Ok(Answer::No(Errno::BadRef));
                     }
                     let line = self.next_line(self.allocator(), d.offset, d.source)?;
-                    self.after_read_line(k, d)?;
+                    self.after_read_line(k, d);
                     Ok(Answer::Content(line))
                 }
             },
