@@ -1,10 +1,10 @@
 -- What a build finds in a folder.
-use Rattle.std.proofs.Common.{◌≡◌, ◌∙◌, Option, Some, None, Ok, Err, ap, subst}
+use Rattle.std.proofs.Common.{◌≡◌, Option, Some, None, Ok, Err, ap, subst}
 use Rattle.rk_folder.specs.Told.{Held}
 use Rattle.rk_install.specs.Imported.{holding_of}
 use Rattle.rk_install.specs.declared.holding.Holding.{Holding}
 use Rattle.rk_folder.specs.declared.hidden_files.State.{State}
-use Rattle.rk_top.specs.Kept.{IsKept, ReadsState, state_in, rows_of}
+use Rattle.rk_top.specs.Kept.{IsKept, ReadsState, state_in}
 use Rattle.rk_top.specs.Stages.{LooksSo, FindsSo}
 use Rattle.rk_top.specs.declared.found.Found.{Found}
 use Rattle.rk_top.specs.declared.stop.Refusal.TheVariants as refusal
@@ -41,5 +41,4 @@ kept-stops told holding stop.NoMemory look kept = tt
 pub is_found : (told : Option Held) (found : Found) → LooksSo told (Ok found.holding) → ReadsState found.holding.state (Ok (record { attrs = found.attrs; old = found.old })) → FindsSo told (Ok found)
 is_found None found look kept = tt
 is_found (Some held) found look kept =
-    let same = state-same held found.holding look.1 in
-    (look.0, look.1, subst (λ s. IsKept s found.old) same kept.0, kept.1 ∙ ap (λ (s : State). rows_of s.attrs) same)
+    (look.0, look.1, subst (λ s. IsKept s found.attrs found.old) (state-same held found.holding look.1) kept)

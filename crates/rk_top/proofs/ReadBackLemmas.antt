@@ -7,16 +7,13 @@ use Rattle.rk_calls.specs.declared.drive.Spoke.TheVariants.{Call as Calls, Exit 
 use Rattle.rk_calls.specs.Proper.{IsProper, IsProperTalk, AsksProperly, proper-goes_on}
 use Rattle.rk_calls.specs.Talk.{Talk, Says, Cut, Exited, Asked}
 use Rattle.rk_calls.specs.Saying.{node, speaks, goes_on}
-use Rattle.rk_calls.specs.Views.{talk-proper}
-use Rattle.rk_command.specs.First.{first_talk}
-use Rattle.rk_command.specs.CommandTalks.{talk-first_talk}
+use Rattle.rk_calls.specs.Keys.{KeyValue}
 use Rattle.tr_record.specs.declared.records.Record.{Record}
 use Rattle.tr_record.specs.declared.steps.Step.{Step}
 use Rattle.tr_record.specs.Rec.{rec_at}
 use Rattle.rk_runs.specs.Own.{own, total}
-use Rattle.rk_runs.specs.Spoken.{Follows}
+use Rattle.rk_runs.specs.Spoken.{AreSpoken, Follows}
 use Rattle.tr_codec.specs.Sound.{IsSoundStep, IsSound}
-use Rattle.rk_top.specs.Run.{IsSpokenTable}
 
 -- a call that is met was asked
 met : (c p cost : ℕ) (call asked : Call) (some : Bool) → cond some (cond (leb cost p) (Calls asked cost) Short) Short ≡ Calls call c → asked ≡ call
@@ -55,13 +52,13 @@ own-le (r ∷ rs) (suc i) l =
     let h : own (rec_at i rs) ≤ total rs = own-le rs i (omega arith) in
     omega arith
 
-pub sound : (table : List Record) → IsSpokenTable table → total table < 2 ^ 64 → AllByRecursion IsSound table
-sound table spoken small =
+pub sound : (first : KeyValue → Says) (table : List Record) → ((key : KeyValue) → AsksProperly (first key)) → AreSpoken first table → total table < 2 ^ 64 → AllByRecursion IsSound table
+sound first table proper spoken small =
     all-of IsSound table
     (λ i l.
     let h : own (rec_at i table) ≤ total table = own-le table i l in
     let key = (rec_at i table).key in
-    record { steps = steps-sound (first_talk key) (rec_at i table).steps (talk-proper (first_talk key) (talk-first_talk key)) (spoken i l).follows; paid = omega arith })
+    record { steps = steps-sound (first key) (rec_at i table).steps (proper key) (spoken i l).follows; paid = omega arith })
 
 -- what a budget met is small
 pub small : (used before all told limit steps : ℕ) → used ≡ before + all → before ≡ 0 → told ≡ used → told ≤ limit → limit ≡ steps → steps < 2 ^ 32 → all < 2 ^ 64

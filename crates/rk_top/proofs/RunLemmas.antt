@@ -14,7 +14,6 @@ use Rattle.rk_base.specs.Text.{Text}
 use Rattle.std.specs.FinMap.{empty, entries, entries_sorted, get-entries}
 use Rattle.rk_kernel.specs.World.{World, fresh as fresh_of}
 use Rattle.rk_kernel.specs.Do.{answered}
-use Rattle.rk_command.specs.First.{first_talk}
 use Rattle.rk_runs.specs.Purse.{left}
 use Rattle.rk_runs.specs.Run.{Outcome, game, fresh}
 use Rattle.rk_runs.specs.Spoken.{AreSpoken}
@@ -23,15 +22,18 @@ use Rattle.rk_replay.specs.Stops.{Stops}
 use Rattle.rk_replay.specs.declared.stop.Stop.{Stop}
 use Rattle.rk_replay.specs.declared.stop.Stop.TheVariants as stop
 use Rattle.rk_replay.specs.Script.{script_key}
+use Rattle.rk_words.specs.Asked.{turns}
+use Rattle.rk_words.specs.declared.requests.Request.{Request}
 use Rattle.rk_top.specs.Run.{fresh_run}
 
-pub fresh_run-is : (steps : ℕ) (entries : Entries) (budget : Paid) (tree : Hierarchy) (world : World) (o : Outcome World) → budget.limit ≡ steps → budget.used ≡ 0 → tree ≡ tree_of entries → world ≡ fresh_of tree → fresh (game first_talk answered) (left budget) script_key top_refs world ≡ o → fresh_run steps entries ≡ o
+pub fresh_run-is : (first : KeyValue → Says) (request : Request) (entries : Entries) (key : KeyValue) (budget : Paid) (tree : Hierarchy) (world : World) (o : Outcome World) → budget.limit ≡ turns request → budget.used ≡ 0 → key ≡ script_key → tree ≡ tree_of entries → world ≡ fresh_of tree → fresh (game first answered) (left budget) key top_refs world ≡ o → fresh_run first request entries ≡ o
 unfolding fresh_run
-fresh_run-is steps entries budget tree world o limit used is_tree is_world run =
-    let turns : left budget ≡ steps = omega arith in
+fresh_run-is first request entries key budget tree world o limit used is_key is_tree is_world run =
+    let turned : left budget ≡ turns request = omega arith in
     let here : world ≡ fresh_of (tree_of entries) = is_world ∙ ap fresh_of is_tree in
-    sym (ap (λ (n : ℕ). fresh (game first_talk answered) n script_key top_refs (fresh_of (tree_of entries))) turns)
-    ∙ sym (ap (λ (w : World). fresh (game first_talk answered) (left budget) script_key top_refs w) here)
+    sym (ap (λ (n : ℕ). fresh (game first answered) n script_key top_refs (fresh_of (tree_of entries))) turned)
+    ∙ sym (ap (λ (w : World). fresh (game first answered) (left budget) script_key top_refs w) here)
+    ∙ sym (ap (λ (k : KeyValue). fresh (game first answered) (left budget) k top_refs world) is_key)
     ∙ run
 
 -- where the build's budget was spent

@@ -1,11 +1,11 @@
 -- Texts that were put out.
-use Rattle.std.proofs.Common.{◌≡◌, arith, ℕ, length, Option, Result, Ok, Err, sym, ap, ◌∙◌}
+use Rattle.std.proofs.Common.{◌≡◌, ◌⊎◌, arith, ℕ, length, Option, Result, Ok, Err, sym, ap, ◌∙◌, inl, inr}
 use Rattle.std.proofs.Math.Seq.{take-length}
 use Rattle.rk_base.specs.Text.{Text}
-use Rattle.rk_folder.specs.Sinks.{with_bytes, Puts, PutCaused}
+use Rattle.rk_folder.specs.Sinks.{with_bytes, Puts, PutCaused, PutMemoryCaused}
 use Rattle.rk_folder.specs.declared.sink.SinkErr.{SinkErr}
 use Rattle.rk_folder.specs.declared.sink.SinkErr.TheVariants as sink
-use Rattle.rk_top.specs.Telling.{PutsLine}
+use Rattle.rk_top.specs.Telling.{SinkState, PutsLine}
 use Rattle.rk_top.specs.Texts.{PutSo}
 use Rattle.rk_top.specs.declared.stop.Stop.{Stop}
 use Rattle.rk_top.specs.declared.stop.Stop.TheVariants as stop
@@ -20,8 +20,8 @@ PutSo-whole text old new later before now (Err stop.ReadFault) put whole = put
 PutSo-whole text old new later before now (Err stop.WriteFault) put whole = (length text, whole ∙ ap (λ (t : Text). with_bytes t old) (sym (take-length text)))
 PutSo-whole text old new later before now (Err stop.NoMemory) put whole = (length text, whole ∙ ap (λ (t : Text). with_bytes t old) (sym (take-length text)))
 
--- whatever a put came to, a front of the line went out, and the count of faults has not fallen
-pub put-front : {T : Type 0} (line : Text) (old new : Option Text) (before now : ℕ) (r : Result T SinkErr) → Puts line old new r → PutCaused before now r → PutsLine line old new before now
-put-front line old new before now (Ok it) put caused = ((length line, put ∙ ap (λ (t : Text). with_bytes t old) (sym (take-length line))), omega arith)
-put-front line old new before now (Err sink.Failed) put caused = (put, caused.0)
-put-front line old new before now (Err sink.NoMemory) put caused = (put, omega arith)
+-- whatever a put came to, the line went out whole, or a front of it did and a count rose
+pub put-line : {T : Type 0} (line : Text) (old new : SinkState) (r : Result T SinkErr) → Puts line old.so_far new.so_far r → PutCaused old.faults new.faults r → PutMemoryCaused old.memory new.memory r → PutsLine line old new
+put-line line old new (Ok it) put caused memory = inl (record { whole = put; faults = caused; memory = memory })
+put-line line old new (Err sink.Failed) put caused memory = inr (record { front = put; faults = caused.0; memory = omega arith; cause = inl caused.1 })
+put-line line old new (Err sink.NoMemory) put caused memory = inr (record { front = put; faults = omega arith; memory = memory.0; cause = inr memory.1 })

@@ -3,7 +3,6 @@ use Rattle.std.specs.Prelude.{◌≡◌, ◌≢◌, true, List, [], Option, Some
 use Rattle.rk_base.specs.Text.{Text}
 use Rattle.tr_record.specs.declared.records.Record.{Record}
 use Rattle.tr_codec.specs.Attrs.{are_rows, attrs_spelling}
-use Rattle.tr_codec.specs.RowReading.{rows_read}
 use Rattle.tr_codec.specs.Fits.{Fits}
 use Rattle.tr_codec.specs.Reads.{IsDamage}
 use Rattle.tr_codec.specs.Spelling.{db_spelling}
@@ -23,15 +22,14 @@ use Rattle.rk_top.specs.declared.stop.Refusal.TheVariants as refusal
 use Rattle.rk_top.specs.declared.stop.Stop.{Stop}
 use Rattle.rk_top.specs.declared.stop.Stop.TheVariants as stop
 
--- the rows of attributes; none where attrs doesn't stand
-abbrev pub rows_of : Option Text → List (Text × AttrRow)
-rows_of None = []
-rows_of (Some bytes) = rows_read bytes
+-- these are the rows that attrs spells; where it doesn't stand there are none
+abbrev pub SpellsRows : Option Text → List (Text × AttrRow) → Type 0
+SpellsRows None rows = rows ≡ []
+SpellsRows (Some bytes) rows = (are_rows rows ≡ true) × (bytes ≡ attrs_spelling rows)
 
--- attrs doesn't stand, or is the spelling of its rows
-abbrev pub IsAttrs : Option Text → Type 0
-IsAttrs None = Unit {0}
-IsAttrs (Some bytes) = (are_rows (rows_read bytes) ≡ true) × (bytes ≡ attrs_spelling (rows_read bytes))
+-- and no others are
+abbrev pub AreRows : Option Text → List (Text × AttrRow) → Type 0
+AreRows attrs rows = SpellsRows attrs rows × ((other : List (Text × AttrRow)) → SpellsRows attrs other → rows ≡ other)
 
 -- these are the records that the database spells; where it doesn't stand there are none
 abbrev pub Spells : Option Text → List Record → Type 0
@@ -42,9 +40,9 @@ Spells (Some bytes) table = Fits table × (bytes ≡ db_spelling table)
 abbrev pub IsTable : Option Text → List Record → Type 0
 IsTable db table = Spells db table × ((other : List Record) → Spells db other → table ≡ other)
 
--- both state files are well, and these are the records that they keep
-abbrev pub IsKept : State → List Record → Type 0
-IsKept state table = IsAttrs state.attrs × IsTable state.db table
+-- both state files are well, and these are the rows and the records that they keep
+abbrev pub IsKept : State → List (Text × AttrRow) → List Record → Type 0
+IsKept state rows table = AreRows state.attrs rows × IsTable state.db table
 
 -- attrs stands, and is no spelling
 abbrev pub IsDamagedAttrs : Option Text → Damage → Type 0
@@ -59,22 +57,20 @@ IsDamagedDb (Some bytes) damage = IsDamage 52 bytes damage × ((table : List Rec
 -- this state file is damaged so; attrs comes before the database
 abbrev pub IsDamaged : State → StateFile → Damage → Type 0
 IsDamaged state file.Attrs damage = IsDamagedAttrs state.attrs damage
-IsDamaged state file.Db damage = IsAttrs state.attrs × IsDamagedDb state.db damage
+IsDamaged state file.Db damage = ((rows : List (Text × AttrRow)) × AreRows state.attrs rows) × IsDamagedDb state.db damage
 
 -- the state files of a folder
 abbrev pub state_in : Held → State
 state_in held = (state_of held).state
 
--- its rows of attributes, and what it holds with them
-abbrev pub rows_in : Held → List (Text × AttrRow)
-rows_in held = rows_of (state_in held).attrs
-
-abbrev pub entries_in : Held → Entries
-entries_in held = with_rows (snapshot_of held) (rows_in held)
-
--- nothing of the folder is special, its state files are well, and this is so of the records that they keep
-abbrev pub Keeping : Held → (List Record → Type 0) → Type 0
-Keeping held P = (first_special held ≡ None) × ((old : List Record) × IsKept (state_in held) old × P old)
+-- Nothing of the folder is special, its state files are well, and this is so of its entries with the rows of attributes and
+-- of the records.
+pub record Keeping (held : Held) (P : Entries → List Record → Type 0) : Type 0 where
+  pub plain : first_special held ≡ None
+  pub rows : List (Text × AttrRow)
+  pub old : List Record
+  pub kept : IsKept (state_in held) rows old
+  pub so : P (with_rows (snapshot_of held) rows) old
 
 -- why the folder is refused: its first special path, or else the first state file that is damaged
 abbrev pub Refuses : Held → Refusal → Type 0
@@ -84,7 +80,7 @@ Refuses held (refusal.Damaged file damage) = (first_special held ≡ None) × Is
 -- What reading tells.
 
 abbrev pub ReadsAttrs : Option Text → Result (List (Text × AttrRow)) Stop → Type 0
-ReadsAttrs attrs (Ok rows) = IsAttrs attrs × (rows ≡ rows_of attrs)
+ReadsAttrs attrs (Ok rows) = AreRows attrs rows
 ReadsAttrs attrs (Err (stop.Refused (refusal.Special path))) = ⊥
 ReadsAttrs attrs (Err (stop.Refused (refusal.Damaged file.Attrs damage))) = IsDamagedAttrs attrs damage
 ReadsAttrs attrs (Err (stop.Refused (refusal.Damaged file.Db damage))) = ⊥
@@ -106,7 +102,7 @@ ReadsDb db (Err stop.WriteFault) = ⊥
 ReadsDb db (Err stop.NoMemory) = Unit {0}
 
 abbrev pub ReadsState : State → Result KeptState Stop → Type 0
-ReadsState state (Ok kept) = IsKept state kept.old × (kept.attrs ≡ rows_of state.attrs)
+ReadsState state (Ok kept) = IsKept state kept.attrs kept.old
 ReadsState state (Err (stop.Refused (refusal.Special path))) = ⊥
 ReadsState state (Err (stop.Refused (refusal.Damaged file damage))) = IsDamaged state file damage
 ReadsState state (Err (stop.Forged rec step)) = ⊥

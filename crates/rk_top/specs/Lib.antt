@@ -1,11 +1,12 @@
+pub mod Asks
 pub mod Fresh
 pub mod Kept
 pub mod Laws
 pub mod Lines
 pub mod Outcomes
 pub mod Run
+pub mod Sessions
 pub mod Shown
 pub mod Stages
 pub mod Telling
 pub mod Texts
-pub mod Turns

@@ -1,6 +1,9 @@
--- What each outcome says of the folder, the sinks, the counts of faults and the count of turns.
+-- What each outcome says of the folder, the sinks, the counts of faults, the count of turns and the count of starts.
 use Rattle.std.specs.Prelude.{◌≡◌, ◌⊎◌, ◌≤◌, ◌+◌, ℕ, List, length, Option, Some, IfSome, Result, Ok, Err}
 use Rattle.rk_base.specs.Text.{Text}
+use Rattle.rk_calls.specs.Keys.{KeyValue}
+use Rattle.rk_calls.specs.Talk.{Says}
+use Rattle.rk_check.specs.Started.{started}
 use Rattle.rk_folder.specs.Told.{Held}
 use Rattle.rk_folder.specs.Counts.{Rose}
 use Rattle.rk_folder.specs.Sinks.{with_bytes}
@@ -8,20 +11,25 @@ use Rattle.rk_install.specs.Changes.{Partly}
 use Rattle.rk_install.specs.Holdings.{IsAfter}
 use Rattle.rk_install.specs.Imported.{holding_of}
 use Rattle.rk_install.specs.Planned.{planned}
+use Rattle.rk_install.specs.declared.holding.Holding.{Holding}
 use Rattle.rk_install.specs.declared.installation.InstallErr.{InstallErr}
 use Rattle.rk_install.specs.declared.installation.InstallErr.TheVariants as install
-use Rattle.rk_top.specs.Lines.{line_of}
-use Rattle.rk_top.specs.Texts.{Front}
 use Rattle.tr_codec.specs.Fits.{Fits}
 use Rattle.tr_codec.specs.declared.fault.Damage.{Damage}
 use Rattle.tr_record.specs.declared.records.Record.{Record}
+use Rattle.rk_tree.specs.Copies.{snapshot_of as entries_of}
+use Rattle.rk_tree.specs.Entries.{Entries}
 use Rattle.rk_kernel.specs.World.{World}
 use Rattle.rk_runs.specs.Run.{Outcome as Run, Done, Spent}
-use Rattle.rk_top.specs.Fresh.{fresh_in, error_text_of, held_after}
-use Rattle.rk_install.specs.declared.holding.Holding.{Holding}
+use Rattle.rk_runs.specs.Spoken.{AreSpoken}
 use Rattle.rk_replay.specs.Ran.{ran_total}
+use Rattle.rk_words.specs.Asked.{turns}
+use Rattle.rk_words.specs.declared.requests.Request.{Request}
+use Rattle.rk_top.specs.Fresh.{error_text_of, held_after}
 use Rattle.rk_top.specs.Kept.{Keeping, Refuses}
-use Rattle.rk_top.specs.Run.{IsSpokenTable, IsForged, ran_count}
+use Rattle.rk_top.specs.Run.{fresh_run, IsForged, ran_count}
+use Rattle.rk_top.specs.Telling.{SinkState, Put}
+use Rattle.rk_top.specs.Texts.{Front}
 use Rattle.rk_top.specs.declared.build.Ended.{Ended}
 use Rattle.rk_top.specs.declared.outcome.StateFile.{StateFile}
 use Rattle.rk_top.specs.declared.stop.Refusal.{Refusal}
@@ -44,110 +52,14 @@ outcome_of_stop stop.WriteFault = out.WriteFault
 outcome_of_stop stop.NoMemory = out.NoMemory
 
 abbrev pub outcome_of : Result Ended Stop → Outcome
-outcome_of (Ok e) = out.Ended e.status e.launched e.ran
+outcome_of (Ok e) = out.Ended e.status e.launched (length e.ran)
 outcome_of (Err e) = outcome_of_stop e
 
--- The folder.
-
--- it holds what the run leaves, its trace included, and all else as before
-abbrev pub Installed : World → List Record → Held → Option Held → Type 0
-Installed world table held new = (after : Held) × (new ≡ Some after) × IsAfter held after (held_after world table)
-
--- the status; how many commands were launched, and how many of them ran, over the records that were kept; and what was
--- installed, of which the records are spoken and can be read back
-abbrev pub EndsSo : Run World → List Record → Held → Option Held → ℕ → ℕ → ℕ → Type 0
-EndsSo (Done world exit left table) old held new status launched ran =
-    (status ≡ exit) × (launched ≡ length table) × (ran ≡ ran_count old table) × IsSpokenTable table × Fits table × Installed world table held new
-EndsSo Spent old held new status launched ran = ⊥
-
--- what a run leaves
-abbrev pub IsLeft : Run World → Holding → Type 0
-IsLeft (Done world status left table) after = after ≡ held_after world table
-IsLeft Spent after = ⊥
-
--- some of the calls that lead to what is to be left were made, and the next one failed and left its damage; over
--- spoken records it is what the fresh run leaves
-abbrev pub PartlyInstalled : ℕ → List Record → Held → Option Held → InstallErr → Type 0
-PartlyInstalled steps old held new e =
-    (after : Holding) × (IsSpokenTable old → IsLeft (fresh_in steps held) after) × Partly (planned (holding_of held) after) (Some held) new e
-
--- it is as before, or partly installed
-abbrev pub StoppedAt : ℕ → Option Held → Option Held → InstallErr → Type 0
-StoppedAt steps told new e = IfSome told (λ held. (new ≡ told) ⊎ Keeping held (λ old. PartlyInstalled steps old held new e))
-
-abbrev pub Leaves : ℕ → Option Held → Option Held → Outcome → Type 0
-Leaves steps told new (out.Ended status launched ran) = IfSome told (λ held. Keeping held (λ old. IsSpokenTable old → EndsSo (fresh_in steps held) old held new status launched ran))
-Leaves steps told new out.Usage = new ≡ told
-Leaves steps told new (out.Special path) = (new ≡ told) × IfSome told (λ held. Refuses held (refusal.Special path))
-Leaves steps told new (out.Damaged file damage) = (new ≡ told) × IfSome told (λ held. Refuses held (refusal.Damaged file damage))
-Leaves steps told new (out.Forged rec step) = (new ≡ told) × IfSome told (λ held. Keeping held (λ old. IsForged old rec step))
-Leaves steps told new out.Spent = (new ≡ told) × IfSome told (λ held. Keeping held (λ old. IsSpokenTable old × (fresh_in steps held ≡ Spent)))
-Leaves steps told new out.ReadFault = new ≡ told
-Leaves steps told new out.WriteFault = StoppedAt steps told new install.WriteFault
-Leaves steps told new out.NoMemory = StoppedAt steps told new install.NoMemory
-
--- The sinks: a text of the run by what the folder held, all over an end, a front over a stop that came late, and
--- nothing over the others.
-
--- nothing, or a front of a text; over spoken records it is the fresh run's
-abbrev pub Halts : ℕ → (Run World → Text) → Option Held → Option Text → Option Text → Type 0
-Halts steps text told old new =
-    IfSome told (λ held. (new ≡ old) ⊎ Keeping held (λ kept. (it : Text) × (IsSpokenTable kept → it ≡ text (fresh_in steps held)) × Front it old new))
-
-abbrev pub Gains : ℕ → (Run World → Text) → Option Held → Option Text → Option Text → Outcome → Type 0
-Gains steps text told old new (out.Ended status launched ran) = IfSome told (λ held. Keeping held (λ kept. IsSpokenTable kept → new ≡ with_bytes (text (fresh_in steps held)) old))
-Gains steps text told old new out.Usage = new ≡ old
-Gains steps text told old new (out.Special path) = new ≡ old
-Gains steps text told old new (out.Damaged file damage) = new ≡ old
-Gains steps text told old new (out.Forged rec step) = new ≡ old
-Gains steps text told old new out.Spent = new ≡ old
-Gains steps text told old new out.ReadFault = new ≡ old
-Gains steps text told old new out.WriteFault = Halts steps text told old new
-Gains steps text told old new out.NoMemory = Halts steps text told old new
-
--- and then the outcome's own line, or a front of it
-abbrev pub GainsLine : ℕ → Option Held → Option Text → Option Text → Outcome → Type 0
-GainsLine steps told old new outcome = (before : Option Text) × Gains steps error_text_of told old before outcome × Front (line_of outcome) before new
-
--- The counts of faults.
-
-pub record Counts : Type 0 where
-  pub reads : ℕ
-  pub writes : ℕ
-  pub puts : ℕ
-  pub error_puts : ℕ
-
-abbrev pub Counted : Counts → Counts → Outcome → Type 0
-Counted before now out.ReadFault = Rose before.reads now.reads × (now.writes ≡ before.writes) × (now.puts ≡ before.puts) × (now.error_puts ≡ before.error_puts)
-Counted before now out.WriteFault = (now.reads ≡ before.reads) × (Rose before.writes now.writes ⊎ Rose before.puts now.puts ⊎ Rose before.error_puts now.error_puts)
-Counted before now other = now ≡ before
-
--- The count of turns.
-
--- what the commands paid that ran, over the records that were kept
-abbrev pub Ticks : Run World → List Record → ℕ → ℕ → Type 0
-Ticks (Done world status left table) old before now = now ≡ before + ran_total old table
-Ticks Spent old before now = ⊥
-
-abbrev pub Ticked : ℕ → Option Held → ℕ → ℕ → Outcome → Type 0
-Ticked steps told before now (out.Ended status launched ran) = IfSome told (λ held. Keeping held (λ old. IsSpokenTable old → Ticks (fresh_in steps held) old before now)) × (now ≤ before + steps)
-Ticked steps told before now out.Usage = now ≡ before
-Ticked steps told before now (out.Special path) = now ≡ before
-Ticked steps told before now (out.Damaged file damage) = now ≡ before
-Ticked steps told before now other = now ≤ before + steps
-
--- The outcome's own line, which is put last.
-
--- nothing is put over an end; elsewhere a put of the line may be one more fault of the error text's sink
-abbrev pub AfterLine : Counts → Counts → Outcome → Type 0
-AfterLine before now (out.Ended status launched ran) = now ≡ before
-AfterLine before now other = (now.reads ≡ before.reads) × (now.writes ≡ before.writes) × (now.puts ≡ before.puts) × (before.error_puts ≤ now.error_puts)
-
--- the faults of the work, and then of the line
-abbrev pub Faults : Counts → Counts → Outcome → Type 0
-Faults before now outcome = (worked : Counts) × Counted before worked outcome × AfterLine worked now outcome
-
 -- For one outcome.
+
+abbrev pub IfEnded : Outcome → (ℕ → ℕ → ℕ → Type 0) → Type 0
+IfEnded (out.Ended status launched ran) P = P status launched ran
+IfEnded other P = Unit {0}
 
 abbrev pub IfSpecial : Outcome → (Text → Type 0) → Type 0
 IfSpecial (out.Special path) P = P path
@@ -161,17 +73,181 @@ abbrev pub IfForged : Outcome → (ℕ → ℕ → Type 0) → Type 0
 IfForged (out.Forged rec step) P = P rec step
 IfForged other P = Unit {0}
 
+-- The counts of faults, and the folder's count of calls that had no memory.
+pub record Counts : Type 0 where
+  pub reads : ℕ
+  pub writes : ℕ
+  pub puts : ℕ
+  pub error_puts : ℕ
+
+-- The folder.
+
+-- it holds what the run leaves, its trace included, and all else as before
+pub record Installed (world : World) (table : List Record) (held : Held) (new : Option Held) : Type 0 where
+  pub after : Held
+  pub told : new ≡ Some after
+  pub is_after : IsAfter held after (held_after world table)
+
+-- a build that finds it begins with the very tree that the run left, and with its records
+abbrev pub IsNext : World → List Record → Held → Type 0
+IsNext world table after = Keeping after (λ entries old. (entries ≡ entries_of world.tree) × (old ≡ table))
+
+-- what was installed, of which the records are spoken and can be read back
+pub record LeavesRun (first : KeyValue → Says) (world : World) (table : List Record) (held : Held) (new : Option Held) : Type 0 where
+  pub spoken : AreSpoken first table
+  pub fits : Fits table
+  pub installed : Installed world table held new
+  pub next : IsNext world table installed.after
+
+abbrev pub EndsSo : (KeyValue → Says) → Run World → Held → Option Held → Type 0
+EndsSo first (Done world exit left table) held new = LeavesRun first world table held new
+EndsSo first Spent held new = ⊥
+
+-- what a run leaves
+abbrev pub IsLeft : Run World → World → List Record → Type 0
+IsLeft (Done world status left table) w t = (w ≡ world) × (t ≡ table)
+IsLeft Spent w t = ⊥
+
+-- Some of the calls that lead to what is to be left were made, and the next one failed and left its damage; over
+-- spoken records it is what the fresh run leaves.
+pub record PartlyInstalled (first : KeyValue → Says) (request : Request) (entries : Entries) (old : List Record) (held : Held) (new : Option Held) (e : InstallErr) : Type 0 where
+  pub world : World
+  pub table : List Record
+  pub is_left : AreSpoken first old → IsLeft (fresh_run first request entries) world table
+  pub part : Partly (planned (holding_of held) (held_after world table)) (Some held) new e
+
+-- it is as before; or the folder's own count of such failures rose, and it is partly installed
+abbrev pub StoppedAt : (KeyValue → Says) → Request → Option Held → Option Held → ℕ → ℕ → InstallErr → Type 0
+StoppedAt first request told new before now e =
+    (new ≡ told) ⊎ (Rose before now × IfSome told (λ held. Keeping held (λ entries old. PartlyInstalled first request entries old held new e)))
+
+-- the folder's counts of failed changes, and of calls that had no memory
+pub record FolderCounts : Type 0 where
+  pub writes : ℕ
+  pub memory : ℕ
+
+abbrev pub Leaves : (KeyValue → Says) → Request → Option Held → Option Held → FolderCounts → FolderCounts → Outcome → Type 0
+Leaves first request told new before now (out.Ended status launched ran) = IfSome told (λ held. Keeping held (λ entries old. AreSpoken first old → EndsSo first (fresh_run first request entries) held new))
+Leaves first request told new before now (out.Special path) = (new ≡ told) × IfSome told (λ held. Refuses held (refusal.Special path))
+Leaves first request told new before now (out.Damaged file damage) = (new ≡ told) × IfSome told (λ held. Refuses held (refusal.Damaged file damage))
+Leaves first request told new before now (out.Forged rec step) = (new ≡ told) × IfSome told (λ held. Keeping held (λ entries old. IsForged first old rec step))
+Leaves first request told new before now out.Spent = (new ≡ told) × IfSome told (λ held. Keeping held (λ entries old. AreSpoken first old × (fresh_run first request entries ≡ Spent)))
+Leaves first request told new before now out.WriteFault = StoppedAt first request told new before.writes now.writes install.WriteFault
+Leaves first request told new before now out.NoMemory = StoppedAt first request told new before.memory now.memory install.NoMemory
+Leaves first request told new before now other = new ≡ told
+
+-- The end.
+
 -- the run ends with this status
 abbrev pub EndsWith : Run World → ℕ → Type 0
 EndsWith (Done world exit left table) status = status ≡ exit
 EndsWith Spent status = ⊥
 
+-- the status is the fresh run's, over records that are spoken
+abbrev pub HasStatus : (KeyValue → Says) → Request → Option Held → ℕ → Type 0
+HasStatus first request told status =
+    IfSome told (λ held. Keeping held (λ entries old. AreSpoken first old → EndsWith (fresh_run first request entries) status))
+
+-- Whatever the records: what was installed has so many records, and so many of them ran over those that were kept, which
+-- paid so many turns. Over spoken ones it is what the fresh run leaves.
+pub record IsTally (first : KeyValue → Says) (request : Request) (entries : Entries) (old : List Record) (held : Held) (new : Option Held) (all some before now : ℕ) : Type 0 where
+  pub world : World
+  pub table : List Record
+  pub is_left : AreSpoken first old → IsLeft (fresh_run first request entries) world table
+  pub installed : Installed world table held new
+  pub launched : all ≡ length table
+  pub ran : some ≡ ran_count old table
+  pub paid : now ≡ before + ran_total old table
+
+abbrev pub Tallies : (KeyValue → Says) → Request → Option Held → Option Held → ℕ → ℕ → ℕ → ℕ → Type 0
+Tallies first request told new before now launched ran =
+    IfSome told (λ held. Keeping held (λ entries old. IsTally first request entries old held new launched ran before now))
+
+-- The sinks: a text of the run by what the folder held, all over an end, a front over a stop that came late, and
+-- nothing over the others.
+
+-- over spoken records it is the fresh run's text, of which a front went out
+pub record HaltsIn (first : KeyValue → Says) (request : Request) (text : Run World → Text) (entries : Entries) (kept : List Record) (old new : Option Text) : Type 0 where
+  pub it : Text
+  pub is_text : AreSpoken first kept → it ≡ text (fresh_run first request entries)
+  pub front : Front it old new
+
+-- nothing, or a front of a text
+abbrev pub Halts : (KeyValue → Says) → Request → (Run World → Text) → Option Held → Option Text → Option Text → Type 0
+Halts first request text told old new =
+    (new ≡ old) ⊎ IfSome told (λ held. Keeping held (λ entries kept. HaltsIn first request text entries kept old new))
+
+abbrev pub Gains : (KeyValue → Says) → Request → (Run World → Text) → Option Held → Option Text → Option Text → Outcome → Type 0
+Gains first request text told old new (out.Ended status launched ran) = IfSome told (λ held. Keeping held (λ entries kept. AreSpoken first kept → new ≡ with_bytes (text (fresh_run first request entries)) old))
+Gains first request text told old new out.WriteFault = Halts first request text told old new
+Gains first request text told old new out.NoMemory = Halts first request text told old new
+Gains first request text told old new other = new ≡ old
+
+-- the counts of the error text's sink before the outcome's line: faults rise only over a write fault, wants of memory only
+-- over want of memory
+abbrev pub ErrorsCounted : SinkState → SinkState → Outcome → Type 0
+ErrorsCounted before now out.WriteFault = (before.faults ≤ now.faults) × (now.memory ≡ before.memory)
+ErrorsCounted before now out.NoMemory = (now.faults ≡ before.faults) × (before.memory ≤ now.memory)
+ErrorsCounted before now other = (now.faults ≡ before.faults) × (now.memory ≡ before.memory)
+
+-- the run's error text, and then the outcome's own line
+pub record GainsLine (first : KeyValue → Says) (request : Request) (told : Option Held) (old new : SinkState) (outcome : Outcome) : Type 0 where
+  pub worked : SinkState
+  pub text : Gains first request error_text_of told old.so_far worked.so_far outcome
+  pub counted : ErrorsCounted old worked outcome
+  pub line : Put outcome worked new
+
+-- The counts of faults.
+
+abbrev pub Counted : Counts → Counts → Outcome → Type 0
+Counted before now out.ReadFault = Rose before.reads now.reads × (now.writes ≡ before.writes) × (now.puts ≡ before.puts) × (now.error_puts ≡ before.error_puts)
+Counted before now out.WriteFault = (now.reads ≡ before.reads) × (Rose before.writes now.writes ⊎ Rose before.puts now.puts ⊎ Rose before.error_puts now.error_puts)
+Counted before now other = now ≡ before
+
+-- The outcome's own line, which is put last.
+
+-- elsewhere a put of the line may be one more fault of the error text's sink
+abbrev pub AfterLine : Counts → Counts → Outcome → Type 0
+AfterLine before now (out.Ended status launched ran) = now ≡ before
+AfterLine before now other = (now.reads ≡ before.reads) × (now.writes ≡ before.writes) × (now.puts ≡ before.puts) × (before.error_puts ≤ now.error_puts)
+
+-- the faults of the work, and then of the line
+abbrev pub Faults : Counts → Counts → Outcome → Type 0
+Faults before now outcome = (worked : Counts) × Counted before worked outcome × AfterLine worked now outcome
+
+-- none of them rose
+abbrev pub NoneRose : Counts → Counts → Type 0
+NoneRose before now = now ≡ before
+
+-- it is no fault of reading or writing
+abbrev pub IsNoFault : Outcome → Type 0
+IsNoFault out.ReadFault = ⊥
+IsNoFault out.WriteFault = ⊥
+IsNoFault other = Unit {0}
+
+-- The count of turns: none are paid for a folder that is refused, and no more than are asked for elsewhere.
+
+abbrev pub Ticked : Request → ℕ → ℕ → Outcome → Type 0
+Ticked request before now out.Usage = now ≡ before
+Ticked request before now (out.Special path) = now ≡ before
+Ticked request before now (out.Damaged file damage) = now ≡ before
+Ticked request before now other = now ≤ before + turns request
+
+-- The count of starts: one for each command that ran, and none where the folder is refused.
+
+abbrev pub Started : ℕ → ℕ → Outcome → Type 0
+Started before now (out.Ended status launched ran) = now ≡ started ran before
+Started before now out.Usage = now ≡ before
+Started before now (out.Special path) = now ≡ before
+Started before now (out.Damaged file damage) = now ≡ before
+Started before now other = Unit {0}
+
 -- an outcome that what a folder holds calls for, or want of memory (`Laws.antt` has that it calls for one alone)
-abbrev pub Settles : ℕ → Held → Outcome → Type 0
-Settles steps held (out.Ended status launched ran) = Keeping held (λ old. IsSpokenTable old → EndsWith (fresh_in steps held) status)
-Settles steps held (out.Special path) = Refuses held (refusal.Special path)
-Settles steps held (out.Damaged file damage) = Refuses held (refusal.Damaged file damage)
-Settles steps held (out.Forged rec step) = Keeping held (λ old. IsForged old rec step)
-Settles steps held out.Spent = Keeping held (λ old. IsSpokenTable old × (fresh_in steps held ≡ Spent))
-Settles steps held out.NoMemory = Unit {0}
-Settles steps held other = ⊥
+abbrev pub Settles : (KeyValue → Says) → Request → Held → Outcome → Type 0
+Settles first request held (out.Ended status launched ran) = Keeping held (λ entries old. AreSpoken first old → EndsWith (fresh_run first request entries) status)
+Settles first request held (out.Special path) = Refuses held (refusal.Special path)
+Settles first request held (out.Damaged file damage) = Refuses held (refusal.Damaged file damage)
+Settles first request held (out.Forged rec step) = Keeping held (λ entries old. IsForged first old rec step)
+Settles first request held out.Spent = Keeping held (λ entries old. AreSpoken first old × (fresh_run first request entries ≡ Spent))
+Settles first request held out.NoMemory = Unit {0}
+Settles first request held other = ⊥

@@ -1,26 +1,50 @@
 -- What telling an outcome leaves.
 use Rattle.std.specs.Prelude.{◌≡◌, ◌≤◌, ◌⊎◌, ℕ, Option}
 use Rattle.rk_base.specs.Text.{Text}
+use Rattle.rk_folder.specs.Counts.{Rose}
+use Rattle.rk_folder.specs.Sinks.{with_bytes}
 use Rattle.rk_top.specs.Lines.{line_of}
 use Rattle.rk_top.specs.Texts.{Front}
 use Rattle.rk_top.specs.declared.outcome.Outcome.{Outcome}
 use Rattle.rk_top.specs.declared.outcome.Outcome.TheVariants as out
 
--- a front of the line went out, and the count of faults has not fallen
-abbrev pub PutsLine : Text → Option Text → Option Text → ℕ → ℕ → Type 0
-PutsLine line old new before now = Front line old new × (before ≤ now)
+-- a sink at a moment: its bytes, where it tells them, how many puts were faults, and how many had no memory
+pub record SinkState : Type 0 where
+  pub so_far : Option Text
+  pub faults : ℕ
+  pub memory : ℕ
 
--- the same outcome, or for want of memory for its line that of want of memory
-abbrev pub Keeps : Outcome → Outcome → Type 0
-Keeps (out.Special path) told = (told ≡ out.Special path) ⊎ (told ≡ out.NoMemory)
-Keeps (out.Damaged file damage) told = (told ≡ out.Damaged file damage) ⊎ (told ≡ out.NoMemory)
-Keeps (out.Forged rec step) told = (told ≡ out.Forged rec step) ⊎ (told ≡ out.NoMemory)
-Keeps outcome told = told ≡ outcome
+-- the whole text was put
+pub record IsPut (text : Text) (old new : SinkState) : Type 0 where
+  pub whole : new.so_far ≡ with_bytes text old.so_far
+  pub faults : new.faults ≡ old.faults
+  pub memory : new.memory ≡ old.memory
 
--- the line of what is told; over an end nothing is put
-abbrev pub Put : Outcome → Option Text → Option Text → ℕ → ℕ → Type 0
-Put (out.Ended status launched ran) old new before now = (new ≡ old) × (now ≡ before)
-Put told old new before now = PutsLine (line_of told) old new before now
+-- the put failed, or had no memory, and a front of the text went out
+pub record IsCut (text : Text) (old new : SinkState) : Type 0 where
+  pub front : Front text old.so_far new.so_far
+  pub faults : old.faults ≤ new.faults
+  pub memory : old.memory ≤ new.memory
+  pub cause : Rose old.faults new.faults ⊎ Rose old.memory new.memory
 
-abbrev pub Tells : Outcome → Outcome → Option Text → Option Text → ℕ → ℕ → Type 0
-Tells outcome told old new before now = Keeps outcome told × Put told old new before now
+abbrev pub PutsLine : Text → SinkState → SinkState → Type 0
+PutsLine line old new = IsPut line old new ⊎ IsCut line old new
+
+-- the outcome's own line; over an end nothing is put
+abbrev pub Put : Outcome → SinkState → SinkState → Type 0
+Put (out.Ended status launched ran) old new = new ≡ old
+Put told old new = PutsLine (line_of told) old new
+
+-- its line names a path, a file or a record
+abbrev pub IsNamed : Outcome → Type 0
+IsNamed (out.Special path) = Unit {0}
+IsNamed (out.Damaged file damage) = Unit {0}
+IsNamed (out.Forged rec step) = Unit {0}
+IsNamed other = ⊥
+
+-- the same outcome, or that there was no memory for a line that names something
+abbrev pub IsTold : Outcome → Outcome → Type 0
+IsTold outcome told = (told ≡ outcome) ⊎ (IsNamed outcome × (told ≡ out.NoMemory))
+
+abbrev pub Tells : Outcome → Outcome → SinkState → SinkState → Type 0
+Tells outcome told old new = IsTold outcome told × Put told old new

@@ -1,25 +1,31 @@
 // The build, once the words are read.
-ghost use Rattle.std.specs.Prelude.{◌≡◌, ◌<◌, Ok};
+ghost use Rattle.std.specs.Prelude.{◌≡◌, ◌<◌, Ok, length, IfOk, true};
 ghost use Rattle.rk_install.specs.Changes.{MayRun};
-ghost use Rattle.rk_top.specs.Outcomes.{outcome_of, Leaves, Gains, Counted, Ticked};
-ghost use Rattle.rk_top.specs.Stages.{InstallsSo, WritesCounted};
+ghost use Rattle.rk_words.specs.Asked.{turns};
+ghost use Rattle.rk_top.specs.Outcomes.{outcome_of, Leaves, HasStatus, Tallies, Gains, ErrorsCounted, Counted, Ticked};
+ghost use Rattle.rk_top.specs.Run.{StartsSo};
+ghost use Rattle.rk_top.specs.Stages.{InstallsSo, WritesCounted, MemoryRose, Steadily};
 ghost use Rattle.rk_top.specs.Fresh.{output_of, error_text_of};
+ghost use Rattle.rk_top.specs.Texts.{IsNoFault};
 
 use crate::prepare::{Prepared, prepare};
 use crate::stop::Stop;
 use crate::texts::put_texts;
 use rk_base::Steps;
+use rk_calls::Maker;
 use rk_folder::{Folder, Sink};
 use rk_install::{InstallErr, Plan, install};
+use rk_replay::RanList;
+use rk_words::Request;
 use std::alloc::Global;
 use std::sync::ledger::Ledger;
 
-/// A build that ended: the script's status, and how many commands were launched and ran.
+/// A build that ended: the script's status, how many commands were launched, and those of them that ran, with why.
 #[derive(Debug, Drop)]
 pub(crate) struct Ended {
     pub status: u8,
     pub launched: u64,
-    pub ran: u64,
+    pub ran: RanList,
 }
 
 // Makes the planned calls.
@@ -27,6 +33,8 @@ fn carry_out<F: Folder>(alloc: Global, folder: &mut F, plan: &Plan) -> Result<()
     requires { MayRun (F.told folder.old) plan.now }
     ensures held { InstallsSo plan.now (F.told folder.old) (F.told folder.new) result }
     ensures writes { WritesCounted (F.write_faults folder.old) (F.write_faults folder.new) result }
+    ensures memory { MemoryRose (F.memory_failures folder.old) (F.memory_failures folder.new) result }
+    ensures steady { Steadily (F.steady folder.old) (F.steady folder.new) result }
     ensures reads { F.read_faults folder.new ≡ F.read_faults folder.old }
 {
     match install(alloc, folder, plan) {
@@ -37,23 +45,29 @@ fn carry_out<F: Folder>(alloc: Global, folder: &mut F, plan: &Plan) -> Result<()
 }
 
 /// Runs the script on what the folder holds, puts its texts out and installs what it leaves.
-pub(crate) fn build<F: Folder, O: Sink, E: Sink, L: Ledger>(
+pub(crate) fn build<M: Maker, F: Folder, O: Sink, E: Sink, L: Ledger>(
     alloc: Global,
+    maker: &mut M,
+    request: &Request,
     folder: &mut F,
     out: &mut O,
     err: &mut E,
-    steps: u32,
     live: &mut Steps<L>,
 ) -> Result<Ended, Stop>
-    requires { 0 < steps }
-    ensures folder { Leaves steps (F.told folder.old) (F.told folder.new) (outcome_of result) }
-    ensures output { Gains steps output_of (F.told folder.old) (O.so_far out.old) (O.so_far out.new) (outcome_of result) }
-    ensures errors { Gains steps error_text_of (F.told folder.old) (E.so_far err.old) (E.so_far err.new) (outcome_of result) }
+    requires { 0 < turns request.now }
+    ensures folder { Leaves M.first request.now (F.told folder.old) (F.told folder.new) (record { writes = F.write_faults folder.old; memory = F.memory_failures folder.old }) (record { writes = F.write_faults folder.new; memory = F.memory_failures folder.new }) (outcome_of result) }
+    ensures status { IfOk result (λ e. HasStatus M.first request.now (F.told folder.old) e.status) }
+    ensures tally { IfOk result (λ e. Tallies M.first request.now (F.told folder.old) (F.told folder.new) live.old live.new e.launched (length e.ran)) }
+    ensures output { Gains M.first request.now output_of (F.told folder.old) (O.so_far out.old) (O.so_far out.new) (outcome_of result) }
+    ensures errors { Gains M.first request.now error_text_of (F.told folder.old) (E.so_far err.old) (E.so_far err.new) (outcome_of result) }
+    ensures error_counts { ErrorsCounted (record { so_far = E.so_far err.old; faults = E.faults err.old; memory = E.memory_failures err.old }) (record { so_far = E.so_far err.new; faults = E.faults err.new; memory = E.memory_failures err.new }) (outcome_of result) }
     ensures counts { Counted (record { reads = F.read_faults folder.old; writes = F.write_faults folder.old; puts = O.faults out.old; error_puts = E.faults err.old })
         (record { reads = F.read_faults folder.new; writes = F.write_faults folder.new; puts = O.faults out.new; error_puts = E.faults err.new }) (outcome_of result) }
-    ensures live { Ticked steps (F.told folder.old) live.old live.new (outcome_of result) }
+    ensures steady { F.steady folder.old ≡ true → O.steady out.old ≡ true → E.steady err.old ≡ true → (E.steady err.new ≡ true) × IsNoFault result }
+    ensures live { Ticked request.now live.old live.new (outcome_of result) }
+    ensures starts { StartsSo (λ e. length e.ran) (M.starts maker.old) (M.starts maker.new) result }
 {
-    let Prepared { finished, plan } = prepare(alloc, folder, steps, live)?;
+    let Prepared { finished, plan } = prepare(alloc, maker, request, folder, live)?;
     put_texts(out, err, finished.world.out(), finished.world.err())?;
     carry_out(alloc, folder, &plan)?;
     let launched = finished.table.len() as u64;

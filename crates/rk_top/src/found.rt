@@ -1,7 +1,7 @@
 // What a build finds in a folder.
-ghost use Rattle.std.specs.Prelude.{◌≡◌, IfOk};
+ghost use Rattle.std.specs.Prelude.{◌≡◌, IfOk, OnOk};
 ghost use Rattle.rk_tree.specs.Entries.{IsWholeSnapshot};
-ghost use Rattle.rk_top.specs.Stages.{FindsSo, ReadsCounted};
+ghost use Rattle.rk_top.specs.Stages.{FindsSo, ReadsCounted, Steadily};
 
 use crate::kept::{KeptState, kept};
 use crate::look::look;
@@ -25,6 +25,8 @@ pub(crate) fn find<F: Folder>(alloc: Global, folder: &mut F) -> Result<Found, St
     ensures held { F.told folder.new ≡ F.told folder.old }
     ensures writes { F.write_faults folder.new ≡ F.write_faults folder.old }
     ensures reads { ReadsCounted (F.read_faults folder.old) (F.read_faults folder.new) result }
+    ensures memory { OnOk result (F.memory_failures folder.new ≡ F.memory_failures folder.old) }
+    ensures steady { Steadily (F.steady folder.old) (F.steady folder.new) result }
     ensures finds { FindsSo (F.told folder.old) result }
     ensures whole { IfOk result (λ found. IsWholeSnapshot found.holding.entries) }
 {

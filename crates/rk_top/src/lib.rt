@@ -19,8 +19,8 @@ mod texts;
 mod top;
 
 pub use exits::exit_code;
-pub use laws::{refused_settle, spoken_settle, tree_kept};
+pub use laws::{finds_next, fresh_spoken, refused_settle, spoken_settle, stays_well};
 pub use outcome::{Outcome, StateFile};
 pub use rk_words::{Request, RequestErr, request};
-pub use top::rkr;
+pub use top::{build_in, rkr};
 pub use tr_codec::Damage;

@@ -1,5 +1,5 @@
 // The lines that tell outcomes.
-ghost use Rattle.std.specs.Prelude.{◌≡◌, IfOk};
+ghost use Rattle.std.specs.Prelude.{◌≡◌, IfOk, true};
 ghost use Rattle.rk_top.specs.Lines.{damage_text, damaged_line, digests, fixed_line, forged_line, name_of, special_line};
 ghost use Rattle.rk_top.specs.Telling.{PutsLine, Tells};
 
@@ -91,19 +91,19 @@ fn fixed_line(outcome: &Outcome) -> &'static [u8]
     }
 }
 
-// Puts a line, where there is one. Its failure changes nothing.
+// Puts a line. Its failure changes nothing.
 fn put_line<E: Sink>(err: &mut E, line: &[u8])
-    ensures { PutsLine line.now (E.so_far err.old) (E.so_far err.new) (E.faults err.old) (E.faults err.new) }
+    ensures puts { PutsLine line.now (record { so_far = E.so_far err.old; faults = E.faults err.old; memory = E.memory_failures err.old }) (record { so_far = E.so_far err.new; faults = E.faults err.new; memory = E.memory_failures err.new }) }
+    ensures steady { E.steady err.old ≡ true → E.faults err.new ≡ E.faults err.old }
 {
-    if !line.is_empty() {
-        let _ = err.put(line);
-    }
+    let _ = err.put(line);
 }
 
 /// Puts the outcome's line. Where there is no memory for a line that names something, the outcome is want of
 /// memory.
 pub(crate) fn tell<E: Sink>(alloc: Global, err: &mut E, outcome: Outcome) -> Outcome
-    ensures { Tells outcome result (E.so_far err.old) (E.so_far err.new) (E.faults err.old) (E.faults err.new) }
+    ensures tells { Tells outcome result (record { so_far = E.so_far err.old; faults = E.faults err.old; memory = E.memory_failures err.old }) (record { so_far = E.so_far err.new; faults = E.faults err.new; memory = E.memory_failures err.new }) }
+    ensures steady { E.steady err.old ≡ true → E.faults err.new ≡ E.faults err.old }
 {
     match outcome {
         Outcome::Special(path) => match special_line(alloc, &path) {

@@ -1,7 +1,7 @@
 // What the folder holds.
-ghost use Rattle.std.specs.Prelude.{◌≡◌, IfOk, IfErr};
+ghost use Rattle.std.specs.Prelude.{◌≡◌, IfOk, OnOk};
 ghost use Rattle.rk_tree.specs.Entries.{IsWholeSnapshot};
-ghost use Rattle.rk_top.specs.Stages.{LooksSo, ReadsCounted, stop_of};
+ghost use Rattle.rk_top.specs.Stages.{LooksSo, ReadsCounted, Steadily, stop_of};
 
 use crate::stop::{Refusal, Stop};
 use rk_folder::{Folder, Hidden, ImportErr, Imported, import};
@@ -23,6 +23,8 @@ pub(crate) fn look<F: Folder>(alloc: Global, folder: &mut F) -> Result<Holding, 
     ensures held { F.told folder.new ≡ F.told folder.old }
     ensures writes { F.write_faults folder.new ≡ F.write_faults folder.old }
     ensures reads { ReadsCounted (F.read_faults folder.old) (F.read_faults folder.new) result }
+    ensures memory { OnOk result (F.memory_failures folder.new ≡ F.memory_failures folder.old) }
+    ensures steady { Steadily (F.steady folder.old) (F.steady folder.new) result }
     ensures look { LooksSo (F.told folder.old) result }
     ensures whole { IfOk result (λ holding. IsWholeSnapshot holding.entries) }
 {

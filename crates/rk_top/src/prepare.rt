@@ -1,21 +1,27 @@
 // What is to be done once the script has run.
-ghost use Rattle.std.specs.Prelude.{◌≡◌, ◌<◌, IfOk};
+ghost use Rattle.std.specs.Prelude.{◌≡◌, ◌<◌, ◌^◌, IfOk, OnOk, length};
 ghost use Rattle.rk_tree.specs.Entries.{IsWholeSnapshot};
 ghost use Rattle.rk_install.specs.Attributes.{attrs_of};
 ghost use Rattle.rk_install.specs.Holdings.{IsBuilt};
-ghost use Rattle.rk_top.specs.Stages.{PreparesSo, ReadsCounted};
-ghost use Rattle.rk_top.specs.Fresh.{attrs_bytes, held_after};
+ghost use Rattle.tr_codec.specs.Spelling.{db_spelling};
+ghost use Rattle.rk_words.specs.Asked.{turns};
+ghost use Rattle.rk_top.specs.Run.{StartsSo};
+ghost use Rattle.rk_top.specs.Stages.{PreparesSo, ReadsCounted, Steadily};
+ghost use Rattle.rk_top.specs.Fresh.{IsInMemory, attrs_bytes, held_after};
 
 use crate::found::{Found, find};
 use crate::run::{Finished, run};
 use crate::stop::Stop;
 use rk_base::{Bytes, NoMemory, Steps};
+use rk_calls::Maker;
 use rk_folder::{Folder, State};
 use rk_install::{Holding, Plan, attrs_of, plan};
 use rk_tree::Snapshot;
+use rk_words::Request;
 use std::alloc::Global;
 use std::sync::ledger::Ledger;
 use tr_codec::{write_attrs, write_db};
+use tr_record::Table;
 
 /// A run that ended, and the calls that lead the folder to what it leaves.
 #[derive(Drop)]
@@ -27,26 +33,39 @@ pub(crate) struct Prepared {
 // attrs as it is to stand beside these entries; nothing where they have no rows.
 fn attrs_bytes(alloc: Global, entries: &Snapshot) -> Result<Option<Bytes>, NoMemory>
     requires { IsWholeSnapshot entries.now }
-    ensures { IfOk result (λ bytes. bytes ≡ attrs_bytes (attrs_of entries.now)) }
+    ensures bytes { IfOk result (λ bytes. bytes ≡ attrs_bytes (attrs_of entries.now)) }
+    ensures memory { IfOk result IsInMemory }
 {
     let attrs = attrs_of(alloc, entries)?;
     match attrs.as_slice() {
         [] => Ok(None),
         [_, ..] => {
             let bytes = write_attrs(alloc, &attrs)?;
+            let _length = bytes.len();
             Ok(Some(bytes))
         }
     }
+}
+
+// The database of these records.
+fn db_bytes(alloc: Global, table: &Table) -> Result<Bytes, NoMemory>
+    ensures bytes { IfOk result (λ bytes. bytes ≡ db_spelling table.now) }
+    ensures memory { IfOk result (λ bytes. length bytes < 2 ^ 64) }
+{
+    let bytes = write_db(alloc, table)?;
+    let _length = bytes.len();
+    Ok(bytes)
 }
 
 // What the folder is to hold after the run.
 fn held_after(alloc: Global, finished: &Finished) -> Result<Holding, NoMemory>
     ensures holding { IfOk result (λ holding. holding ≡ held_after finished.now.world finished.now.table) }
     ensures built { IfOk result IsBuilt }
+    ensures memory { IfOk result (λ holding. IsInMemory holding.state.attrs × IsInMemory holding.state.db) }
 {
     let entries = finished.world.snapshot()?;
     let attrs = attrs_bytes(alloc, &entries)?;
-    let db = write_db(alloc, &finished.table)?;
+    let db = db_bytes(alloc, &finished.table)?;
     Ok(Holding {
         entries,
         rkr: true,
@@ -57,25 +76,30 @@ fn held_after(alloc: Global, finished: &Finished) -> Result<Holding, NoMemory>
     })
 }
 
-/// Looks at the folder, reads its state files, runs the script on what it holds, where no record answers for it, and plans what leads to what the run leaves.
-pub(crate) fn prepare<F: Folder, L: Ledger>(
+/// Looks at the folder, reads its state files, runs the script on what it holds, where no record answers for it, and
+/// plans what leads to what the run leaves.
+pub(crate) fn prepare<M: Maker, F: Folder, L: Ledger>(
     alloc: Global,
+    maker: &mut M,
+    request: &Request,
     folder: &mut F,
-    steps: u32,
     live: &mut Steps<L>,
 ) -> Result<Prepared, Stop>
-    requires { 0 < steps }
+    requires { 0 < turns request.now }
     ensures held { F.told folder.new ≡ F.told folder.old }
     ensures writes { F.write_faults folder.new ≡ F.write_faults folder.old }
     ensures reads { ReadsCounted (F.read_faults folder.old) (F.read_faults folder.new) result }
-    ensures prepares { PreparesSo steps (F.told folder.old) live.old live.new result }
+    ensures memory { OnOk result (F.memory_failures folder.new ≡ F.memory_failures folder.old) }
+    ensures steady { Steadily (F.steady folder.old) (F.steady folder.new) result }
+    ensures prepares { PreparesSo M.first request.now (F.told folder.old) live.old live.new result }
+    ensures starts { StartsSo (λ p. length p.finished.ran) (M.starts maker.old) (M.starts maker.new) result }
 {
     let Found {
         holding: before,
         attrs,
         old,
     } = find(alloc, folder)?;
-    let finished = run(alloc, &before.entries, &attrs, &old, steps, live)?;
+    let finished = run(alloc, maker, request, &before.entries, &attrs, &old, live)?;
     let after = held_after(alloc, &finished)?;
     let plan = plan(alloc, &before, &after)?;
     Ok(Prepared { finished, plan })

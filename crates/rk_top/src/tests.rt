@@ -327,7 +327,8 @@ fn refuses_words<L: Ledger>(alloc: Global, words: &[&str], blank: Blank) -> Resu
     let outcome = call::<L>(alloc, words, &mut folder, &mut out, &mut err, blank)?;
     Ok(
         matches!(outcome, Outcome::Usage)
-            && err.bytes().starts_with(b"usage: rkr ")
+            && err.bytes()
+                == b"usage: rkr build [--steps N] [--explain] [--fresh] [--check] | check | trace [--json] | forget | gen SEED\n".as_slice()
             && folder.calls() == 0,
     )
 }
@@ -344,32 +345,35 @@ fn refuses_wrong_words(rt: HostRuntime) -> Result<(), Fail> {
     Ok(())
 }
 
-// What a call of these words comes to where nothing was built yet.
-fn first_outcome(alloc: Global, words: &[&str]) -> Result<Outcome, Fail> {
+// What a call of these words comes to where nothing was built yet, with its error text.
+fn first_outcome(alloc: Global, words: &[&str]) -> Result<(Outcome, MemSink), Fail> {
     let mut folder = folder_of(alloc, b"cat a b > out\n")?;
     let mut out = MemSink::new(alloc);
     let mut err = MemSink::new(alloc);
-    call::<Brand>(alloc, words, &mut folder, &mut out, &mut err, Blank::new(1))
+    let outcome = call::<Brand>(alloc, words, &mut folder, &mut out, &mut err, Blank::new(1))?;
+    Ok((outcome, err))
 }
 
 #[test]
 fn ends_within_its_turns(rt: HostRuntime) -> Result<(), Fail> {
-    let outcome = first_outcome(rt.alloc(), &["rkr", "build", "--steps", "17"])?;
+    let (outcome, err) = first_outcome(rt.alloc(), &["rkr", "build", "--steps", "17"])?;
     assert!(rt; matches!(outcome, Outcome::Ended { status: 0, .. }));
+    assert!(rt; err.bytes().is_empty());
     Ok(())
 }
 
 #[test]
 fn is_spent_a_turn_before(rt: HostRuntime) -> Result<(), Fail> {
-    let outcome = first_outcome(rt.alloc(), &["rkr", "build", "--steps", "16"])?;
+    let (outcome, err) = first_outcome(rt.alloc(), &["rkr", "build", "--steps", "16"])?;
     assert!(rt; matches!(outcome, Outcome::Spent));
+    assert_eq!(rt; err.bytes(), b"rkr: budget spent\n".as_slice());
     assert_eq!(rt; exit_code(&outcome), 243);
     Ok(())
 }
 
 #[test]
 fn refuses_a_build_within_no_turns(rt: HostRuntime) -> Result<(), Fail> {
-    let outcome = first_outcome(rt.alloc(), &["rkr", "build", "--steps", "0"])?;
+    let (outcome, _err) = first_outcome(rt.alloc(), &["rkr", "build", "--steps", "0"])?;
     assert!(rt; matches!(outcome, Outcome::Usage));
     assert_eq!(rt; exit_code(&outcome), 241);
     Ok(())
@@ -431,6 +435,7 @@ fn installs_nothing_after_a_failed_put(rt: HostRuntime) -> Result<(), Fail> {
     let outcome = build(alloc, &mut folder, &mut out, &mut err)?;
     assert!(rt; matches!(outcome, Outcome::WriteFault));
     assert_eq!(rt; out.bytes(), b"1".as_slice());
+    assert_eq!(rt; err.bytes(), b"rkr: write fault\n".as_slice());
     assert_eq!(rt; folder.changes().len(), 0);
     Ok(())
 }

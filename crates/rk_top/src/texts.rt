@@ -1,6 +1,6 @@
 // The output and the error text, put out.
-ghost use Rattle.std.specs.Prelude.{◌≡◌};
-ghost use Rattle.rk_top.specs.Texts.{PutSo, Counted, BothCounted};
+ghost use Rattle.std.specs.Prelude.{◌≡◌, true};
+ghost use Rattle.rk_top.specs.Texts.{PutSo, Counted, MemoryCounted, BothCounted, IsNoFault};
 
 use crate::stop::Stop;
 use rk_folder::{Sink, SinkErr};
@@ -9,6 +9,9 @@ use rk_folder::{Sink, SinkErr};
 fn put<S: Sink>(sink: &mut S, text: &[u8]) -> Result<(), Stop>
     ensures put { PutSo text.now (S.so_far sink.old) (S.so_far sink.new) result }
     ensures count { Counted (S.faults sink.old) (S.faults sink.new) result }
+    ensures memory { MemoryCounted (S.memory_failures sink.old) (S.memory_failures sink.new) result }
+    ensures steady { S.steady sink.new ≡ S.steady sink.old }
+    ensures no_fault { S.steady sink.old ≡ true → IsNoFault result }
 {
     if text.is_empty() {
         return Ok(());
@@ -29,6 +32,9 @@ pub(crate) fn put_texts<O: Sink, E: Sink>(
 ) -> Result<(), Stop>
     ensures output { PutSo output.now (O.so_far out.old) (O.so_far out.new) result }
     ensures errors { PutSo error_text.now (E.so_far err.old) (E.so_far err.new) result }
+    ensures memory { MemoryCounted (E.memory_failures err.old) (E.memory_failures err.new) result }
+    ensures steady { E.steady err.new ≡ E.steady err.old }
+    ensures no_fault { O.steady out.old ≡ true → E.steady err.old ≡ true → IsNoFault result }
     ensures counts { BothCounted (O.faults out.old) (O.faults out.new) (E.faults err.old) (E.faults err.new) result }
 {
     put(out, output)?;

@@ -1,23 +1,26 @@
-// The top call.
-ghost use Rattle.std.specs.Prelude.{◌≡◌, ◌⊎◌, map, string_bytes, is_some, IfSome, Some, None, true};
+// The top call, and the inner call that it makes for a build.
+ghost use Rattle.std.specs.Prelude.{◌≡◌, ◌≢◌, ◌⊎◌, ◌<◌, map, string_bytes, IfSome, Some, None, true};
+ghost use Rattle.rk_command.specs.First.{first_talk};
 ghost use Rattle.rk_folder.specs.Counts.{Rose, Still};
 ghost use Rattle.rk_folder.specs.Told.{Held};
 ghost use Rattle.rk_folder.specs.Specials.{first_special};
-ghost use Rattle.rk_top.specs.Lines.{line_of};
-ghost use Rattle.rk_top.specs.Outcomes.{outcome_of, outcome_of_stop, outcome_of_refusal, Leaves, Gains, GainsLine, Counted, Ticked, Faults, IfSpecial, IfDamaged, IfForged, Settles};
-ghost use Rattle.rk_top.specs.Fresh.{fresh_in, output_of, error_text_of};
 ghost use Rattle.rk_runs.specs.Run.{Spent};
+ghost use Rattle.rk_runs.specs.Spoken.{AreSpoken};
+ghost use Rattle.rk_top.specs.Asks.{Asks};
+ghost use Rattle.rk_top.specs.Outcomes.{outcome_of, outcome_of_stop, outcome_of_refusal, Leaves, HasStatus, Tallies, Gains, GainsLine, ErrorsCounted, Counted, Ticked, Started, Faults, IfEnded, IfSpecial, IfDamaged, IfForged, IsNoFault, NoneRose, Settles};
+ghost use Rattle.rk_top.specs.Fresh.{output_of, error_text_of};
 ghost use Rattle.rk_top.specs.Kept.{state_in, IsDamaged, Keeping};
-ghost use Rattle.rk_top.specs.Run.{IsForged, IsSpokenTable};
-ghost use Rattle.rk_top.specs.Texts.{Front};
-ghost use Rattle.rk_top.specs.Turns.{turns, turns_of};
-ghost use Rattle.rk_words.specs.Asked.{request_of};
+ghost use Rattle.rk_top.specs.Run.{IsForged, fresh_run};
+ghost use Rattle.rk_top.specs.Telling.{SinkState, Put};
+ghost use Rattle.rk_words.specs.Asked.{request_of, turns};
 
 use crate::Outcome;
 use crate::build::{Ended, build};
 use crate::lines::tell;
 use crate::stop::{Refusal, Stop};
 use rk_base::Steps;
+use rk_calls::Maker;
+use rk_command::Commands;
 use rk_folder::{Folder, Sink};
 use rk_words::{Request, RequestErr, request};
 use std::alloc::Global;
@@ -58,18 +61,60 @@ fn outcome_of(built: Result<Ended, Stop>) -> Outcome
         ) => Outcome::Ended {
             status,
             launched,
-            ran,
+            ran: ran.len() as u64,
         },
         Err(stop) => outcome_of_stop(stop),
     }
 }
 
-fn turns(request: Request) -> u32
-    ensures { result ≡ turns request }
+/// A build, by the machines of any maker: everything but reading the words and telling the outcome. It answers `Ended`,
+/// `Special`, `Damaged`, `Forged`, `Spent`, `ReadFault`, `WriteFault` or `NoMemory`. `live` counts the turns that commands
+/// which ran have paid.
+pub fn build_in<M: Maker, F: Folder, O: Sink, E: Sink, L: Ledger>(
+    alloc: Global,
+    maker: &mut M,
+    request: &Request,
+    folder: &mut F,
+    out: &mut O,
+    err: &mut E,
+    live: &mut Steps<L>,
+) -> Outcome
+    requires { 0 < turns request.now }
+
+    // What the folder holds afterwards: over an end, and records that are spoken, what the fresh run on the present tree
+    // leaves. After a failure it is as before, or the folder's own count of such failures rose.
+    ensures folder { Leaves M.first request.now (F.told folder.old) (F.told folder.new) (record { writes = F.write_faults folder.old; memory = F.memory_failures folder.old }) (record { writes = F.write_faults folder.new; memory = F.memory_failures folder.new }) result }
+
+    // The status is the fresh run's. Whatever the records: how many were left, how many of their commands ran over those that
+    // were kept, and what these paid; and a machine was started for each of them.
+    ensures status { IfEnded result (λ status launched ran. HasStatus M.first request.now (F.told folder.old) status) }
+    ensures tally { IfEnded result (λ status launched ran. Tallies M.first request.now (F.told folder.old) (F.told folder.new) live.old live.new launched ran) }
+    ensures starts { Started (M.starts maker.old) (M.starts maker.new) result }
+    ensures live { Ticked request.now live.old live.new result }
+
+    // What was put: the run's output and error text.
+    ensures output { Gains M.first request.now output_of (F.told folder.old) (O.so_far out.old) (O.so_far out.new) result }
+    ensures errors { Gains M.first request.now error_text_of (F.told folder.old) (E.so_far err.old) (E.so_far err.new) result }
+    ensures error_counts { ErrorsCounted (record { so_far = E.so_far err.old; faults = E.faults err.old; memory = E.memory_failures err.old }) (record { so_far = E.so_far err.new; faults = E.faults err.new; memory = E.memory_failures err.new }) result }
+
+    // Each refusal only for its cause.
+    ensures asked { result ≢ Outcome.Usage }
+    ensures special { IfSpecial result (λ path. IfSome (F.told folder.old) (λ held. first_special held ≡ Some path)) }
+    ensures damaged { IfDamaged result (λ file damage. IfSome (F.told folder.old) (λ held. (first_special held ≡ None) × IsDamaged (state_in held) file damage)) }
+    ensures forged { IfForged result (λ rec step. IfSome (F.told folder.old) (λ held. Keeping held (λ entries old. IsForged M.first old rec step))) }
+    ensures spent { result ≡ Outcome.Spent → IfSome (F.told folder.old) (λ held. Keeping held (λ entries old. AreSpoken M.first old × (fresh_run M.first request.now entries ≡ Spent))) }
+
+    // A fault is told only where a count for it rose in this call, and none over what is steady.
+    ensures counts { Counted (record { reads = F.read_faults folder.old; writes = F.write_faults folder.old; puts = O.faults out.old; error_puts = E.faults err.old })
+        (record { reads = F.read_faults folder.new; writes = F.write_faults folder.new; puts = O.faults out.new; error_puts = E.faults err.new }) result }
+    ensures steady { F.steady folder.old ≡ true → O.steady out.old ≡ true → E.steady err.old ≡ true → (E.steady err.new ≡ true) × IsNoFault result }
+
+    // With no count that rose, the outcome is one that what the folder holds calls for.
+    ensures complete { (held : Held) → F.told folder.old ≡ Some held
+        → Still (F.read_faults folder.old) (F.read_faults folder.new) → Still (F.write_faults folder.old) (F.write_faults folder.new) → Still (O.faults out.old) (O.faults out.new) → Still (E.faults err.old) (E.faults err.new)
+        → Settles M.first request.now held result }
 {
-    match request {
-        Request::Build { steps } => steps,
-    }
+    outcome_of(build(alloc, maker, request, folder, out, err, live))
 }
 
 // Does what the words ask for.
@@ -84,17 +129,28 @@ fn work<F: Folder, O: Sink, E: Sink, L: Ledger>(
     ensures usage { result ≡ Outcome.Usage → request_of (map string_bytes words.now) ≡ None }
     ensures refused { request_of (map string_bytes words.now) ≡ None → (result ≡ Outcome.Usage) ⊎ (result ≡ Outcome.NoMemory) }
     ensures untouched { request_of (map string_bytes words.now) ≡ None → (F.told folder.new ≡ F.told folder.old) × (O.so_far out.new ≡ O.so_far out.old) × (E.so_far err.new ≡ E.so_far err.old) × (live.new ≡ live.old) }
-    ensures folder { Leaves (turns_of (map string_bytes words.now)) (F.told folder.old) (F.told folder.new) result }
-    ensures output { Gains (turns_of (map string_bytes words.now)) output_of (F.told folder.old) (O.so_far out.old) (O.so_far out.new) result }
-    ensures errors { Gains (turns_of (map string_bytes words.now)) error_text_of (F.told folder.old) (E.so_far err.old) (E.so_far err.new) result }
+    ensures folder { Asks (map string_bytes words.now) (λ request. Leaves first_talk request (F.told folder.old) (F.told folder.new) (record { writes = F.write_faults folder.old; memory = F.memory_failures folder.old }) (record { writes = F.write_faults folder.new; memory = F.memory_failures folder.new }) result) }
+    ensures status { IfEnded result (λ status launched ran. Asks (map string_bytes words.now) (λ request. HasStatus first_talk request (F.told folder.old) status)) }
+    ensures tally { IfEnded result (λ status launched ran. Asks (map string_bytes words.now) (λ request. Tallies first_talk request (F.told folder.old) (F.told folder.new) live.old live.new launched ran)) }
+    ensures live { Asks (map string_bytes words.now) (λ request. Ticked request live.old live.new result) }
+    ensures output { Asks (map string_bytes words.now) (λ request. Gains first_talk request output_of (F.told folder.old) (O.so_far out.old) (O.so_far out.new) result) }
+    ensures errors { Asks (map string_bytes words.now) (λ request. Gains first_talk request error_text_of (F.told folder.old) (E.so_far err.old) (E.so_far err.new) result) }
+    ensures error_counts { ErrorsCounted (record { so_far = E.so_far err.old; faults = E.faults err.old; memory = E.memory_failures err.old }) (record { so_far = E.so_far err.new; faults = E.faults err.new; memory = E.memory_failures err.new }) result }
+    ensures special { IfSpecial result (λ path. IfSome (F.told folder.old) (λ held. first_special held ≡ Some path)) }
+    ensures damaged { IfDamaged result (λ file damage. IfSome (F.told folder.old) (λ held. (first_special held ≡ None) × IsDamaged (state_in held) file damage)) }
+    ensures forged { IfForged result (λ rec step. IfSome (F.told folder.old) (λ held. Keeping held (λ entries old. IsForged first_talk old rec step))) }
+    ensures spent { result ≡ Outcome.Spent → Asks (map string_bytes words.now) (λ request. IfSome (F.told folder.old) (λ held. Keeping held (λ entries old. AreSpoken first_talk old × (fresh_run first_talk request entries ≡ Spent)))) }
     ensures counts { Counted (record { reads = F.read_faults folder.old; writes = F.write_faults folder.old; puts = O.faults out.old; error_puts = E.faults err.old })
         (record { reads = F.read_faults folder.new; writes = F.write_faults folder.new; puts = O.faults out.new; error_puts = E.faults err.new }) result }
-    ensures live { Ticked (turns_of (map string_bytes words.now)) (F.told folder.old) live.old live.new result }
+    ensures steady { F.steady folder.old ≡ true → O.steady out.old ≡ true → E.steady err.old ≡ true → (E.steady err.new ≡ true) × IsNoFault result }
+    ensures complete { Asks (map string_bytes words.now) (λ request. (held : Held) → F.told folder.old ≡ Some held
+        → Still (F.read_faults folder.old) (F.read_faults folder.new) → Still (F.write_faults folder.old) (F.write_faults folder.new) → Still (O.faults out.old) (O.faults out.new) → Still (E.faults err.old) (E.faults err.new)
+        → Settles first_talk request held result) }
 {
     match request(alloc, words) {
         Ok(asked) => {
-            let steps = turns(asked);
-            outcome_of(build(alloc, folder, out, err, steps, live))
+            let mut maker = Commands::new(alloc);
+            build_in(alloc, &mut maker, &asked, folder, out, err, live)
         }
         Err(RequestErr::Usage) => Outcome::Usage,
         Err(RequestErr::NoMemory) => Outcome::NoMemory,
@@ -115,37 +171,44 @@ pub fn rkr<F: Folder, O: Sink, E: Sink, L: Ledger>(
     // Usage exactly where the words are no request, unless there is no memory to read them; then nothing is touched.
     ensures usage { result ≡ Outcome.Usage → request_of (map string_bytes words.now) ≡ None }
     ensures refused { request_of (map string_bytes words.now) ≡ None → (result ≡ Outcome.Usage) ⊎ (result ≡ Outcome.NoMemory) }
-    ensures untouched { request_of (map string_bytes words.now) ≡ None → (F.told folder.new ≡ F.told folder.old) × (O.so_far out.new ≡ O.so_far out.old) × Front (line_of result) (E.so_far err.old) (E.so_far err.new) × (live.new ≡ live.old) }
+    ensures untouched { request_of (map string_bytes words.now) ≡ None → (F.told folder.new ≡ F.told folder.old) × (O.so_far out.new ≡ O.so_far out.old) × (live.new ≡ live.old) }
+    ensures unasked { request_of (map string_bytes words.now) ≡ None → (worked : SinkState) × (worked.so_far ≡ E.so_far err.old) × ErrorsCounted (record { so_far = E.so_far err.old; faults = E.faults err.old; memory = E.memory_failures err.old }) worked result × Put result worked (record { so_far = E.so_far err.new; faults = E.faults err.new; memory = E.memory_failures err.new }) }
 
     // What the folder holds afterwards: over an end, and records that are spoken, what the fresh run on the present tree
-    // leaves, with its status and its records; the commands that ran are those whose steps weren't recorded.
-    ensures folder { Leaves (turns_of (map string_bytes words.now)) (F.told folder.old) (F.told folder.new) result }
+    // leaves, and what the next build begins with. After a failure it is as before, or the folder's own count of such
+    // failures rose.
+    ensures folder { Asks (map string_bytes words.now) (λ request. Leaves first_talk request (F.told folder.old) (F.told folder.new) (record { writes = F.write_faults folder.old; memory = F.memory_failures folder.old }) (record { writes = F.write_faults folder.new; memory = F.memory_failures folder.new }) result) }
 
-    // What was put: the run's output and error text, and then the outcome's own line.
-    ensures output { Gains (turns_of (map string_bytes words.now)) output_of (F.told folder.old) (O.so_far out.old) (O.so_far out.new) result }
-    ensures errors { GainsLine (turns_of (map string_bytes words.now)) (F.told folder.old) (E.so_far err.old) (E.so_far err.new) result }
+    // The status is the fresh run's. Whatever the records: how many were left, how many of their commands ran over those that
+    // were kept, and the turns that these paid.
+    ensures status { IfEnded result (λ status launched ran. Asks (map string_bytes words.now) (λ request. HasStatus first_talk request (F.told folder.old) status)) }
+    ensures tally { IfEnded result (λ status launched ran. Asks (map string_bytes words.now) (λ request. Tallies first_talk request (F.told folder.old) (F.told folder.new) live.old live.new launched ran)) }
+    ensures live { Asks (map string_bytes words.now) (λ request. Ticked request live.old live.new result) }
+
+    // What was put: the run's output and error text, and then the outcome's own line, whole unless that put failed or had no
+    // memory.
+    ensures output { Asks (map string_bytes words.now) (λ request. Gains first_talk request output_of (F.told folder.old) (O.so_far out.old) (O.so_far out.new) result) }
+    ensures errors { Asks (map string_bytes words.now) (λ request. GainsLine first_talk request (F.told folder.old) (record { so_far = E.so_far err.old; faults = E.faults err.old; memory = E.memory_failures err.old }) (record { so_far = E.so_far err.new; faults = E.faults err.new; memory = E.memory_failures err.new }) result) }
 
     // Special only with the first special path; Damaged only with the first state file that is damaged, and its damage;
     // Forged only with a record that its command doesn't say, and the first wrong step; Spent only where each record is
     // spoken and the fresh run is spent.
     ensures special { IfSpecial result (λ path. IfSome (F.told folder.old) (λ held. first_special held ≡ Some path)) }
     ensures damaged { IfDamaged result (λ file damage. IfSome (F.told folder.old) (λ held. (first_special held ≡ None) × IsDamaged (state_in held) file damage)) }
-    ensures forged { IfForged result (λ rec step. IfSome (F.told folder.old) (λ held. Keeping held (λ old. IsForged old rec step))) }
-    ensures spent { result ≡ Outcome.Spent → IfSome (F.told folder.old) (λ held. Keeping held (λ old. IsSpokenTable old × (fresh_in (turns_of (map string_bytes words.now)) held ≡ Spent))) }
+    ensures forged { IfForged result (λ rec step. IfSome (F.told folder.old) (λ held. Keeping held (λ entries old. IsForged first_talk old rec step))) }
+    ensures spent { result ≡ Outcome.Spent → Asks (map string_bytes words.now) (λ request. IfSome (F.told folder.old) (λ held. Keeping held (λ entries old. AreSpoken first_talk old × (fresh_run first_talk request entries ≡ Spent)))) }
 
-    // A fault is told only where a count for it rose in this call.
+    // A fault is told only where a count for it rose in this call, and none over a folder and sinks that are steady.
     ensures read_fault { result ≡ Outcome.ReadFault → Rose (F.read_faults folder.old) (F.read_faults folder.new) }
     ensures write_fault { result ≡ Outcome.WriteFault → Rose (F.write_faults folder.old) (F.write_faults folder.new) ⊎ Rose (O.faults out.old) (O.faults out.new) ⊎ Rose (E.faults err.old) (E.faults err.new) }
     ensures faults { Faults (record { reads = F.read_faults folder.old; writes = F.write_faults folder.old; puts = O.faults out.old; error_puts = E.faults err.old })
         (record { reads = F.read_faults folder.new; writes = F.write_faults folder.new; puts = O.faults out.new; error_puts = E.faults err.new }) result }
-
-    // The turns that the commands paid which ran.
-    ensures live { Ticked (turns_of (map string_bytes words.now)) (F.told folder.old) live.old live.new result }
+    ensures steady { F.steady folder.old ≡ true → O.steady out.old ≡ true → E.steady err.old ≡ true → IsNoFault result × NoneRose (record { reads = F.read_faults folder.old; writes = F.write_faults folder.old; puts = O.faults out.old; error_puts = E.faults err.old }) (record { reads = F.read_faults folder.new; writes = F.write_faults folder.new; puts = O.faults out.new; error_puts = E.faults err.new }) }
 
     // With a request and no count that rose, the outcome is the one that what the folder holds calls for.
-    ensures complete { (held : Held) → F.told folder.old ≡ Some held → is_some (request_of (map string_bytes words.now)) ≡ true
+    ensures complete { Asks (map string_bytes words.now) (λ request. (held : Held) → F.told folder.old ≡ Some held
         → Still (F.read_faults folder.old) (F.read_faults folder.new) → Still (F.write_faults folder.old) (F.write_faults folder.new) → Still (O.faults out.old) (O.faults out.new) → Still (E.faults err.old) (E.faults err.new)
-        → Settles (turns_of (map string_bytes words.now)) held result }
+        → Settles first_talk request held result) }
 {
     let outcome = work(alloc, words, folder, out, err, live);
     tell(alloc, err, outcome)

@@ -1,14 +1,15 @@
 -- A request of a build has at least one turn.
-use Rattle.std.proofs.Common.{◌≡◌, ℕ, ◌<◌, ◌≤◌, List, [], ◌∷◌, Bool, true, false, Option, Some, None, arith, refl, subst, codes, option_map, if◌then◌else◌}
+use Rattle.std.proofs.Common.{◌≡◌, ℕ, ◌<◌, ◌≤◌, List, [], ◌∷◌, Bool, true, false, Option, Some, None, arith, refl, subst, codes, option_map, if◌then◌else◌, Result, Ok, Err, IfOk}
 use Rattle.std.specs.Prelude.{option_and_then}
 use Rattle.std.specs.Str.{bytes_eq}
 use Rattle.std.proofs.lemmas.Bool.Decides.{nat_tests}
 use Rattle.std.specs.Str.Parse.{digits_value}
 use Rattle.clap.specs.Words.{Kinds, Row, Text, first_of, fault_of, subcommand_of}
 use Rattle.rk_words.specs.CommandLine.{command_line}
-use Rattle.rk_words.specs.Asked.{steps_of, build_request, request_by, if_no_fault, request_of}
+use Rattle.rk_words.specs.Asked.{steps_of, build_request, request_by, if_no_fault, request_of, turns}
 use Rattle.rk_words.specs.Decimal.{is_decimal, is_within, number_of}
 use Rattle.rk_words.specs.declared.requests.Request.{Request}
+use Rattle.rk_words.specs.declared.requests.RequestErr.{RequestErr}
 use Rattle.rk_words.specs.declared.requests.Request.TheVariants.{Build}
 
 some-is : (a b : ℕ) → Some a ≡ Some b → a ≡ b
@@ -46,6 +47,10 @@ has_turns : (words : List Text) → HasTurns (request_of words)
 unfolding request_of
 has_turns words = unless_fault (fault_of command_line words) _ (found (subcommand_of command_line words))
 
--- so has the budget that the words ask for
-pub some_turns : (words : List Text) (n : ℕ) → request_of words ≡ Some (Build n) → 0 < n
-some_turns words n e = subst HasTurns e (has_turns words)
+-- so has the request that words are
+pub some_turns : (words : List Text) (r : Request) → request_of words ≡ Some r → 0 < turns r
+some_turns words (Build n) e = subst HasTurns e (has_turns words)
+
+pub some-read : (words : List Text) (result : Result Request RequestErr) → IfOk result (λ r. request_of words ≡ Some r) → IfOk result (λ r. 0 < turns r)
+some-read words (Ok r) asked = some_turns words r asked
+some-read words (Err e) asked = tt

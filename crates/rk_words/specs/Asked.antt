@@ -32,3 +32,7 @@ if_no_fault (k ∷ ks) found = None
 unfoldable pub request_of : List Text → Option Request
 request_of words =
     if_no_fault (fault_of command_line words) (option_and_then (λ p. request_by p.0 p.1) (subcommand_of command_line words))
+
+-- the turns within which a build is to end
+abbrev pub turns : Request → ℕ
+turns (request.Build steps) = steps

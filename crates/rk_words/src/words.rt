@@ -1,9 +1,9 @@
 // The request that words are.
-ghost use Rattle.std.specs.Prelude.{◌≡◌, ◌↔◌, ◌≢◌, [], map, string_bytes, IfErr, IfOk, OnOk, IsTrue, codes, option_and_then, option_map};
+ghost use Rattle.std.specs.Prelude.{◌≡◌, ◌↔◌, ◌≢◌, ◌<◌, [], map, string_bytes, IfErr, IfOk, OnOk, IsTrue, codes, option_and_then, option_map};
 ghost use Rattle.clap.specs.Words.{kind_of, fault_of, subcommand_of, subcommand_rows_of, first_of, rows_of, found_of};
 ghost use Rattle.rk_words.specs.declared.requests.RequestErr.TheVariants.{Usage};
 ghost use Rattle.rk_words.specs.CommandLine.{command_line};
-ghost use Rattle.rk_words.specs.Asked.{request_by, request_of, steps_of};
+ghost use Rattle.rk_words.specs.Asked.{request_by, request_of, steps_of, turns};
 ghost use Rattle.rk_words.specs.Forms.{ReadsForms};
 
 use crate::command_line::command_line;
@@ -80,6 +80,7 @@ fn read_request(matches: &ArgMatches<'_>) -> Option<Request>
 pub fn request(alloc: Global, words: &[String]) -> Result<Request, RequestErr>
     ensures asked { IfOk result (λ r. request_of (map string_bytes words.now) ≡ Some r) }
     ensures usage { IfErr result (λ e. e ≡ Usage → request_of (map string_bytes words.now) ≡ None) }
+    ensures some { IfOk result (λ r. 0 < turns r) }
     ensures forms { ReadsForms (map string_bytes words.now) result }
 {
     match matches_of(alloc, words) {

@@ -138,3 +138,52 @@ fn names_a_forged_record(rt: HostRuntime) -> Result<(), Fail> {
     assert!(rt; folder.changes().is_empty());
     Ok(())
 }
+
+// A folder that was built, with another first file, of which this call of the next build fails.
+fn edited(alloc: Global, nth: u64) -> Result<MemFolder, Fail> {
+    let mut folder = built(alloc)?;
+    folder.set_file(alloc, &at(alloc, b"/a")?, b"9\n")?;
+    let call = folder.calls().saturating_add(nth);
+    folder.fail_write_at(call, Bytes::from_slice(alloc, b"1")?)?;
+    Ok(folder)
+}
+
+// How many calls the build of such a folder makes.
+fn calls_of_a_rebuild(alloc: Global) -> Result<u64, Fail> {
+    let mut folder = edited(alloc, 0)?;
+    let before = folder.calls();
+    let _outcome = rebuild(alloc, &mut folder)?;
+    Ok(folder.calls().saturating_sub(before))
+}
+
+// Whether a build ends so, with this line alone on the error text.
+fn tells(alloc: Global, folder: &mut MemFolder, code: u8, line: &[u8]) -> Result<bool, Fail> {
+    let mut out = MemSink::new(alloc);
+    let mut err = MemSink::new(alloc);
+    let outcome = build(alloc, folder, &mut out, &mut err)?;
+    Ok(exit_code(&outcome) == code && err.bytes() == line && out.bytes().is_empty())
+}
+
+#[test]
+fn builds_after_a_failed_read(rt: HostRuntime) -> Result<(), Fail> {
+    let alloc = rt.alloc();
+    let mut folder = edited(alloc, 2)?;
+    assert!(rt; tells(alloc, &mut folder, 244, b"rkr: read fault\n")?);
+    assert!(rt; folder.changes().is_empty());
+    let after = rebuild(alloc, &mut folder)?;
+    assert!(rt; is_end(&after, 0, 2, 1));
+    assert!(rt; is_file(&folder, &at(alloc, b"/out")?, b"9\n2\n"));
+    Ok(())
+}
+
+#[test]
+fn names_the_database_after_a_failed_write(rt: HostRuntime) -> Result<(), Fail> {
+    let alloc = rt.alloc();
+    let calls = calls_of_a_rebuild(alloc)?;
+    let mut folder = edited(alloc, calls)?;
+    assert!(rt; tells(alloc, &mut folder, 245, b"rkr: write fault\n")?);
+    assert!(rt; is_file(&folder, &at(alloc, b"/out")?, b"9\n2\n"));
+    assert!(rt; is_file(&folder, &at(alloc, b"/.rkr/db")?, b"1"));
+    assert!(rt; tells(alloc, &mut folder, 242, b"rkr: .rkr/db: damaged: short\n")?);
+    Ok(())
+}

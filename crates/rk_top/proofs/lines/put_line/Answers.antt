@@ -1,5 +1,5 @@
-use Rattle.rk_top.proofs.TextsLemmas.{put-front}
+use Rattle.rk_top.proofs.TextsLemmas.{put-line}
 use Rattle.rk_top.proofs.lines.put_line.Goals as goal
 
-pub returns-then-not-is_empty : goal.returns-then-not-is_empty
-returns-then-not-is_empty g c = put-front _ _ _ _ _ _ c.put.ensures.put c.put.ensures.cause
+pub returns-clause-puts : goal.returns-clause-puts
+returns-clause-puts g c = put-line _ _ _ _ c.put.ensures.put c.put.ensures.cause c.put.ensures.memory

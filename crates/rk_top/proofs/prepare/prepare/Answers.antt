@@ -6,17 +6,17 @@ use Rattle.rk_top.proofs.prepare.prepare.Goals as goal
 pub returns-in_err-before-clause-prepares : goal.returns-in_err-before-clause-prepares
 returns-in_err-before-clause-prepares g c =
     let p = err_from_is_err_and c.from_residual.result c.from_residual.ensures.1 in
-    rw (p.1, p.2) (find-stops _ _ _ _ _ c.in_err-before.ensures.finds refl)
+    rw (p.1, p.2) (find-stops g.M.Maker.first c.args.request.now _ _ _ _ c.in_err-before.ensures.finds refl)
 
 pub returns-in_err-finished-clause-prepares : goal.returns-in_err-finished-clause-prepares
 returns-in_err-finished-clause-prepares g c =
     let p = err_from_is_err_and c.from_residual-in_err-finished.result c.from_residual-in_err-finished.ensures.1 in
-    rw (p.1, p.2) (run-stops _ _ c.in_ok-before.field-0 _ _ _ c.in_ok-before.ensures.finds c.in_err-finished.ensures.runs c.run.ensures.at_most)
+    rw (p.1, p.2) (run-stops g.M.Maker.first c.args.request.now _ c.in_ok-before.field-0 _ _ _ c.in_ok-before.ensures.finds c.in_err-finished.ensures.runs c.run.ensures.at_most)
 
 pub returns-clause-prepares : goal.returns-clause-prepares
 returns-clause-prepares g c =
-    is_prepared _ _ c.in_ok-before.field-0 c.in_ok-after.after _ _ c.in_ok-finished.finished c.in_ok-plan.plan (g.met.F.Folder.whole c.args.folder.now)
-    c.in_ok-before.ensures.finds c.in_ok-finished.ensures.runs c.run.ensures.at_most c.in_ok-after.ensures.holding c.in_ok-after.ensures.built
+    is_prepared g.M.Maker.first c.args.request.now _ c.in_ok-before.field-0 c.in_ok-after.after _ _ c.in_ok-finished.finished c.in_ok-plan.plan (g.met.F.Folder.whole c.args.folder.now)
+    c.in_ok-before.ensures.finds c.in_ok-finished.ensures.runs c.run.ensures.at_most c.in_ok-after.ensures.holding c.in_ok-after.ensures.built c.in_ok-after.ensures.memory
     c.in_ok-plan.ensures.planned c.in_ok-plan.ensures.allowed c.in_ok-plan.ensures.leads
 
 pub returns-in_err-plan-clause-reads : goal.returns-in_err-plan-clause-reads
@@ -38,3 +38,23 @@ pub returns-in_err-plan-clause-prepares : goal.returns-in_err-plan-clause-prepar
 returns-in_err-plan-clause-prepares g c =
     let p = err_from_is_err_and c.from_residual-in_err-plan.result c.from_residual-in_err-plan.ensures.1 in
     rw (p.1, p.2) c.run.ensures.at_most
+
+pub returns-in_err-after-clause-steady : goal.returns-in_err-after-clause-steady
+returns-in_err-after-clause-steady g c =
+    let p = err_from_is_err_and c.from_residual-in_err-after.result c.from_residual-in_err-after.ensures.1 in
+    rw (p.1, p.2) (c.in_ok-before.ensures.steady.0, λ steady. tt)
+
+pub returns-in_err-after-clause-starts : goal.returns-in_err-after-clause-starts
+returns-in_err-after-clause-starts g c =
+    let p = err_from_is_err_and c.from_residual-in_err-after.result c.from_residual-in_err-after.ensures.1 in
+    rw (p.1, p.2) tt
+
+pub returns-in_err-plan-clause-steady : goal.returns-in_err-plan-clause-steady
+returns-in_err-plan-clause-steady g c =
+    let p = err_from_is_err_and c.from_residual-in_err-plan.result c.from_residual-in_err-plan.ensures.1 in
+    rw (p.1, p.2) (c.in_ok-before.ensures.steady.0, λ steady. tt)
+
+pub returns-in_err-plan-clause-starts : goal.returns-in_err-plan-clause-starts
+returns-in_err-plan-clause-starts g c =
+    let p = err_from_is_err_and c.from_residual-in_err-plan.result c.from_residual-in_err-plan.ensures.1 in
+    rw (p.1, p.2) tt
