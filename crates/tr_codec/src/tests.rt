@@ -89,7 +89,19 @@ fn write(alloc: Global, table: &mut Table, place: usize, bytes: &[u8]) -> Result
 
 fn launch(alloc: Global, table: &mut Table, place: usize) -> Result<(), NoMemory> {
     let key = key(alloc, &["cat", "a"], b"b")?;
-    let Some(map) = RefMap::from_vec(vec![in alloc; (0, 0), (1, 11)]?) else {
+    let pairs = vec![in alloc;
+        (0, 0),
+        (1, 11),
+        (2, 2),
+        (3, 3),
+        (4, 4),
+        (5, 5),
+        (6, 6),
+        (7, 7),
+        (8, 8),
+        (9, 9),
+    ]?;
+    let Some(map) = RefMap::from_vec(pairs) else {
         return Err(NoMemory);
     };
     let call = Call::Launch(key, map);

@@ -38,17 +38,17 @@ fn tree(alloc: Global) -> Result<Tree, Fail> {
 
 // The mode of an entry of the root; a link's is 0777.
 fn mode_of(tree: &Tree, name: &[u8]) -> Option<u16> {
-    if !tree.is_dir(0) {
+    if !tree.is_dir(tree.root()) {
         return None;
     }
-    tree.child(0, name).map(|n| tree.mode(n))
+    tree.child(tree.root(), name).map(|n| tree.mode(n))
 }
 
 #[test]
 fn puts_rows_where_they_apply(rt: HostRuntime) -> Result<(), Fail> {
     let alloc = rt.alloc();
     let tree = tree(alloc)?;
-    assert_eq!(rt; tree.mode(0), 0o555);
+    assert_eq!(rt; tree.mode(tree.root()), 0o555);
     assert_eq!(rt; mode_of(&tree, b"a"), Some(0));
     assert_eq!(rt; mode_of(&tree, b"b"), Some(0o644));
     assert_eq!(rt; mode_of(&tree, b"c"), Some(0o644));
