@@ -1,6 +1,8 @@
 //! Asks a world the same calls many times over. It prints nothing: `bench/calls` runs it and takes the time.
 #![tactic(auto)]
 
+mod tables;
+
 use rk_base::{Bytes, NoMemory};
 use rk_calls::{Answerer, Call, How, Refs};
 use rk_kernel::World;
@@ -256,6 +258,15 @@ fn main(rt: HostRuntime) -> ExitCode {
         Err(_) => return ExitCode::from(1),
     };
     match words.as_slice() {
+        [_, word, steps, size] if word.as_str() == "tables" => {
+            match (steps.parse::<u32>(), size.parse::<u32>()) {
+                (Ok(steps), Ok(size)) => match tables::write_and_read(rt.alloc(), steps, size) {
+                    Ok(_) => ExitCode::SUCCESS,
+                    Err(_) => ExitCode::from(1),
+                },
+                _ => ExitCode::from(2),
+            }
+        }
         [_, word, entries, turns] => match (
             named(word),
             entries.parse::<u32>(),

@@ -18,7 +18,7 @@ use Rattle.rk_folder.specs.Told.{Held, standing, is_nothing, is_file, is_dir, it
 use Rattle.rk_folder.specs.Whole.{IsWhole}
 use Rattle.rk_folder.specs.Hidden.{hidden_dir}
 use Rattle.rk_folder.specs.Import.{entry_of, imported, snapshot_of}
-use Rattle.rk_folder.specs.Steps.{laid, lay_all, imported_in, with_within, with_item, with_items, root_entry}
+use Rattle.rk_folder.specs.Steps.{with_entry, with_entries, imported_in, with_within, with_item, with_items, root_entry}
 use Rattle.rk_folder.specs.declared.folder.Item.{Item}
 use Rattle.rk_folder.specs.declared.folder.Item.TheVariants as item
 use Rattle.rk_folder.specs.declared.folder.Standing.{Standing}
@@ -57,23 +57,23 @@ twice (Some (entry.File mode bytes)) it h = twice_some it h
 twice (Some (entry.Dir mode)) it h = refl
 twice (Some (entry.Link text)) it h = twice_some it h
 
-laid_at : (s g o : Bool) (a b : Option Entry) → (s ≡ true → o ≡ g) → cond o b (cond s a b) ≡ cond g b (cond s a b)
-laid_at true g o a b same = ap (λ (c : Bool). cond c b a) (same refl)
-laid_at false true true a b same = refl
-laid_at false true false a b same = refl
-laid_at false false true a b same = refl
-laid_at false false false a b same = refl
+entry_at : (s g o : Bool) (a b : Option Entry) → (s ≡ true → o ≡ g) → cond o b (cond s a b) ≡ cond g b (cond s a b)
+entry_at true g o a b same = ap (λ (c : Bool). cond c b a) (same refl)
+entry_at false true true a b same = refl
+entry_at false true false a b same = refl
+entry_at false false true a b same = refl
+entry_at false false false a b same = refl
 
 get-choice : (b : Bool) (snapshot other : Entries) (q : Text) → get (cond b snapshot other) q ≡ cond b (get snapshot q) (get other q)
 get-choice true snapshot other q = refl
 get-choice false snapshot other q = refl
 
-pub get-laid : (path : Text) (it : Entry) (snapshot : Entries) (q : Text) → get (laid path it snapshot) q ≡ kept (get snapshot q) (cond (same_path q path) (Some it) (get snapshot q))
-unfolding laid
-get-laid path it snapshot q =
+pub get-with_entry : (path : Text) (it : Entry) (snapshot : Entries) (q : Text) → get (with_entry path it snapshot) q ≡ kept (get snapshot q) (cond (same_path q path) (Some it) (get snapshot q))
+unfolding with_entry
+get-with_entry path it snapshot q =
     get-choice (tree.is_dir (get snapshot path)) snapshot (insert snapshot path it) q
     ∙ ap (cond (tree.is_dir (get snapshot path)) (get snapshot q)) (get-put snapshot path it q)
-    ∙ laid_at (same_path q path) (tree.is_dir (get snapshot q)) (tree.is_dir (get snapshot path)) (Some it) (get snapshot q) (λ e. ap (λ (p : Text). tree.is_dir (get snapshot p)) (sym (one_path q path e)))
+    ∙ entry_at (same_path q path) (tree.is_dir (get snapshot q)) (tree.is_dir (get snapshot path)) (Some it) (get snapshot q) (λ e. ap (λ (p : Text). tree.is_dir (get snapshot p)) (sym (one_path q path e)))
 
 -- The snapshot by what stands at each path.
 
@@ -118,15 +118,15 @@ row_here q dir k it a b s x y =
     ap (λ (c : Bool). cond c (imported_at q (Some it)) None) (ap (is_within dir) same ∙ x) ∙ ap (λ (c : Bool). cond a (cond c None (entry_of it)) None) (ap (is_within hidden_dir) same ∙ y)
 
 lay_row : (q k : Text) (g w : Option Entry) (snapshot : Entries) (rest : List (Text × Entry)) (a b : Bool) (e : Option Entry) (h : Bool) → get snapshot q ≡ g → (same_path q k ≡ true → w ≡ cond a (cond b None e) None)
-    → ((s : Entries) → get (lay_all rest s) q ≡ kept (get s q) (cond h (upon w (get s q)) (get s q)))
-    → get (lay_all (cons_option (cond a (cond b None (option_map (λ it. (k, it)) e)) None) rest) snapshot) q ≡ kept g (cond (same_path q k || h) (upon w g) g)
+    → ((s : Entries) → get (with_entries rest s) q ≡ kept (get s q) (cond h (upon w (get s q)) (get s q)))
+    → get (with_entries (cons_option (cond a (cond b None (option_map (λ it. (k, it)) e)) None) rest) snapshot) q ≡ kept g (cond (same_path q k || h) (upon w g) g)
 lay_row q k g w snapshot rest false b e h is at so = so snapshot ∙ ap (λ (x : Option Entry). kept x (cond h (upon w x) x)) is ∙ skip_row g w (same_path q k) h at
 lay_row q k g w snapshot rest true true e h is at so = so snapshot ∙ ap (λ (x : Option Entry). kept x (cond h (upon w x) x)) is ∙ skip_row g w (same_path q k) h at
 lay_row q k g w snapshot rest true false None h is at so = so snapshot ∙ ap (λ (x : Option Entry). kept x (cond h (upon w x) x)) is ∙ skip_row g w (same_path q k) h at
 lay_row q k g w snapshot rest true false (Some it) h is at so =
-    so (laid k it snapshot) ∙ take_row g w (get (laid k it snapshot) q) it (same_path q k) h (get-laid k it snapshot q ∙ ap (λ (x : Option Entry). kept x (cond (same_path q k) (Some it) x)) is) at
+    so (with_entry k it snapshot) ∙ take_row g w (get (with_entry k it snapshot) q) it (same_path q k) h (get-with_entry k it snapshot q ∙ ap (λ (x : Option Entry). kept x (cond (same_path q k) (Some it) x)) is) at
 
-lay_rows : (held : Held) (dir q : Text) (rows : List (Text × Standing)) → EachStands (standing held) rows → (snapshot : Entries) → get (lay_all (filter_map (imported_in dir) rows) snapshot) q ≡ kept (get snapshot q) (cond (has q rows) (upon (seen_in dir q (standing held q)) (get snapshot q)) (get snapshot q))
+lay_rows : (held : Held) (dir q : Text) (rows : List (Text × Standing)) → EachStands (standing held) rows → (snapshot : Entries) → get (with_entries (filter_map (imported_in dir) rows) snapshot) q ≡ kept (get snapshot q) (cond (has q rows) (upon (seen_in dir q (standing held q)) (get snapshot q)) (get snapshot q))
 lay_rows held dir q [] each snapshot = sym (kept-same (get snapshot q))
 lay_rows held dir q (row ∷ rows) each snapshot =
     lay_row q row.0 (get snapshot q) (seen_in dir q (standing held q)) snapshot (filter_map (imported_in dir) rows) (is_within dir row.0) (is_within hidden_dir row.0) (entry_of row.1) (has q rows) refl
@@ -224,9 +224,9 @@ within-items held dir snapshot whole c d = same_maps _ _ (λ q.
     ∙ sym (get-within held dir snapshot q))
 
 -- a file
-pub within-one : (held : Held) (path bytes : Text) (snapshot : Entries) → IsWhole held → is_within hidden_dir path ≡ false → standing held path ≡ Some (File bytes) → laid path (entry.File 420 bytes) snapshot ≡ with_within held path snapshot
+pub within-one : (held : Held) (path bytes : Text) (snapshot : Entries) → IsWhole held → is_within hidden_dir path ≡ false → standing held path ≡ Some (File bytes) → with_entry path (entry.File 420 bytes) snapshot ≡ with_within held path snapshot
 within-one held path bytes snapshot whole seen file = same_maps _ _ (λ q.
-    get-laid path (entry.File 420 bytes) snapshot q
+    get-with_entry path (entry.File 420 bytes) snapshot q
     ∙ ap (kept (get snapshot q)) (elim (same_path q path) as (λ (b : Bool). same_path q path ≡ b → cond b (Some (entry.File 420 bytes)) (get snapshot q) ≡ upon (seen_in path q (standing held q)) (get snapshot q)) [
       | true ↦ λ e.
           let same = one_path q path e in
@@ -244,10 +244,10 @@ within-one held path bytes snapshot whole seen file = same_maps _ _ (λ q.
     ∙ sym (get-within held path snapshot q))
 
 -- a directory that was put before
-pub within-laid : (held : Held) (path : Text) (snapshot : Entries) → is_within hidden_dir path ≡ false → standing held path ≡ Some Dir → with_within held path (laid path (entry.Dir 493) snapshot) ≡ with_within held path snapshot
-within-laid held path snapshot seen dir = same_maps _ _ (λ q.
-    get-within held path (laid path (entry.Dir 493) snapshot) q
-    ∙ ap (λ (x : Option Entry). kept x (upon (seen_in path q (standing held q)) x)) (get-laid path (entry.Dir 493) snapshot q)
+pub within-with_entry : (held : Held) (path : Text) (snapshot : Entries) → is_within hidden_dir path ≡ false → standing held path ≡ Some Dir → with_within held path (with_entry path (entry.Dir 493) snapshot) ≡ with_within held path snapshot
+within-with_entry held path snapshot seen dir = same_maps _ _ (λ q.
+    get-within held path (with_entry path (entry.Dir 493) snapshot) q
+    ∙ ap (λ (x : Option Entry). kept x (upon (seen_in path q (standing held q)) x)) (get-with_entry path (entry.Dir 493) snapshot q)
     ∙ (elim (same_path q path) as (λ (b : Bool). same_path q path ≡ b → kept (kept (get snapshot q) (cond b (Some (entry.Dir 493)) (get snapshot q))) (upon (seen_in path q (standing held q)) (kept (get snapshot q) (cond b (Some (entry.Dir 493)) (get snapshot q)))) ≡ kept (get snapshot q) (upon (seen_in path q (standing held q)) (get snapshot q))) [
       | true ↦ λ e.
           let same = one_path q path e in
@@ -334,8 +334,8 @@ within-whole held whole = same_maps _ _ (λ q.
 kept_dir : (g x : Option Entry) → tree.is_dir g ≡ true → tree.is_dir (kept g x) ≡ true
 kept_dir g x d = ap (λ (c : Bool). tree.is_dir (cond c g x)) d ∙ d
 
-pub laid-keeps : (path : Text) (it : Entry) (snapshot : Entries) (q : Text) → tree.is_dir (get snapshot q) ≡ true → tree.is_dir (get (laid path it snapshot) q) ≡ true
-laid-keeps path it snapshot q d = ap tree.is_dir (get-laid path it snapshot q) ∙ kept_dir (get snapshot q) _ d
+pub with_entry-keeps : (path : Text) (it : Entry) (snapshot : Entries) (q : Text) → tree.is_dir (get snapshot q) ≡ true → tree.is_dir (get (with_entry path it snapshot) q) ≡ true
+with_entry-keeps path it snapshot q d = ap tree.is_dir (get-with_entry path it snapshot q) ∙ kept_dir (get snapshot q) _ d
 
 kept_new : (g : Option Entry) (mode : ℕ) → tree.is_dir (kept g (Some (entry.Dir mode))) ≡ true
 kept_new None mode = refl
@@ -343,9 +343,9 @@ kept_new (Some (entry.File m bytes)) mode = refl
 kept_new (Some (entry.Dir m)) mode = refl
 kept_new (Some (entry.Link text)) mode = refl
 
-pub laid-dir : (path : Text) (mode : ℕ) (snapshot : Entries) → tree.is_dir (get (laid path (entry.Dir mode) snapshot) path) ≡ true
-laid-dir path mode snapshot =
-    ap tree.is_dir (get-laid path (entry.Dir mode) snapshot path ∙ ap (λ (b : Bool). kept (get snapshot path) (cond b (Some (entry.Dir mode)) (get snapshot path))) (ties_itself path)) ∙ kept_new (get snapshot path) mode
+pub with_entry-dir : (path : Text) (mode : ℕ) (snapshot : Entries) → tree.is_dir (get (with_entry path (entry.Dir mode) snapshot) path) ≡ true
+with_entry-dir path mode snapshot =
+    ap tree.is_dir (get-with_entry path (entry.Dir mode) snapshot path ∙ ap (λ (b : Bool). kept (get snapshot path) (cond b (Some (entry.Dir mode)) (get snapshot path))) (ties_itself path)) ∙ kept_new (get snapshot path) mode
 
 same_entry : (a b : Entry) → Some a ≡ Some b → a ≡ b
 same_entry a b h = cc
@@ -359,25 +359,25 @@ old_or_new g s it e h = (elim (tree.is_dir g) as (λ (b : Bool). cond b g (cond 
   ]) refl k
 ]) h
 
-laid_cases : (path : Text) (it : Entry) (snapshot : Entries) (q : Text) (e : Entry) → get (laid path it snapshot) q ≡ Some e → (get snapshot q ≡ Some e) ⊎ ((q ≡ path) × (it ≡ e))
-laid_cases path it snapshot q e at = elim (old_or_new (get snapshot q) (same_path q path) it e (sym (get-laid path it snapshot q) ∙ at)) [
+laid_cases : (path : Text) (it : Entry) (snapshot : Entries) (q : Text) (e : Entry) → get (with_entry path it snapshot) q ≡ Some e → (get snapshot q ≡ Some e) ⊎ ((q ≡ path) × (it ≡ e))
+laid_cases path it snapshot q e at = elim (old_or_new (get snapshot q) (same_path q path) it e (sym (get-with_entry path it snapshot q) ∙ at)) [
   | inl old ↦ inl old
   | inr new ↦ inr (one_path q path new.0, new.1)
 ]
 
-pub laid-whole : (snapshot : Entries) (dir name : Text) (it : Entry) → IsWholeSnapshot snapshot → tree.is_dir (get snapshot dir) ≡ true → is_canonical dir ≡ true → is_name name ≡ true → is_within hidden_dir (join dir name) ≡ false → IsFit it → IsWholeSnapshot (laid (join dir name) it snapshot)
-laid-whole snapshot dir name it whole d c n seen fit =
+pub with_entry-whole : (snapshot : Entries) (dir name : Text) (it : Entry) → IsWholeSnapshot snapshot → tree.is_dir (get snapshot dir) ≡ true → is_canonical dir ≡ true → is_name name ≡ true → is_within hidden_dir (join dir name) ≡ false → IsFit it → IsWholeSnapshot (with_entry (join dir name) it snapshot)
+with_entry-whole snapshot dir name it whole d c n seen fit =
     let path = join dir name in record {
-      root_dir = laid-keeps path it snapshot root whole.root_dir;
+      root_dir = with_entry-keeps path it snapshot root whole.root_dir;
       canonical = λ q e at. elim (laid_cases path it snapshot q e at) [
         | inl old ↦ whole.canonical q e old
         | inr new ↦ ap is_canonical new.0 ∙ join-canonical dir name c n
       ];
-      placed = λ q e at. laid-keeps path it snapshot (parent q) (elim (laid_cases path it snapshot q e at) [
+      placed = λ q e at. with_entry-keeps path it snapshot (parent q) (elim (laid_cases path it snapshot q e at) [
         | inl old ↦ whole.placed q e old
         | inr new ↦ ap (λ (t : Text). tree.is_dir (get snapshot t)) (ap parent new.0 ∙ parent-join dir name c n) ∙ d
       ]);
-      unseen = λ q h. get-laid path it snapshot q
+      unseen = λ q h. get-with_entry path it snapshot q
           ∙ ap (λ (b : Bool). kept (get snapshot q) (cond b (Some it) (get snapshot q))) (elim (same_path q path) as (λ (b : Bool). same_path q path ≡ b → b ≡ false) [
             | true ↦ λ e. absurd (clash _ (ap (is_within hidden_dir) (sym (one_path q path e)) ∙ h) seen)
             | false ↦ λ e. refl

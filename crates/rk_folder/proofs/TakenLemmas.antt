@@ -15,7 +15,7 @@ use Rattle.rk_folder.specs.Whole.{IsWhole, TellsWhole}
 use Rattle.rk_folder.specs.Hidden.{hidden_dir}
 use Rattle.rk_folder.specs.Specials.{is_special, is_other_than_dir, is_fault, first_special, hidden_fault, state_special}
 use Rattle.rk_folder.specs.Import.{Tells, snapshot_of}
-use Rattle.rk_folder.specs.Steps.{agrees, content_in, is_odd_item, first_within, special_in, first_fault, laid, with_within, with_items, nothing_special, root_entry}
+use Rattle.rk_folder.specs.Steps.{agrees, content_in, is_odd_item, first_within, special_in, first_fault, with_entry, with_within, with_items, nothing_special, root_entry}
 use Rattle.rk_folder.specs.declared.folder.Item.{Item}
 use Rattle.rk_folder.specs.declared.folder.Item.TheVariants as item
 use Rattle.rk_folder.specs.declared.folder.Standing.{Standing}
@@ -28,7 +28,7 @@ use Rattle.rk_folder.proofs.ReadingLemmas.{ToldItems, moved-told}
 use Rattle.rk_folder.proofs.WithinLemmas.{seen-child}
 use Rattle.rk_folder.proofs.SpecialLemmas.{special-root, special-itself, special-fault, special-file, special-odd, special-items}
 use Rattle.rk_folder.proofs.HiddenLemmas.{bad_dir, special-hidden}
-use Rattle.rk_folder.proofs.SnapshotLemmas.{dir_is, within-items, within-one, within-laid, within-hidden, within-whole, laid-dir, laid-whole, placed-above}
+use Rattle.rk_folder.proofs.SnapshotLemmas.{dir_is, within-items, within-one, within-with_entry, within-hidden, within-whole, with_entry-dir, with_entry-whole, placed-above}
 
 abbrev pub FirstIs : Option Held → Text → Option Text → Type 0
 FirstIs told path o = IfSome told (λ held. first_within held path ≡ o)
@@ -48,20 +48,20 @@ entered-canonical path dir name at c n = ap is_canonical at ∙ join-canonical d
 pub entered-seen : (path dir name : Text) → path ≡ join dir name → is_canonical dir ≡ true → is_name name ≡ true → is_within hidden_dir dir ≡ false → same_text (join dir name) hidden_dir ≡ false → is_within hidden_dir path ≡ false
 entered-seen path dir name at c n seen other = ap (is_within hidden_dir) at ∙ seen-child dir name c n seen other
 
-pub laid-same : (new old : Entries) (path dir name : Text) (it : Entry) → new ≡ laid path it old → path ≡ join dir name → new ≡ laid (join dir name) it old
-laid-same new old path dir name it is at = is ∙ ap (λ (t : Text). laid t it old) at
+pub with_entry-same : (new old : Entries) (path dir name : Text) (it : Entry) → new ≡ with_entry path it old → path ≡ join dir name → new ≡ with_entry (join dir name) it old
+with_entry-same new old path dir name it is at = is ∙ ap (λ (t : Text). with_entry t it old) at
 
 -- the snapshot stays whole
-pub laid_file-whole : (old new : Entries) (path dir name bytes : Text) → IsWholeSnapshot old → tree.is_dir (get old dir) ≡ true → is_canonical dir ≡ true → is_name name ≡ true → is_within hidden_dir dir ≡ false → same_text (join dir name) hidden_dir ≡ false → path ≡ join dir name → new ≡ laid path (entry.File 420 bytes) old → IsWholeSnapshot new
-laid_file-whole old new path dir name bytes whole d c n seen other at is =
-    subst IsWholeSnapshot (sym (laid-same new old path dir name (entry.File 420 bytes) is at)) (laid-whole old dir name (entry.File 420 bytes) whole d c n (seen-child dir name c n seen other) (omega arith))
+pub with_file-whole : (old new : Entries) (path dir name bytes : Text) → IsWholeSnapshot old → tree.is_dir (get old dir) ≡ true → is_canonical dir ≡ true → is_name name ≡ true → is_within hidden_dir dir ≡ false → same_text (join dir name) hidden_dir ≡ false → path ≡ join dir name → new ≡ with_entry path (entry.File 420 bytes) old → IsWholeSnapshot new
+with_file-whole old new path dir name bytes whole d c n seen other at is =
+    subst IsWholeSnapshot (sym (with_entry-same new old path dir name (entry.File 420 bytes) is at)) (with_entry-whole old dir name (entry.File 420 bytes) whole d c n (seen-child dir name c n seen other) (omega arith))
 
-pub laid_dir-whole : (old new : Entries) (path dir name : Text) → IsWholeSnapshot old → tree.is_dir (get old dir) ≡ true → is_canonical dir ≡ true → is_name name ≡ true → is_within hidden_dir dir ≡ false → same_text (join dir name) hidden_dir ≡ false → path ≡ join dir name → new ≡ laid path (entry.Dir 493) old → IsWholeSnapshot new
-laid_dir-whole old new path dir name whole d c n seen other at is =
-    subst IsWholeSnapshot (sym (laid-same new old path dir name (entry.Dir 493) is at)) (laid-whole old dir name (entry.Dir 493) whole d c n (seen-child dir name c n seen other) (omega arith))
+pub with_dir-whole : (old new : Entries) (path dir name : Text) → IsWholeSnapshot old → tree.is_dir (get old dir) ≡ true → is_canonical dir ≡ true → is_name name ≡ true → is_within hidden_dir dir ≡ false → same_text (join dir name) hidden_dir ≡ false → path ≡ join dir name → new ≡ with_entry path (entry.Dir 493) old → IsWholeSnapshot new
+with_dir-whole old new path dir name whole d c n seen other at is =
+    subst IsWholeSnapshot (sym (with_entry-same new old path dir name (entry.Dir 493) is at)) (with_entry-whole old dir name (entry.Dir 493) whole d c n (seen-child dir name c n seen other) (omega arith))
 
-pub laid_dir-placed : (old new : Entries) (copy path : Text) → copy ≡ path → new ≡ laid copy (entry.Dir 493) old → tree.is_dir (get new path) ≡ true
-laid_dir-placed old new copy path at is = ap (λ (t : Text). tree.is_dir (get new t)) (sym at) ∙ ap (λ (s : Entries). tree.is_dir (get s copy)) is ∙ laid-dir copy 493 old
+pub with_dir-stands : (old new : Entries) (copy path : Text) → copy ≡ path → new ≡ with_entry copy (entry.Dir 493) old → tree.is_dir (get new path) ≡ true
+with_dir-stands old new copy path at is = ap (λ (t : Text). tree.is_dir (get new t)) (sym at) ∙ ap (λ (s : Entries). tree.is_dir (get s copy)) is ∙ with_entry-dir copy 493 old
 
 -- A file.
 
@@ -79,7 +79,7 @@ told-hidden_file (Some held) dir name path b a at is h =
     ∙ ap (λ (t : Text). Some t) (sym at)
 
 pub told-file : (told : Option Held) (dir name path bytes : Text) (old new : Entries) → TellsWhole told → is_within hidden_dir dir ≡ false → is_canonical dir ≡ true → is_name name ≡ true → Agrees told dir (item.File name) → path ≡ join dir name → same_text (join dir name) hidden_dir ≡ false
-    → IfSome told (λ held. (nothing_special held ≡ None) × (bytes ≡ content_in (bytes_in (standing held path)))) → new ≡ laid path (entry.File 420 bytes) old → IfSome told (λ held. (first_within held (join dir name) ≡ None) × (new ≡ with_within held (join dir name) old))
+    → IfSome told (λ held. (nothing_special held ≡ None) × (bytes ≡ content_in (bytes_in (standing held path)))) → new ≡ with_entry path (entry.File 420 bytes) old → IfSome told (λ held. (first_within held (join dir name) ≡ None) × (new ≡ with_within held (join dir name) old))
 told-file None dir name path bytes old new whole seen c n a at other read is = tt
 told-file (Some held) dir name path bytes old new whole seen c n a at other read is =
     let out = seen-child dir name c n seen other in
@@ -87,7 +87,7 @@ told-file (Some held) dir name path bytes old new whole seen c n a at other read
     let f = file_of (standing held (join dir name)) file in
     let same : bytes ≡ f.0 = read.1 ∙ ap (λ (t : Text). content_in (bytes_in (standing held t))) at ∙ ap (λ (o : Option Standing). content_in (bytes_in o)) f.1 in (
       special-file held (join dir name) whole out file,
-      laid-same new old path dir name (entry.File 420 bytes) is at ∙ ap (λ (t : Text). laid (join dir name) (entry.File 420 t) old) same ∙ within-one held (join dir name) f.0 old whole out f.1,
+      with_entry-same new old path dir name (entry.File 420 bytes) is at ∙ ap (λ (t : Text). with_entry (join dir name) (entry.File 420 t) old) same ∙ within-one held (join dir name) f.0 old whole out f.1,
     )
 
 -- A directory.
@@ -123,20 +123,20 @@ told-state_taken (Some held) dir name path b snapshot (Err (err.Special p)) whol
 told-state_taken (Some held) dir name path b snapshot (Err err.ReadFault) whole a at is h tells = tt
 told-state_taken (Some held) dir name path b snapshot (Err err.NoMemory) whole a at is h tells = tt
 
-pub told-dir : (told now : Option Held) (dir name path copy : Text) (old laid_on new : Entries) (result : Result (Unit {0}) ImportErr) → now ≡ told → is_within hidden_dir dir ≡ false → is_canonical dir ≡ true → is_name name ≡ true → Agrees told dir (item.Dir name) → path ≡ join dir name → copy ≡ path → same_text (join dir name) hidden_dir ≡ false → laid_on ≡ laid copy (entry.Dir 493) old
-    → Tells now (λ held. first_within held path) (λ held it. new ≡ with_within held path laid_on) result → Tells told (λ held. first_within held (join dir name)) (λ held it. new ≡ with_within held (join dir name) old) result
-told-dir told now dir name path copy old laid_on new result is seen c n a at again other put tells =
-    here told result a (subst (λ (t : Option Held). Tells t (λ held. first_within held (join dir name)) (λ held it. new ≡ with_within held (join dir name) laid_on) result) is
-    (subst (λ (p : Text). Tells now (λ held. first_within held p) (λ held it. new ≡ with_within held p laid_on) result) at tells)) where
-      here : (t : Option Held) (r : Result (Unit {0}) ImportErr) → Agrees t dir (item.Dir name) → Tells t (λ held. first_within held (join dir name)) (λ held it. new ≡ with_within held (join dir name) laid_on) r → Tells t (λ held. first_within held (join dir name)) (λ held it. new ≡ with_within held (join dir name) old) r
+pub told-dir : (told now : Option Held) (dir name path copy : Text) (old grown new : Entries) (result : Result (Unit {0}) ImportErr) → now ≡ told → is_within hidden_dir dir ≡ false → is_canonical dir ≡ true → is_name name ≡ true → Agrees told dir (item.Dir name) → path ≡ join dir name → copy ≡ path → same_text (join dir name) hidden_dir ≡ false → grown ≡ with_entry copy (entry.Dir 493) old
+    → Tells now (λ held. first_within held path) (λ held it. new ≡ with_within held path grown) result → Tells told (λ held. first_within held (join dir name)) (λ held it. new ≡ with_within held (join dir name) old) result
+told-dir told now dir name path copy old grown new result is seen c n a at again other put tells =
+    here told result a (subst (λ (t : Option Held). Tells t (λ held. first_within held (join dir name)) (λ held it. new ≡ with_within held (join dir name) grown) result) is
+    (subst (λ (p : Text). Tells now (λ held. first_within held p) (λ held it. new ≡ with_within held p grown) result) at tells)) where
+      here : (t : Option Held) (r : Result (Unit {0}) ImportErr) → Agrees t dir (item.Dir name) → Tells t (λ held. first_within held (join dir name)) (λ held it. new ≡ with_within held (join dir name) grown) r → Tells t (λ held. first_within held (join dir name)) (λ held it. new ≡ with_within held (join dir name) old) r
       here None (Ok it) b k = tt
       here None (Err (err.Special p)) b k = tt
       here None (Err err.ReadFault) b k = tt
       here None (Err err.NoMemory) b k = tt
       here (Some held) (Ok it) b k = (
         k.0,
-        k.1 ∙ ap (with_within held (join dir name)) (laid-same laid_on old copy dir name (entry.Dir 493) put (again ∙ at))
-            ∙ within-laid held (join dir name) old (seen-child dir name c n seen other) (dir_is (standing held (join dir name)) (both (is_name name) _ b).1),
+        k.1 ∙ ap (with_within held (join dir name)) (with_entry-same grown old copy dir name (entry.Dir 493) put (again ∙ at))
+            ∙ within-with_entry held (join dir name) old (seen-child dir name c n seen other) (dir_is (standing held (join dir name)) (both (is_name name) _ b).1),
       )
       here (Some held) (Err (err.Special p)) b k = k
       here (Some held) (Err err.ReadFault) b k = tt

@@ -33,15 +33,15 @@ after_calls zero schedule = schedule
 after_calls (suc n) schedule = after_call (after_calls n schedule)
 
 -- a call that is allowed is a fault where one is scheduled, and only there
-abbrev pub Befalls : {T : Type 0} → Schedule → Bool → Result T FolderErr → Type 0
-Befalls schedule allowed (Ok done) = next_fault schedule ≡ None
-Befalls schedule allowed (Err Failed) = MatchBool allowed (IsSome (next_fault schedule)) (Unit {0})
-Befalls schedule allowed (Err NoMemory) = Unit {0}
+abbrev pub GoesAsScheduled : {T : Type 0} → Schedule → Bool → Result T FolderErr → Type 0
+GoesAsScheduled schedule allowed (Ok done) = next_fault schedule ≡ None
+GoesAsScheduled schedule allowed (Err Failed) = MatchBool allowed (IsSome (next_fault schedule)) (Unit {0})
+GoesAsScheduled schedule allowed (Err NoMemory) = Unit {0}
 
 -- where a folder tells its schedule, each call goes by it, and is counted
 abbrev pub OnSchedule : {T : Type 0} → Option Schedule → Option Schedule → Bool → Result T FolderErr → Type 0
 OnSchedule None now allowed result = now ≡ None
-OnSchedule (Some before) now allowed result = (now ≡ Some (after_call before)) × Befalls before allowed result
+OnSchedule (Some before) now allowed result = (now ≡ Some (after_call before)) × GoesAsScheduled before allowed result
 
 abbrev pub damaged : Text → Option (List ℕ) → Option Held → Option Held
 damaged path None old = old

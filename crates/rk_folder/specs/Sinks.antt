@@ -53,24 +53,24 @@ abbrev pub after_put : PutSchedule → PutSchedule
 after_put schedule = record schedule { puts = one_more schedule.puts }
 
 -- a put is a fault where one is scheduled, and only there, and then just the bytes go out that are scheduled
-abbrev pub PutBefalls : {T : Type 0} → PutSchedule → List ℕ → Option (List ℕ) → Option (List ℕ) → Result T SinkErr → Type 0
-PutBefalls schedule bytes old new (Ok it) = next_failing schedule ≡ None
-PutBefalls schedule bytes old new (Err Failed) = IsSomeAnd (next_failing schedule) (λ it. new ≡ with_bytes (take it.1 bytes) old)
-PutBefalls schedule bytes old new (Err NoMemory) = Unit {0}
+abbrev pub PutsAsScheduled : {T : Type 0} → PutSchedule → List ℕ → Option (List ℕ) → Option (List ℕ) → Result T SinkErr → Type 0
+PutsAsScheduled schedule bytes old new (Ok it) = next_failing schedule ≡ None
+PutsAsScheduled schedule bytes old new (Err Failed) = IsSomeAnd (next_failing schedule) (λ it. new ≡ with_bytes (take it.1 bytes) old)
+PutsAsScheduled schedule bytes old new (Err NoMemory) = Unit {0}
 
 -- where a sink tells its schedule, each put goes by it, and is counted
 abbrev pub OnPutSchedule : {T : Type 0} → Option PutSchedule → Option PutSchedule → List ℕ → Option (List ℕ) → Option (List ℕ) → Result T SinkErr → Type 0
 OnPutSchedule None after bytes old new result = after ≡ None
-OnPutSchedule (Some before) after bytes old new result = (after ≡ Some (after_put before)) × PutBefalls before bytes old new result
+OnPutSchedule (Some before) after bytes old new result = (after ≡ Some (after_put before)) × PutsAsScheduled before bytes old new result
 
 -- A sink in memory: its bytes so far, the puts that are to fail, each with how many bytes go out
 -- before, how many puts there were, how many of them were faults, and how many had no memory.
-pub record Sunk : Type 0 where
+pub record MemSinkValue : Type 0 where
   pub bytes : List ℕ
   pub failing : List FailingPut
   pub puts : ℕ
   pub faults : ℕ
   pub memory_failures : ℕ
 
-abbrev pub put_schedule_of : Sunk → PutSchedule
+abbrev pub put_schedule_of : MemSinkValue → PutSchedule
 put_schedule_of sink = record { failing = sink.failing; puts = sink.puts }

@@ -85,18 +85,18 @@ first_fault test (it ∷ its) = or_else (test it) (first_fault test its)
 -- What is made of what stands within a directory.
 
 -- an entry is put where no directory stands
-unfoldable pub laid : Text → Entry → Entries → Entries
-laid path it snapshot = if tree.is_dir (get snapshot path) then snapshot else insert snapshot path it
+unfoldable pub with_entry : Text → Entry → Entries → Entries
+with_entry path it snapshot = if tree.is_dir (get snapshot path) then snapshot else insert snapshot path it
 
-abbrev pub lay_all : List (Text × Entry) → Entries → Entries
-lay_all [] snapshot = snapshot
-lay_all (row ∷ rows) snapshot = lay_all rows (laid row.0 row.1 snapshot)
+abbrev pub with_entries : List (Text × Entry) → Entries → Entries
+with_entries [] snapshot = snapshot
+with_entries (row ∷ rows) snapshot = with_entries rows (with_entry row.0 row.1 snapshot)
 
 abbrev pub imported_in : Text → Text × Standing → Option (Text × Entry)
 imported_in dir row = if is_within dir row.0 then imported row else None
 
 unfoldable pub with_within : Held → Text → Entries → Entries
-with_within held dir snapshot = lay_all (filter_map (imported_in dir) (entries held.places)) snapshot
+with_within held dir snapshot = with_entries (filter_map (imported_in dir) (entries held.places)) snapshot
 
 abbrev pub with_item : Held → Text → Entries → Item → Entries
 with_item held dir snapshot (item.File name) = with_within held (join dir name) snapshot

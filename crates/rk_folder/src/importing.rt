@@ -224,9 +224,9 @@ fn is_dir(it: Option<&Node>) -> bool
 
 // Puts an entry where no directory stands. A folder lists no name twice, but only one that tells what
 // it holds is held to that.
-#[tactic(auto, unfolding(crate::specs::Steps::laid))]
+#[tactic(auto, unfolding(crate::specs::Steps::with_entry))]
 fn lay(snapshot: &mut Snapshot, path: Path, it: Entry) -> Result<(), NoMemory>
-    ensures { OnOk result (snapshot.new ≡ steps.laid path (tree.node_of it) snapshot.old) }
+    ensures { OnOk result (snapshot.new ≡ steps.with_entry path (tree.node_of it) snapshot.old) }
 {
     if is_dir(snapshot.get(&path)) {
         return Ok(());

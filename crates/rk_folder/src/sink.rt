@@ -55,9 +55,9 @@ pub struct MemSink {
 }
 
 impl Model for MemSink {
-    ghost use Rattle.rk_folder.specs.Sinks.{Sunk};
+    ghost use Rattle.rk_folder.specs.Sinks.{MemSinkValue};
 
-    ghost Value = { Sunk };
+    ghost Value = { MemSinkValue };
 
     ghost view = { λ s. record { bytes = s.bytes.items; failing = s.failing.items; puts = s.puts; faults = s.faults; memory_failures = s.memory_failures } };
 }

@@ -56,8 +56,8 @@ IsNeeded held op = left_by op ≢ standing held (path_of op)
 abbrev pub MayRun : Option Held → List Op → Type 0
 MayRun told ops = IfSome told (AllowsAll ops)
 
-abbrev pub MayCall : Option Held → Op → Type 0
-MayCall told op = IfSome told (λ held. allowed op held ≡ true)
+abbrev pub MayMake : Option Held → Op → Type 0
+MayMake told op = IfSome told (λ held. allowed op held ≡ true)
 
 -- a fault only where the count rose
 abbrev pub Caused : {T : Type 0} → ℕ → ℕ → Result T InstallErr → Type 0

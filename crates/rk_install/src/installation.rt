@@ -1,6 +1,6 @@
 // Making the planned calls.
 ghost use Rattle.std.specs.Prelude.{◌≡◌, OnOk, IfErr, option_map, length};
-ghost use Rattle.rk_install.specs.Changes.{step, after_all, MayCall, MayRun, Caused, MemoryCaused, CountsCalls, Steadily, LeftBy, Partly};
+ghost use Rattle.rk_install.specs.Changes.{step, after_all, MayMake, MayRun, Caused, MemoryCaused, CountsCalls, Steadily, LeftBy, Partly};
 ghost use Rattle.rk_folder.specs.Schedule.{after_call};
 
 use crate::{Op, Plan};
@@ -18,7 +18,7 @@ pub enum InstallErr {
 
 // Makes one call.
 fn call<F: Folder>(alloc: Global, folder: &mut F, op: &Op) -> Result<(), InstallErr>
-    requires { MayCall (F.told folder.old) op.now }
+    requires { MayMake (F.told folder.old) op.now }
     ensures held { OnOk result (F.told folder.new ≡ option_map (step op.now) (F.told folder.old)) }
     ensures left { IfErr result (LeftBy op.now (F.told folder.old) (F.told folder.new)) }
     ensures cause { Caused (F.write_faults folder.old) (F.write_faults folder.new) result }

@@ -13,7 +13,7 @@ use Rattle.rk_check.specs.Laws.{spoken-alike}
 use Rattle.rk_replay.specs.declared.ran.Cause.{Cause}
 use Rattle.rk_replay.specs.declared.ran.Cause.TheVariants.{Differs}
 use Rattle.rk_replay.specs.Answers.{same_answer}
-use Rattle.rk_replay.specs.Ran.{first_difference, cause_by, cause_of, IsKept, AreKept}
+use Rattle.rk_replay.specs.Ran.{first_difference, cause_by, cause_of, IsRecorded, AreKept}
 use Rattle.rk_replay.proofs.Differing.{same-answer}
 use Rattle.tr_record.proofs.KeyLemmas.{same_key-Decides}
 
@@ -53,7 +53,7 @@ alike n (x ∷ xs) (y ∷ ys) e (suc i) h =
     ((let lt : suc i < suc (length xs) = h.0 in omega arith), (let lt : suc i < suc (length ys) = h.1 in omega arith))
 
 module _ (first : KeyValue → Says) (lasts : AllLast first) (old : List Record) (spoken : AreSpoken first old) (rec : Record) (said : IsSpoken first rec) where
-  found-kept : (x : Record) → found old rec.key rec.ordinal ≡ Some x → first_difference 1 x.steps rec.steps ≡ None → IsKept old rec
+  found-kept : (x : Record) → found old rec.key rec.ordinal ≡ Some x → first_difference 1 x.steps rec.steps ≡ None → IsRecorded old rec
   unfolding found
   found-kept x ef e =
       let s = found-at (λ r. same_key r.key rec.key && (r.ordinal == rec.ordinal)) old (fresh_rec no_key 0) x ef in
@@ -62,11 +62,11 @@ module _ (first : KeyValue → Says) (lasts : AllLast first) (old : List Record)
       let same = spoken-alike first lasts x rec was said ek (alike 1 x.steps rec.steps e) in
       (x, ef, same.0, same.1, same.2)
 
-  by-found : (o : Option Record) → found old rec.key rec.ordinal ≡ o → cause_by o rec.steps ≡ None → IsKept old rec
+  by-found : (o : Option Record) → found old rec.key rec.ordinal ≡ o → cause_by o rec.steps ≡ None → IsRecorded old rec
   by-found None ef e = cc
   by-found (Some x) ef e = found-kept x ef e
 
-  is-kept : cause_of old rec ≡ None → IsKept old rec
+  is-kept : cause_of old rec ≡ None → IsRecorded old rec
   unfolding cause_of
   is-kept e = by-found (found old rec.key rec.ordinal) refl e
 

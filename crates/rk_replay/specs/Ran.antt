@@ -27,13 +27,13 @@ unfoldable pub cause_of : List Record → Record → Option Cause
 cause_of old rec = cause_by (found old rec.key rec.ordinal) rec.steps
 
 -- the old table has this record under its key and ordinal, with the same steps and the same exit
-abbrev pub IsKept : List Record → Record → Type 0
-IsKept old rec =
+abbrev pub IsRecorded : List Record → Record → Type 0
+IsRecorded old rec =
     (was : Record) × (found old rec.key rec.ordinal ≡ Some was) × (was.steps ≡ rec.steps) × (was.exit ≡ rec.exit) × (was.exit_cost ≡ rec.exit_cost)
 
 -- each record whose command didn't run is the old table's
 abbrev pub AreKept : List Record → List Record → Type 0
-AreKept old table = (i : ℕ) → i < length table → cause_of old (rec_at i table) ≡ None → IsKept old (rec_at i table)
+AreKept old table = (i : ℕ) → i < length table → cause_of old (rec_at i table) ≡ None → IsRecorded old (rec_at i table)
 
 abbrev pub ran_for : Record → Option Cause → Option Ran
 ran_for rec None = None

@@ -2,8 +2,8 @@
 use Rattle.std.proofs.Common.{◌≡◌, ℕ, suc, ◌-◌, ◌+◌, ◌≤◌, ◌<◌, List, [], ◌∷◌, ◌++◌, Option, Some, None, length, drop, get_or, refl, sym, subst, ◌∙◌, arith}
 use Rattle.std.specs.List.{AllByRecursion}
 use Rattle.std.proofs.lemmas.List.{drop_more}
-use Rattle.tr_codec.specs.declared.fault.Odd.{Odd}
-use Rattle.tr_codec.specs.declared.fault.Odd.TheVariants.{Form, NoMemory}
+use Rattle.tr_codec.specs.declared.fault.PartErr.{PartErr}
+use Rattle.tr_codec.specs.declared.fault.PartErr.TheVariants.{Form, NoMemory}
 use Rattle.tr_codec.specs.Reads.{Fails}
 use Rattle.tr_codec.specs.Reading.{many_at}
 
@@ -18,7 +18,7 @@ module _ {A : Type 0} (one : List A → List ℕ → Option (A × List ℕ)) whe
       sym step ∙ so_far
 
   -- where one isn't read, they aren't
-  pub ends : (e : Odd) (front : List A) (count i : ℕ) (bytes : List ℕ) (total : Option (List A × List ℕ)) → i < count → Fails e (one front bytes)
+  pub ends : (e : PartErr) (front : List A) (count i : ℕ) (bytes : List ℕ) (total : Option (List A × List ℕ)) → i < count → Fails e (one front bytes)
       → many_at one (count - i) front bytes ≡ total → Fails e total
   unfolding many_at
   ends NoMemory front count i bytes total lt h so_far = tt

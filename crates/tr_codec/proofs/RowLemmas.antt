@@ -13,10 +13,10 @@ use Rattle.tr_codec.specs.declared.rows.AttrRow.TheVariants.{FileMode, DirMode, 
 use Rattle.tr_codec.specs.Piece.{num, string}
 use Rattle.tr_codec.specs.Spelling.{sealed}
 use Rattle.tr_codec.specs.Reading.{◌>>=◌, given, number_at, byte_at, string_at, counted_at}
-use Rattle.tr_codec.specs.RowReading.{file_mode_at, dir_mode_at, link_at, attr_of, attr_at, path_at, attr_row_at, rows_at, or_no_rows, rows_read}
+use Rattle.tr_codec.specs.RowReading.{file_mode_at, dir_mode_at, link_at, attr_of, attr_at, path_at, attr_row_at, rows_at}
 use Rattle.tr_codec.specs.Attrs.{file_mode, dir_mode, is_mode, suits, is_row, ascend, are_rows, attr_spelling, row_spelling, attrs_magic, attrs_body, attrs_spelling}
 use Rattle.tr_codec.proofs.AgainLemmas.{Again, again_bind, again_last, again_check, mode_again, byte_again, Items, again_counted}
-use Rattle.tr_codec.proofs.SealLemmas.{num_length, one_front, front_is}
+use Rattle.tr_codec.proofs.SealLemmas.{num_length, one_front}
 use Rattle.tr_codec.proofs.TableAgain.{string_again}
 
 both : (a b : Bool) → (a && b) ≡ true → (a ≡ true) × (b ≡ true)
@@ -116,15 +116,3 @@ one_attrs a b f g small e =
     let x = parsed_rows front a f few refl in
     let y = parsed_rows front b g few same in
     cc
-
--- ---- rows that are read
-
-pub read_is : (bytes front : List ℕ) (rows : List (Text × AttrRow)) → bytes ≡ sealed front → rows_at (drop 4 front) ≡ Some rows → rows ≡ rows_read bytes
-read_is bytes front rows e h = sym (ap (λ (f : List ℕ). or_no_rows (rows_at (drop 4 f))) (front_is bytes front e) ∙ ap or_no_rows h)
-
--- they are those that the bytes spell
-pub read_spelt : (bytes : List ℕ) (rows : List (Text × AttrRow)) → are_rows rows ≡ true → length bytes < 2 ^ 64 → bytes ≡ attrs_spelling rows → rows_read bytes ≡ rows
-read_spelt bytes rows are small e =
-    let front = attrs_body rows in
-    let few : length front < 2 ^ 64 = omega (arith, ap length e, length-append front (sha256 front)) in
-    sym (read_is bytes front rows e (parsed_rows front rows are few refl))

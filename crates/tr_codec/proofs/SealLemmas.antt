@@ -5,8 +5,8 @@ use Rattle.std.proofs.lemmas.List.{take_at, drop_at, length-append}
 use Rattle.sha2.specs.Sha256.{sha256}
 use Rattle.sha2.proofs.Facts256.{length-sha256}
 use Rattle.tr_record.specs.declared.records.Record.{Record}
-use Rattle.tr_codec.specs.declared.fault.Odd.{Odd}
-use Rattle.tr_codec.specs.declared.fault.Odd.TheVariants.{Form, NoMemory}
+use Rattle.tr_codec.specs.declared.fault.PartErr.{PartErr}
+use Rattle.tr_codec.specs.declared.fault.PartErr.TheVariants.{Form, NoMemory}
 use Rattle.tr_codec.specs.declared.fault.Damage.{Damage}
 use Rattle.tr_codec.specs.declared.fault.Damage.TheVariants as damage
 use Rattle.tr_codec.specs.declared.fault.CodecErr.{CodecErr}
@@ -59,16 +59,16 @@ unopened_digest least bytes damage.Form h le = absurd h
 
 -- ---- parts
 
-pub whole_finds : {T : Type 0} (e : Odd) (y : T) → FindsPart (Err e) y → Finds (Err (whole e)) y
+pub whole_finds : {T : Type 0} (e : PartErr) (y : T) → FindsPart (Err e) y → Finds (Err (whole e)) y
 whole_finds Form y h = h
 whole_finds NoMemory y h = tt
 
 -- behind a right digest, damage is of the form
-pub whole_tells : {T : Type 0} (least : ℕ) (bytes front : List ℕ) (e : Odd) (result : Result T CodecErr) → result ≡ Err (whole e) → least ≤ length bytes → bytes ≡ sealed front → Tells least bytes result
+pub whole_tells : {T : Type 0} (least : ℕ) (bytes front : List ℕ) (e : PartErr) (result : Result T CodecErr) → result ≡ Err (whole e) → least ≤ length bytes → bytes ≡ sealed front → Tells least bytes result
 whole_tells least bytes front Form result err le is = rw err (le, seal_right bytes front is)
 whole_tells least bytes front NoMemory result err le is = rw err tt
 
-pub fails_finds : {Y : Type 0} (e : Odd) (read : Option Y) (y : Y) → Fails e read → read ≡ Some y → FindsPart (Err e) y
+pub fails_finds : {Y : Type 0} (e : PartErr) (read : Option Y) (y : Y) → Fails e read → read ≡ Some y → FindsPart (Err e) y
 fails_finds Form read y fails is = absurd cc
 fails_finds NoMemory read y fails is = tt
 

@@ -3,19 +3,19 @@ use Rattle.std.specs.Prelude.{◌≡◌, ◌≢◌, ◌<◌, ◌≤◌, ◌-◌,
 use Rattle.std.specs.Borrow.{Bor}
 use Rattle.sha2.specs.Sha256.{sha256}
 use Rattle.tr_codec.specs.Spelling.{sealed}
-use Rattle.tr_codec.specs.declared.fault.Odd.{Odd}
-use Rattle.tr_codec.specs.declared.fault.Odd.TheVariants.{Form, NoMemory}
+use Rattle.tr_codec.specs.declared.fault.PartErr.{PartErr}
+use Rattle.tr_codec.specs.declared.fault.PartErr.TheVariants.{Form, NoMemory}
 use Rattle.tr_codec.specs.declared.fault.Damage.{Damage}
 use Rattle.tr_codec.specs.declared.fault.Damage.TheVariants as damage
 use Rattle.tr_codec.specs.declared.fault.CodecErr.{CodecErr}
 use Rattle.tr_codec.specs.declared.fault.CodecErr.TheVariants as fault
 
 -- what a reader of the code gives, of what reading gives: Form only where it gives none
-abbrev pub Fails : {Y : Type 0} → Odd → Option Y → Type 0
+abbrev pub Fails : {Y : Type 0} → PartErr → Option Y → Type 0
 Fails Form read = read ≡ None
 Fails NoMemory read = Unit {0}
 
-abbrev pub Gives : {X Y : Type 0} → (X → Y) → Result X Odd → Option Y → Type 0
+abbrev pub Gives : {X Y : Type 0} → (X → Y) → Result X PartErr → Option Y → Type 0
 Gives view (Ok x) read = read ≡ Some (view x)
 Gives view (Err e) read = Fails e read
 
@@ -44,7 +44,7 @@ Finds (Err (fault.Damaged it)) y = ⊥
 Finds (Err fault.NoMemory) y = Unit {0}
 
 -- the same of a part
-abbrev pub FindsPart : {T : Type 0} → Result T Odd → T → Type 0
+abbrev pub FindsPart : {T : Type 0} → Result T PartErr → T → Type 0
 FindsPart (Ok x) y = x ≡ y
 FindsPart (Err Form) y = ⊥
 FindsPart (Err NoMemory) y = Unit {0}

@@ -1,12 +1,11 @@
 -- Reading rows of attributes, as functions on bytes: a value and the rest, or none.
-use Rattle.std.specs.Prelude.{ℕ, List, [], Option, Some, None, ◌==◌, drop, if◌then◌else◌}
+use Rattle.std.specs.Prelude.{ℕ, List, Option, Some, None, ◌==◌, if◌then◌else◌}
 use Rattle.std.specs.Int.{w16}
 use Rattle.rk_base.specs.Text.{Text}
 use Rattle.rk_base.specs.Canonical.{is_canonical}
 use Rattle.tr_codec.specs.declared.rows.AttrRow.{AttrRow}
 use Rattle.tr_codec.specs.declared.rows.AttrRow.TheVariants.{FileMode, DirMode, Link}
 use Rattle.tr_codec.specs.Attrs.{are_rows}
-use Rattle.tr_codec.specs.Reads.{front_of}
 use Rattle.tr_codec.specs.Reading.{◌>>=◌, given, number_at, byte_at, string_at, counted_at}
 
 unfoldable pub file_mode_at : List ℕ → Option (AttrRow × List ℕ)
@@ -52,11 +51,3 @@ unfoldable pub rows_at : List ℕ → Option (List (Text × AttrRow))
 rows_at bytes = do
   rows ← counted_at (λ front. attr_row_at) bytes
   given (are_rows rows.0) rows.0
-
-abbrev pub or_no_rows : Option (List (Text × AttrRow)) → List (Text × AttrRow)
-or_no_rows None = []
-or_no_rows (Some rows) = rows
-
--- the rows that are read of a file; where its bytes spell rows, these are they
-abbrev pub rows_read : List ℕ → List (Text × AttrRow)
-rows_read bytes = or_no_rows (rows_at (drop 4 (front_of bytes)))

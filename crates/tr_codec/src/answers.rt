@@ -6,25 +6,25 @@ ghost use Rattle.rk_calls.specs.declared.answer.Answer.TheVariants as answer;
 ghost use Rattle.tr_codec.specs.Reading.{given, many_at, counted_at, kind_of, errno_of, text_answer_at, found_at, name_at, names_at, place_at, same_at, joined_at, no_at, answer_of, answer_at};
 ghost use Rattle.tr_codec.specs.Reads.{Gives};
 
-use crate::fault::Odd;
+use crate::fault::PartErr;
 use crate::keys::path_of;
 use crate::parts::{blob_of, byte_of, count_of, flag_of, permissions_of};
 use rk_base::{Bytes, Errno, Kind, Name, NameList, PathFault};
 use rk_calls::Answer;
 use std::alloc::Global;
 
-fn kind_of(code: u8) -> Result<Kind, Odd>
+fn kind_of(code: u8) -> Result<Kind, PartErr>
     ensures { Gives (λ kind. kind) result (kind_of code) }
 {
     match code {
         1 => Ok(Kind::File),
         2 => Ok(Kind::Dir),
         3 => Ok(Kind::Link),
-        _ => Err(Odd::Form),
+        _ => Err(PartErr::Form),
     }
 }
 
-fn errno_of(code: u8) -> Result<Errno, Odd>
+fn errno_of(code: u8) -> Result<Errno, PartErr>
     ensures { Gives (λ errno. errno) result (errno_of code) }
 {
     match code {
@@ -37,12 +37,12 @@ fn errno_of(code: u8) -> Result<Errno, Odd>
         7 => Ok(Errno::NotEmpty),
         8 => Ok(Errno::BadRef),
         9 => Ok(Errno::Invalid),
-        _ => Err(Odd::Form),
+        _ => Err(PartErr::Form),
     }
 }
 
 #[tactic(auto, unfolding(crate::specs::Reading::text_answer_at))]
-fn content_of<'a>(blobs: &[Bytes], bytes: &'a [u8]) -> Result<(Answer, &'a [u8]), Odd>
+fn content_of<'a>(blobs: &[Bytes], bytes: &'a [u8]) -> Result<(Answer, &'a [u8]), PartErr>
     ensures { Gives (λ x. (x.0, x.1.now)) result (text_answer_at answer.Content blobs.now bytes.now) }
 {
     let (text, rest) = blob_of(blobs, bytes)?;
@@ -50,7 +50,7 @@ fn content_of<'a>(blobs: &[Bytes], bytes: &'a [u8]) -> Result<(Answer, &'a [u8])
 }
 
 #[tactic(auto, unfolding(crate::specs::Reading::text_answer_at))]
-fn text_of<'a>(blobs: &[Bytes], bytes: &'a [u8]) -> Result<(Answer, &'a [u8]), Odd>
+fn text_of<'a>(blobs: &[Bytes], bytes: &'a [u8]) -> Result<(Answer, &'a [u8]), PartErr>
     ensures { Gives (λ x. (x.0, x.1.now)) result (text_answer_at answer.Text blobs.now bytes.now) }
 {
     let (text, rest) = blob_of(blobs, bytes)?;
@@ -58,7 +58,7 @@ fn text_of<'a>(blobs: &[Bytes], bytes: &'a [u8]) -> Result<(Answer, &'a [u8]), O
 }
 
 #[tactic(auto, unfolding(crate::specs::Reading::found_at))]
-fn found_of(bytes: &[u8]) -> Result<(Answer, &[u8]), Odd>
+fn found_of(bytes: &[u8]) -> Result<(Answer, &[u8]), PartErr>
     ensures { Gives (λ x. (x.0, x.1.now)) result (found_at bytes.now) }
 {
     let (code, rest) = byte_of(bytes)?;
@@ -68,18 +68,18 @@ fn found_of(bytes: &[u8]) -> Result<(Answer, &[u8]), Odd>
     Ok((Answer::Stat { kind, mode, empty }, rest))
 }
 
-fn name_from(alloc: Global, text: &[u8]) -> Result<Name, Odd>
+fn name_from(alloc: Global, text: &[u8]) -> Result<Name, PartErr>
     ensures { Gives (λ n. n) result (given (is_name text.now) text.now) }
 {
     match Name::new(alloc, text) {
         Ok(name) => Ok(name),
-        Err(PathFault::Invalid) => Err(Odd::Form),
-        Err(PathFault::NoMemory) => Err(Odd::NoMemory),
+        Err(PathFault::Invalid) => Err(PartErr::Form),
+        Err(PathFault::NoMemory) => Err(PartErr::NoMemory),
     }
 }
 
 #[tactic(auto, unfolding(crate::specs::Reading::name_at))]
-fn name_of<'a>(alloc: Global, blobs: &[Bytes], bytes: &'a [u8]) -> Result<(Name, &'a [u8]), Odd>
+fn name_of<'a>(alloc: Global, blobs: &[Bytes], bytes: &'a [u8]) -> Result<(Name, &'a [u8]), PartErr>
     ensures { Gives (λ x. (x.0, x.1.now)) result (name_at blobs.now bytes.now) }
 {
     let (text, rest) = blob_of(blobs, bytes)?;
@@ -92,7 +92,7 @@ fn so_many_names<'a>(
     blobs: &[Bytes],
     count: u64,
     bytes: &'a [u8],
-) -> Result<(Vec<Name>, &'a [u8]), Odd>
+) -> Result<(Vec<Name>, &'a [u8]), PartErr>
     ensures { Gives (λ x. (x.0.items, x.1.now)) result (many_at (λ front. name_at blobs.now) count [] bytes.now) }
 {
     let mut names = Vec::new(alloc);
@@ -105,17 +105,21 @@ fn so_many_names<'a>(
     Ok((names, rest))
 }
 
-fn list_from(names: Vec<Name>) -> Result<NameList, Odd>
+fn list_from(names: Vec<Name>) -> Result<NameList, PartErr>
     ensures { Gives (λ l. l) result (given (are_names names.items) names.items) }
 {
     match NameList::from_vec(names) {
         Some(names) => Ok(names),
-        None => Err(Odd::Form),
+        None => Err(PartErr::Form),
     }
 }
 
 #[tactic(auto, unfolding(crate::specs::Reading::names_at))]
-fn names_of<'a>(alloc: Global, blobs: &[Bytes], bytes: &'a [u8]) -> Result<(Answer, &'a [u8]), Odd>
+fn names_of<'a>(
+    alloc: Global,
+    blobs: &[Bytes],
+    bytes: &'a [u8],
+) -> Result<(Answer, &'a [u8]), PartErr>
     ensures { Gives (λ x. (x.0, x.1.now)) result (names_at blobs.now bytes.now) }
 {
     let (count, rest) = count_of(bytes)?;
@@ -125,7 +129,11 @@ fn names_of<'a>(alloc: Global, blobs: &[Bytes], bytes: &'a [u8]) -> Result<(Answ
 }
 
 #[tactic(auto, unfolding(crate::specs::Reading::place_at))]
-fn place_of<'a>(alloc: Global, blobs: &[Bytes], bytes: &'a [u8]) -> Result<(Answer, &'a [u8]), Odd>
+fn place_of<'a>(
+    alloc: Global,
+    blobs: &[Bytes],
+    bytes: &'a [u8],
+) -> Result<(Answer, &'a [u8]), PartErr>
     ensures { Gives (λ x. (x.0, x.1.now)) result (place_at blobs.now bytes.now) }
 {
     let (text, rest) = blob_of(blobs, bytes)?;
@@ -134,7 +142,7 @@ fn place_of<'a>(alloc: Global, blobs: &[Bytes], bytes: &'a [u8]) -> Result<(Answ
 }
 
 #[tactic(auto, unfolding(crate::specs::Reading::same_at))]
-fn same_of(bytes: &[u8]) -> Result<(Answer, &[u8]), Odd>
+fn same_of(bytes: &[u8]) -> Result<(Answer, &[u8]), PartErr>
     ensures { Gives (λ x. (x.0, x.1.now)) result (same_at bytes.now) }
 {
     let (same, rest) = flag_of(bytes)?;
@@ -142,7 +150,7 @@ fn same_of(bytes: &[u8]) -> Result<(Answer, &[u8]), Odd>
 }
 
 #[tactic(auto, unfolding(crate::specs::Reading::joined_at))]
-fn joined_of(bytes: &[u8]) -> Result<(Answer, &[u8]), Odd>
+fn joined_of(bytes: &[u8]) -> Result<(Answer, &[u8]), PartErr>
     ensures { Gives (λ x. (x.0, x.1.now)) result (joined_at bytes.now) }
 {
     let (status, rest) = byte_of(bytes)?;
@@ -150,7 +158,7 @@ fn joined_of(bytes: &[u8]) -> Result<(Answer, &[u8]), Odd>
 }
 
 #[tactic(auto, unfolding(crate::specs::Reading::no_at))]
-fn no_of(bytes: &[u8]) -> Result<(Answer, &[u8]), Odd>
+fn no_of(bytes: &[u8]) -> Result<(Answer, &[u8]), PartErr>
     ensures { Gives (λ x. (x.0, x.1.now)) result (no_at bytes.now) }
 {
     let (code, rest) = byte_of(bytes)?;
@@ -163,7 +171,7 @@ fn answer_after<'a>(
     blobs: &[Bytes],
     kind: u8,
     bytes: &'a [u8],
-) -> Result<(Answer, &'a [u8]), Odd>
+) -> Result<(Answer, &'a [u8]), PartErr>
     ensures { Gives (λ x. (x.0, x.1.now)) result (answer_of blobs.now kind bytes.now) }
 {
     match kind {
@@ -178,7 +186,7 @@ fn answer_after<'a>(
         9 => same_of(bytes),
         10 => joined_of(bytes),
         11 => no_of(bytes),
-        _ => Err(Odd::Form),
+        _ => Err(PartErr::Form),
     }
 }
 
@@ -187,7 +195,7 @@ pub(crate) fn answer_of<'a>(
     alloc: Global,
     blobs: &[Bytes],
     bytes: &'a [u8],
-) -> Result<(Answer, &'a [u8]), Odd>
+) -> Result<(Answer, &'a [u8]), PartErr>
     ensures { Gives (λ x. (x.0, x.1.now)) result (answer_at blobs.now bytes.now) }
 {
     let (kind, rest) = byte_of(bytes)?;

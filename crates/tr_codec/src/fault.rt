@@ -1,6 +1,6 @@
 // Why bytes could not be read.
 ghost use Rattle.std.specs.Prelude.{◌≡◌};
-ghost use Rattle.tr_codec.specs.declared.fault.Odd.TheVariants as odd;
+ghost use Rattle.tr_codec.specs.declared.fault.PartErr.TheVariants as part;
 ghost use Rattle.tr_codec.specs.declared.fault.CodecErr.TheVariants as fault;
 ghost use Rattle.tr_codec.specs.Whole.{whole};
 
@@ -25,32 +25,32 @@ pub enum CodecErr {
 
 /// Why a part was not read.
 #[derive(Clone, Copy, Debug)]
-pub(crate) enum Odd {
+pub(crate) enum PartErr {
     Form,
     NoMemory,
 }
 
-impl From<NoMemory> for Odd {
-    ghost from_gives = { λ _ e. e ≡ odd.NoMemory };
+impl From<NoMemory> for PartErr {
+    ghost from_gives = { λ _ e. e ≡ part.NoMemory };
 
-    fn from(_: NoMemory) -> Odd {
-        Odd::NoMemory
+    fn from(_: NoMemory) -> PartErr {
+        PartErr::NoMemory
     }
 }
 
-impl From<AllocError> for Odd {
-    ghost from_gives = { λ _ e. e ≡ odd.NoMemory };
+impl From<AllocError> for PartErr {
+    ghost from_gives = { λ _ e. e ≡ part.NoMemory };
 
-    fn from(_: AllocError) -> Odd {
-        Odd::NoMemory
+    fn from(_: AllocError) -> PartErr {
+        PartErr::NoMemory
     }
 }
 
-impl<T: Drop> From<AllocFailed<T>> for Odd {
-    ghost from_gives = { λ _ e. e ≡ odd.NoMemory };
+impl<T: Drop> From<AllocFailed<T>> for PartErr {
+    ghost from_gives = { λ _ e. e ≡ part.NoMemory };
 
-    fn from(_: AllocFailed<T>) -> Odd {
-        Odd::NoMemory
+    fn from(_: AllocFailed<T>) -> PartErr {
+        PartErr::NoMemory
     }
 }
 
@@ -62,13 +62,13 @@ impl From<Damage> for CodecErr {
     }
 }
 
-impl From<Odd> for CodecErr {
-    ghost from_gives = { λ odd e. e ≡ whole odd };
+impl From<PartErr> for CodecErr {
+    ghost from_gives = { λ part e. e ≡ whole part };
 
-    fn from(odd: Odd) -> CodecErr {
-        match odd {
-            Odd::Form => CodecErr::Damaged(Damage::Form),
-            Odd::NoMemory => CodecErr::NoMemory,
+    fn from(part: PartErr) -> CodecErr {
+        match part {
+            PartErr::Form => CodecErr::Damaged(Damage::Form),
+            PartErr::NoMemory => CodecErr::NoMemory,
         }
     }
 }

@@ -7,7 +7,7 @@ ghost use Rattle.rk_calls.specs.RefMaps.{is_refmap};
 ghost use Rattle.tr_codec.specs.Reading.{counted_at, given, many_at, blob_at, var_at, key_from, key_at, pair_at, map_at};
 ghost use Rattle.tr_codec.specs.Reads.{Gives};
 
-use crate::fault::Odd;
+use crate::fault::PartErr;
 use crate::parts::{blob_of, blobs_of, byte_of, count_of, number_of};
 use rk_base::{Bytes, Path, PathFault, Var, VarList, WordList};
 use rk_calls::{Key, RefMap};
@@ -17,7 +17,7 @@ fn words_of<'a>(
     alloc: Global,
     blobs: &[Bytes],
     bytes: &'a [u8],
-) -> Result<(Vec<Bytes>, &'a [u8]), Odd>
+) -> Result<(Vec<Bytes>, &'a [u8]), PartErr>
     ensures { Gives (λ x. (x.0.items, x.1.now)) result (counted_at (λ front. blob_at blobs.now) bytes.now) }
 {
     let (count, rest) = count_of(bytes)?;
@@ -26,7 +26,7 @@ fn words_of<'a>(
 }
 
 #[tactic(auto, unfolding(crate::specs::Reading::var_at))]
-fn var_of<'a>(blobs: &[Bytes], bytes: &'a [u8]) -> Result<(Var, &'a [u8]), Odd>
+fn var_of<'a>(blobs: &[Bytes], bytes: &'a [u8]) -> Result<(Var, &'a [u8]), PartErr>
     ensures { Gives (λ x. (x.0, x.1.now)) result (var_at blobs.now bytes.now) }
 {
     let (name, rest) = blob_of(blobs, bytes)?;
@@ -39,7 +39,7 @@ fn so_many_vars<'a>(
     blobs: &[Bytes],
     count: u64,
     bytes: &'a [u8],
-) -> Result<(Vec<Var>, &'a [u8]), Odd>
+) -> Result<(Vec<Var>, &'a [u8]), PartErr>
     ensures { Gives (λ x. (x.0.items, x.1.now)) result (many_at (λ front. var_at blobs.now) count [] bytes.now) }
 {
     let mut vars = Vec::new(alloc);
@@ -52,7 +52,11 @@ fn so_many_vars<'a>(
     Ok((vars, rest))
 }
 
-fn vars_of<'a>(alloc: Global, blobs: &[Bytes], bytes: &'a [u8]) -> Result<(Vec<Var>, &'a [u8]), Odd>
+fn vars_of<'a>(
+    alloc: Global,
+    blobs: &[Bytes],
+    bytes: &'a [u8],
+) -> Result<(Vec<Var>, &'a [u8]), PartErr>
     ensures { Gives (λ x. (x.0.items, x.1.now)) result (counted_at (λ front. var_at blobs.now) bytes.now) }
 {
     let (count, rest) = count_of(bytes)?;
@@ -60,36 +64,36 @@ fn vars_of<'a>(alloc: Global, blobs: &[Bytes], bytes: &'a [u8]) -> Result<(Vec<V
     Ok((vars, rest))
 }
 
-pub(crate) fn path_of(alloc: Global, text: &[u8]) -> Result<Path, Odd>
+pub(crate) fn path_of(alloc: Global, text: &[u8]) -> Result<Path, PartErr>
     ensures { Gives (λ p. p) result (given (is_canonical text.now) text.now) }
 {
     match Path::parse(alloc, text) {
         Ok(path) => Ok(path),
-        Err(PathFault::Invalid) => Err(Odd::Form),
-        Err(PathFault::NoMemory) => Err(Odd::NoMemory),
+        Err(PathFault::Invalid) => Err(PartErr::Form),
+        Err(PathFault::NoMemory) => Err(PartErr::NoMemory),
     }
 }
 
-fn list_of(vars: Vec<Var>) -> Result<VarList, Odd>
+fn list_of(vars: Vec<Var>) -> Result<VarList, PartErr>
     ensures { Gives (λ l. l) result (given (are_variables vars.items) vars.items) }
 {
     match VarList::from_vec(vars) {
         Some(vars) => Ok(vars),
-        None => Err(Odd::Form),
+        None => Err(PartErr::Form),
     }
 }
 
-fn whole_key(argv: Vec<Bytes>, wd: Path, vars: VarList) -> Result<Key, Odd>
+fn whole_key(argv: Vec<Bytes>, wd: Path, vars: VarList) -> Result<Key, PartErr>
     ensures { Gives (λ k. k) result (given (is_key argv.items vars) (record { argv = argv.items; wd = wd; vars = vars })) }
 {
     match Key::from_parts(WordList::new(argv), wd, vars) {
         Some(key) => Ok(key),
-        None => Err(Odd::Form),
+        None => Err(PartErr::Form),
     }
 }
 
 // The key of these parts, where they are parts of one.
-fn key_from(alloc: Global, argv: Vec<Bytes>, wd: &[u8], vars: Vec<Var>) -> Result<Key, Odd>
+fn key_from(alloc: Global, argv: Vec<Bytes>, wd: &[u8], vars: Vec<Var>) -> Result<Key, PartErr>
     ensures { Gives (λ k. k) result (key_from argv.items wd.now vars.items) }
 {
     let wd = path_of(alloc, wd)?;
@@ -102,7 +106,7 @@ pub(crate) fn key_of<'a>(
     alloc: Global,
     blobs: &[Bytes],
     bytes: &'a [u8],
-) -> Result<(Key, &'a [u8]), Odd>
+) -> Result<(Key, &'a [u8]), PartErr>
     ensures { Gives (λ x. (x.0, x.1.now)) result (key_at blobs.now bytes.now) }
 {
     let (argv, rest) = words_of(alloc, blobs, bytes)?;
@@ -113,7 +117,7 @@ pub(crate) fn key_of<'a>(
 }
 
 #[tactic(auto, unfolding(crate::specs::Reading::pair_at))]
-fn pair_of(bytes: &[u8]) -> Result<((u8, u64), &[u8]), Odd>
+fn pair_of(bytes: &[u8]) -> Result<((u8, u64), &[u8]), PartErr>
     ensures { Gives (λ x. (x.0, x.1.now)) result (pair_at bytes.now) }
 {
     let (d, rest) = byte_of(bytes)?;
@@ -121,7 +125,11 @@ fn pair_of(bytes: &[u8]) -> Result<((u8, u64), &[u8]), Odd>
     Ok(((d, n), rest))
 }
 
-fn so_many_pairs(alloc: Global, count: u64, bytes: &[u8]) -> Result<(Vec<(u8, u64)>, &[u8]), Odd>
+fn so_many_pairs(
+    alloc: Global,
+    count: u64,
+    bytes: &[u8],
+) -> Result<(Vec<(u8, u64)>, &[u8]), PartErr>
     ensures { Gives (λ x. (x.0.items, x.1.now)) result (many_at (λ front. pair_at) count [] bytes.now) }
 {
     let mut pairs = Vec::new(alloc);
@@ -134,17 +142,17 @@ fn so_many_pairs(alloc: Global, count: u64, bytes: &[u8]) -> Result<(Vec<(u8, u6
     Ok((pairs, rest))
 }
 
-fn map_from(pairs: Vec<(u8, u64)>) -> Result<RefMap, Odd>
+fn map_from(pairs: Vec<(u8, u64)>) -> Result<RefMap, PartErr>
     ensures { Gives (λ m. m) result (given (is_refmap pairs.items) pairs.items) }
 {
     match RefMap::from_vec(pairs) {
         Some(map) => Ok(map),
-        None => Err(Odd::Form),
+        None => Err(PartErr::Form),
     }
 }
 
 #[tactic(auto, unfolding(crate::specs::Reading::map_at))]
-pub(crate) fn map_of(alloc: Global, bytes: &[u8]) -> Result<(RefMap, &[u8]), Odd>
+pub(crate) fn map_of(alloc: Global, bytes: &[u8]) -> Result<(RefMap, &[u8]), PartErr>
     ensures { Gives (λ x. (x.0, x.1.now)) result (map_at bytes.now) }
 {
     let (count, rest) = count_of(bytes)?;

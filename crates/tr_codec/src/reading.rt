@@ -7,7 +7,7 @@ ghost use Rattle.tr_codec.specs.Fits.{Fits};
 ghost use Rattle.tr_codec.specs.Reading.{table_at};
 ghost use Rattle.tr_codec.specs.Reads.{Gives, Tells, Finds, FindsPart, front_of, seal_of};
 
-use crate::fault::{CodecErr, Damage, Odd};
+use crate::fault::{CodecErr, Damage, PartErr};
 use crate::records::table_of;
 use crate::sealing::{is_same, open_seal};
 use crate::writing::body_of;
@@ -15,7 +15,7 @@ use std::alloc::Global;
 use tr_record::Table;
 
 // What a body may spell. The four bytes at its front are not looked at.
-fn candidate(alloc: Global, front: &[u8]) -> Result<Table, Odd>
+fn candidate(alloc: Global, front: &[u8]) -> Result<Table, PartErr>
     requires { 4 ≤ length front.now }
     ensures { Gives (λ table. table) result (table_at (drop 4 front.now)) }
 {
@@ -24,7 +24,7 @@ fn candidate(alloc: Global, front: &[u8]) -> Result<Table, Odd>
 }
 
 // What a body spells: what it may spell is spelt again and compared.
-fn body_table(alloc: Global, front: &[u8]) -> Result<Table, Odd>
+fn body_table(alloc: Global, front: &[u8]) -> Result<Table, PartErr>
     requires { 4 ≤ length front.now }
     ensures found { IfOk result (λ table. Fits table × (front.now ≡ body (table_piece table))) }
     ensures only { (table : List Rec) → Fits table → front.now ≡ body (table_piece table) → FindsPart result table }
@@ -34,7 +34,7 @@ fn body_table(alloc: Global, front: &[u8]) -> Result<Table, Odd>
     if is_same(&again, front) {
         Ok(table)
     } else {
-        Err(Odd::Form)
+        Err(PartErr::Form)
     }
 }
 

@@ -6,7 +6,7 @@ ghost use Rattle.tr_codec.specs.Reads.{Gives};
 
 use crate::answers::answer_of;
 use crate::calls::call_of;
-use crate::fault::Odd;
+use crate::fault::PartErr;
 use crate::keys::key_of;
 use crate::parts::{byte_of, cost_of, count_of, strings_of};
 use rk_base::Bytes;
@@ -24,7 +24,7 @@ pub(crate) struct Row {
 }
 
 #[tactic(auto, unfolding(crate::specs::Reading::step_at))]
-fn step_of<'a>(alloc: Global, blobs: &[Bytes], bytes: &'a [u8]) -> Result<(Step, &'a [u8]), Odd>
+fn step_of<'a>(alloc: Global, blobs: &[Bytes], bytes: &'a [u8]) -> Result<(Step, &'a [u8]), PartErr>
     ensures { Gives (λ x. (x.0, x.1.now)) result (step_at blobs.now bytes.now) }
 {
     let (cost, rest) = cost_of(bytes)?;
@@ -38,7 +38,7 @@ fn so_many_steps<'a>(
     blobs: &[Bytes],
     count: u64,
     bytes: &'a [u8],
-) -> Result<(StepList, &'a [u8]), Odd>
+) -> Result<(StepList, &'a [u8]), PartErr>
     ensures { Gives (λ x. (x.0, x.1.now)) result (many_at (λ before. step_at blobs.now) count [] bytes.now) }
 {
     let mut steps = StepList::new(alloc);
@@ -55,7 +55,7 @@ fn steps_of<'a>(
     alloc: Global,
     blobs: &[Bytes],
     bytes: &'a [u8],
-) -> Result<(StepList, &'a [u8]), Odd>
+) -> Result<(StepList, &'a [u8]), PartErr>
     ensures { Gives (λ x. (x.0, x.1.now)) result (counted_at (λ before. step_at blobs.now) bytes.now) }
 {
     let (count, rest) = count_of(bytes)?;
@@ -78,7 +78,7 @@ fn costs_fit(steps: &[Step], exit_cost: u32) -> bool
 }
 
 #[tactic(auto, unfolding(crate::specs::Reading::row_at))]
-fn row_of<'a>(alloc: Global, blobs: &[Bytes], bytes: &'a [u8]) -> Result<(Row, &'a [u8]), Odd>
+fn row_of<'a>(alloc: Global, blobs: &[Bytes], bytes: &'a [u8]) -> Result<(Row, &'a [u8]), PartErr>
     ensures { Gives (λ x. (x.0, x.1.now)) result (row_at blobs.now bytes.now) }
 {
     let (key, rest) = key_of(alloc, blobs, bytes)?;
@@ -86,7 +86,7 @@ fn row_of<'a>(alloc: Global, blobs: &[Bytes], bytes: &'a [u8]) -> Result<(Row, &
     let (exit, rest) = byte_of(rest)?;
     let (exit_cost, rest) = cost_of(rest)?;
     if !costs_fit(steps.as_slice(), exit_cost) {
-        return Err(Odd::Form);
+        return Err(PartErr::Form);
     }
     let row = Row {
         key,
@@ -102,7 +102,7 @@ fn so_many_records<'a>(
     blobs: &[Bytes],
     count: u64,
     bytes: &'a [u8],
-) -> Result<(Table, &'a [u8]), Odd>
+) -> Result<(Table, &'a [u8]), PartErr>
     ensures { Gives (λ x. (x.0, x.1.now)) result (many_at (record_at blobs.now) count [] bytes.now) }
 {
     let mut table = Table::new(alloc);
@@ -117,7 +117,7 @@ fn so_many_records<'a>(
 
 /// The table that a body may spell, after its magic. What stands after it isn't looked at.
 #[tactic(auto, unfolding(crate::specs::Reading::table_at))]
-pub(crate) fn table_of(alloc: Global, bytes: &[u8]) -> Result<Table, Odd>
+pub(crate) fn table_of(alloc: Global, bytes: &[u8]) -> Result<Table, PartErr>
     ensures { Gives (λ table. table) result (table_at bytes.now) }
 {
     let (count, rest) = count_of(bytes)?;

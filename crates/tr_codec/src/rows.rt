@@ -5,7 +5,7 @@ ghost use Rattle.std.specs.Ordering.{is_lt};
 ghost use Rattle.rk_base.specs.Text.{text_cmp, root, join, hidden, is_within};
 ghost use Rattle.tr_codec.specs.Attrs.{is_mode, is_link_text, suits, is_row, ascend_from, ascend, are_rows};
 
-use rk_base::{Bytes, Path};
+use rk_base::{Bytes, Path, has_nul};
 use std::alloc::Global;
 use std::marker::Model;
 
@@ -46,12 +46,6 @@ fn is_mode(default: u16, mode: u16) -> bool
     ensures { result ≡ is_mode default mode }
 {
     mode <= 0o777 && mode != default
-}
-
-fn has_nul(text: &[u8]) -> bool
-    ensures { result ≡ list_any (λ b. b == 0) text.now }
-{
-    text.iter().any(|b| *b == 0)
 }
 
 fn is_link_text(text: &[u8]) -> bool

@@ -3,7 +3,7 @@ use Rattle.std.specs.List.{list_any}
 use Rattle.rk_folder.specs.Steps.{is_odd_item}
 use Rattle.rk_folder.specs.declared.folder.Item.{Item}
 use Rattle.rk_folder.proofs.ReadingLemmas.{told-same, told-agree-now}
-use Rattle.rk_folder.proofs.TakenLemmas.{not_hidden, entered-canonical, entered-seen, laid_dir-whole, laid_dir-placed, told-lists, told-special_item, told-odd, told-items, told-state_taken, told-dir, placed-on}
+use Rattle.rk_folder.proofs.TakenLemmas.{not_hidden, entered-canonical, entered-seen, with_dir-whole, with_dir-stands, told-lists, told-special_item, told-odd, told-items, told-state_taken, told-dir, placed-on}
 use Rattle.rk_folder.proofs.importing.+descent.Goals as goal
 
 pub take_item-returns-in_ok-path_in-in-Special-clause-taken :
@@ -51,8 +51,8 @@ take_dir-take_all-requires g t c κs within =
             (
               entered-seen c.in_ok-path.path c.args.dir.now c.args.name.now c.in_ok-path.ensures.path c.in_ok-path.ensures.dir c.in_ok-path.ensures.name c.requires.seen other,
               (
-                laid_dir-whole c.args.snapshot.now c.lay.new.snapshot c.in_ok-copy.field-0 c.args.dir.now c.args.name.now c.requires.whole c.requires.placed c.in_ok-path.ensures.dir c.in_ok-path.ensures.name c.requires.seen other (c.in_ok-copy.ensures ∙ c.in_ok-path.ensures.path) c.in_ok-lay.ensures,
-                laid_dir-placed c.args.snapshot.now c.lay.new.snapshot c.in_ok-copy.field-0 c.in_ok-path.path c.in_ok-copy.ensures c.in_ok-lay.ensures,
+                with_dir-whole c.args.snapshot.now c.lay.new.snapshot c.in_ok-copy.field-0 c.args.dir.now c.args.name.now c.requires.whole c.requires.placed c.in_ok-path.ensures.dir c.in_ok-path.ensures.name c.requires.seen other (c.in_ok-copy.ensures ∙ c.in_ok-path.ensures.path) c.in_ok-lay.ensures,
+                with_dir-stands c.args.snapshot.now c.lay.new.snapshot c.in_ok-copy.field-0 c.in_ok-path.path c.in_ok-copy.ensures c.in_ok-lay.ensures,
               ),
             ),
           ),

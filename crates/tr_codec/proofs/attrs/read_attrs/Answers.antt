@@ -4,7 +4,7 @@ use Rattle.std.proofs.lemmas.Result.{err_from_is_err_and}
 use Rattle.sha2.specs.Sha256.{sha256}
 use Rattle.sha2.proofs.Facts256.{length-sha256}
 use Rattle.tr_codec.specs.Attrs.{attrs_body}
-use Rattle.tr_codec.proofs.RowLemmas.{attrs_length, read_is}
+use Rattle.tr_codec.proofs.RowLemmas.{attrs_length}
 use Rattle.tr_codec.proofs.SealLemmas.{one_front, seal_right, unopened, whole_finds, whole_tells}
 use Rattle.tr_codec.proofs.attrs.read_attrs.Goals as goal
 
@@ -35,6 +35,3 @@ returns-clause-only c = λ rows are e. c.in_ok-attrs.ensures.only rows are (one_
 
 pub returns-clause-digest : goal.returns-clause-digest
 returns-clause-digest c = λ le other. absurd (other (seal_right c.args.bytes.now c.in_ok-front.front.now c.in_ok-front.ensures.1))
-
-pub returns-clause-read : goal.returns-clause-read
-returns-clause-read c = read_is c.args.bytes.now c.in_ok-front.front.now _ c.in_ok-front.ensures.1 c.in_ok-attrs.ensures.read
