@@ -1,5 +1,5 @@
 -- Options that were given.
-use Rattle.std.specs.Prelude.{ℕ, List, Bool, ◌==◌}
+use Rattle.std.specs.Prelude.{ℕ, List, [], ◌∷◌, Option, None, Bool, false, ◌==◌, if◌then◌else◌}
 use Rattle.std.specs.List.{list_any}
 use Rattle.rk_base.specs.Text.{Text}
 use Rattle.ut_args.specs.declared.opts.Given.{Given}
@@ -8,7 +8,23 @@ use Rattle.ut_args.specs.declared.opts.Given.{Given}
 abbrev pub has : ℕ → List Given → Bool
 has letter = list_any (λ (g : Given). g.letter == letter)
 
+-- the argument of an option as it was given last, or else this one
+abbrev pub last_argument : ℕ → Option Text → List Given → Option Text
+last_argument letter found [] = found
+last_argument letter found (g ∷ gs) = last_argument letter (if g.letter == letter then g.argument else found) gs
+
 -- options and operands
 pub record ArgsValue : Type 0 where
   pub given : List Given
   pub operands : List Text
+
+-- Utilities name their options by texts of one letter.
+
+abbrev pub gives : ArgsValue → Text → Bool
+gives args [] = false
+gives args (letter ∷ more) = has letter args.given
+
+-- the argument that an option has, the last one where it was given several times
+abbrev pub argument : ArgsValue → Text → Option Text
+argument args [] = None
+argument args (letter ∷ more) = last_argument letter None args.given

@@ -1,7 +1,7 @@
 // Options that were given.
-ghost use Rattle.std.specs.Prelude.{◌≡◌, ◌∷◌, ◌++◌, ◌==◌, [], OnOk, Some, None};
+ghost use Rattle.std.specs.Prelude.{◌≡◌, ◌∷◌, ◌++◌, ◌==◌, [], OnOk, Some, None, option_copied, if◌then◌else◌};
 ghost use Rattle.std.specs.List.{list_any};
-ghost use Rattle.ut_args.specs.Opts.{has};
+ghost use Rattle.ut_args.specs.Opts.{has, last_argument};
 
 use rk_base::{Bytes, NoMemory};
 use std::alloc::Global;
@@ -27,6 +27,17 @@ impl Model for OptList {
     ghost Value = { List Given };
 
     ghost view = { λ l. l.given.items };
+}
+
+// The argument where this is the option, or else the one that was found before.
+fn newer<'a>(given: &'a Given, letter: u8, found: Option<&'a Bytes>) -> Option<&'a Bytes>
+    ensures { option_copied result ≡ (if given.now.letter == letter then given.now.argument else option_copied found.entry) }
+{
+    if given.letter == letter {
+        given.argument.as_ref()
+    } else {
+        found
+    }
 }
 
 impl OptList {
@@ -69,5 +80,16 @@ impl OptList {
         ensures { result ≡ has letter self.now }
     {
         self.given.iter().any(|g| g.letter == letter)
+    }
+
+    /// The argument that an option has, the last one where it was given several times.
+    pub fn argument(&self, letter: u8) -> Option<&Bytes>
+        ensures { option_copied result ≡ last_argument letter None self.now }
+    {
+        let mut found = None;
+        for given in self.given.as_slice() {
+            found = newer(given, letter, found);
+        }
+        found
     }
 }

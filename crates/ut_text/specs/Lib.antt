@@ -1,5 +1,9 @@
 pub mod Cats
 pub mod Counts
 pub mod Heads
+pub mod Laws
+pub mod Starts
 pub mod Statuses
+pub mod Utilities
 pub mod Wcs
+pub mod Works

@@ -4,12 +4,19 @@
 mod cat;
 mod count;
 mod head;
+mod laws;
+mod start;
 mod status;
+mod utility;
 mod wc;
+mod work;
 
 pub use cat::Cat;
 pub use head::Head;
+pub use laws::text_utilities_say_what_commands_may;
+pub use utility::TextUtility;
 pub use wc::Wc;
+pub use work::TextWork;
 
 #[cfg(test)]
 mod tests;

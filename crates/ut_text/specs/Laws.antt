@@ -1,0 +1,39 @@
+-- A command may say what the text utilities say.
+use Rattle.std.specs.Prelude.{List, [], ◌∷◌, codes, Option, Some, IfSome, Bool, true, false, if◌then◌else◌}
+use Rattle.rk_base.specs.Text.{Text, same_text}
+use Rattle.rk_calls.specs.Talk.{Says}
+use Rattle.rk_calls.specs.Views.{IsCommandTalk}
+use Rattle.ut_args.specs.declared.form.Form.TheVariants.{Number}
+use Rattle.ut_args.specs.Tables.{alone, taking}
+use Rattle.ut_args.specs.Usage.{talk-begins}
+use Rattle.ut_args.specs.Words.{options}
+use Rattle.ut_filter.specs.Filters.{or_dash}
+use Rattle.ut_filter.specs.Laws.{talk-filters}
+use Rattle.ut_text.specs.Cats.{cat_job}
+use Rattle.ut_text.specs.Heads.{head_job}
+use Rattle.ut_text.specs.Wcs.{wc_job}
+use Rattle.ut_text.specs.Starts.{cats, heads, head_of, wcs, wc_of, text_utility}
+
+talk-cats : (wd : Text) (argv : List Text) → IsCommandTalk (cats wd argv)
+talk-cats wd argv = talk-begins (codes "cat") 1 (options (alone (codes "u")) argv) _ (λ args. talk-filters cat_job wd (or_dash args.operands))
+
+talk-heads : (wd : Text) (argv : List Text) → IsCommandTalk (heads wd argv)
+talk-heads wd argv = talk-begins (codes "head") 1 (options (taking Number (codes "n")) argv) _ (λ args. talk-filters (head_job (head_of args)) wd (or_dash args.operands))
+
+talk-wcs : (wd : Text) (argv : List Text) → IsCommandTalk (wcs wd argv)
+talk-wcs wd argv = talk-begins (codes "wc") 1 (options (alone (codes "clw")) argv) _ (λ args. talk-filters (wc_job (wc_of args)) wd (or_dash args.operands))
+
+if_named : (b : Bool) (x : Says) (o : Option Says) → IsCommandTalk x → IfSome o IsCommandTalk → IfSome (if b then Some x else o) IsCommandTalk
+if_named true x o h k = h
+if_named false x o h k = k
+
+pub talk-text_utility : (wd : Text) (argv : List Text) → IfSome (text_utility wd argv) IsCommandTalk
+talk-text_utility wd [] = tt
+talk-text_utility wd (name ∷ words) =
+    if_named (same_text name (codes "cat")) _ _ (talk-cats wd (name ∷ words))
+    (if_named (same_text name (codes "head")) _ _ (talk-heads wd (name ∷ words))
+    (if_named (same_text name (codes "wc")) _ _ (talk-wcs wd (name ∷ words)) tt))
+
+-- Whatever the words are, fewer turns only cut what the utility says, and its calls are proper.
+abbrev pub EachIsCommandTalk : Type 0
+EachIsCommandTalk = (wd : Text) (argv : List Text) → IfSome (text_utility wd argv) IsCommandTalk

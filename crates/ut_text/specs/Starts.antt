@@ -1,0 +1,63 @@
+-- What the text utilities say by their words, of which the first is the name.
+use Rattle.std.specs.Prelude.{List, [], ◌∷◌, length, codes, Option, Some, None, Bool, nat_lt, not, ◌||◌, if◌then◌else◌}
+use Rattle.rk_base.specs.Text.{Text, same_text}
+use Rattle.rk_calls.specs.Talk.{Says}
+use Rattle.ut_args.specs.declared.form.Form.TheVariants.{Number}
+use Rattle.ut_args.specs.Numbers.{number_or}
+use Rattle.ut_args.specs.Opts.{ArgsValue, gives, argument}
+use Rattle.ut_args.specs.Tables.{alone, taking}
+use Rattle.ut_args.specs.Usage.{begins}
+use Rattle.ut_args.specs.Words.{options}
+use Rattle.ut_filter.specs.Filters.{Job, filters, or_dash}
+use Rattle.ut_text.specs.declared.head.Head.{Head}
+use Rattle.ut_text.specs.declared.wc.Wc.{Wc}
+use Rattle.ut_text.specs.Cats.{cat_job}
+use Rattle.ut_text.specs.Heads.{head_job}
+use Rattle.ut_text.specs.Wcs.{wc_job}
+
+-- a filter of the operands, or of the standard input where there is none
+abbrev pub filters_operands : Job → Text → ArgsValue → Says
+filters_operands job wd args = filters job wd (or_dash args.operands)
+
+-- `cat [-u] [FILE..]`
+abbrev pub cats : Text → List Text → Says
+cats wd argv = begins (codes "cat") 1 (options (alone (codes "u")) argv) (filters_operands cat_job wd)
+
+-- ten lines where no number is given; headers stand where there are several operands
+abbrev pub head_of : ArgsValue → Head
+head_of args = record { number = number_or 10 (argument args (codes "n")); headed = nat_lt 1 (length args.operands) }
+
+-- `head [-n N] [FILE..]`
+abbrev pub heads : Text → List Text → Says
+heads wd argv = begins (codes "head") 1 (options (taking Number (codes "n")) argv) (λ args. filters_operands (head_job (head_of args)) wd args)
+
+-- whether an option of `wc` is given, or none is
+abbrev pub counts : ArgsValue → Text → Bool
+counts args letter = gives args letter || not (gives args (codes "c") || gives args (codes "l") || gives args (codes "w"))
+
+-- names stand where there are operands, a total where there are several
+abbrev pub wc_of : ArgsValue → Wc
+wc_of args =
+    record {
+      lines = counts args (codes "l");
+      words = counts args (codes "w");
+      bytes = counts args (codes "c");
+      named = nat_lt 0 (length args.operands);
+      many = nat_lt 1 (length args.operands);
+    }
+
+-- `wc [-clw] [FILE..]`
+abbrev pub wcs : Text → List Text → Says
+wcs wd argv = begins (codes "wc") 1 (options (alone (codes "clw")) argv) (λ args. filters_operands (wc_job (wc_of args)) wd args)
+
+-- the utility of a name, where this crate has it
+abbrev pub named : Text → Text → List Text → Option Says
+named name wd argv =
+    if same_text name (codes "cat") then Some (cats wd argv) else
+    (if same_text name (codes "head") then Some (heads wd argv) else
+    (if same_text name (codes "wc") then Some (wcs wd argv) else None))
+
+-- the utility of some words in a working directory
+abbrev pub text_utility : Text → List Text → Option Says
+text_utility wd [] = None
+text_utility wd (name ∷ words) = named name wd (name ∷ words)

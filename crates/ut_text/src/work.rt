@@ -1,0 +1,55 @@
+// The utilities that are filters.
+ghost use Rattle.std.specs.Prelude.{◌≡◌};
+
+use crate::cat::Cat;
+use crate::head::Head;
+use crate::wc::Wc;
+use rk_base::{Bytes, NoMemory};
+use std::alloc::Global;
+use ut_filter::{Input, Made, Work};
+
+/// A text utility that is a filter.
+#[derive(Drop)]
+pub enum TextWork {
+    Cats(Cat),
+    Heads(Head),
+    Wcs(Wc),
+}
+
+impl Work for TextWork {
+    ghost use Rattle.ut_text.specs.Works.{text_job};
+
+    ghost job = { text_job };
+
+    fn name(&self) -> &'static [u8] {
+        match self {
+            TextWork::Cats(work) => work.name(),
+            TextWork::Heads(work) => work.name(),
+            TextWork::Wcs(work) => work.name(),
+        }
+    }
+
+    fn failed(&self) -> u8 {
+        match self {
+            TextWork::Cats(work) => work.failed(),
+            TextWork::Heads(work) => work.failed(),
+            TextWork::Wcs(work) => work.failed(),
+        }
+    }
+
+    fn out(&self) -> Option<&Bytes> {
+        match self {
+            TextWork::Cats(work) => work.out(),
+            TextWork::Heads(work) => work.out(),
+            TextWork::Wcs(work) => work.out(),
+        }
+    }
+
+    fn make(&self, alloc: Global, inputs: &[Input]) -> Result<Made, NoMemory> {
+        match self {
+            TextWork::Cats(work) => work.make(alloc, inputs),
+            TextWork::Heads(work) => work.make(alloc, inputs),
+            TextWork::Wcs(work) => work.make(alloc, inputs),
+        }
+    }
+}
