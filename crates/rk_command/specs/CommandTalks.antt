@@ -1,27 +1,23 @@
 -- A command may say what these commands say: fewer turns only cut it, and no call of theirs has a mode.
-use Rattle.std.specs.Prelude.{ℕ, ◌+◌, List, [], ◌∷◌, Option, Some, None, Result, Ok, Err}
+use Rattle.std.specs.Prelude.{ℕ, List, [], ◌∷◌, Option, Some, None, IfSome, Result, Ok, Err}
 use Rattle.rk_base.specs.Text.{Text, same_text}
-use Rattle.rk_base.specs.Canonical.{is_empty}
 use Rattle.rk_base.specs.declared.errno.Errno.{Errno}
 use Rattle.rk_calls.specs.declared.call.How.TheVariants.{Read as ForReading, Make}
-use Rattle.rk_calls.specs.declared.call.Call.TheVariants.{Open, Read, Write, Launch}
+use Rattle.rk_calls.specs.declared.call.Call.TheVariants.{Open, Read, Launch}
 use Rattle.rk_calls.specs.Keys.{KeyValue, key_of, shell}
 use Rattle.rk_calls.specs.Talk.{Says}
 use Rattle.rk_calls.specs.Views.{IsCommandTalk, talk-exits, talk-pay, talk-ask, talk-if}
 use Rattle.rk_calls.specs.Brought.{brought, joined}
-use Rattle.rk_command.specs.CatTalk.{GatheredValue, refused, added, tells, written, writes, opened, reads, reads_all, inputs, nothing, dash, cat, begins}
-use Rattle.rk_command.specs.First.{shells, says_of, first_talk}
-use Rattle.rk_command.specs.Options.{operands}
+use Rattle.rk_command.specs.First.{shells, says_or, utility_or, says_of, first_talk}
 use Rattle.rk_calls.specs.Places.{absolute}
 use Rattle.rk_command.specs.Output.{with_output}
 use Rattle.rk_command.specs.Script.{LineValue, expanded, script_of}
 use Rattle.rk_command.specs.ShellTalk.{launches, redirected, redirects, runs_line, script_read, script_opened, runs_script}
-use Rattle.rk_command.specs.Telling.{complains}
 use Rattle.rk_calls.specs.Turns.{turns, pay_words}
 use Rattle.rk_command.specs.UnknownTalk.{is_unknown}
-
-talk-complains : (text : Text) (status : ℕ) → IsCommandTalk (complains text status)
-talk-complains text status = talk-ask (Write 2 text) (1 + turns text) _ tt (λ a. talk-exits status 0)
+use Rattle.ut_args.specs.Usage.{talk-complains}
+use Rattle.ut_text.specs.Starts.{text_utility}
+use Rattle.ut_text.specs.Laws.{talk-text_utility}
 
 -- The shell.
 
@@ -55,33 +51,6 @@ talk-script_opened wd file (Ok bytes) = talk-ask (Read 10) 1 _ tt (λ a. talk-sc
 talk-runs_script : (wd file : Text) → IsCommandTalk (runs_script wd file)
 talk-runs_script wd file = talk-ask (Open (absolute wd file) ForReading) 1 _ tt (λ a. talk-script_opened wd file (brought a))
 
--- `cat`.
-
-talk-tells : (errors : Text) → IsCommandTalk (tells errors)
-talk-tells errors = talk-if (is_empty errors) _ _ (talk-exits 0 0) (talk-complains errors 1)
-
-talk-writes : (g : GatheredValue) → IsCommandTalk (writes g)
-talk-writes g =
-    talk-if (is_empty g.content) _ _ (talk-tells g.errors) (talk-ask (Write 1 g.content) (1 + turns g.content) _ tt (λ a. talk-tells (written g (brought a)).errors))
-
-module _ (on : GatheredValue → Says) (talks : (g : GatheredValue) → IsCommandTalk (on g)) where
-  talk-opened : (operand : Text) (g : GatheredValue) (r : Result Text Errno) → IsCommandTalk (opened operand on g r)
-  talk-opened operand g (Err errno) = talks (refused operand g errno)
-  talk-opened operand g (Ok bytes) = talk-ask (Read g.next) 1 _ tt (λ a. talks (added operand (record g { next = g.next + 1 }) (brought a)))
-
-  talk-reads : (wd operand : Text) (g : GatheredValue) → IsCommandTalk (reads wd operand on g)
-  talk-reads wd operand g =
-      talk-if (same_text operand dash) _ _ (talk-ask (Read 0) 1 _ tt (λ a. talks (added operand g (brought a))))
-      (talk-ask (Open (absolute wd operand) ForReading) 1 _ tt (λ a. talk-opened operand g (brought a)))
-
-talk-reads_all : (wd : Text) (operands : List Text) (g : GatheredValue) → IsCommandTalk (reads_all wd operands g)
-talk-reads_all wd [] g = talk-writes g
-talk-reads_all wd (operand ∷ more) g = talk-reads (reads_all wd more) (talk-reads_all wd more) wd operand g
-
-talk-begins : (wd : Text) (r : Result (List Text) ℕ) → IsCommandTalk (begins wd r)
-talk-begins wd (Ok operands) = talk-reads_all wd (inputs operands) nothing
-talk-begins wd (Err letter) = talk-complains _ 1
-
 -- Any command.
 
 talk-is_unknown : (name : Text) → IsCommandTalk (is_unknown name)
@@ -92,11 +61,17 @@ talk-shells wd [] = talk-is_unknown shell
 talk-shells wd (file ∷ []) = talk-runs_script wd file
 talk-shells wd (file ∷ word ∷ words) = talk-is_unknown shell
 
+talk-says_or : (o : Option Says) (other : Says) → IfSome o IsCommandTalk → IsCommandTalk other → IsCommandTalk (says_or o other)
+talk-says_or (Some says) other is_talk other_is = is_talk
+talk-says_or None other is_talk other_is = other_is
+
+talk-utility_or : (wd : Text) (argv : List Text) (other : Says) → IsCommandTalk other → IsCommandTalk (utility_or wd argv other)
+talk-utility_or wd argv other is_talk = talk-says_or (text_utility wd argv) other (talk-text_utility wd argv) is_talk
+
 talk-says_of : (wd : Text) (argv : List Text) → IsCommandTalk (says_of wd argv)
 talk-says_of wd [] = talk-is_unknown []
 talk-says_of wd (name ∷ words) =
-    talk-if (same_text name shell) _ _ (talk-shells wd words)
-    (talk-if (same_text name cat) _ _ (talk-begins wd (operands words)) (talk-is_unknown name))
+    talk-if (same_text name shell) _ _ (talk-shells wd words) (talk-utility_or wd (name ∷ words) (is_unknown name) (talk-is_unknown name))
 
 pub talk-first_talk : (key : KeyValue) → IsCommandTalk (first_talk key)
 unfolding first_talk

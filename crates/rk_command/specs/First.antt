@@ -1,11 +1,11 @@
 -- What the command of a key says.
-use Rattle.std.specs.Prelude.{List, [], ◌∷◌, if◌then◌else◌}
+use Rattle.std.specs.Prelude.{List, [], ◌∷◌, if◌then◌else◌, Option, Some, None}
 use Rattle.rk_base.specs.Text.{Text, same_text}
 use Rattle.rk_calls.specs.Keys.{KeyValue, shell}
 use Rattle.rk_calls.specs.Talk.{Says, pay}
-use Rattle.rk_command.specs.CatTalk.{cat, cats}
 use Rattle.rk_command.specs.ShellTalk.{runs_script}
 use Rattle.rk_command.specs.UnknownTalk.{is_unknown}
+use Rattle.ut_text.specs.Starts.{text_utility}
 
 -- `sh` runs the script that its one word names; with other words it is unknown
 abbrev pub shells : Text → List Text → Says
@@ -13,10 +13,19 @@ shells wd [] = is_unknown shell
 shells wd (file ∷ []) = runs_script wd file
 shells wd (file ∷ word ∷ words) = is_unknown shell
 
+-- what a utility says, or else this
+abbrev pub says_or : Option Says → Says → Says
+says_or (Some says) other = says
+says_or None other = other
+
+-- the utility of the first word, or else this
+abbrev pub utility_or : Text → List Text → Says → Says
+utility_or wd argv other = says_or (text_utility wd argv) other
+
 -- by the first word
 abbrev pub says_of : Text → List Text → Says
 says_of wd [] = is_unknown []
-says_of wd (name ∷ words) = if same_text name shell then shells wd words else (if same_text name cat then cats wd words else is_unknown name)
+says_of wd (name ∷ words) = if same_text name shell then shells wd words else utility_or wd (name ∷ words) (is_unknown name)
 
 -- it pays for its start
 unfoldable pub first_talk : KeyValue → Says

@@ -1,13 +1,8 @@
-pub mod CatStages
-pub mod CatTalk
 pub mod CommandTalks
-pub mod Complaining
 pub mod First
-pub mod Options
 pub mod Output
 pub mod Running
 pub mod Script
 pub mod ShellStages
 pub mod ShellTalk
-pub mod Telling
 pub mod UnknownTalk

@@ -12,7 +12,7 @@ use Rattle.rk_calls.specs.Lines.{error_line}
 use Rattle.rk_calls.specs.Places.{absolute}
 use Rattle.rk_command.specs.Output.{with_output}
 use Rattle.rk_command.specs.Script.{LineValue, expanded, script_of}
-use Rattle.rk_command.specs.Telling.{complains}
+use Rattle.ut_args.specs.Usage.{complains}
 use Rattle.rk_calls.specs.Turns.{pay_words}
 
 -- `sh: OPERAND: word`

@@ -4,7 +4,7 @@ use Rattle.rk_base.specs.Text.{Text}
 use Rattle.rk_calls.specs.Keys.{shell}
 use Rattle.rk_calls.specs.Talk.{Says}
 use Rattle.rk_calls.specs.Lines.{error_line}
-use Rattle.rk_command.specs.Telling.{complains}
+use Rattle.ut_args.specs.Usage.{complains}
 
 -- `sh: NAME: not found`, and status 127
 abbrev pub is_unknown : Text → Says

@@ -1,27 +1,25 @@
 // The command of a key.
 ghost use Rattle.std.specs.Prelude.{◌≡◌, IfOk};
-ghost use Rattle.rk_command.specs.CatTalk.{cats};
-ghost use Rattle.rk_command.specs.First.{shells, says_of, first_talk};
+ghost use Rattle.rk_command.specs.First.{shells, says_of, utility_or, first_talk};
 ghost use Rattle.rk_command.specs.Running.{running_talk, command_talk};
 ghost use Rattle.rk_command.specs.UnknownTalk.{is_unknown};
 
-use crate::cat::Cat;
-use crate::complaint::Complaint;
-use crate::options::operands;
 use crate::shell::Shell;
-use rk_base::{Bytes, NoMemory, Path};
-use rk_calls::{Answer, Key, Machine, Turn};
+use rk_base::{Bytes, NoMemory, Path, WordList};
+use rk_calls::{Answer, Key, Machine, Turn, error_line};
 use std::alloc::Global;
+use ut_args::Complaint;
+use ut_text::TextUtility;
 
 #[derive(Drop)]
 enum Running {
     Complains(Complaint),
     Shells(Shell),
-    Cats(Cat),
+    Texts(TextUtility),
 }
 
-/// The command of a key, as a machine: the shell of a script for `sh FILE`, `cat`, and for any other key an
-/// unknown name.
+/// The command of a key, as a machine: the shell of a script for `sh FILE`, a utility by its name, and for any other
+/// key an unknown name.
 #[derive(Drop)]
 pub struct Command {
     /// Whether it has paid for its start.
@@ -29,10 +27,12 @@ pub struct Command {
     running: Running,
 }
 
+// A name that is no command's: `sh: NAME: not found`, and status 127.
 fn unknown(alloc: Global, name: &[u8]) -> Result<Running, NoMemory>
     ensures { IfOk result (λ r. running_talk r Answer.Go ≡ is_unknown name.now) }
 {
-    let complaint = Complaint::unknown(alloc, name)?;
+    let text = error_line(alloc, b"sh", name, b"not found")?;
+    let complaint = Complaint::new(text, 127);
     Ok(Running::Complains(complaint))
 }
 
@@ -49,34 +49,27 @@ fn shell(alloc: Global, wd: &Path, words: &[Bytes]) -> Result<Running, NoMemory>
     }
 }
 
-fn cat(alloc: Global, wd: &Path, words: &[Bytes]) -> Result<Running, NoMemory>
-    ensures { IfOk result (λ r. running_talk r Answer.Go ≡ cats wd.now words.now) }
+// A text utility, or an unknown name.
+fn utility(alloc: Global, wd: &Path, argv: &WordList, name: &[u8]) -> Result<Running, NoMemory>
+    ensures { IfOk result (λ r. running_talk r Answer.Go ≡ utility_or wd.now argv.now (is_unknown name.now)) }
 {
-    match operands(words) {
-        Ok(operands) => {
-            let cat = Cat::new(alloc, wd, operands)?;
-            Ok(Running::Cats(cat))
-        }
-        Err(letter) => {
-            let complaint = Complaint::usage(alloc, letter)?;
-            Ok(Running::Complains(complaint))
-        }
+    let found = TextUtility::start(alloc, wd, argv)?;
+    match found {
+        Some(utility) => Ok(Running::Texts(utility)),
+        None => unknown(alloc, name),
     }
 }
 
-fn machine_of(alloc: Global, wd: &Path, argv: &[Bytes]) -> Result<Running, NoMemory>
+fn machine_of(alloc: Global, wd: &Path, argv: &WordList) -> Result<Running, NoMemory>
     ensures { IfOk result (λ r. running_talk r Answer.Go ≡ says_of wd.now argv.now) }
 {
-    match argv {
+    match argv.as_slice() {
         [] => unknown(alloc, b""),
         [name, words @ ..] => {
             if name.as_slice() == b"sh".as_slice() {
                 return shell(alloc, wd, words);
             }
-            if name.as_slice() == b"cat".as_slice() {
-                return cat(alloc, wd, words);
-            }
-            unknown(alloc, name.as_slice())
+            utility(alloc, wd, argv, name.as_slice())
         }
     }
 }
@@ -87,7 +80,7 @@ impl Command {
     pub fn start(alloc: Global, key: &Key) -> Result<Command, NoMemory>
         ensures { IfOk result (λ c. command_talk c Answer.Go ≡ first_talk key.now) }
     {
-        let running = machine_of(alloc, key.wd(), key.argv().as_slice())?;
+        let running = machine_of(alloc, key.wd(), key.argv())?;
         Ok(Command {
             paid: false,
             running,
@@ -104,7 +97,7 @@ impl Machine for Running {
         match self {
             Running::Complains(machine) => machine.resume(answer),
             Running::Shells(machine) => machine.resume(answer),
-            Running::Cats(machine) => machine.resume(answer),
+            Running::Texts(machine) => machine.resume(answer),
         }
     }
 }

@@ -1,13 +1,9 @@
-//! The machines of commands: the shell of a script of one line, `cat`, and unknown names.
+//! The machines of commands: the shell of a script of one line, the utilities, and unknown names.
 #![tactic(auto)]
 
-mod cat;
 mod command;
 mod commands;
-mod complaint;
-mod gathered;
 mod line;
-mod options;
 mod output;
 mod script;
 mod shell;

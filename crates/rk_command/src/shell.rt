@@ -6,7 +6,7 @@ ghost use Rattle.rk_calls.specs.Brought.{brought};
 ghost use Rattle.rk_command.specs.Script.{expanded};
 ghost use Rattle.rk_command.specs.ShellTalk.{refusal, syntax_error, launches, redirected, redirects, runs_line, script_read, script_opened, runs_script};
 ghost use Rattle.rk_command.specs.ShellStages.{IsSaidBy, stage_talk};
-ghost use Rattle.rk_command.specs.Telling.{complains};
+ghost use Rattle.ut_args.specs.Usage.{complains};
 ghost use Rattle.rk_calls.specs.Turns.{pay_words};
 
 use crate::line::Line;

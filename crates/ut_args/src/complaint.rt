@@ -1,6 +1,6 @@
 // Utilities that only complain.
 ghost use Rattle.std.specs.Prelude.{◌≡◌, ◌++◌, IfOk, codes};
-ghost use Rattle.ut_args.specs.Usage.{misuses, misuses_option, complaint_talk};
+ghost use Rattle.ut_args.specs.Usage.{complains, misuses, misuses_option, complaint_talk};
 
 use rk_base::{Bytes, NoMemory};
 use rk_calls::{Answer, Call, Machine, Turn, error_line, turns};
@@ -22,6 +22,16 @@ fn usage_line(alloc: Global, name: &[u8]) -> Result<Bytes, NoMemory>
 }
 
 impl Complaint {
+    /// Any text, whole lines as a rule.
+    pub fn new(text: Bytes, status: u8) -> Complaint
+        ensures { complaint_talk result Answer.Go ≡ complains text status }
+    {
+        Complaint {
+            text: Some(text),
+            status,
+        }
+    }
+
     /// That of an option, as `-X`: `NAME: -X: usage`.
     pub fn of_option(
         alloc: Global,

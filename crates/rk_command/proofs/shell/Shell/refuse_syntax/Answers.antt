@@ -1,7 +1,7 @@
 use Rattle.std.proofs.Common.{ap, sym, ◌∙◌}
 use Rattle.rk_base.specs.Text.{Text}
 use Rattle.rk_command.specs.ShellTalk.{syntax_error}
-use Rattle.rk_command.specs.Telling.{complains}
+use Rattle.ut_args.specs.Usage.{complains}
 use Rattle.rk_command.proofs.shell.Shell.refuse_syntax.Goals as goal
 
 pub returns-clause-talk : goal.returns-clause-talk
