@@ -6,13 +6,11 @@ mod activity;
 mod build;
 mod hearing;
 mod ran;
+mod script;
 mod stop;
-#[cfg(test)]
-mod tests;
 mod turns;
-mod world;
 
 pub use build::{Built, build_with};
 pub use ran::{Cause, Ran, RanList};
+pub use script::script_key;
 pub use stop::Stop;
-pub use world::{BuiltWorld, build_world, check, script_key};
