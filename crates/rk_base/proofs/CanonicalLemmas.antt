@@ -5,8 +5,8 @@ use Rattle.std.proofs.lemmas.List.Folds.{list_all-append}
 use Rattle.std.proofs.lemmas.List.{drop-drop}
 use Rattle.std.proofs.lemmas.List.Splits.{slice_split_first}
 use Rattle.std.proofs.lemmas.Bool.Decides.{leb_tells}
-use Rattle.rk_base.specs.Text.{Text, is_slash, is_root, root, join}
-use Rattle.rk_base.specs.Canonical.{is_barred, is_name, is_empty, components, begins_named, is_canonical}
+use Rattle.rk_base.specs.Text.{Text, is_slash, is_root, root, join, components}
+use Rattle.rk_base.specs.Canonical.{is_barred, is_name, is_empty, begins_named, is_canonical}
 
 pub both : (a b : Bool) → (a && b) ≡ true → (a ≡ true) × (b ≡ true)
 both true b h = (refl, h)

@@ -1,14 +1,16 @@
 -- A path is its last name in its parent.
-use Rattle.std.proofs.Common.{◌+◌, ◌⊎◌, length, take, drop, arith, inl, inr, ◌≡◌, ℕ, [], ◌∷◌, ◌++◌, Bool, true, false, cond, not, ◌&&◌, ◌||◌, refl, sym, ap, ◌∙◌, count_by, zero-add}
-use Rattle.std.specs.List.{list_all, list_any, onto_first}
-use Rattle.std.proofs.lemmas.List.Folds.{list_all-append}
+use Rattle.std.proofs.Common.{get_or, take-append-drop, length-drop, ◌≢◌, ◌<◌, ◌≤◌, List, ◌+◌, ◌⊎◌, length, take, drop, arith, inl, inr, ◌≡◌, ℕ, [], ◌∷◌, ◌++◌, Bool, true, false, cond, not, ◌&&◌, ◌||◌, refl, sym, ap, ◌∙◌, count_by, zero-add}
+use Rattle.std.specs.List.{list_all, list_any, onto_first, join_with_byte}
+use Rattle.std.proofs.lemmas.List.Folds.{list_all-append, list_any_none}
+use Rattle.std.proofs.lemmas.List.{drop_more, get_or-drop}
+use Rattle.std.proofs.lemmas.List.Elements.{All-from_get_or}
 use Rattle.std.proofs.lemmas.List.Sums.{sum_by-append, sum_by-cons}
-use Rattle.std.proofs.lemmas.Bool.{eqb-true}
-use Rattle.std.proofs.Math.Seq.{take-append_seam, drop-append-add}
+use Rattle.std.proofs.lemmas.Bool.{eqb-true, ne_eqb}
+use Rattle.std.proofs.lemmas.List.Splits.{join_with_byte-slice_split}
 use Rattle.std.specs.Cmp.Lexicographic.{bytes_decides}
-use Rattle.rk_base.specs.Text.{Text, is_slash, is_root, root, or_root, stem, join, parent, name_of, last_slash, depth, is_in, same_text}
-use Rattle.rk_base.specs.Canonical.{is_barred, is_name, is_empty, components, begins_named, is_canonical}
-use Rattle.rk_base.proofs.CanonicalLemmas.{both, either, denied, components-append, name-unbarred, root-canonical}
+use Rattle.rk_base.specs.Text.{Text, is_slash, is_root, root, or_root, stem, join, parent, name_of, components, but_last, last_text, depth, is_in, same_text}
+use Rattle.rk_base.specs.Canonical.{is_barred, is_name, is_empty, begins_named, is_canonical}
+use Rattle.rk_base.proofs.CanonicalLemmas.{both, either, denied, components-append, components-alone, name-unbarred, root-canonical}
 
 -- How many names.
 
@@ -53,48 +55,71 @@ depth-join dir name h =
 
 -- The last slash cuts a path in its parent and its last name.
 
--- where the last slash stands in a text, or that there is none
-CutsLast : ℕ → ℕ → Text → Type 0
-CutsLast last i text = ((last_slash last i text ≡ last) × (list_any is_slash text ≡ false)) ⊎ ((front : Text) × (back : Text) × (text ≡ front ++ 47 ∷ back) × (last_slash last i text ≡ i + length front) × (list_any is_slash back ≡ false))
-
-cuts_more : (s : Bool) (last i b : ℕ) (bs : Text) → is_slash b ≡ s → CutsLast (cond s i last) (i + 1) bs → CutsLast last i (b ∷ bs)
-unfolding CutsLast
-cuts_more true last i b bs e (inl h) = inr (record {
-  0 = [];
-  1 = bs;
-  2 = ap (λ (c : ℕ). c ∷ bs) (eqb-true b 47 e);
-  3 = ap (λ (s : Bool). last_slash (cond s i last) (i + 1) bs) e ∙ h.0 ∙ omega arith;
-  4 = h.1;
-})
-cuts_more true last i b bs e (inr h) = inr (record {
-  0 = b ∷ h.0;
-  1 = h.1;
-  2 = ap (λ (t : Text). b ∷ t) h.2;
-  3 = ap (λ (s : Bool). last_slash (cond s i last) (i + 1) bs) e ∙ h.3 ∙ omega arith;
-  4 = h.4;
-})
-cuts_more false last i b bs e (inl h) = inl (record {
-  0 = ap (λ (s : Bool). last_slash (cond s i last) (i + 1) bs) e ∙ h.0;
-  1 = ap (λ (s : Bool). s || list_any is_slash bs) e ∙ h.1;
-})
-cuts_more false last i b bs e (inr h) = inr (record {
-  0 = b ∷ h.0;
-  1 = h.1;
-  2 = ap (λ (t : Text). b ∷ t) h.2;
-  3 = ap (λ (s : Bool). last_slash (cond s i last) (i + 1) bs) e ∙ h.3 ∙ omega arith;
-  4 = h.4;
-})
-
-cuts_last : (last i : ℕ) (text : Text) → CutsLast last i text
-unfolding CutsLast
-cuts_last last i [] = inl (refl, refl)
-cuts_last last i (b ∷ bs) = cuts_more (is_slash b) last i b bs refl (cuts_last (cond (is_slash b) i last) (i + 1) bs)
-
 components-unslashed : (xs : Text) → list_any is_slash xs ≡ false → components xs ≡ xs ∷ []
 components-unslashed [] h = refl
 components-unslashed (x ∷ xs) h =
     let e = either (is_slash x) (list_any is_slash xs) h in
     ap (λ (b : Bool). cond b ([] ∷ components xs) (onto_first x (components xs))) e.0 ∙ ap (onto_first x) (components-unslashed xs e.1)
+
+but_last-append : (ts : List Text) (t : Text) → but_last (ts ++ t ∷ []) ≡ ts
+but_last-append [] t = refl
+but_last-append (u ∷ []) t = refl
+but_last-append (u ∷ v ∷ us) t = ap (λ (ts : List Text). u ∷ ts) (but_last-append (v ∷ us) t)
+
+last_text-append : (ts : List Text) (t : Text) → last_text (ts ++ t ∷ []) ≡ t
+last_text-append [] t = refl
+last_text-append (u ∷ []) t = refl
+last_text-append (u ∷ v ∷ us) t = last_text-append (v ∷ us) t
+
+-- a path whose last component stands after this front
+pub parent_by : (path front name : Text) → components path ≡ components front ++ name ∷ [] → parent path ≡ or_root front
+unfolding parent
+parent_by path front name is =
+    ap (λ (ts : List Text). or_root (join_with_byte 47 (but_last ts))) is ∙ ap (λ (ts : List Text). or_root (join_with_byte 47 ts)) (but_last-append (components front) name)
+    ∙ ap or_root (join_with_byte-slice_split 47 front)
+
+pub name_by : (path front name : Text) → components path ≡ components front ++ name ∷ [] → name_of path ≡ name
+name_by path front name is = ap last_text is ∙ last_text-append (components front) name
+
+-- a path without a slash
+pub parent_alone : (path : Text) → components path ≡ path ∷ [] → parent path ≡ root
+unfolding parent
+parent_alone path is = ap (λ (ts : List Text). or_root (join_with_byte 47 (but_last ts))) is
+
+pub name_alone : (path : Text) → components path ≡ path ∷ [] → name_of path ≡ path
+name_alone path is = ap last_text is
+
+cut_at : (front back : Text) → list_any is_slash back ≡ false → components (front ++ 47 ∷ back) ≡ components front ++ back ∷ []
+cut_at front back none = components-append front back ∙ ap (λ (ts : List Text). components front ++ ts) (components-unslashed back none)
+
+-- The last slash, as the code finds it.
+
+unslashed-reads : (xs : Text) → ((k : ℕ) → k < length xs → get_or xs k 0 ≢ 47) → list_any is_slash xs ≡ false
+unslashed-reads xs none = list_any_none is_slash xs (All-from_get_or (λ b. is_slash b ≡ false) xs 0 (λ k inside. ne_eqb (get_or xs k 0) 47 (none k inside)))
+
+pub alone_at_last : (text : Text) → ((k : ℕ) → k < length text → get_or text k 0 ≢ 47) → components text ≡ text ∷ []
+alone_at_last text none = components-unslashed text (unslashed-reads text none)
+
+pub cut_at_last : (text : Text) (i : ℕ) → i < length text → get_or text i 0 ≡ 47 → ((k : ℕ) → i + 1 ≤ k → k < length text → get_or text k 0 ≢ 47) → components text ≡ components (take i text) ++ drop (i + 1) text ∷ []
+cut_at_last text i inside here after =
+    ap components (sym (take-append-drop i text) ∙ ap (λ (t : Text). take i text ++ t) (drop_more text i 0 inside ∙ ap (λ (b : ℕ). b ∷ drop (i + 1) text) here))
+    ∙ cut_at (take i text) (drop (i + 1) text) (unslashed-reads (drop (i + 1) text) (λ k below same. after (i + 1 + k) (omega arith) (omega (arith, length-drop (i + 1) text)) (sym (get_or-drop (i + 1) text k 0) ∙ same)))
+
+-- what stands before the last slash of a text and after it, or that there is none
+CutsLast : Text → Type 0
+CutsLast text = (list_any is_slash text ≡ false) ⊎ ((front : Text) × (back : Text) × (text ≡ front ++ 47 ∷ back) × (list_any is_slash back ≡ false))
+
+cuts_more : (s : Bool) (b : ℕ) (bs : Text) → is_slash b ≡ s → CutsLast bs → CutsLast (b ∷ bs)
+unfolding CutsLast
+cuts_more true b bs e (inl h) = inr (record { 0 = []; 1 = bs; 2 = ap (λ (c : ℕ). c ∷ bs) (eqb-true b 47 e); 3 = h })
+cuts_more true b bs e (inr h) = inr (record { 0 = b ∷ h.0; 1 = h.1; 2 = ap (λ (t : Text). b ∷ t) h.2; 3 = h.3 })
+cuts_more false b bs e (inl h) = inl (ap (λ (s : Bool). s || list_any is_slash bs) e ∙ h)
+cuts_more false b bs e (inr h) = inr (record { 0 = b ∷ h.0; 1 = h.1; 2 = ap (λ (t : Text). b ∷ t) h.2; 3 = h.3 })
+
+cuts_last : (text : Text) → CutsLast text
+unfolding CutsLast
+cuts_last [] = inl refl
+cuts_last (b ∷ bs) = cuts_more (is_slash b) b bs refl (cuts_last bs)
 
 -- what the parts of a path are
 pub record IsCut (path : Text) : Type 0 where
@@ -158,15 +183,10 @@ first_slash (x ∷ xs) c none = let no = (either (is_slash x) _ none).0 in let y
 
 -- each path but the root is the path of a name in a directory
 pub path-is_cut : (path : Text) → is_canonical path ≡ true → is_root path ≡ false → IsCut path
-unfolding CutsLast parent
-path-is_cut path c r = elim (cuts_last 0 0 path) [
-  | inl h ↦ absurd (first_slash path c h.1)
-  | inr h ↦
-      let at : last_slash 0 0 path ≡ length h.0 = h.3 ∙ zero-add _ in
-      cut_parts path h.0 h.1 h.2
-      (ap or_root (ap (λ (k : ℕ). take k path) at ∙ ap (take (length h.0)) h.2 ∙ take-append_seam h.0 (47 ∷ h.1)))
-      (ap (λ (k : ℕ). drop (k + 1) path) at ∙ ap (drop (length h.0 + 1)) h.2 ∙ drop-append-add h.0 (47 ∷ h.1) 1)
-      h.4 c r
+unfolding CutsLast
+path-is_cut path c r = elim (cuts_last path) [
+  | inl h ↦ absurd (first_slash path c h)
+  | inr h ↦ let at : components path ≡ components h.0 ++ h.1 ∷ [] = ap components h.2 ∙ cut_at h.0 h.1 h.3 in cut_parts path h.0 h.1 h.2 (parent_by path h.0 h.1 at) (name_by path h.0 h.1 at) h.3 c r
 ]
 
 is_the_root : (path : Text) → is_root path ≡ true → path ≡ root
@@ -182,19 +202,9 @@ parent-canonical path c = elim (is_root path) as (λ (b : Bool). is_root path �
 
 -- The path of a name in a directory has these two parts.
 
-last_slash-append : (last i : ℕ) (xs ys : Text) → last_slash last i (xs ++ ys) ≡ last_slash (last_slash last i xs) (i + length xs) ys
-last_slash-append last i [] ys = ap (λ (k : ℕ). last_slash last k ys) (omega arith)
-last_slash-append last i (x ∷ xs) ys = last_slash-append (cond (is_slash x) i last) (i + 1) xs ys ∙ ap (λ (k : ℕ). last_slash (last_slash (cond (is_slash x) i last) (i + 1) xs) k ys) (omega arith)
-
-last_slash-unslashed : (last i : ℕ) (xs : Text) → list_any is_barred xs ≡ false → last_slash last i xs ≡ last
-last_slash-unslashed last i [] h = refl
-last_slash-unslashed last i (x ∷ xs) h =
-    let e = either (is_barred x) (list_any is_barred xs) h in
-    let s = either (is_slash x) _ e.0 in
-    ap (λ (b : Bool). last_slash (cond b i last) (i + 1) xs) s.0 ∙ last_slash-unslashed last (i + 1) xs e.1
-
-last_of_join : (front name : Text) → is_name name ≡ true → last_slash 0 0 (front ++ 47 ∷ name) ≡ length front
-last_of_join front name h = last_slash-append 0 0 front (47 ∷ name) ∙ last_slash-unslashed _ _ name (name-unbarred name h) ∙ zero-add _
+join-cut : (dir name : Text) → is_name name ≡ true → components (join dir name) ≡ components (stem dir) ++ name ∷ []
+unfolding join
+join-cut dir name h = components-append (stem dir) name ∙ ap (λ (ts : List Text). components (stem dir) ++ ts) (components-alone name (name-unbarred name h))
 
 or_root-stem : (dir : Text) → is_canonical dir ≡ true → or_root (stem dir) ≡ dir
 unfolding is_canonical
@@ -205,14 +215,10 @@ or_root-stem (x ∷ xs) c = elim (is_root (x ∷ xs)) as (λ (b : Bool). is_root
 ] refl
 
 pub parent-join : (dir name : Text) → is_canonical dir ≡ true → is_name name ≡ true → parent (join dir name) ≡ dir
-unfolding parent join
-parent-join dir name c h =
-    ap or_root (ap (λ (k : ℕ). take k (stem dir ++ 47 ∷ name)) (last_of_join (stem dir) name h) ∙ take-append_seam (stem dir) (47 ∷ name)) ∙ or_root-stem dir c
+parent-join dir name c h = parent_by (join dir name) (stem dir) name (join-cut dir name h) ∙ or_root-stem dir c
 
 pub name_of-join : (dir name : Text) → is_name name ≡ true → name_of (join dir name) ≡ name
-unfolding join
-name_of-join dir name h =
-    ap (λ (k : ℕ). drop (k + 1) (stem dir ++ 47 ∷ name)) (last_of_join (stem dir) name h) ∙ drop-append-add (stem dir) (47 ∷ name) 1
+name_of-join dir name h = name_by (join dir name) (stem dir) name (join-cut dir name h)
 
 pub join-not_root : (dir name : Text) → is_name name ≡ true → is_root (join dir name) ≡ false
 unfolding join

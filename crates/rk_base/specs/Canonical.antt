@@ -1,11 +1,14 @@
 -- Names, and the canonical texts of paths.
 use Rattle.std.specs.Prelude.{ℕ, List, [], ◌∷◌, length, nat_lt, Bool, true, false, not, ◌&&◌, ◌||◌, ◌==◌}
-use Rattle.std.specs.List.{list_all, list_any, slice_split}
+use Rattle.std.specs.List.{list_all, list_any}
 use Rattle.std.specs.Str.{is_utf8}
-use Rattle.rk_base.specs.Text.{Text, is_slash, same_text, dot, dot_dot}
+use Rattle.rk_base.specs.Text.{Text, is_slash, components, same_text, dot, dot_dot}
 
 abbrev pub is_nul : ℕ → Bool
 is_nul b = b == 0
+
+abbrev pub has_nul : Text → Bool
+has_nul = list_any is_nul
 
 -- a slash or a NUL
 abbrev pub is_barred : ℕ → Bool
@@ -19,10 +22,6 @@ is_empty (x ∷ xs) = false
 unfoldable pub is_name : Text → Bool
 is_name name =
     not (is_empty name) && nat_lt (length name) 256 && is_utf8 name && not (list_any is_barred name) && not (same_text name dot) && not (same_text name dot_dot)
-
--- the texts between slashes
-abbrev pub components : Text → List Text
-components = slice_split is_slash
 
 abbrev pub begins_named : Text → Bool
 begins_named [] = false

@@ -1,5 +1,6 @@
 -- Texts of paths, in the order of their bytes.
 use Rattle.std.specs.Prelude.{ℕ, ◌+◌, ◌-◌, List, [], ◌∷◌, ◌++◌, take, drop, replicate, length, nat_eq, count_by, not, ◌&&◌, ◌||◌, Bool, ◌==◌, if◌then◌else◌, Option, Some, None}
+use Rattle.std.specs.List.{slice_split, join_with_byte}
 use Rattle.std.specs.Ordering.{nat_cmp}
 use Rattle.std.specs.declared.cmp.Ordering.{Ordering}
 use Rattle.std.specs.Cmp.Lexicographic.{slice_cmp, pointwise}
@@ -27,18 +28,29 @@ abbrev pub or_root : Text → Text
 or_root [] = root
 or_root (b ∷ bs) = b ∷ bs
 
--- the place of the last slash of what stands from place i on, or else the given one
-abbrev pub last_slash : ℕ → ℕ → Text → ℕ
-last_slash last i [] = last
-last_slash last i (b ∷ bs) = last_slash (if is_slash b then i else last) (i + 1) bs
+-- the texts between slashes
+abbrev pub components : Text → List Text
+components = slice_split is_slash
 
--- the directory that a path stands in; the root's is the root
+-- these texts but the last
+abbrev pub but_last : List Text → List Text
+but_last [] = []
+but_last (t ∷ []) = []
+but_last (t ∷ u ∷ ts) = t ∷ but_last (u ∷ ts)
+
+-- the last of these texts
+abbrev pub last_text : List Text → Text
+last_text [] = []
+last_text (t ∷ []) = t
+last_text (t ∷ u ∷ ts) = last_text (u ∷ ts)
+
+-- the directory that a path stands in: its components but the last; the root's is the root
 unfoldable pub parent : Text → Text
-parent path = or_root (take (last_slash 0 0 path) path)
+parent path = or_root (join_with_byte 47 (but_last (components path)))
 
--- the last name of a path
+-- the last name of a path: its last component
 abbrev pub name_of : Text → Text
-name_of path = drop (last_slash 0 0 path + 1) path
+name_of path = last_text (components path)
 
 -- the last name of a path, where it isn't the root
 abbrev pub last_of : Text → Option Text

@@ -27,7 +27,7 @@ pub use names::NameList;
 pub use path::{Path, PathFault};
 pub use sorting::sort_texts;
 pub use steps::Steps;
-pub use text::{has_nul, is_name};
+pub use text::{first_component, has_nul, is_name};
 pub use variables::is_variable;
 pub use vars::{Var, VarList};
 pub use words::WordList;

@@ -9,7 +9,7 @@ ghost use Rattle.rk_base.specs.Canonical.{is_canonical, is_name};
 ghost use Rattle.rk_base.specs.Faults.{Reads};
 ghost use Rattle.rk_base.specs.declared.path.PathFault.TheVariants as fault;
 
-use crate::text::{is_canonical, last_slash};
+use crate::text::{is_canonical, last_component};
 use crate::{Bytes, Name, NoMemory};
 use std::alloc::Global;
 use std::cmp::Ordering;
@@ -46,6 +46,15 @@ impl Model for Path {
     ghost view = { λ p. p.text };
 
     ghost invariant = { λ p. is_canonical p.text ≡ true };
+}
+
+fn or_root(text: &[u8]) -> &[u8]
+    ensures { result.now ≡ or_root text.now }
+{
+    match text {
+        [] => b"/",
+        text => text,
+    }
 }
 
 // A path as what a name is put after.
@@ -112,27 +121,25 @@ impl Path {
     }
 
     /// The text of the directory that it stands in; the root's is the root.
-    #[tactic(auto, unfolding(crate::specs::Text::parent))]
+    #[tactic(auto, using(crate::proofs::PathLemmas::parent_by, crate::proofs::PathLemmas::parent_alone))]
     pub fn parent_text(&self) -> &[u8]
         ensures { result.now ≡ parent self.now }
     {
-        let text = self.text();
-        match &text[..last_slash(text)] {
-            [] => b"/",
-            front => front,
+        match last_component(self.text()) {
+            Some((front, _)) => or_root(front),
+            None => b"/",
         }
     }
 
     /// Its last name; nothing for the root.
+    #[tactic(auto, using(crate::proofs::PathLemmas::name_by, crate::proofs::PathLemmas::name_alone))]
     pub fn name(&self) -> &[u8]
         ensures { result.now ≡ name_of self.now }
     {
         let text = self.text();
-        let last = last_slash(text);
-        if last < text.len() {
-            &text[last + 1..]
-        } else {
-            b""
+        match last_component(text) {
+            Some((_, name)) => name,
+            None => text,
         }
     }
 

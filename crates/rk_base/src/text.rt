@@ -1,9 +1,9 @@
 // Names and the texts of paths.
-ghost use Rattle.std.specs.Prelude.{◌≡◌, ◌≤◌, ◌<◌, ◌∷◌, [], IfSome, IfNone, length, position};
+ghost use Rattle.std.specs.Prelude.{◌≡◌, ◌<◌, ◌∷◌, ◌++◌, [], IfSome, IfNone, length, position};
 ghost use Rattle.std.specs.Str.{is_utf8};
 ghost use Rattle.std.specs.List.{list_all, list_any};
-ghost use Rattle.rk_base.specs.Text.{is_slash, last_slash};
-ghost use Rattle.rk_base.specs.Canonical.{is_barred, is_nul, components, is_name, is_canonical};
+ghost use Rattle.rk_base.specs.Text.{is_slash, components};
+ghost use Rattle.rk_base.specs.Canonical.{has_nul, is_barred, is_name, is_canonical};
 
 use std::str;
 
@@ -21,7 +21,7 @@ fn has_barred(bytes: &[u8]) -> bool
 
 /// Whether a NUL stands among the bytes.
 pub fn has_nul(bytes: &[u8]) -> bool
-    ensures { result ≡ list_any is_nul bytes.now }
+    ensures { result ≡ has_nul bytes.now }
 {
     bytes.iter().any(|b| *b == 0)
 }
@@ -57,9 +57,9 @@ fn first_slash(text: &[u8]) -> Option<usize>
     text.iter().position(|b| *b == b'/')
 }
 
-// What stands before the first slash, and what stands after it.
+/// What stands before the first slash of a text, and what stands after it; `None` where it has none.
 #[tactic(auto, using(crate::proofs::CanonicalLemmas::components_alone, crate::proofs::CanonicalLemmas::components_first))]
-fn first_component(text: &[u8]) -> Option<(&[u8], &[u8])>
+pub fn first_component(text: &[u8]) -> Option<(&[u8], &[u8])>
     ensures found { IfSome result (λ cut. components text.now ≡ cut.0.now ∷ components cut.1.now) }
     ensures shorter { IfSome result (λ cut. length cut.1.now < length text.now) }
     ensures alone { IfNone result (components text.now ≡ text.now ∷ []) }
@@ -82,16 +82,13 @@ fn all_names(text: &[u8]) -> bool
     is_name(rest)
 }
 
-/// The place of the last slash, or 0.
-pub(crate) fn last_slash(text: &[u8]) -> usize
-    ensures place { result ≡ last_slash 0 0 text.now }
-    ensures within { result ≤ length text.now }
+/// What stands before the last slash, and what stands after it.
+pub(crate) fn last_component(text: &[u8]) -> Option<(&[u8], &[u8])>
+    ensures found { IfSome result (λ cut. components text.now ≡ components cut.0.now ++ cut.1.now ∷ []) }
+    ensures alone { IfNone result (components text.now ≡ text.now ∷ []) }
 {
-    let mut last = 0;
-    for (i, b) in text.iter().enumerate() {
-        if *b == b'/' {
-            last = i;
-        }
+    match text.iter().rposition(|b| *b == b'/') {
+        Some(i) => Some((&text[..i], &text[i + 1..])),
+        None => None,
     }
-    last
 }

@@ -1,6 +1,7 @@
 use Rattle.std.proofs.Common.{◌≡◌, length}
 use Rattle.std.specs.List.{list_all}
-use Rattle.rk_base.specs.Canonical.{components, is_name}
+use Rattle.rk_base.specs.Text.{components}
+use Rattle.rk_base.specs.Canonical.{is_name}
 use Rattle.rk_base.proofs.text.all_names.Given as goal
 
 abbrev pub invariant-names : goal.invariant-names
