@@ -12,5 +12,4 @@ mod walker;
 pub use label::Label;
 pub use permission::{has_r, has_w, has_x};
 pub use place::{Here, Place};
-pub use text::has_nul;
 pub use walker::resolve;

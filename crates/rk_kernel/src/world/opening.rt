@@ -2,7 +2,7 @@
 ghost use Rattle.std.specs.Prelude.{◌≡◌, IfOk, OnOk};
 ghost use Rattle.rk_calls.specs.declared.call.Call.TheVariants.{Open};
 ghost use Rattle.rk_tree.specs.Whole.{MayHold};
-ghost use Rattle.rk_walk.specs.Walk.{IsFreeName};
+ghost use Rattle.rk_walk.specs.Places.{IsFreeName};
 ghost use Rattle.rk_walk.specs.declared.place.Place.TheVariants.{Absent, Found};
 ghost use Rattle.rk_kernel.specs.World.{with_tree};
 ghost use Rattle.rk_kernel.specs.Opening as opening;
