@@ -9,9 +9,9 @@ ghost use Rattle.rk_walk.specs.declared.place.Here.{Here as Standing};
 ghost use Rattle.rk_walk.specs.declared.place.Place.TheVariants.{Found};
 ghost use Rattle.rk_walk.specs.declared.step.Step.TheVariants.{Ends};
 
-use crate::{Here, Label, Place, has_x};
+use crate::{Here, Label, Place};
 use rk_base::{Errno, Kind, is_name};
-use rk_tree::{NodeId, Tree};
+use rk_tree::{NodeId, Tree, has_x};
 use std::marker::Model;
 
 // A link's text.

@@ -12,8 +12,7 @@ use crate::spot::{Spot, strict_spot_at};
 use crate::{Description, World};
 use rk_base::{Bytes, Errno, Name, NoMemory};
 use rk_calls::{Answer, How, Refs};
-use rk_tree::{Entry, NodeId, Refused};
-use rk_walk::{has_r, has_w};
+use rk_tree::{Entry, NodeId, Refused, has_r, has_w};
 
 fn is_read(how: How) -> bool
     ensures { result ≡ opening.is_read how }

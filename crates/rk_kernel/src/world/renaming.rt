@@ -14,8 +14,7 @@ use crate::World;
 use crate::spot::{Spot, spot_at};
 use rk_base::{Bytes, Errno, Name, NoMemory};
 use rk_calls::{Answer, Refs};
-use rk_tree::NodeId;
-use rk_walk::has_w;
+use rk_tree::{NodeId, has_w};
 
 impl World {
     fn lacks_w(&self, dir: NodeId) -> bool

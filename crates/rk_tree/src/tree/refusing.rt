@@ -7,14 +7,8 @@ ghost use Rattle.rk_tree.specs.Hierarchy as hierarchy;
 ghost use Rattle.rk_tree.specs.Refusals as refusals;
 
 use crate::inode::has_names;
-use crate::{Entry, NodeId, Tree};
+use crate::{Entry, NodeId, Tree, has_w};
 use rk_base::{Errno, Name, has_nul};
-
-fn has_w(mode: u16) -> bool
-    ensures { result ≡ hierarchy.has_w mode }
-{
-    mode / 128 % 2 == 1
-}
 
 fn mode_refusal(mode: u16) -> Option<Errno>
     ensures { result ≡ refusals.first_of (refusals.mode_checks mode) }
