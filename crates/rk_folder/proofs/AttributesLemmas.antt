@@ -1,6 +1,6 @@
 -- The entries of a folder with rows: what stands at each path, and that they stay whole.
 use Rattle.std.proofs.Common.{◌≡◌, ◌≢◌, ◌≤◌, ℕ, List, [], ◌∷◌, Bool, true, false, not, cond, nat_le, ◌==◌, inl, inr, Option, Some, None, refl, sym, ap, subst, ◌∙◌}
-use Rattle.std.specs.List.{list_all, list_any}
+use Rattle.std.specs.List.{list_all}
 use Rattle.std.specs.Option.{option_or}
 use Rattle.std.specs.Ordering.{eq_by_cmp, is_eq, is_lt}
 use Rattle.std.specs.declared.cmp.Ordering.{Ordering}
@@ -9,10 +9,10 @@ use Rattle.std.specs.Cmp.Lexicographic.{nat_list_cmp_total}
 use Rattle.std.specs.FinMap.{get, find, get-insert}
 use Rattle.std.proofs.lemmas.Bool.{leb-true}
 use Rattle.rk_base.specs.Text.{Text, text_cmp, root, hidden, join, parent, is_root, is_within}
-use Rattle.rk_base.specs.Canonical.{is_canonical, is_empty}
+use Rattle.rk_base.specs.Canonical.{has_nul, is_canonical, is_empty}
 use Rattle.rk_base.proofs.CanonicalLemmas.{both, denied}
 use Rattle.rk_tree.specs.Copies.{put_found}
-use Rattle.rk_tree.specs.Entries.{Entries, is_dir, is_nul, IsFit, IsWholeSnapshot}
+use Rattle.rk_tree.specs.Entries.{Entries, is_dir, IsFit, IsWholeSnapshot}
 use Rattle.rk_tree.specs.Node.{Node as Entry, File, Dir, Link}
 use Rattle.rk_tree.proofs.TextLemmas.{told_apart, ties_itself}
 use Rattle.tr_codec.specs.Attrs.{file_mode, dir_mode, is_mode, is_link_text, suits, is_row, ascend_from, ascend}
@@ -131,10 +131,10 @@ put_placed (row.Link text) d (Some old) e h at = h old refl
 mode_fits : (default mode : ℕ) → is_mode default mode ≡ true → mode ≤ 511
 mode_fits default mode h = leb-true mode 511 (both (nat_le mode 511) (not (mode == default)) h).0
 
-text_fits : (text : List ℕ) → is_link_text text ≡ true → (text ≢ []) × (list_any is_nul text ≡ false)
+text_fits : (text : List ℕ) → is_link_text text ≡ true → (text ≢ []) × (has_nul text ≡ false)
 text_fits text h =
-    let p = both (not (is_empty text)) (not (list_any is_nul text)) h in
-    (λ e. empty_clash text (denied (is_empty text) p.0) e, denied (list_any is_nul text) p.1) where
+    let p = both (not (is_empty text)) (not (has_nul text)) h in
+    (λ e. empty_clash text (denied (is_empty text) p.0) e, denied (has_nul text) p.1) where
       empty_clash : (text : List ℕ) → is_empty text ≡ false → text ≡ [] → ⊥
       empty_clash [] n e = cc
       empty_clash (b ∷ bs) n e = cc

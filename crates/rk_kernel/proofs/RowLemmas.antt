@@ -14,7 +14,7 @@ use Rattle.rk_calls.specs.declared.call.How.{How}
 use Rattle.rk_kernel.specs.Opening.{is_read, open_at, opened}
 use Rattle.rk_kernel.specs.World.{World}
 use Rattle.rk_kernel.specs.Changes.{moved_at, rename_refusals}
-use Rattle.rk_kernel.specs.Rows.{changed, done, refused, told, unless}
+use Rattle.rk_kernel.specs.Rows.{changed, done, refused, giving, unless}
 use Rattle.rk_calls.specs.declared.answer.Answer.TheVariants as answer
 use Rattle.rk_walk.specs.declared.place.Place.TheVariants.{Found, Absent}
 
@@ -119,12 +119,12 @@ same_tree tree n m from to is over e =
 -- in the place of what stands there
 pub rename-over : (world : World) (refs : RefsHeld) (n m : ℕ) (from to : ℕ × Text) → child world.tree from.0 from.1 ≡ Some n → child world.tree to.0 to.1 ≡ Some m
     → changed world refs (rename_refusal world.tree from.0 from.1 to.0 to.1) (renamed world.tree from.0 from.1 to.0 to.1)
-    ≡ cond (eqb n m) (told world refs answer.Done) (moved_at world refs (Found (record { node = n; up = Some from; slash = false })) (Found (record { node = m; up = Some to; slash = false })))
+    ≡ cond (eqb n m) (giving world refs answer.Done) (moved_at world refs (Found (record { node = n; up = Some from; slash = false })) (Found (record { node = m; up = Some to; slash = false })))
 unfolding rename_refusal
 rename-over world refs n m from to is over =
     ap (λ (o : Option Errno). changed world refs o (renamed world.tree from.0 from.1 to.0 to.1))
     (ap (λ (o : Option ℕ). rename_found world.tree from.0 to.0 o (child world.tree to.0 to.1)) is ∙ ap (rename_found world.tree from.0 to.0 (Some n)) over)
-    ∙ (elim (eqb n m) as (λ (b : Bool). eqb n m ≡ b → changed world refs (cond b None (first_of (rename_checks world.tree from.0 n to.0 (Some m)))) (renamed world.tree from.0 from.1 to.0 to.1) ≡ cond b (told world refs answer.Done) (moved_at world refs (Found (record { node = n; up = Some from; slash = false })) (Found (record { node = m; up = Some to; slash = false })))) [
+    ∙ (elim (eqb n m) as (λ (b : Bool). eqb n m ≡ b → changed world refs (cond b None (first_of (rename_checks world.tree from.0 n to.0 (Some m)))) (renamed world.tree from.0 from.1 to.0 to.1) ≡ cond b (giving world refs answer.Done) (moved_at world refs (Found (record { node = n; up = Some from; slash = false })) (Found (record { node = m; up = Some to; slash = false })))) [
       | true ↦ λ e. ap (done world refs) (same_tree world.tree n m from to is over e)
       | false ↦ λ e. changed-unless world refs (first_of (rename_checks world.tree from.0 n to.0 (Some m))) (rename_refusals world (Found (record { node = n; up = Some from; slash = false })) (Found (record { node = m; up = Some to; slash = false }))) (renamed world.tree from.0 from.1 to.0 to.1)
           (over_one (is_dir (node world.tree n)) (is_dir (node world.tree m)) (goes_below world.tree n to.0) (has_names world.tree m) (lacks_w world.tree from.0) (lacks_w world.tree to.0))

@@ -1,7 +1,7 @@
 -- The calls that change the tree, at the places that their paths lead to.
 use Rattle.std.specs.Prelude.{ℕ, List, [], ◌∷◌, nat_lt, Bool, false, not, ◌&&◌, ◌||◌, if◌then◌else◌, Option, Some, None}
 use Rattle.rk_base.specs.Text.{Text}
-use Rattle.rk_base.specs.Canonical.{is_empty}
+use Rattle.rk_base.specs.Canonical.{has_nul, is_empty}
 use Rattle.rk_base.specs.declared.errno.Errno.{Errno}
 use Rattle.rk_base.specs.declared.errno.Errno.TheVariants.{NoEntry, NotDir, IsDir, Exists, Denied, NotEmpty, Invalid}
 use Rattle.rk_calls.specs.declared.answer.Answer.TheVariants as answer
@@ -10,11 +10,10 @@ use Rattle.rk_calls.specs.Refs.{RefsHeld}
 use Rattle.rk_tree.specs.Hierarchy.{Hierarchy, added, linked, removed, renamed, set_mode}
 use Rattle.rk_tree.specs.Refusals.{goes_below}
 use Rattle.rk_tree.specs.Node.{Node, Dir, Link}
-use Rattle.rk_walk.specs.Walk.{has_nul}
 use Rattle.rk_walk.specs.declared.place.Place.{Place}
 use Rattle.rk_walk.specs.declared.place.Place.TheVariants.{Found, Absent}
 use Rattle.rk_kernel.specs.World.{World}
-use Rattle.rk_kernel.specs.Rows.{told, done, unless, is_absent, dir_at, names_stand_at, same_node, name_at, is_nameless, lacks_w_at, has_slash}
+use Rattle.rk_kernel.specs.Rows.{giving, done, unless, is_absent, dir_at, names_stand_at, same_node, name_at, is_nameless, lacks_w_at, has_slash}
 
 -- Mkdir
 
@@ -77,7 +76,7 @@ moved_at world refs from to = unless world refs (rename_refusals world from to) 
 abbrev pub rename_at : World → RefsHeld → Place → Place → Given World
 rename_at world refs from to =
     unless world refs ((is_absent from, NoEntry) ∷ (is_nameless from || is_nameless to, Invalid) ∷ [])
-    (if same_node from to then told world refs answer.Done else moved_at world refs from to)
+    (if same_node from to then giving world refs answer.Done else moved_at world refs from to)
 
 -- Symlink
 

@@ -13,7 +13,7 @@ use Rattle.rk_kernel.specs.World.{World, rest_of, line_of, after_read, after_rea
 use Rattle.rk_kernel.specs.Changes.{mkdir_at, rmdir_at, unlink_at, rename_at, symlink_at, link_at, chmod_at}
 use Rattle.rk_kernel.specs.Opening.{open_at}
 use Rattle.rk_kernel.specs.Questions.{stat_at, list_at, read_link_at, walk_at, same_at}
-use Rattle.rk_kernel.specs.Rows.{refused, told, unless, strict, at_place}
+use Rattle.rk_kernel.specs.Rows.{refused, giving, unless, strict, at_place}
 use Rattle.rk_kernel.specs.declared.description.Description.{Description}
 
 -- Read
@@ -22,7 +22,7 @@ use Rattle.rk_kernel.specs.declared.description.Description.{Description}
 abbrev pub read_by : World → RefsHeld → ℕ → Option Description → Given World
 read_by world refs k None = refused world refs BadRef
 read_by world refs k (Some d) =
-    unless world refs ((not d.read, BadRef) ∷ []) (told (after_read world k d d.source) refs (answer.Content (rest_of world d.offset d.source)))
+    unless world refs ((not d.read, BadRef) ∷ []) (giving (after_read world k d d.source) refs (answer.Content (rest_of world d.offset d.source)))
 
 abbrev pub read_ref : World → RefsHeld → Option ℕ → Given World
 read_ref world refs None = refused world refs BadRef
@@ -33,7 +33,7 @@ read_ref world refs (Some k) = read_by world refs k (slice_get world.opens k)
 abbrev pub read_line_by : World → RefsHeld → ℕ → Option Description → Given World
 read_line_by world refs k None = refused world refs BadRef
 read_line_by world refs k (Some d) =
-    unless world refs ((not d.read, BadRef) ∷ []) (told (after_read_line world k d d.source) refs (answer.Content (line_of (rest_of world d.offset d.source))))
+    unless world refs ((not d.read, BadRef) ∷ []) (giving (after_read_line world k d d.source) refs (answer.Content (line_of (rest_of world d.offset d.source))))
 
 abbrev pub read_line_ref : World → RefsHeld → Option ℕ → Given World
 read_line_ref world refs None = refused world refs BadRef
@@ -44,7 +44,7 @@ read_line_ref world refs (Some k) = read_line_by world refs k (slice_get world.o
 abbrev pub write_by : World → RefsHeld → Text → ℕ → Option Description → Given World
 write_by world refs bytes k None = refused world refs BadRef
 write_by world refs bytes k (Some d) =
-    unless world refs ((not d.write, BadRef) ∷ []) (told (if is_empty bytes then world else after_write world k d bytes d.source) refs answer.Done)
+    unless world refs ((not d.write, BadRef) ∷ []) (giving (if is_empty bytes then world else after_write world k d bytes d.source) refs answer.Done)
 
 abbrev pub write_ref : World → RefsHeld → Text → Option ℕ → Given World
 write_ref world refs bytes None = refused world refs BadRef
@@ -53,7 +53,7 @@ write_ref world refs bytes (Some k) = write_by world refs bytes k (slice_get wor
 -- Pipe: the command's next two numbers stand for its ends, the read end first
 
 abbrev pub piped : World → RefsHeld → Given World
-piped world refs = told (with_pipe world) (with_opened (with_opened refs (length world.opens)) (length world.opens + 1)) answer.Piped
+piped world refs = giving (with_pipe world) (with_opened (with_opened refs (length world.opens)) (length world.opens + 1)) answer.Piped
 
 -- where a path leads, with its last link followed, or not
 

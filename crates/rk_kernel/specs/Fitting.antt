@@ -21,7 +21,7 @@ use Rattle.rk_walk.specs.Walk.{Spot, resolve}
 use Rattle.rk_walk.specs.declared.place.Place.{Place}
 use Rattle.rk_walk.specs.declared.place.Place.TheVariants.{Found, Absent}
 use Rattle.rk_kernel.specs.World.{World}
-use Rattle.rk_kernel.specs.Rows.{at_place, refused, told, done, unless, is_absent, is_nameless, name_at, node_at, same_node}
+use Rattle.rk_kernel.specs.Rows.{at_place, refused, giving, done, unless, is_absent, is_nameless, name_at, node_at, same_node}
 use Rattle.rk_kernel.specs.Opening.{is_read, lacks, emptied, opened, open_at}
 use Rattle.rk_kernel.specs.Questions.{stat_of, stat_at, names_at, list_refusals, list_at, read_link_refusals, read_link_at, place_of, path_at, walk_refusals, walk_at, same_at}
 use Rattle.rk_kernel.specs.Changes.{added_at, linked_at, removed_at, renamed_at, with_mode_at, mkdir_refusals, mkdir_at, rmdir_refusals, rmdir_at, unlink_refusals, unlink_at, rename_refusals, rename_at, moved_at, symlink_refusals, symlink_at, link_refusals, link_at, chmod_at}
@@ -91,23 +91,23 @@ stat_of-fits (Some (Dir mode)) = few mode
 stat_of-fits (Some (Link text)) = refl
 
 stat-fits : (world : World) (refs : RefsHeld) (place : Place) → fits_stat (stat_at world refs place).answer ≡ true
-stat-fits world refs place = unless-passes fits_stat (λ e. refl) world refs ((is_absent place, NoEntry) ∷ []) (told world refs (stat_of (node_at world place))) (stat_of-fits (node_at world place))
+stat-fits world refs place = unless-passes fits_stat (λ e. refl) world refs ((is_absent place, NoEntry) ∷ []) (giving world refs (stat_of (node_at world place))) (stat_of-fits (node_at world place))
 
 list-fits : (world : World) (refs : RefsHeld) (place : Place) → fits_names (list_at world refs place).answer ≡ true
-list-fits world refs place = unless-passes fits_names (λ e. refl) world refs (list_refusals world place) (told world refs (answer.Names (names_at world place))) refl
+list-fits world refs place = unless-passes fits_names (λ e. refl) world refs (list_refusals world place) (giving world refs (answer.Names (names_at world place))) refl
 
 link_text-fits : (world : World) (refs : RefsHeld) (place : Place) → fits_text (read_link_at world refs place).answer ≡ true
-link_text-fits world refs place = unless-passes fits_text (λ e. refl) world refs (read_link_refusals world place) (told world refs (answer.Text (text_of (node_at world place)))) refl
+link_text-fits world refs place = unless-passes fits_text (λ e. refl) world refs (read_link_refusals world place) (giving world refs (answer.Text (text_of (node_at world place)))) refl
 
 place-fits : (path : Option Text) → fits_place (place_of path) ≡ true
 place-fits None = refl
 place-fits (Some path) = refl
 
 walk-fits : (world : World) (refs : RefsHeld) (place : Place) → fits_place (walk_at world refs place).answer ≡ true
-walk-fits world refs place = unless-passes fits_place (λ e. refl) world refs (walk_refusals world place) (told world refs (place_of (path_at world place))) (place-fits (path_at world place))
+walk-fits world refs place = unless-passes fits_place (λ e. refl) world refs (walk_refusals world place) (giving world refs (place_of (path_at world place))) (place-fits (path_at world place))
 
 same-fits : (world : World) (refs : RefsHeld) (a b : Place) → fits_same (same_at world refs a b).answer ≡ true
-same-fits world refs a b = unless-passes fits_same (λ e. refl) world refs ((is_absent a, NoEntry) ∷ (is_absent b, NoEntry) ∷ []) (told world refs (answer.Same (same_node a b))) refl
+same-fits world refs a b = unless-passes fits_same (λ e. refl) world refs ((is_absent a, NoEntry) ∷ (is_absent b, NoEntry) ∷ []) (giving world refs (answer.Same (same_node a b))) refl
 
 -- Changes
 
@@ -122,8 +122,8 @@ placed = place-passes fits_done (λ e. refl)
 
 rename-fits : (world : World) (refs : RefsHeld) (from to : Place) → IsFitChange (rename_at world refs from to)
 rename-fits world refs from to =
-    checked world refs ((is_absent from, NoEntry) ∷ (is_nameless from || is_nameless to, Invalid) ∷ []) (cond (same_node from to) (told world refs answer.Done) (moved_at world refs from to))
-    (elim (same_node from to) as (λ (b : Bool). IsFitChange (cond b (told world refs answer.Done) (moved_at world refs from to))) [ true ↦ refl | false ↦ checked world refs (rename_refusals world from to) (done world refs (renamed_at world.tree (name_at from) (name_at to))) refl ])
+    checked world refs ((is_absent from, NoEntry) ∷ (is_nameless from || is_nameless to, Invalid) ∷ []) (cond (same_node from to) (giving world refs answer.Done) (moved_at world refs from to))
+    (elim (same_node from to) as (λ (b : Bool). IsFitChange (cond b (giving world refs answer.Done) (moved_at world refs from to))) [ true ↦ refl | false ↦ checked world refs (rename_refusals world from to) (done world refs (renamed_at world.tree (name_at from) (name_at to))) refl ])
 
 -- Each call
 

@@ -14,7 +14,7 @@ use Rattle.rk_tree.specs.Node.{Node, File, Dir, Link}
 use Rattle.rk_walk.specs.declared.place.Place.{Place}
 use Rattle.rk_walk.specs.declared.place.Place.TheVariants.{Found, Absent}
 use Rattle.rk_kernel.specs.World.{World}
-use Rattle.rk_kernel.specs.Rows.{told, unless, is_absent, node_at, dir_at, mode_at, same_node}
+use Rattle.rk_kernel.specs.Rows.{giving, unless, is_absent, node_at, dir_at, mode_at, same_node}
 
 -- Stat: the kind, the mode, and whether it is a file without bytes
 
@@ -29,7 +29,7 @@ stat_of (Some (Dir mode)) = answer.Stat kind.Dir (permissions mode) false
 stat_of (Some (Link text)) = answer.Stat kind.Link 511 false
 
 abbrev pub stat_at : World → RefsHeld → Place → Given World
-stat_at world refs place = unless world refs ((is_absent place, NoEntry) ∷ []) (told world refs (stat_of (node_at world place)))
+stat_at world refs place = unless world refs ((is_absent place, NoEntry) ∷ []) (giving world refs (stat_of (node_at world place)))
 
 -- List: the names in a directory
 
@@ -41,7 +41,7 @@ abbrev pub list_refusals : World → Place → List (Bool × Errno)
 list_refusals world place = (is_absent place, NoEntry) ∷ (not (dir_at world place), NotDir) ∷ (not (has_r (mode_at world place)), Denied) ∷ []
 
 abbrev pub list_at : World → RefsHeld → Place → Given World
-list_at world refs place = unless world refs (list_refusals world place) (told world refs (answer.Names (names_at world place)))
+list_at world refs place = unless world refs (list_refusals world place) (giving world refs (answer.Names (names_at world place)))
 
 -- ReadLink: the text of a link
 
@@ -53,7 +53,7 @@ abbrev pub read_link_refusals : World → Place → List (Bool × Errno)
 read_link_refusals world place = (is_absent place, NoEntry) ∷ (not (is_link (node_at world place)), Invalid) ∷ []
 
 abbrev pub read_link_at : World → RefsHeld → Place → Given World
-read_link_at world refs place = unless world refs (read_link_refusals world place) (told world refs (answer.Text (text_of (node_at world place))))
+read_link_at world refs place = unless world refs (read_link_refusals world place) (giving world refs (answer.Text (text_of (node_at world place))))
 
 -- Walk: the canonical path of a directory
 
@@ -70,10 +70,10 @@ abbrev pub walk_refusals : World → Place → List (Bool × Errno)
 walk_refusals world place = (is_absent place, NoEntry) ∷ (not (dir_at world place), NotDir) ∷ (not (has_x (mode_at world place)), Denied) ∷ []
 
 abbrev pub walk_at : World → RefsHeld → Place → Given World
-walk_at world refs place = unless world refs (walk_refusals world place) (told world refs (place_of (path_at world place)))
+walk_at world refs place = unless world refs (walk_refusals world place) (giving world refs (place_of (path_at world place)))
 
 -- Same: whether two paths lead to one node
 
 abbrev pub same_at : World → RefsHeld → Place → Place → Given World
 same_at world refs a b =
-    unless world refs ((is_absent a, NoEntry) ∷ (is_absent b, NoEntry) ∷ []) (told world refs (answer.Same (same_node a b)))
+    unless world refs ((is_absent a, NoEntry) ∷ (is_absent b, NoEntry) ∷ []) (giving world refs (answer.Same (same_node a b)))

@@ -21,12 +21,12 @@ abbrev pub refused : World → RefsHeld → Errno → Given World
 refused world refs e = record { answer = answer.No e; refs = refs; world = world }
 
 -- an answer, and the world after it
-abbrev pub told : World → RefsHeld → Answer → Given World
-told world refs it = record { answer = it; refs = refs; world = world }
+abbrev pub giving : World → RefsHeld → Answer → Given World
+giving world refs it = record { answer = it; refs = refs; world = world }
 
 -- the tree has become this one
 abbrev pub done : World → RefsHeld → Hierarchy → Given World
-done world refs tree = told (with_tree world tree) refs answer.Done
+done world refs tree = giving (with_tree world tree) refs answer.Done
 
 -- the first of these that holds is the refusal
 abbrev pub unless : World → RefsHeld → List (Bool × Errno) → Given World → Given World

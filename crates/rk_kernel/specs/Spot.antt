@@ -2,7 +2,8 @@
 use Rattle.std.specs.Prelude.{ℕ, Option, Some, None, Result, Ok, Err}
 use Rattle.rk_base.specs.declared.errno.Errno.{Errno}
 use Rattle.rk_tree.specs.Hierarchy.{Hierarchy}
-use Rattle.rk_walk.specs.Walk.{Spot as Led, IsFound, IsFreeName}
+use Rattle.rk_walk.specs.Places.{IsFound, IsFreeName}
+use Rattle.rk_walk.specs.Walk.{Spot as Led}
 use Rattle.rk_walk.specs.declared.place.Place.TheVariants as place
 use Rattle.rk_kernel.specs.declared.spot.Spot.{Spot}
 use Rattle.rk_kernel.specs.declared.spot.Spot.TheVariants.{Found, Absent, Fails}

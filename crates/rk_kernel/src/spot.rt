@@ -1,7 +1,8 @@
 // Where a path led, with a name of its own: a place borrows the tree, which a call then changes.
 ghost use Rattle.std.specs.Prelude.{◌≡◌, IfOk, Ok};
 ghost use Rattle.rk_tree.specs.Hierarchy.{Hierarchy};
-ghost use Rattle.rk_walk.specs.Walk.{resolve, IsFound};
+ghost use Rattle.rk_walk.specs.Places.{IsFound};
+ghost use Rattle.rk_walk.specs.Walk.{resolve};
 ghost use Rattle.rk_walk.specs.declared.place.Place.TheVariants.{Found};
 ghost use Rattle.rk_kernel.specs.Rows.{strict};
 ghost use Rattle.rk_kernel.specs.Spot.{spot_means, IsSpotOf};

@@ -163,10 +163,10 @@ child_dir tree dir name n whole named is =
     let p = whole.placed (join at.0 name) n at.2 in
     ap (λ (k : ℕ). is_dir (node tree k)) (same_number dir p.up stands (ap (number_at tree) (sym (parent-join at.0 name (whole.canonical at.0 dir stands) named)) ∙ p.stands)) ∙ p.in_dir
 
-pub child_none : (tree : Hierarchy) (dir : ℕ) (name : Text) → IsWhole tree → is_name name ≡ true → is_dir (node tree dir) ≡ false → child tree dir name ≡ None
-child_none tree dir name whole named file = elim (child tree dir name) as (λ (o : Option ℕ). child tree dir name ≡ o → o ≡ None) [
+pub child_none : (tree : Hierarchy) (dir : ℕ) (name : Text) → IsWhole tree → is_dir (node tree dir) ≡ false → child tree dir name ≡ None
+child_none tree dir name whole file = elim (child tree dir name) as (λ (o : Option ℕ). child tree dir name ≡ o → o ≡ None) [
   | None ↦ λ is. refl
-  | Some n ↦ λ is. absurd (clash _ (child_dir tree dir name n whole named is) file)
+  | Some n ↦ λ is. absurd (clash _ (child_dir tree dir name n whole (child_named tree dir name n is) is) file)
 ] refl
 
 pub row_stands : (tree : Hierarchy) (i : ℕ) (path : Text) (n : ℕ) → slice_get (entries tree.paths) i ≡ Some (path, n) → number_at tree path ≡ Some n

@@ -104,13 +104,6 @@ some_of : {A B : Type 0} (f : A → Option B) (o : Option A) (y : B) → option_
 some_of f None y h = cc
 some_of f (Some x) y h = (x, refl, h)
 
-none_some : {A : Type 0} {x : A} {o : Option A} → o ≡ None → o ≡ Some x → ⊥
-none_some n s = cc
-
-dir_node : (o : Option Node) → is_dir o ≡ true → (it : Node) × (o ≡ Some it)
-dir_node None h = cc
-dir_node (Some it) h = (it, refl)
-
 pub snapshot_of-whole : (tree : Hierarchy) → IsWhole tree → IsWholeSnapshot (snapshot_of tree)
 snapshot_of-whole tree whole = record {
   root_dir = ap is_dir (get-snapshot_of tree root ∙ ap (option_and_then (node tree)) whole.root_at) ∙ whole.root_dir;

@@ -30,10 +30,6 @@ insert_here m path n = elim (insert_cases m path n path) [
   | inr other ↦ absurd (other.0 refl)
 ]
 
-none_of : {A : Type 0} (o : Option A) → ((x : A) → o ≡ Some x → ⊥) → o ≡ None
-none_of None h = refl
-none_of (Some x) h = absurd (h x refl)
-
 -- A name more, for a node without names.
 
 module _ (before : List Inode) (paths : Paths) (dir n : ℕ) (path name : Text) (whole : IsWhole (hierarchy_of paths before)) (attached : AreAttached paths before) (step : Steps before paths) (named : is_name name ≡ true) (in_dir : is_dir (slice_get (nodes_of before) dir) ≡ true) (at : get paths path ≡ Some dir) (absent : get paths (join path name) ≡ None) (bare : (x : Text) → under before n x ≡ None) (apart : n ≡ dir → ⊥) where

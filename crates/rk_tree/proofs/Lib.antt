@@ -8,6 +8,7 @@ pub mod HierarchyLemmas
 pub mod ListLemmas
 pub mod MovedLemmas
 pub mod NamesLemmas
+pub mod NodeLemmas
 pub mod PlantedLemmas
 pub mod RefusalLemmas
 pub mod RemovedLemmas

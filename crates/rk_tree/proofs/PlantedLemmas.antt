@@ -18,7 +18,8 @@ use Rattle.rk_tree.specs.Node.{Node, Dir}
 use Rattle.rk_tree.specs.Entries.{Entries, is_dir, IsWholeSnapshot}
 use Rattle.rk_tree.specs.Hierarchy.{Hierarchy, Paths, node, number_at, path_of, child, linked, added, with_path}
 use Rattle.rk_tree.specs.Rows.{map_of}
-use Rattle.rk_tree.specs.Copies.{MayTake, with_node_at, numbered, tree_of}
+use Rattle.rk_tree.specs.Copies.{numbered, tree_of}
+use Rattle.rk_tree.specs.Copying.{MayTake, with_node_at}
 use Rattle.rk_tree.specs.Whole.{IsWhole, MayHold}
 use Rattle.rk_tree.proofs.BelowLemmas.{child_at, none_some, same_number}
 use Rattle.rk_tree.proofs.ClimbingLemmas.{root_path}

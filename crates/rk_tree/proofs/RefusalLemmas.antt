@@ -1,15 +1,14 @@
 -- What an allowed change may rely on.
 use Rattle.std.proofs.Common.{◌≡◌, ◌≤◌, inl, inr, ℕ, List, [], ◌∷◌, ◌++◌, Bool, true, false, cond, not, Option, Some, None, refl, sym, ap, ◌∙◌, arith}
 use Rattle.std.specs.Prelude.{◌≢◌, nat_lt}
-use Rattle.std.specs.List.{list_any}
 use Rattle.std.specs.Option.{option_or}
 use Rattle.std.proofs.lemmas.Bool.Decides.{leb_tells}
 use Rattle.rk_base.specs.Text.{Text}
-use Rattle.rk_base.specs.Canonical.{is_empty}
+use Rattle.rk_base.specs.Canonical.{has_nul, is_empty}
 use Rattle.rk_base.specs.declared.errno.Errno.{Errno}
 use Rattle.rk_base.specs.declared.errno.Errno.TheVariants.{NoEntry, Exists, Denied, NotEmpty, Invalid}
 use Rattle.rk_tree.specs.Node.{Node, File, Dir, Link}
-use Rattle.rk_tree.specs.Entries.{is_dir, is_nul, IsFit}
+use Rattle.rk_tree.specs.Entries.{is_dir, IsFit}
 use Rattle.rk_tree.specs.Hierarchy.{Hierarchy, node, child}
 use Rattle.rk_tree.specs.Refusals.{first_of, is_there, lacks_w, has_names, entry_checks, add_refusal, link_refusal, remove_found, remove_refusal, mode_refusal}
 
@@ -50,8 +49,8 @@ pub checked-fit : (it : Node) → first_of (entry_checks it) ≡ None → IsFit 
 checked-fit (File mode bytes) h = within_all mode (passed _ Invalid [] h).0
 checked-fit (Dir mode) h = within_all mode (passed _ Invalid [] h).0
 checked-fit (Link text) h =
-    let some = passed (is_empty text) NoEntry ((list_any is_nul text, Invalid) ∷ []) h in
-    (filled text some.0, (passed (list_any is_nul text) Invalid [] some.1).0)
+    let some = passed (is_empty text) NoEntry ((has_nul text, Invalid) ∷ []) h in
+    (filled text some.0, (passed (has_nul text) Invalid [] some.1).0)
 
 pub add_refusal-is : (tree : Hierarchy) (dir : ℕ) (name : Text) (it : Node) → add_refusal tree dir name it ≡ option_or (first_of (entry_checks it)) (first_of ((is_there (child tree dir name), Exists) ∷ (lacks_w tree dir, Denied) ∷ []))
 unfolding add_refusal

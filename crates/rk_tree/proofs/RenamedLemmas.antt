@@ -21,9 +21,6 @@ use Rattle.rk_tree.proofs.WholeLemmas.{unhidden}
 clash : (b : Bool) → b ≡ true → b ≡ false → ⊥
 clash b t f = cc
 
-same_text_of : {o : Option Text} (a b : Text) → o ≡ Some a → o ≡ Some b → a ≡ b
-same_text_of a b p q = cc
-
 -- What the checks leave.
 
 -- of what may go over a node: the kinds agree, and nothing stands below it

@@ -40,9 +40,6 @@ cleared_entries : (ns : List Inode) (o : Option ℕ) → nodes_of (cleared ns o)
 cleared_entries ns None = refl
 cleared_entries ns (Some m) = entries-change (with_place None) ns m (λ it. refl)
 
-same_entry : {o : Option Node} (a b : Node) → o ≡ Some a → o ≡ Some b → a ≡ b
-same_entry a b p q = cc
-
 dir_place : (o : Option Node) (to : ℕ) (new : Text) → is_dir o ≡ true → option_and_then (λ it. place_of it to new) o ≡ Some (to, new)
 dir_place None to new d = cc
 dir_place (Some (File mode bytes)) to new d = cc

@@ -25,9 +25,6 @@ use Rattle.rk_tree.proofs.StepsLemmas.{steps-same, steps-removed, both_or, not_u
 use Rattle.rk_tree.proofs.TreeLemmas.{Kept, IsTree, over}
 use Rattle.rk_tree.proofs.WholeLemmas.{changed-whole}
 
-clash : (b : Bool) → b ≡ true → b ≡ false → ⊥
-clash b t f = cc
-
 -- Another node of the same kind.
 
 entry_of : (ns : List Inode) (k : ℕ) → slice_get (nodes_of ns) k ≡ option_map (λ m. m.node) (slice_get ns k)

@@ -13,7 +13,8 @@ use Rattle.rk_base.proofs.WithinLemmas.{is_the_root}
 use Rattle.rk_tree.specs.Node.{Node}
 use Rattle.rk_tree.specs.Entries.{Entries, is_dir}
 use Rattle.rk_tree.specs.Hierarchy.{Hierarchy, top, node, number_at, path_of, child, name_in, names}
-use Rattle.rk_tree.specs.Copies.{put_dir, put_found, put_name, put_names, snapshot_of}
+use Rattle.rk_tree.specs.Copies.{put_found, snapshot_of}
+use Rattle.rk_tree.specs.Copying.{put_dir, put_name, put_names}
 use Rattle.rk_tree.specs.Whole.{IsWhole}
 use Rattle.rk_tree.proofs.BelowLemmas.{child_at, names-at, row_of}
 use Rattle.rk_tree.proofs.CopiesLemmas.{get-snapshot_of}

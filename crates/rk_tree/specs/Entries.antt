@@ -1,9 +1,8 @@
 -- What stands at each path.
-use Rattle.std.specs.Prelude.{◌≡◌, ◌≢◌, ◌≤◌, ℕ, [], Bool, true, false, ◌==◌, Option, Some, None}
-use Rattle.std.specs.List.{list_any}
+use Rattle.std.specs.Prelude.{◌≡◌, ◌≢◌, ◌≤◌, ℕ, [], Bool, true, false, Option, Some, None}
 use Rattle.std.specs.FinMap.{FinMap, get}
 use Rattle.rk_base.specs.Text.{Text, text_cmp, root, parent, join, hidden, is_within}
-use Rattle.rk_base.specs.Canonical.{is_canonical}
+use Rattle.rk_base.specs.Canonical.{has_nul, is_canonical}
 use Rattle.rk_base.specs.declared.kind.Kind.{Kind}
 use Rattle.rk_base.specs.declared.kind.Kind.TheVariants as kind
 use Rattle.rk_tree.specs.declared.entry.Entry.{Entry}
@@ -31,14 +30,11 @@ is_dir (Some (File mode bytes)) = false
 is_dir (Some (Dir mode)) = true
 is_dir (Some (Link text)) = false
 
-abbrev pub is_nul : ℕ → Bool
-is_nul b = b == 0
-
 -- a mode is at most 0777, and a link's text is not empty and has no NUL
 abbrev pub IsFit : Node → Type 0
 IsFit (File mode bytes) = mode ≤ 511
 IsFit (Dir mode) = mode ≤ 511
-IsFit (Link text) = (text ≢ []) × (list_any is_nul text ≡ false)
+IsFit (Link text) = (text ≢ []) × (has_nul text ≡ false)
 
 -- what a whole tree shows
 pub record IsWholeSnapshot (snapshot : Entries) : Type 0 where

@@ -1,4 +1,5 @@
 pub mod Copies
+pub mod Copying
 pub mod Entries
 pub mod Hierarchy
 pub mod Inodes

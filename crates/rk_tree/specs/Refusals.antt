@@ -1,14 +1,13 @@
 -- When a change of a tree is refused: by the first of its checks that holds.
 use Rattle.std.specs.Prelude.{◌≡◌, ℕ, List, [], ◌∷◌, ◌++◌, nat_lt, Bool, true, false, not, ◌&&◌, ◌==◌, if◌then◌else◌, Option, Some, None, Result, Ok, Err}
-use Rattle.std.specs.List.{list_any}
 use Rattle.rk_base.specs.Text.{Text}
-use Rattle.rk_base.specs.Canonical.{is_empty}
+use Rattle.rk_base.specs.Canonical.{has_nul, is_empty}
 use Rattle.rk_base.specs.declared.errno.Errno.{Errno}
 use Rattle.rk_base.specs.declared.errno.Errno.TheVariants.{NoEntry, NotDir, IsDir, Exists, Denied, NotEmpty, Invalid}
 use Rattle.rk_tree.specs.Node.{Node, File, Dir, Link}
 use Rattle.rk_tree.specs.declared.refused.Refused.{Refused}
 use Rattle.rk_tree.specs.declared.refused.Refused.TheVariants.{No, NoMemory}
-use Rattle.rk_tree.specs.Entries.{is_dir, is_nul}
+use Rattle.rk_tree.specs.Entries.{is_dir}
 use Rattle.rk_tree.specs.Hierarchy.{Hierarchy, node, mode_of, has_w, child, names, stands_within}
 
 abbrev pub first_of : List (Bool × Errno) → Option Errno
@@ -35,7 +34,7 @@ mode_checks mode = (nat_lt 511 mode, Invalid) ∷ []
 abbrev pub entry_checks : Node → List (Bool × Errno)
 entry_checks (File mode bytes) = mode_checks mode
 entry_checks (Dir mode) = mode_checks mode
-entry_checks (Link text) = (is_empty text, NoEntry) ∷ (list_any is_nul text, Invalid) ∷ []
+entry_checks (Link text) = (is_empty text, NoEntry) ∷ (has_nul text, Invalid) ∷ []
 
 unfoldable pub add_refusal : Hierarchy → ℕ → Text → Node → Option Errno
 add_refusal tree dir name it = first_of (entry_checks it ++ (is_there (child tree dir name), Exists) ∷ (lacks_w tree dir, Denied) ∷ [])

@@ -6,6 +6,7 @@ mod id;
 mod inode;
 mod names;
 mod node;
+mod permission;
 mod refused;
 mod snapshot;
 #[cfg(test)]
@@ -15,6 +16,7 @@ mod tree;
 pub use entry::Entry;
 pub use id::NodeId;
 pub use node::Node;
+pub use permission::{has_r, has_w, has_x};
 pub use refused::Refused;
 pub use snapshot::Snapshot;
 pub use tree::Tree;

@@ -125,6 +125,26 @@ fn additions(rt: HostRuntime) -> Result<(), Fail> {
     Ok(())
 }
 
+// The node at a path: none below a file, and none at a name that is longer or shorter.
+#[test]
+fn nodes_at_paths(rt: HostRuntime) -> Result<(), Fail> {
+    let alloc = rt.alloc();
+    let tree = grown(alloc)?.ok_or("no tree")?;
+    let rows: [(&[u8], Option<usize>); 6] = [
+        (b"/", Some(0)),
+        (b"/d", Some(1)),
+        (b"/d/f", Some(2)),
+        (b"/d/ff", None),
+        (b"/f", None),
+        (b"/d/f/g", None),
+    ];
+    for (text, number) in &rows {
+        let at = path(alloc, text)?;
+        assert_eq!(rt; tree.node(&at).map(|n| n.number()), *number);
+    }
+    Ok(())
+}
+
 // What is no name stands for nothing, though something stands at the path that it would make: at
 // `/d/f`, and at `/`.
 #[test]

@@ -12,6 +12,7 @@ ghost use Rattle.rk_tree.specs.Node.{Dir};
 mod changing;
 mod climbing;
 mod copying;
+mod finding;
 mod refusing;
 mod renaming;
 

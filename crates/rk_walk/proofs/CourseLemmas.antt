@@ -4,17 +4,17 @@ use Rattle.std.specs.List.{list_all}
 use Rattle.rk_base.specs.Text.{Text, is_slash}
 use Rattle.rk_tree.specs.Hierarchy.{Hierarchy, top}
 use Rattle.rk_base.specs.Canonical.{is_empty}
-use Rattle.rk_walk.specs.Walk.{Spot, parts, parts_from, closed, is_after, IsFirst, walk, at_part, leads, again_by, start, joined, is_mark, only_slashes, step_means}
-use Rattle.rk_walk.specs.Course.{Course, course_leads, IsKept, Follows, Advances, marked}
+use Rattle.rk_walk.specs.Course.{is_after, IsFirst, again_by, following, is_mark, only_slashes, step_means, Course, course_leads, IsCourse, Follows, Advances, marked}
+use Rattle.rk_walk.specs.Walk.{Spot, parts, parts_from, closed, walk, at_part, leads, start, as_spot}
 use Rattle.rk_walk.specs.declared.place.Here.{Here}
 use Rattle.rk_walk.specs.declared.place.Place.TheVariants.{Found}
 use Rattle.rk_walk.specs.declared.step.Step.{Step}
 use Rattle.rk_base.specs.declared.errno.Errno.TheVariants.{Loops}
 use Rattle.rk_walk.proofs.PartLemmas.{after-append}
 
-joined-push : (marks : List Text) (text : Text) → joined (marks ++ text ∷ []) ≡ text ++ joined marks
-joined-push [] text = sym (append-nil text)
-joined-push (m ∷ ms) text = ap (λ (t : Text). t ++ m) (joined-push ms text) ∙ append_assoc text (joined ms) m
+following-push : (marks : List Text) (text : Text) → following (marks ++ text ∷ []) ≡ text ++ following marks
+following-push [] text = sym (append-nil text)
+following-push (m ∷ ms) text = ap (λ (t : Text). t ++ m) (following-push ms text) ∙ append_assoc text (following ms) m
 
 both_left : (a b : Bool) → (a && b) ≡ true → a ≡ true
 both_left true b h = refl
@@ -42,9 +42,9 @@ all-append : {A : Type 0} (p : A → Bool) (xs ys : List A) → list_all p (xs +
 all-append p [] ys = refl
 all-append p (x ∷ xs) ys = ap (λ (b : Bool). p x && b) (all-append p xs ys) ∙ sym (and_assoc (p x) _ _)
 
-after_joined : (marks : List Text) → list_all is_mark marks ≡ true → is_after (joined marks) ≡ true
-after_joined [] h = refl
-after_joined (m ∷ ms) h = after-append (joined ms) m (after_joined ms (both_right (is_mark m) (list_all is_mark ms) h)) (both_right (not (is_empty m)) (is_after m) (both_left (is_mark m) (list_all is_mark ms) h))
+after_following : (marks : List Text) → list_all is_mark marks ≡ true → is_after (following marks) ≡ true
+after_following [] h = refl
+after_following (m ∷ ms) h = after-append (following ms) m (after_following ms (both_right (is_mark m) (list_all is_mark ms) h)) (both_right (not (is_empty m)) (is_after m) (both_left (is_mark m) (list_all is_mark ms) h))
 
 empty-append : (a b : Text) → is_empty (a ++ b) ≡ (is_empty a && is_empty b)
 empty-append [] b = refl
@@ -58,13 +58,13 @@ and_false : (a b : Bool) → b ≡ false → (a && b) ≡ false
 and_false true b h = h
 and_false false b h = refl
 
-empty_joined : (marks : List Text) → list_all is_mark marks ≡ true → is_empty (joined marks) ≡ is_empty marks
-empty_joined [] h = refl
-empty_joined (m ∷ ms) h = empty-append (joined ms) m ∙ and_false (is_empty (joined ms)) (is_empty m) (not_not (is_empty m) (both_left (not (is_empty m)) (is_after m) (both_left (is_mark m) (list_all is_mark ms) h)))
+empty_following : (marks : List Text) → list_all is_mark marks ≡ true → is_empty (following marks) ≡ is_empty marks
+empty_following [] h = refl
+empty_following (m ∷ ms) h = empty-append (following ms) m ∙ and_false (is_empty (following ms)) (is_empty m) (not_not (is_empty m) (both_left (not (is_empty m)) (is_after m) (both_left (is_mark m) (list_all is_mark ms) h)))
 
-slashes_joined : (marks : List Text) → only_slashes (joined marks) ≡ list_all only_slashes marks
-slashes_joined [] = refl
-slashes_joined (m ∷ ms) = all-append is_slash (joined ms) m ∙ ap (λ (b : Bool). b && only_slashes m) (slashes_joined ms) ∙ and_comm (list_all only_slashes ms) (only_slashes m)
+slashes_following : (marks : List Text) → only_slashes (following marks) ≡ list_all only_slashes marks
+slashes_following [] = refl
+slashes_following (m ∷ ms) = all-append is_slash (following ms) m ∙ ap (λ (b : Bool). b && only_slashes m) (slashes_following ms) ∙ and_comm (list_all only_slashes ms) (only_slashes m)
 
 begun_part : (b : ℕ) (bs text : Text) → is_empty (parts_from (b ∷ bs) text) ≡ false
 begun_part b bs [] = refl
@@ -82,49 +82,49 @@ empty-parts (t ∷ ts) = elim (is_slash t) as (λ (s : Bool). is_empty (cond s (
 ]
 
 -- whether a component is the last
-pub is_last : (rest : Text) (marks : List Text) → is_empty (parts (rest ++ joined marks)) ≡ (only_slashes rest && list_all only_slashes marks)
-is_last rest marks = empty-parts (rest ++ joined marks) ∙ all-append is_slash rest (joined marks) ∙ ap (λ (b : Bool). only_slashes rest && b) (slashes_joined marks)
+pub is_last : (rest : Text) (marks : List Text) → is_empty (parts (rest ++ following marks)) ≡ (only_slashes rest && list_all only_slashes marks)
+is_last rest marks = empty-parts (rest ++ following marks) ∙ all-append is_slash rest (following marks) ∙ ap (λ (b : Bool). only_slashes rest && b) (slashes_following marks)
 
 not_and : (a b : Bool) → not (a && b) ≡ (not a || not b)
 not_and true b = refl
 not_and false b = refl
 
 -- whether a slash stands after it
-pub ends : (rest : Text) (marks : List Text) → list_all is_mark marks ≡ true → not (is_empty (rest ++ joined marks)) ≡ (not (is_empty rest) || not (is_empty marks))
-ends rest marks h = ap not (empty-append rest (joined marks) ∙ ap (λ (b : Bool). is_empty rest && b) (empty_joined marks h)) ∙ not_and (is_empty rest) (is_empty marks)
+pub ends : (rest : Text) (marks : List Text) → list_all is_mark marks ≡ true → not (is_empty (rest ++ following marks)) ≡ (not (is_empty rest) || not (is_empty marks))
+ends rest marks h = ap not (empty-append rest (following marks) ∙ ap (λ (b : Bool). is_empty rest && b) (empty_following marks h)) ∙ not_and (is_empty rest) (is_empty marks)
 
 -- nothing is ahead and no mark is left
 pub arrived : (tree : Hierarchy) (follow : Bool) (course : Course) → ((more : Text) → parts (course.ahead ++ more) ≡ parts more) → course.marks ≡ [] → course_leads tree follow course ≡ Ok (Found course.here)
 unfolding parts
 arrived tree follow course none over =
-    ap (λ (ms : List Text). walk tree follow (again_by course.links tree follow) course.here (parts (course.ahead ++ joined ms))) over
-    ∙ ap (walk tree follow (again_by course.links tree follow) course.here) (none [])
+    ap (λ (ms : List Text). walk as_spot tree follow (again_by course.links tree follow) course.here (parts (course.ahead ++ following ms))) over
+    ∙ ap (walk as_spot tree follow (again_by course.links tree follow) course.here) (none [])
 
 -- nothing is ahead, and the last mark is next
-pub popped : (tree : Hierarchy) (follow : Bool) (old new : Course) (ahead : Text) (marks : List Text) → ((more : Text) → parts (old.ahead ++ more) ≡ parts more) → new ≡ record old { ahead = ahead; marks = marks } → old.marks ≡ marks ++ ahead ∷ [] → IsKept old → Follows tree follow old new
+pub popped : (tree : Hierarchy) (follow : Bool) (old new : Course) (ahead : Text) (marks : List Text) → ((more : Text) → parts (old.ahead ++ more) ≡ parts more) → new ≡ record old { ahead = ahead; marks = marks } → old.marks ≡ marks ++ ahead ∷ [] → IsCourse old → Follows tree follow old new
 popped tree follow old new ahead marks none is was kept =
     subst (λ (c : Course). Follows tree follow old c) (sym is) (record {
       kept = record {
         marks_are = both_left (list_all is_mark marks) (list_all is_mark (ahead ∷ [])) (sym (all-append is_mark marks (ahead ∷ [])) ∙ ap (list_all is_mark) (sym was) ∙ kept.marks_are);
         room = omega (arith, kept.room, ap length was, length-append marks (ahead ∷ []));
       };
-      falls = omega (arith, ap (λ (ms : List Text). length (joined ms)) was, ap length (joined-push marks ahead), length-append ahead (joined marks), ap length was, length-append marks (ahead ∷ []));
-      same = ap (walk tree follow (again_by old.links tree follow) old.here) (none (joined old.marks) ∙ ap parts (ap joined was ∙ joined-push marks ahead));
+      falls = omega (arith, ap (λ (ms : List Text). length (following ms)) was, ap length (following-push marks ahead), length-append ahead (following marks), ap length was, length-append marks (ahead ∷ []));
+      same = ap (walk as_spot tree follow (again_by old.links tree follow) old.here) (none (following old.marks) ∙ ap parts (ap following was ∙ following-push marks ahead));
     })
 
 -- what the component means there
-pub met : (tree : Hierarchy) (follow : Bool) (course : Course) (name rest : Text) (slash last : Bool) (step : Step) (at : ℕ) → at ≡ course.here.node → IsKept course → IsFirst course.ahead name rest → slash ≡ (not (is_empty rest) || not (is_empty course.marks)) → last ≡ (only_slashes rest && list_all only_slashes course.marks)
-    → ((again : Text → Text → Spot) (on : Here → Spot) (after : Text) → not (is_empty after) ≡ slash → at_part tree follow again on at (record { name = name; after = after }) last ≡ step_means again on after step)
-    → course_leads tree follow course ≡ step_means (again_by course.links tree follow course.here.node) (λ on. walk tree follow (again_by course.links tree follow) on (parts (rest ++ joined course.marks))) (rest ++ joined course.marks) step
+pub met : (tree : Hierarchy) (follow : Bool) (course : Course) (name rest : Text) (slash last : Bool) (step : Step) (at : ℕ) → at ≡ course.here.node → IsCourse course → IsFirst course.ahead name rest → slash ≡ (not (is_empty rest) || not (is_empty course.marks)) → last ≡ (only_slashes rest && list_all only_slashes course.marks)
+    → ((again : Text → Text → Spot) (on : Here → Spot) (after : Text) → not (is_empty after) ≡ slash → at_part as_spot tree follow again on at (record { name = name; after = after }) last ≡ step_means again on after step)
+    → course_leads tree follow course ≡ step_means (again_by course.links tree follow course.here.node) (λ on. walk as_spot tree follow (again_by course.links tree follow) on (parts (rest ++ following course.marks))) (rest ++ following course.marks) step
 met tree follow course name rest slash last step at is_at kept first is_slashed is_final does =
-    ap (walk tree follow (again_by course.links tree follow) course.here) (first.parts_are (joined course.marks) (after_joined course.marks kept.marks_are))
-    ∙ ap (λ (b : Bool). at_part tree follow (again_by course.links tree follow course.here.node) (λ on. walk tree follow (again_by course.links tree follow) on (parts (rest ++ joined course.marks))) course.here.node (record { name = name; after = rest ++ joined course.marks }) b) (is_last rest course.marks ∙ sym is_final)
-    ∙ ap (λ (n : ℕ). at_part tree follow (again_by course.links tree follow course.here.node) (λ on. walk tree follow (again_by course.links tree follow) on (parts (rest ++ joined course.marks))) n (record { name = name; after = rest ++ joined course.marks }) last) (sym is_at)
-    ∙ does (again_by course.links tree follow course.here.node) (λ on. walk tree follow (again_by course.links tree follow) on (parts (rest ++ joined course.marks))) (rest ++ joined course.marks) (ends rest course.marks kept.marks_are ∙ sym is_slashed)
+    ap (walk as_spot tree follow (again_by course.links tree follow) course.here) (first.parts_are (following course.marks) (after_following course.marks kept.marks_are))
+    ∙ ap (λ (b : Bool). at_part as_spot tree follow (again_by course.links tree follow course.here.node) (λ on. walk as_spot tree follow (again_by course.links tree follow) on (parts (rest ++ following course.marks))) course.here.node (record { name = name; after = rest ++ following course.marks }) b) (is_last rest course.marks ∙ sym is_final)
+    ∙ ap (λ (n : ℕ). at_part as_spot tree follow (again_by course.links tree follow course.here.node) (λ on. walk as_spot tree follow (again_by course.links tree follow) on (parts (rest ++ following course.marks))) n (record { name = name; after = rest ++ following course.marks }) last) (sym is_at)
+    ∙ does (again_by course.links tree follow course.here.node) (λ on. walk as_spot tree follow (again_by course.links tree follow) on (parts (rest ++ following course.marks))) (rest ++ following course.marks) (ends rest course.marks kept.marks_are ∙ sym is_slashed)
 
 -- the walk goes on after a component
-pub went_on : (tree : Hierarchy) (follow : Bool) (old new : Course) (name rest : Text) (next : Here) → IsKept old → IsFirst old.ahead name rest → new ≡ record old { here = next; ahead = rest }
-    → course_leads tree follow old ≡ walk tree follow (again_by old.links tree follow) next (parts (rest ++ joined old.marks)) → Follows tree follow old new
+pub went_on : (tree : Hierarchy) (follow : Bool) (old new : Course) (name rest : Text) (next : Here) → IsCourse old → IsFirst old.ahead name rest → new ≡ record old { here = next; ahead = rest }
+    → course_leads tree follow old ≡ walk as_spot tree follow (again_by old.links tree follow) next (parts (rest ++ following old.marks)) → Follows tree follow old new
 went_on tree follow old new name rest next kept first is same =
     subst (λ (c : Course). Follows tree follow old c) (sym is) (record {
       kept = record { marks_are = kept.marks_are; room = kept.room };
@@ -132,7 +132,7 @@ went_on tree follow old new name rest next kept first is same =
       same = same;
     })
 
-leads-walk : (links : ℕ) (tree : Hierarchy) (follow : Bool) (at : ℕ) (text after : Text) → leads links tree follow at text after ≡ walk tree follow (again_by links tree follow) (start at text) (parts (text ++ after))
+leads-walk : (links : ℕ) (tree : Hierarchy) (follow : Bool) (at : ℕ) (text after : Text) → leads as_spot links tree follow at text after ≡ walk as_spot tree follow (again_by links tree follow) (start at text) (parts (text ++ after))
 unfolding leads
 leads-walk zero tree follow at text after = refl
 leads-walk (suc links) tree follow at text after = refl
@@ -140,39 +140,35 @@ leads-walk (suc links) tree follow at text after = refl
 one_less : (k : ℕ) → k ≡ suc k - 1
 one_less k = omega arith
 
-again-leads : (links : ℕ) (tree : Hierarchy) (follow : Bool) (at : ℕ) (text after : Text) → 0 < links → again_by links tree follow at text after ≡ leads (links - 1) tree follow at text after
+again-leads : (links : ℕ) (tree : Hierarchy) (follow : Bool) (at : ℕ) (text after : Text) → 0 < links → again_by links tree follow at text after ≡ leads as_spot (links - 1) tree follow at text after
 again-leads zero tree follow at text after some = absurd (omega arith)
-again-leads (suc links) tree follow at text after some = ap (λ (k : ℕ). leads k tree follow at text after) (one_less links)
+again-leads (suc links) tree follow at text after some = ap (λ (k : ℕ). leads as_spot k tree follow at text after) (one_less links)
 
-joined_marked : (marks : List Text) (rest : Text) → joined (marked marks rest) ≡ rest ++ joined marks
-joined_marked marks [] = refl
-joined_marked marks (b ∷ bs) = joined-push marks (b ∷ bs)
+following_marked : (marks : List Text) (rest : Text) → following (marked marks rest) ≡ rest ++ following marks
+following_marked marks [] = refl
+following_marked marks (b ∷ bs) = following-push marks (b ∷ bs)
 
 marked_are : (marks : List Text) (rest : Text) → list_all is_mark marks ≡ true → is_after rest ≡ true → list_all is_mark (marked marks rest) ≡ true
 marked_are marks [] h after = h
 marked_are marks (b ∷ bs) h after = all-append is_mark marks ((b ∷ bs) ∷ []) ∙ ap (λ (x : Bool). x && (is_slash b && true)) h ∙ and_true (is_slash b) ∙ after
-
-length_marked : (marks : List Text) (rest : Text) → length (marked marks rest) ≤ length marks + length rest
-length_marked marks [] = omega arith
-length_marked marks (b ∷ bs) = omega (arith, length-append marks ((b ∷ bs) ∷ []))
 
 room_marked : (marks : List Text) (rest : Text) → length (marked marks rest) ≤ length marks + 1
 room_marked marks [] = omega arith
 room_marked marks (b ∷ bs) = omega (arith, length-append marks ((b ∷ bs) ∷ []))
 
 -- a link is followed
-pub followed : (tree : Hierarchy) (follow : Bool) (old new : Course) (name rest text : Text) → IsKept old → IsFirst old.ahead name rest → 0 < old.links → length text < 2 ^ 64
+pub followed : (tree : Hierarchy) (follow : Bool) (old new : Course) (name rest text : Text) → IsCourse old → IsFirst old.ahead name rest → 0 < old.links → length text < 2 ^ 64
     → new ≡ record { here = start old.here.node text; ahead = text; marks = marked old.marks rest; links = old.links - 1 }
-    → course_leads tree follow old ≡ again_by old.links tree follow old.here.node text (rest ++ joined old.marks) → Follows tree follow old new
+    → course_leads tree follow old ≡ again_by old.links tree follow old.here.node text (rest ++ following old.marks) → Follows tree follow old new
 followed tree follow old new name rest text kept first some fits is same =
     subst (λ (c : Course). Follows tree follow old c) (sym is) (record {
       kept = record {
         marks_are = marked_are old.marks rest kept.marks_are first.goes_on;
         room = omega (arith, kept.room, room_marked old.marks rest);
       };
-      falls = omega (arith, first.shorter, ap length (joined_marked old.marks rest), length-append rest (joined old.marks), room_marked old.marks rest);
-      same = same ∙ again-leads old.links tree follow old.here.node text _ some ∙ leads-walk (old.links - 1) tree follow old.here.node text (rest ++ joined old.marks)
-          ∙ ap (λ (t : Text). walk tree follow (again_by (old.links - 1) tree follow) (start old.here.node text) (parts (text ++ t))) (sym (joined_marked old.marks rest));
+      falls = omega (arith, first.shorter, ap length (following_marked old.marks rest), length-append rest (following old.marks), room_marked old.marks rest);
+      same = same ∙ again-leads old.links tree follow old.here.node text _ some ∙ leads-walk (old.links - 1) tree follow old.here.node text (rest ++ following old.marks)
+          ∙ ap (λ (t : Text). walk as_spot tree follow (again_by (old.links - 1) tree follow) (start old.here.node text) (parts (text ++ t))) (sym (following_marked old.marks rest));
     })
 
 -- no link more may be followed
@@ -180,14 +176,14 @@ pub looped : (tree : Hierarchy) (follow : Bool) (old : Course) (text after : Tex
 looped tree follow old text after none same = same ∙ ap (λ (k : ℕ). again_by k tree follow old.here.node text after) none
 
 -- what a step that follows a link comes to
-pub linked : (tree : Hierarchy) (follow : Bool) (old new : Course) (name rest text label : Text) (result : Option Spot) → IsKept old → IsFirst old.ahead name rest → text ≡ label
+pub linked : (tree : Hierarchy) (follow : Bool) (old new : Course) (name rest text label : Text) (result : Option Spot) → IsCourse old → IsFirst old.ahead name rest → text ≡ label
     → MatchOption result ((0 < old.links) × (length text < 2 ^ 64) × (new ≡ record { here = start old.here.node text; ahead = text; marks = marked old.marks rest; links = old.links - 1 })) (λ spot. (old.links ≡ 0) × (spot ≡ Err Loops))
-    → course_leads tree follow old ≡ again_by old.links tree follow old.here.node label (rest ++ joined old.marks) → Advances tree follow old new result
+    → course_leads tree follow old ≡ again_by old.links tree follow old.here.node label (rest ++ following old.marks) → Advances tree follow old new result
 linked tree follow old new name rest text label None kept first is does same =
-    followed tree follow old new name rest text kept first does.0 does.1 does.2 (same ∙ ap (λ (t : Text). again_by old.links tree follow old.here.node t (rest ++ joined old.marks)) (sym is))
+    followed tree follow old new name rest text kept first does.0 does.1 does.2 (same ∙ ap (λ (t : Text). again_by old.links tree follow old.here.node t (rest ++ following old.marks)) (sym is))
 linked tree follow old new name rest text label (Some spot) kept first is does same = looped tree follow old label _ does.0 same ∙ sym does.1
 
 -- the walk begins
-pub begun : (tree : Hierarchy) (follow : Bool) (path : Text) (course : Course) → course ≡ record { here = start top path; ahead = path; marks = []; links = 32 } → IsKept course × (leads 32 tree follow top path [] ≡ course_leads tree follow course)
+pub begun : (tree : Hierarchy) (follow : Bool) (path : Text) (course : Course) → course ≡ record { here = start top path; ahead = path; marks = []; links = 32 } → IsCourse course × (leads as_spot 32 tree follow top path [] ≡ course_leads tree follow course)
 begun tree follow path course is =
-    subst (λ (c : Course). IsKept c × (leads 32 tree follow top path [] ≡ course_leads tree follow c)) (sym is) (record { marks_are = refl; room = lit≤ tt }, leads-walk 32 tree follow top path [])
+    subst (λ (c : Course). IsCourse c × (leads as_spot 32 tree follow top path [] ≡ course_leads tree follow c)) (sym is) (record { marks_are = refl; room = lit≤ tt }, leads-walk 32 tree follow top path [])

@@ -2,7 +2,8 @@
 use Rattle.std.proofs.Common.{◌≡◌, ◌<◌, ◌≤◌, ℕ, suc, ◌+◌, List, [], ◌∷◌, ◌++◌, length, drop, get_or, Bool, true, false, cond, ◌||◌, refl, sym, ap, ◌∙◌, append_assoc, append-nil, arith, length-append, drop-cons}
 use Rattle.rk_base.specs.Text.{Text}
 use Rattle.rk_base.specs.Canonical.{is_empty}
-use Rattle.rk_walk.specs.Walk.{Part, parts, parts_from, closed, has_slash, is_after, IsFirst}
+use Rattle.rk_walk.specs.Course.{has_slash, is_after, IsFirst}
+use Rattle.rk_walk.specs.Walk.{Part, parts, parts_from, closed}
 
 pub parts-slash : (more : Text) → parts (47 ∷ more) ≡ parts more
 unfolding parts

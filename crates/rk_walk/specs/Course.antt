@@ -1,10 +1,55 @@
 -- Where the code stands on its way.
-use Rattle.std.specs.Prelude.{◌≡◌, ℕ, ◌+◌, ◌*◌, ◌^◌, ◌<◌, ◌≤◌, List, [], ◌∷◌, ◌++◌, length, Bool, true, Option, Some, None}
-use Rattle.std.specs.List.{list_all}
-use Rattle.rk_base.specs.Text.{Text}
+use Rattle.std.specs.Prelude.{◌≡◌, ℕ, zero, suc, ◌+◌, ◌*◌, ◌^◌, ◌<◌, ◌≤◌, List, [], ◌∷◌, ◌++◌, length, Bool, true, not, ◌&&◌, Option, Some, None, Ok, Err}
+use Rattle.std.specs.List.{list_any, list_all}
+use Rattle.rk_base.specs.Text.{Text, is_slash}
+use Rattle.rk_base.specs.Canonical.{is_empty}
+use Rattle.rk_base.specs.declared.errno.Errno.TheVariants.{Loops}
 use Rattle.rk_tree.specs.Hierarchy.{Hierarchy}
-use Rattle.rk_walk.specs.Walk.{Spot, walk, again_by, parts, joined, is_mark}
+use Rattle.rk_walk.specs.Walk.{Spot, as_spot, walk, leads, parts}
 use Rattle.rk_walk.specs.declared.place.Here.{Here}
+use Rattle.rk_walk.specs.declared.step.Step.{Step}
+use Rattle.rk_walk.specs.declared.step.Step.TheVariants.{On, Follow, Ends, Fails}
+
+-- A text that is cut.
+
+abbrev pub has_slash : Text → Bool
+has_slash = list_any is_slash
+
+-- what may stand after a component
+abbrev pub is_after : Text → Bool
+is_after [] = true
+is_after (b ∷ bs) = is_slash b
+
+-- a text begins with this component, and then the rest stands, whatever comes after it
+pub record IsFirst (text name rest : Text) : Type 0 where
+  pub parts_are : (more : Text) → is_after more ≡ true → parts (text ++ more) ≡ record { name = name; after = rest ++ more } ∷ parts (rest ++ more)
+  pub goes_on : is_after rest ≡ true
+  pub shorter : length rest < length text
+
+-- the texts that are left, the last one first
+abbrev pub following : List Text → Text
+following [] = []
+following (text ∷ texts) = following texts ++ text
+
+abbrev pub only_slashes : Text → Bool
+only_slashes = list_all is_slash
+
+abbrev pub is_mark : Text → Bool
+is_mark text = not (is_empty text) && is_after text
+
+-- A step of the code.
+
+-- what following a link means where `links` more may be followed
+abbrev pub again_by : ℕ → Hierarchy → Bool → ℕ → Text → Text → Spot
+again_by zero tree follow at text after = Err Loops
+again_by (suc links) tree follow at text after = leads as_spot links tree follow at text after
+
+-- what a step of the code means
+abbrev pub step_means : (Text → Text → Spot) → (Here → Spot) → Text → Step → Spot
+step_means again on after (On here) = on here
+step_means again on after (Follow text) = again text after
+step_means again on after (Ends place) = Ok place
+step_means again on after (Fails e) = Err e
 
 -- here, with this text ahead, then the marks, the last one first; `links` links more may be followed
 pub record Course : Type 0 where
@@ -15,18 +60,18 @@ pub record Course : Type 0 where
 
 -- where what is left leads
 abbrev pub course_leads : Hierarchy → Bool → Course → Spot
-course_leads tree follow course = walk tree follow (again_by course.links tree follow) course.here (parts (course.ahead ++ joined course.marks))
+course_leads tree follow course = walk as_spot tree follow (again_by course.links tree follow) course.here (parts (course.ahead ++ following course.marks))
 
-pub record IsKept (course : Course) : Type 0 where
+pub record IsCourse (course : Course) : Type 0 where
   pub marks_are : list_all is_mark course.marks ≡ true
   pub room : length course.marks + course.links ≤ 32
 
 -- falls with each component and each link
 abbrev pub left_of : Course → ℕ
-left_of course = course.links * 2 ^ 64 + length course.ahead + length (joined course.marks) + length course.marks
+left_of course = course.links * 2 ^ 64 + length course.ahead + length (following course.marks) + length course.marks
 
 pub record Follows (tree : Hierarchy) (follow : Bool) (old new : Course) : Type 0 where
-  pub kept : IsKept new
+  pub kept : IsCourse new
   pub falls : left_of new < left_of old
   pub same : course_leads tree follow old ≡ course_leads tree follow new
 

@@ -3,14 +3,11 @@
 
 mod label;
 mod marks;
-mod permission;
 mod place;
 mod step;
 mod text;
 mod walker;
 
 pub use label::Label;
-pub use permission::{has_r, has_w, has_x};
 pub use place::{Here, Place};
-pub use text::has_nul;
 pub use walker::resolve;

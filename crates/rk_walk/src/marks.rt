@@ -2,7 +2,7 @@
 ghost use Rattle.std.specs.Prelude.{◌≡◌, ◌<◌, ◌≤◌, ◌+◌, ◌++◌, ◌∷◌, [], length, MatchOption, map};
 ghost use Rattle.std.specs.List.{list_all};
 ghost use Rattle.rk_base.specs.Canonical.{is_empty};
-ghost use Rattle.rk_walk.specs.Walk.{only_slashes};
+ghost use Rattle.rk_walk.specs.Course.{only_slashes};
 
 use std::marker::Model;
 

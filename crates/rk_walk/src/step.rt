@@ -3,14 +3,15 @@ ghost use Rattle.std.specs.Prelude.{◌≡◌, List, ℕ, not, true, false, Some
 ghost use Rattle.rk_base.specs.Canonical.{is_empty, is_name};
 ghost use Rattle.rk_tree.specs.Entries.{is_dir};
 ghost use Rattle.rk_tree.specs.Hierarchy as hierarchy;
-ghost use Rattle.rk_walk.specs.Walk.{Spot, at_child, at_part, step_means};
+ghost use Rattle.rk_walk.specs.Course.{step_means};
+ghost use Rattle.rk_walk.specs.Walk.{Spot, as_spot, at_child, at_part};
 ghost use Rattle.rk_walk.specs.declared.place.Here.{Here as Standing};
 ghost use Rattle.rk_walk.specs.declared.place.Place.TheVariants.{Found};
 ghost use Rattle.rk_walk.specs.declared.step.Step.TheVariants.{Ends};
 
-use crate::{Here, Label, Place, has_x};
+use crate::{Here, Label, Place};
 use rk_base::{Errno, Kind, is_name};
-use rk_tree::{NodeId, Tree};
+use rk_tree::{NodeId, Tree, has_x};
 use std::marker::Model;
 
 // A link's text.
@@ -61,7 +62,7 @@ fn at_name<'a>(
 ) -> Step<'a>
     requires dir { is_dir (hierarchy.node tree.now at) ≡ true }
     requires name { is_name name.now ≡ true }
-    ensures { (again : List ℕ → List ℕ → Spot) (on : Standing → Spot) (after : List ℕ) → not (is_empty after) ≡ slash → at_child tree.now follow again on at (record { name = name.now; after = after }) last (hierarchy.child tree.now at name.now) ≡ step_means again on after result }
+    ensures { (again : List ℕ → List ℕ → Spot) (on : Standing → Spot) (after : List ℕ) → not (is_empty after) ≡ slash → at_child as_spot tree.now follow again on at (record { name = name.now; after = after }) last (hierarchy.child tree.now at name.now) ≡ step_means again on after result }
 {
     let Some(n) = tree.child(at, name) else {
         return if last {
@@ -117,7 +118,7 @@ pub(crate) fn component<'a>(
     slash: bool,
     last: bool,
 ) -> Step<'a>
-    ensures { (again : List ℕ → List ℕ → Spot) (on : Standing → Spot) (after : List ℕ) → not (is_empty after) ≡ slash → at_part tree.now follow again on at (record { name = name.now; after = after }) last ≡ step_means again on after result }
+    ensures { (again : List ℕ → List ℕ → Spot) (on : Standing → Spot) (after : List ℕ) → not (is_empty after) ≡ slash → at_part as_spot tree.now follow again on at (record { name = name.now; after = after }) last ≡ step_means again on after result }
 {
     if !tree.is_dir(at) {
         return Step::Fails(Errno::NotDir);

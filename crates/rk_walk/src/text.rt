@@ -1,7 +1,8 @@
 // Components of a text.
 ghost use Rattle.std.specs.Prelude.{◌≡◌, ◌<◌, ◌≤◌, ℕ, List, ◌∷◌, ◌++◌, length, true, false, MatchOption};
 ghost use Rattle.rk_base.specs.Canonical.{is_empty};
-ghost use Rattle.rk_walk.specs.Walk.{parts, Part, has_nul, has_slash, is_after, IsFirst};
+ghost use Rattle.rk_walk.specs.Course.{has_slash, is_after, IsFirst};
+ghost use Rattle.rk_walk.specs.Walk.{parts, Part};
 
 // What stands after the slashes that a text begins with.
 pub(crate) fn skip_slashes(text: &[u8]) -> &[u8]
@@ -41,11 +42,4 @@ pub(crate) fn first_part(text: &[u8]) -> Option<(&[u8], &[u8])>
     } else {
         Some((name, rest))
     }
-}
-
-/// Whether a NUL is among the bytes of a text.
-pub fn has_nul(text: &[u8]) -> bool
-    ensures { result ≡ has_nul text.now }
-{
-    text.iter().any(|b| *b == 0)
 }

@@ -1,18 +1,19 @@
 // The walk along a path.
 ghost use Rattle.std.specs.Prelude.{IfOk, ◌≡◌, ◌<◌, [], ◌∷◌, Ok, Err, MatchBool, MatchOption, not, ◌||◌, ◌&&◌, ◌^◌, ◌++◌, ◌-◌, length};
 ghost use Rattle.std.specs.List.{list_all};
-ghost use Rattle.rk_base.specs.Canonical.{is_empty};
+ghost use Rattle.rk_base.specs.Canonical.{has_nul, is_empty};
 ghost use Rattle.rk_tree.specs.Hierarchy.{top};
-ghost use Rattle.rk_walk.specs.Walk.{IsPlaceOf, has_nul, leads, resolve, only_slashes, start, IsFirst};
-ghost use Rattle.rk_walk.specs.Course.{Advances, Course, IsKept, marked};
+ghost use Rattle.rk_walk.specs.Course.{only_slashes, IsFirst, Advances, Course, IsCourse, marked};
+ghost use Rattle.rk_walk.specs.Places.{IsPlaceOf};
+ghost use Rattle.rk_walk.specs.Walk.{as_spot, leads, resolve, start};
 ghost use Rattle.rk_walk.specs.declared.place.Place.TheVariants.{Found};
 ghost use Rattle.rk_base.specs.declared.errno.Errno.TheVariants.{Loops};
 
 use crate::marks::{Marks, only_slashes};
 use crate::step::{Step, component};
-use crate::text::{first_part, has_nul};
+use crate::text::first_part;
 use crate::{Here, Label, Place};
-use rk_base::Errno;
+use rk_base::{Errno, has_nul};
 use rk_tree::{NodeId, Tree};
 use std::marker::Model;
 
@@ -41,8 +42,6 @@ fn start<'a>(at: NodeId, text: &[u8]) -> Here<'a>
 }
 
 impl<'a> Model for Walker<'a> {
-    ghost use Rattle.rk_walk.specs.Course.{Course};
-
     ghost Value = { Course };
 
     ghost view = { λ w. record { here = w.here; ahead = w.ahead.now; marks = w.marks; links = w.links } };
@@ -142,7 +141,7 @@ impl<'a> Walker<'a> {
         name: &'a [u8],
         rest: &'a [u8],
     ) -> Option<Result<Place<'a>, Errno>>
-        requires kept { IsKept self.old }
+        requires kept { IsCourse self.old }
         requires first { IsFirst self.old.ahead name.now rest.now }
         ensures { Advances tree.now follow self.old self.new result }
     {
@@ -160,7 +159,7 @@ impl<'a> Walker<'a> {
     }
 
     fn links_to(&mut self, text: &'a [u8], rest: &'a [u8]) -> Option<Result<Place<'a>, Errno>>
-        requires kept { IsKept self.old }
+        requires kept { IsCourse self.old }
         ensures { MatchOption result ((0 < self.old.links) × (length text.now < 2 ^ 64) × (self.new ≡ record { here = start self.old.here.node text.now; ahead = text.now; marks = marked self.old.marks rest.now; links = self.old.links - 1 })) (λ spot. (self.old.links ≡ 0) × (spot ≡ Err Loops)) }
     {
         let _length = text.len();
@@ -173,7 +172,7 @@ impl<'a> Walker<'a> {
 
     // A step of the walk.
     fn advance(&mut self, tree: &'a Tree, follow: bool) -> Option<Result<Place<'a>, Errno>>
-        requires { IsKept self.old }
+        requires { IsCourse self.old }
         ensures { Advances tree.now follow self.old self.new result }
     {
         match first_part(self.ahead()) {
@@ -190,7 +189,7 @@ impl<'a> Walker<'a> {
 }
 
 pub(crate) fn leads<'a>(tree: &'a Tree, path: &'a [u8], follow: bool) -> Result<Place<'a>, Errno>
-    ensures { result ≡ leads 32 tree.now follow top path.now [] }
+    ensures { result ≡ leads as_spot 32 tree.now follow top path.now [] }
 {
     let mut walker = Walker::new(path);
     loop {

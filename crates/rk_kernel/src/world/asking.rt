@@ -11,8 +11,8 @@ ghost use Rattle.rk_kernel.specs.Spot.{met};
 use crate::World;
 use rk_base::{Bytes, Errno, Kind, NoMemory};
 use rk_calls::{Answer, Refs};
-use rk_tree::NodeId;
-use rk_walk::{Place, has_r, has_x, resolve};
+use rk_tree::{NodeId, has_r, has_x};
+use rk_walk::{Place, resolve};
 
 impl World {
     fn stat_of(&self, n: NodeId) -> Answer

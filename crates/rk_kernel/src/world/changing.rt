@@ -5,17 +5,17 @@ ghost use Rattle.rk_calls.specs.declared.call.Call.TheVariants as call;
 ghost use Rattle.rk_tree.specs.Entries.{is_dir, node_of};
 ghost use Rattle.rk_tree.specs.Hierarchy.{node, child, added, linked, removed, set_mode};
 ghost use Rattle.rk_tree.specs.Refusals.{entry_checks, has_names, is_there, lacks_w, mode_checks};
-ghost use Rattle.rk_walk.specs.Walk.{resolve, IsFreeName};
+ghost use Rattle.rk_walk.specs.Places.{IsFreeName};
+ghost use Rattle.rk_walk.specs.Walk.{resolve};
 ghost use Rattle.rk_kernel.specs.Do as all;
 ghost use Rattle.rk_kernel.specs.Rows.{done, strict, unless};
 ghost use Rattle.rk_kernel.specs.Spot.{spot_means, IsSpotOf};
 
 use crate::World;
 use crate::spot::{Spot, spot_at, strict_spot_at};
-use rk_base::{Bytes, Errno, Name, NoMemory};
+use rk_base::{Bytes, Errno, Name, NoMemory, has_nul};
 use rk_calls::{Answer, Refs};
 use rk_tree::{Entry, NodeId};
-use rk_walk::has_nul;
 
 impl World {
     // Where a path leads, its last link followed.
@@ -60,18 +60,11 @@ impl World {
     }
 
     // The name of a node stands for nothing.
-    fn removes(
-        &mut self,
-        refs: &Refs,
-        dir: NodeId,
-        name: &Name,
-        _n: NodeId,
-    ) -> Result<Answer, NoMemory>
+    fn removes(&mut self, refs: &Refs, dir: NodeId, name: &Name, _n: NodeId) -> Answer
         requires { child self.old.tree dir name.now ≡ Some _n }
-        ensures { IfOk result (λ a. record { answer = a; refs = refs.now; world = self.new } ≡ unless self.old refs.now ((has_names self.old.tree _n, NotEmpty) ∷ (lacks_w self.old.tree dir, Denied) ∷ []) (done self.old refs.now (removed self.old.tree dir name.now))) }
+        ensures { record { answer = result; refs = refs.now; world = self.new } ≡ unless self.old refs.now ((has_names self.old.tree _n, NotEmpty) ∷ (lacks_w self.old.tree dir, Denied) ∷ []) (done self.old refs.now (removed self.old.tree dir name.now)) }
     {
-        let answer = self.remove_name(refs, dir, name)?;
-        Ok(answer)
+        self.remove_name(refs, dir, name)
     }
 
     /// Makes a directory.
@@ -158,7 +151,7 @@ impl World {
                 if self.tree.is_dir(*n) {
                     return Ok(Answer::No(Errno::IsDir));
                 }
-                self.removes(refs, up.0, &up.1, *n)
+                Ok(self.removes(refs, up.0, &up.1, *n))
             }
         }
     }
@@ -176,18 +169,17 @@ impl World {
                 if !self.tree.is_dir(*n) {
                     return Ok(Answer::No(Errno::NotDir));
                 }
-                self.removes(refs, up.0, &up.1, *n)
+                Ok(self.removes(refs, up.0, &up.1, *n))
             }
         }
     }
 
     // A node with another mode.
-    fn set_mode(&mut self, refs: &Refs, n: NodeId, mode: u16) -> Result<Answer, NoMemory>
+    fn set_mode(&mut self, refs: &Refs, n: NodeId, mode: u16) -> Answer
         requires { is_there (node self.old.tree n) ≡ true }
-        ensures { IfOk result (λ a. record { answer = a; refs = refs.now; world = self.new } ≡ unless self.old refs.now (mode_checks mode) (done self.old refs.now (set_mode self.old.tree n mode))) }
+        ensures { record { answer = result; refs = refs.now; world = self.new } ≡ unless self.old refs.now (mode_checks mode) (done self.old refs.now (set_mode self.old.tree n mode)) }
     {
-        let answer = self.change_mode(refs, n, mode)?;
-        Ok(answer)
+        self.change_mode(refs, n, mode)
     }
 
     /// Gives a file or a directory another mode.
@@ -203,7 +195,7 @@ impl World {
                 }
                 Ok(Answer::No(Errno::NoEntry))
             }
-            Spot::Found(n, _, _) => self.set_mode(refs, n, mode),
+            Spot::Found(n, _, _) => Ok(self.set_mode(refs, n, mode)),
         }
     }
 }

@@ -2,7 +2,7 @@
 ghost use Rattle.std.specs.Prelude.{◌≡◌, IfOk, OnOk};
 ghost use Rattle.rk_calls.specs.declared.call.Call.TheVariants.{Open};
 ghost use Rattle.rk_tree.specs.Whole.{MayHold};
-ghost use Rattle.rk_walk.specs.Walk.{IsFreeName};
+ghost use Rattle.rk_walk.specs.Places.{IsFreeName};
 ghost use Rattle.rk_walk.specs.declared.place.Place.TheVariants.{Absent, Found};
 ghost use Rattle.rk_kernel.specs.World.{with_tree};
 ghost use Rattle.rk_kernel.specs.Opening as opening;
@@ -12,8 +12,7 @@ use crate::spot::{Spot, strict_spot_at};
 use crate::{Description, World};
 use rk_base::{Bytes, Errno, Name, NoMemory};
 use rk_calls::{Answer, How, Refs};
-use rk_tree::{Entry, NodeId, Refused};
-use rk_walk::{has_r, has_w};
+use rk_tree::{Entry, NodeId, Refused, has_r, has_w};
 
 fn is_read(how: How) -> bool
     ensures { result ≡ opening.is_read how }

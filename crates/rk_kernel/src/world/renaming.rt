@@ -4,18 +4,17 @@ ghost use Rattle.rk_calls.specs.declared.call.Call.TheVariants.{Rename};
 ghost use Rattle.rk_calls.specs.declared.answer.Answer.TheVariants.{Done};
 ghost use Rattle.rk_tree.specs.Hierarchy.{child};
 ghost use Rattle.rk_tree.specs.Refusals.{lacks_w};
-ghost use Rattle.rk_walk.specs.Walk.{IsFreeName, IsNameOf};
+ghost use Rattle.rk_walk.specs.Places.{IsFreeName, IsNameOf};
 ghost use Rattle.rk_walk.specs.declared.place.Place.TheVariants.{Found, Absent};
 ghost use Rattle.rk_kernel.specs.Changes.{moved_at};
 ghost use Rattle.rk_kernel.specs.Do as all;
-ghost use Rattle.rk_kernel.specs.Rows.{told};
+ghost use Rattle.rk_kernel.specs.Rows.{giving};
 
 use crate::World;
 use crate::spot::{Spot, spot_at};
 use rk_base::{Bytes, Errno, Name, NoMemory};
 use rk_calls::{Answer, Refs};
-use rk_tree::NodeId;
-use rk_walk::has_w;
+use rk_tree::{NodeId, has_w};
 
 impl World {
     fn lacks_w(&self, dir: NodeId) -> bool
@@ -63,7 +62,7 @@ impl World {
     ) -> Result<Answer, NoMemory>
         requires from { IsNameOf self.old.tree n from.now.0 from.now.1 }
         requires to { IsNameOf self.old.tree m to.now.0 to.now.1 }
-        ensures { IfOk result (λ a. record { answer = a; refs = refs.now; world = self.new } ≡ (if n == m then told self.old refs.now Done else moved_at self.old refs.now (Found (record { node = n; up = Some from.now; slash = false })) (Found (record { node = m; up = Some to.now; slash = false })))) }
+        ensures { IfOk result (λ a. record { answer = a; refs = refs.now; world = self.new } ≡ (if n == m then giving self.old refs.now Done else moved_at self.old refs.now (Found (record { node = n; up = Some from.now; slash = false })) (Found (record { node = m; up = Some to.now; slash = false })))) }
     {
         let answer = self.rename_node(refs, from, to.0, &to.1)?;
         Ok(answer)

@@ -46,18 +46,14 @@ impl World {
         }
     }
 
-    pub(super) fn remove_name(
-        &mut self,
-        refs: &Refs,
-        dir: NodeId,
-        name: &Name,
-    ) -> Result<Answer, NoMemory>
-        ensures { IfOk result (λ a. record { answer = a; refs = refs.now; world = self.new } ≡ changed self.old refs.now (remove_refusal self.old.tree dir name.now) (hierarchy.removed self.old.tree dir name.now)) }
+    // It takes no memory.
+    pub(super) fn remove_name(&mut self, refs: &Refs, dir: NodeId, name: &Name) -> Answer
+        ensures { record { answer = result; refs = refs.now; world = self.new } ≡ changed self.old refs.now (remove_refusal self.old.tree dir name.now) (hierarchy.removed self.old.tree dir name.now) }
     {
         match self.tree.remove(dir, name) {
-            Ok(()) => Ok(Answer::Done),
-            Err(Refused::No(e)) => Ok(Answer::No(e)),
-            Err(Refused::NoMemory) => Err(NoMemory),
+            Ok(()) => Answer::Done,
+            Err(Refused::No(e)) => Answer::No(e),
+            Err(Refused::NoMemory) => unreachable!(),
         }
     }
 
@@ -78,18 +74,14 @@ impl World {
         }
     }
 
-    pub(super) fn change_mode(
-        &mut self,
-        refs: &Refs,
-        n: NodeId,
-        mode: u16,
-    ) -> Result<Answer, NoMemory>
-        ensures { IfOk result (λ a. record { answer = a; refs = refs.now; world = self.new } ≡ changed self.old refs.now (mode_refusal self.old.tree n mode) (hierarchy.set_mode self.old.tree n mode)) }
+    // It takes no memory.
+    pub(super) fn change_mode(&mut self, refs: &Refs, n: NodeId, mode: u16) -> Answer
+        ensures { record { answer = result; refs = refs.now; world = self.new } ≡ changed self.old refs.now (mode_refusal self.old.tree n mode) (hierarchy.set_mode self.old.tree n mode) }
     {
         match self.tree.set_mode(n, mode) {
-            Ok(()) => Ok(Answer::Done),
-            Err(Refused::No(e)) => Ok(Answer::No(e)),
-            Err(Refused::NoMemory) => Err(NoMemory),
+            Ok(()) => Answer::Done,
+            Err(Refused::No(e)) => Answer::No(e),
+            Err(Refused::NoMemory) => unreachable!(),
         }
     }
 }

@@ -2,7 +2,8 @@
 ghost use Rattle.std.specs.Prelude.{◌≡◌, IfOk, OnOk, option_copied, true, Some};
 ghost use Rattle.std.specs.FinMap.{get};
 ghost use Rattle.rk_base.specs.Text.{root};
-ghost use Rattle.rk_tree.specs.Copies.{MayTake, put_dir, put_found, put_names, snapshot_of, tree_of, with_node_at};
+ghost use Rattle.rk_tree.specs.Copies.{put_found, snapshot_of, tree_of};
+ghost use Rattle.rk_tree.specs.Copying.{MayTake, put_dir, put_names, with_node_at};
 ghost use Rattle.rk_tree.specs.Entries.{is_dir, IsWholeSnapshot};
 ghost use Rattle.rk_tree.specs.Hierarchy as hierarchy;
 ghost use Rattle.rk_tree.specs.Rows.{map_of};

@@ -1,27 +1,14 @@
 // When a change is refused.
-ghost use Rattle.std.specs.Prelude.{◌≡◌, [], ◌∷◌, IfSome, not, true, Some};
-ghost use Rattle.std.specs.List.{list_any};
+ghost use Rattle.std.specs.Prelude.{◌≡◌, [], ◌∷◌, not, true, Some};
 ghost use Rattle.rk_base.specs.Canonical.{is_empty};
 ghost use Rattle.rk_base.specs.declared.errno.Errno.TheVariants.{Exists, Denied};
-ghost use Rattle.rk_tree.specs.Entries.{is_dir, is_nul, node_of};
+ghost use Rattle.rk_tree.specs.Entries.{is_dir, node_of};
 ghost use Rattle.rk_tree.specs.Hierarchy as hierarchy;
 ghost use Rattle.rk_tree.specs.Refusals as refusals;
 
 use crate::inode::has_names;
-use crate::{Entry, NodeId, Tree};
-use rk_base::{Errno, Name};
-
-fn has_nul(text: &[u8]) -> bool
-    ensures { result ≡ list_any is_nul text.now }
-{
-    text.iter().any(|b| *b == 0)
-}
-
-fn has_w(mode: u16) -> bool
-    ensures { result ≡ hierarchy.has_w mode }
-{
-    mode / 128 % 2 == 1
-}
+use crate::{Entry, NodeId, Tree, has_w};
+use rk_base::{Errno, Name, has_nul};
 
 fn mode_refusal(mode: u16) -> Option<Errno>
     ensures { result ≡ refusals.first_of (refusals.mode_checks mode) }
@@ -53,20 +40,6 @@ fn entry_refusal(it: &Entry) -> Option<Errno>
 }
 
 impl Tree {
-    // What a name of a directory stands for; only a directory has names.
-    pub(super) fn found(&self, dir: NodeId, name: &Name) -> Option<NodeId>
-        ensures found { result ≡ hierarchy.child self.now dir name.now }
-        ensures in_dir { IfSome result (λ n. is_dir (hierarchy.node self.now dir) ≡ true) }
-    {
-        let _root = self.look(NodeId::root());
-        let bytes = name.as_slice();
-        if self.is_dir(dir) {
-            self.child(dir, bytes)
-        } else {
-            None
-        }
-    }
-
     // Whether names stand in a directory.
     fn has_below(&self, dir: NodeId) -> bool
         requires { is_dir (hierarchy.node self.now dir) ≡ true }

@@ -1,6 +1,6 @@
 use Rattle.std.proofs.Common.{◌≡◌, map, drop}
 use Rattle.std.specs.List.{list_all}
-use Rattle.rk_walk.specs.Walk.{only_slashes}
+use Rattle.rk_walk.specs.Course.{only_slashes}
 use Rattle.rk_walk.proofs.marks.all_slashes.Given as goal
 
 abbrev pub invariant-loop-text : goal.invariant-loop-text

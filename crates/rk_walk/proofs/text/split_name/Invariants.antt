@@ -1,5 +1,5 @@
 use Rattle.std.proofs.Common.{◌≡◌, take, false}
-use Rattle.rk_walk.specs.Walk.{has_slash}
+use Rattle.rk_walk.specs.Course.{has_slash}
 use Rattle.rk_walk.proofs.text.split_name.Given as goal
 
 abbrev pub invariant-loop-i : goal.invariant-loop-i

@@ -7,6 +7,6 @@ use Rattle.rk_kernel.proofs.world.World.removes.Goals as goal
 
 pub returns : goal.returns
 returns c =
-    c.in_ok-answer.ensures
+    c.remove_name.ensures
     ∙ changed-unless c.args.self.now c.args.refs.now (remove_refusal c.args.self.now.tree c.args.dir c.args.name.now) ((has_names c.args.self.now.tree c.args._n, NotEmpty) ∷ (lacks_w c.args.self.now.tree c.args.dir, Denied) ∷ []) (removed c.args.self.now.tree c.args.dir c.args.name.now)
     (remove-checks c.args.self.now.tree c.args.dir c.args.name.now c.args._n c.requires)

@@ -6,6 +6,6 @@ use Rattle.rk_kernel.proofs.world.World.set_mode.Goals as goal
 
 pub returns : goal.returns
 returns c =
-    c.in_ok-answer.ensures
+    c.change_mode.ensures
     ∙ changed-unless c.args.self.now c.args.refs.now (mode_refusal c.args.self.now.tree c.args.n c.args.mode) (mode_checks c.args.mode) (hierarchy.set_mode c.args.self.now.tree c.args.n c.args.mode)
     (mode-checks c.args.self.now.tree c.args.n c.args.mode c.requires)

@@ -2,7 +2,8 @@ use Rattle.std.proofs.Common.{◌∙◌, sym, ap, refl, List}
 use Rattle.std.specs.List.{fold}
 use Rattle.std.specs.Option.{option_copied}
 use Rattle.rk_base.specs.Text.{Text, join}
-use Rattle.rk_tree.specs.Copies.{put_name, put_found}
+use Rattle.rk_tree.specs.Copies.{put_found}
+use Rattle.rk_tree.specs.Copying.{put_name}
 use Rattle.rk_tree.specs.Hierarchy.{child}
 use Rattle.rk_tree.proofs.SnapshotLemmas.{fold_on, fold_all, found_child, found_none}
 use Rattle.rk_tree.proofs.tree.Tree.put_names.Goals as goal

@@ -1,6 +1,6 @@
 use Rattle.std.proofs.Common.{◌≡◌, drop}
 use Rattle.std.specs.List.{fold}
-use Rattle.rk_tree.specs.Copies.{put_name}
+use Rattle.rk_tree.specs.Copying.{put_name}
 use Rattle.rk_tree.proofs.tree.Tree.put_names.Given as goal
 
 abbrev pub invariant-loop-name : goal.invariant-loop-name

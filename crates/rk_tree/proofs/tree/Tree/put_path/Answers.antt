@@ -2,7 +2,7 @@ use Rattle.std.proofs.Common.{◌≡◌, ◌∙◌, sym, ap, Some, None}
 use Rattle.std.specs.FinMap.{insert}
 use Rattle.rk_base.specs.Text.{Text, parent}
 use Rattle.rk_tree.specs.Hierarchy.{Hierarchy, Paths, added}
-use Rattle.rk_tree.specs.Copies.{with_node_at}
+use Rattle.rk_tree.specs.Copying.{with_node_at}
 use Rattle.rk_tree.proofs.BelowLemmas.{none_some}
 use Rattle.rk_tree.proofs.PlantedLemmas.{Lands, lands, may_hold, child_absent, added_at, number_by, not_the_root, has_last}
 use Rattle.rk_tree.proofs.RowsLemmas.{map_of-put}

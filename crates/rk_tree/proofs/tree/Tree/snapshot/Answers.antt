@@ -6,7 +6,8 @@ use Rattle.rk_base.specs.Text.{Text, root}
 use Rattle.rk_tree.specs.declared.inode.Inode.{Inode}
 use Rattle.rk_tree.specs.Entries.{Entries, IsWholeSnapshot}
 use Rattle.rk_tree.specs.Hierarchy.{Hierarchy, node}
-use Rattle.rk_tree.specs.Copies.{put_dir, put_found, snapshot_of}
+use Rattle.rk_tree.specs.Copies.{put_found, snapshot_of}
+use Rattle.rk_tree.specs.Copying.{put_dir}
 use Rattle.rk_tree.proofs.SnapshotLemmas.{dirs_on, dirs_all}
 use Rattle.rk_tree.proofs.CopiesLemmas.{snapshot_of-whole}
 use Rattle.rk_tree.proofs.tree.Tree.snapshot.Goals as goal

@@ -1,6 +1,6 @@
 use Rattle.std.proofs.Common.{◌≡◌, ◌++◌, List, ℕ, sym, ◌∙◌, ap, subst, Ok}
-use Rattle.rk_walk.specs.Walk.{parts}
 use Rattle.rk_walk.specs.Course.{Course}
+use Rattle.rk_walk.specs.Walk.{parts}
 use Rattle.rk_walk.specs.declared.place.Place.TheVariants.{Found}
 use Rattle.rk_walk.proofs.CourseLemmas.{arrived, popped}
 use Rattle.rk_walk.proofs.walker.Walker.advance.Goals as goal
