@@ -42,7 +42,7 @@ impl Glob {
         wd: &Path,
         components: VecDeque<Component>,
     ) -> Result<Glob, NoMemory>
-        ensures { IfOk result (λ g. (k : Found) (p : ℕ) → glob_talk g Answer.Go k p ≡ globs wd.now false components.items ([] ∷ []) k p) }
+        ensures { IfOk result (λ g. (k : Found) (n p : ℕ) → glob_talk g Answer.Go k n p ≡ globs wd.now false components.items ([] ∷ []) k n p) }
     {
         let wd = wd.copy()?;
         let mut prefixes = PathList::new(alloc);
@@ -58,7 +58,7 @@ impl Glob {
     /// What it wants next. It is resumed first with `Go`, after `Ask` with the call's answer, and after `Found` not
     /// again.
     pub fn resume(&mut self, answer: Answer) -> Result<Globbing, NoMemory>
-        ensures { IfOk result (λ t. (k : Found) (p : ℕ) → glob_talk self.old answer k p ≡ after_glob t (λ a. glob_talk self.new a k) k p) }
+        ensures { IfOk result (λ t. (k : Found) (n p : ℕ) → glob_talk self.old answer k n p ≡ after_glob t (λ a. glob_talk self.new a k) k n p) }
     {
         let alloc = self.alloc;
         let wait = mem::replace(&mut self.wait, Wait::Over);

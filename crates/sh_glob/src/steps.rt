@@ -266,7 +266,7 @@ pub(crate) fn take(
     wait: Wait,
     answer: Answer,
 ) -> Result<Stage, NoMemory>
-    ensures { IfOk result (λ stage. (wd : Text) (k : Found) (p : ℕ) → wait_talk wd components.now.items wait answer k p ≡ stage_talk wd components.now.items stage k p) }
+    ensures { IfOk result (λ stage. (wd : Text) (k : Found) (n p : ℕ) → wait_talk wd components.now.items wait answer k n p ≡ stage_talk wd components.now.items stage k n p) }
 {
     match wait {
         Wait::Ready(stage) => Ok(stage),
@@ -324,7 +324,7 @@ pub(crate) fn run(
     components: &mut VecDeque<Component>,
     stage: Stage,
 ) -> Result<(Wait, Globbing), NoMemory>
-    ensures { IfOk result (λ r. (k : Found) (p : ℕ) → stage_talk wd.now components.old.items stage k p ≡ after_glob r.1 (λ a. wait_talk wd.now components.new.items r.0 a k) k p) }
+    ensures { IfOk result (λ r. (k : Found) (n p : ℕ) → stage_talk wd.now components.old.items stage k n p ≡ after_glob r.1 (λ a. wait_talk wd.now components.new.items r.0 a k) k n p) }
 {
     let mut stage = stage;
     'steps: loop {

@@ -4,4 +4,5 @@ pub mod Decided
 pub mod Matching
 pub mod Parts
 pub mod Sets
+pub mod Special
 pub mod Walking

@@ -7,10 +7,12 @@ mod front;
 mod matching;
 mod part;
 mod set;
+mod special;
 mod walk;
 
 pub use class::Class;
 pub use matching::{matches, prefix, suffix};
+pub use special::{has_special, unquoted};
 
 #[cfg(test)]
 mod tests;

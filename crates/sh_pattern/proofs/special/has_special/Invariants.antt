@@ -1,0 +1,9 @@
+use Rattle.std.proofs.Common.{◌≡◌, ◌-◌, ◌≤◌, drop, length}
+use Rattle.sh_pattern.specs.Special.{has_special}
+use Rattle.sh_pattern.proofs.special.has_special.Given as goal
+
+abbrev pub invariant-bytes : goal.invariant-bytes
+invariant-bytes l = (has_special l.pattern ≡ has_special (drop l.at l.pattern)) × (l.at ≤ length l.pattern)
+
+abbrev pub decreases-bytes : goal.decreases-bytes
+decreases-bytes l = length l.pattern - l.at
