@@ -176,6 +176,23 @@ fn a_refused_input_is_told(rt: HostRuntime) -> Result<(), Fail> {
     Ok(())
 }
 
+fn count_talk(alloc: Global) -> Result<Talk, NoMemory> {
+    let mut talk = Talk::new(alloc);
+    talk.open(b"/a", How::Read, 2, Answer::Opened)?;
+    talk.read(10, b"a b\nc")?;
+    talk.write(1, b"1 3 5 a\n", 2)?;
+    Ok(talk)
+}
+
+#[test]
+fn a_utility_is_found_by_its_name(rt: HostRuntime) -> Result<(), Fail> {
+    let talk = count_talk(rt.alloc())?;
+    let key = key_of(rt.alloc(), b"wc", b"a")?;
+    let said = is_said(rt.alloc(), &key, &talk, 0)?;
+    assert!(&rt; said);
+    Ok(())
+}
+
 fn line_talk(alloc: Global, text: &[u8]) -> Result<Talk, NoMemory> {
     let mut talk = Talk::new(alloc);
     talk.write(2, text, 3)?;
