@@ -1,5 +1,5 @@
 -- What is so of the request that words are.
-use Rattle.std.proofs.Common.{◌≡◌, List, Option, Some, None, IfSome, sym, subst, ap}
+use Rattle.std.proofs.Common.{◌≡◌, List, Option, Some, None, IfSome, sym, subst}
 use Rattle.rk_base.specs.Text.{Text}
 use Rattle.rk_words.specs.Asked.{request_of}
 use Rattle.rk_words.specs.declared.requests.Request.{Request}

@@ -1,11 +1,9 @@
 -- What a build leaves, wherever it ends.
-use Rattle.std.proofs.Common.{◌≡◌, ◌⊎◌, ℕ, ◌+◌, ◌≤◌, List, [], length, Option, Some, None, IfSome, Err, refl, sym, ap, subst, ◌∙◌, inl, inr, append-nil, option_map, arith}
+use Rattle.std.proofs.Common.{◌≡◌, ℕ, ◌+◌, ◌++◌, ◌≤◌, List, [], length, Option, Some, None, IfSome, Err, refl, sym, ap, subst, ◌∙◌, inl, inr, append-nil, option_map, arith}
 use Rattle.std.proofs.Math.Seq.{take-length}
 use Rattle.rk_base.specs.Text.{Text}
 use Rattle.rk_calls.specs.Keys.{KeyValue}
 use Rattle.rk_calls.specs.Talk.{Says}
-use Rattle.tr_record.specs.declared.records.Record.{Record}
-use Rattle.rk_folder.specs.Counts.{Rose}
 use Rattle.rk_folder.specs.Told.{Held}
 use Rattle.rk_folder.specs.Sinks.{with_bytes}
 use Rattle.rk_folder.specs.Import.{snapshot_of}
@@ -16,19 +14,18 @@ use Rattle.rk_install.specs.declared.ops.Op.{Op}
 use Rattle.rk_install.specs.declared.installation.InstallErr.{InstallErr}
 use Rattle.rk_install.specs.declared.installation.InstallErr.TheVariants as install
 use Rattle.rk_kernel.specs.World.{World}
-use Rattle.rk_replay.specs.Ran.{ran_of}
 use Rattle.rk_replay.specs.declared.ran.Ran.{Ran}
 use Rattle.rk_runs.specs.Run.{Outcome as Run}
 use Rattle.rk_runs.specs.Spoken.{AreSpoken}
-use Rattle.rk_tree.specs.Entries.{Entries}
 use Rattle.rk_words.specs.Asked.{turns}
 use Rattle.rk_words.specs.declared.requests.Request.{Request}
-use Rattle.rk_top.specs.Outcomes.{outcome_of_stop, IfSpecial, IfDamaged, IfForged, EndsSo, EndsWith, HasStatus, Tallies, IsLeft, Leaves, FolderCounts, StoppedAt, PartlyInstalled, Halts, Gains, Counts, Counted, ErrorsCounted, Ticked}
+use Rattle.rk_top.specs.Outcomes.{outcome_of_stop, IfSpecial, IfDamaged, IfForged, EndsSo, EndsWith, HasStatus, Tallies, IsLeft, Leaves, FolderCounts, PartlyInstalled, Halts, Gains, Counts, Counted, ErrorsCounted, Ticked}
 use Rattle.rk_top.specs.Stages.{PreparesSo, IsPrepared, ReadsCounted, WritesCounted, MemoryRose, InstallsSo}
 use Rattle.rk_top.specs.Telling.{SinkState}
 use Rattle.rk_top.specs.Texts.{Front, PutSo, BothCounted, MemoryCounted}
 use Rattle.rk_top.specs.Run.{fresh_run, IsForged}
-use Rattle.rk_top.specs.Fresh.{output_of, error_text_of, held_after}
+use Rattle.rk_top.specs.Fresh.{RunText, output_of, error_text_of}
+use Rattle.rk_top.specs.Explained.{explanation}
 use Rattle.rk_top.specs.Kept.{Keeping, IsDamaged, state_in}
 use Rattle.rk_top.specs.declared.stop.Refusal.TheVariants as refusal
 use Rattle.rk_top.specs.declared.outcome.Outcome.{Outcome}
@@ -63,7 +60,7 @@ prepare-leaves first request told new before now b n stop.ReadFault p same = sam
 prepare-leaves first request told new before now b n stop.WriteFault p same = absurd p
 prepare-leaves first request told new before now b n stop.NoMemory p same = inl same
 
-pub prepare-gains : (first : KeyValue → Says) (request : Request) (text : Run World → Text) (told : Option Held) (old new : Option Text) (before now : ℕ) (e : Stop) → PreparesSo first request told before now (Err e) → new ≡ old → Gains first request text told old new (outcome_of_stop e)
+pub prepare-gains : (first : KeyValue → Says) (request : Request) (text : RunText) (told : Option Held) (old new : Option Text) (before now : ℕ) (e : Stop) → PreparesSo first request told before now (Err e) → new ≡ old → Gains first request text told old new (outcome_of_stop e)
 prepare-gains first request text told old new before now (stop.Refused (refusal.Special path)) p same = same
 prepare-gains first request text told old new before now (stop.Refused (refusal.Damaged file damage)) p same = same
 prepare-gains first request text told old new before now (stop.Forged rec step) p same = same
@@ -113,26 +110,26 @@ put-leaves first request told new b n text o m stop.WriteFault p same = inl same
 put-leaves first request told new b n text o m stop.NoMemory p same = inl same
 
 -- of the text that the run has over spoken records
-abbrev pub IsTextOf : (KeyValue → Says) → Request → (Run World → Text) → Option Held → Text → Type 0
-IsTextOf first request text told it = IfSome told (λ held. Keeping held (λ entries kept. AreSpoken first kept → it ≡ text (fresh_run first request entries)))
+abbrev pub IsTextOf : (KeyValue → Says) → Request → RunText → Option Held → Text → Type 0
+IsTextOf first request text told it = IfSome told (λ held. Keeping held (λ entries kept. AreSpoken first kept → it ≡ text request kept (fresh_run first request entries)))
 
 pub output-told : (first : KeyValue → Says) (request : Request) (told : Option Held) (before now : ℕ) (p : Prepared) → IfSome told (λ held. IsPrepared first request held before now p) → IsTextOf first request output_of told p.finished.world.out
 output-told first request None before now p is = tt
-output-told first request (Some held) before now p is = record { plain = is.plain; rows = is.rows; old = is.old; kept = is.kept; so = λ spoken. sym (ap output_of (is.run.ends spoken).1) }
+output-told first request (Some held) before now p is = record { plain = is.plain; rows = is.rows; old = is.old; kept = is.kept; so = λ spoken. sym (ap (output_of request is.old) (is.run.ends spoken).1) }
 
-pub error_text-told : (first : KeyValue → Says) (request : Request) (told : Option Held) (before now : ℕ) (p : Prepared) → IfSome told (λ held. IsPrepared first request held before now p) → IsTextOf first request error_text_of told p.finished.world.err
+pub error_text-told : (first : KeyValue → Says) (request : Request) (told : Option Held) (before now : ℕ) (p : Prepared) → IfSome told (λ held. IsPrepared first request held before now p) → IsTextOf first request error_text_of told p.error_text
 error_text-told first request None before now p is = tt
-error_text-told first request (Some held) before now p is = record { plain = is.plain; rows = is.rows; old = is.old; kept = is.kept; so = λ spoken. sym (ap error_text_of (is.run.ends spoken).1) }
+error_text-told first request (Some held) before now p is = record { plain = is.plain; rows = is.rows; old = is.old; kept = is.kept; so = λ spoken. is.text ∙ ap (λ (ran : List Ran). p.finished.world.err ++ explanation request ran (length p.finished.table)) is.run.ran ∙ sym (ap (error_text_of request is.old) (is.run.ends spoken).1) }
 
 -- of a text that is the same
-pub text-told : (first : KeyValue → Says) (request : Request) (text : Run World → Text) (told : Option Held) (it out : Text) → it ≡ out → IsTextOf first request text told out → IsTextOf first request text told it
+pub text-told : (first : KeyValue → Says) (request : Request) (text : RunText) (told : Option Held) (it out : Text) → it ≡ out → IsTextOf first request text told out → IsTextOf first request text told it
 text-told first request text told it out same is = subst (IsTextOf first request text told) (sym same) is
 
-front-told : (first : KeyValue → Says) (request : Request) (text : Run World → Text) (told : Option Held) (it : Text) (old new : Option Text) → IsTextOf first request text told it → Front it old new → Halts first request text told old new
+front-told : (first : KeyValue → Says) (request : Request) (text : RunText) (told : Option Held) (it : Text) (old new : Option Text) → IsTextOf first request text told it → Front it old new → Halts first request text told old new
 front-told first request text None it old new is front = inr tt
 front-told first request text (Some held) it old new is front = inr (record { plain = is.plain; rows = is.rows; old = is.old; kept = is.kept; so = record { it = it; is_text = is.so; front = front } })
 
-pub put-gains : (first : KeyValue → Says) (request : Request) (text : Run World → Text) (told : Option Held) (it : Text) (old new : Option Text) (e : Stop) → IsTextOf first request text told it → PutSo {T = Unit {0}} it old new (Err e) → Gains first request text told old new (outcome_of_stop e)
+pub put-gains : (first : KeyValue → Says) (request : Request) (text : RunText) (told : Option Held) (it : Text) (old new : Option Text) (e : Stop) → IsTextOf first request text told it → PutSo {T = Unit {0}} it old new (Err e) → Gains first request text told old new (outcome_of_stop e)
 put-gains first request text told it old new (stop.Refused refusal) is p = absurd p
 put-gains first request text told it old new (stop.Forged rec step) is p = absurd p
 put-gains first request text told it old new stop.Spent is p = absurd p
@@ -204,7 +201,7 @@ install-leaves-now first request told h new before now b c n p e same writes mem
     (subst (λ (k : ℕ). WritesCounted {T = Unit {0}} k n.writes (Err e)) writes w)
     (subst (λ (k : ℕ). MemoryRose {T = Unit {0}} k n.memory (Err e)) memory m)
 
-pub install-gains : (first : KeyValue → Says) (request : Request) (text : Run World → Text) (told h n : Option Held) (ops : List Op) (it : Text) (old new : Option Text) (e : Stop) → IsTextOf first request text told it → InstallsSo {T = Unit {0}} ops h n (Err e) → new ≡ with_bytes it old → Gains first request text told old new (outcome_of_stop e)
+pub install-gains : (first : KeyValue → Says) (request : Request) (text : RunText) (told h n : Option Held) (ops : List Op) (it : Text) (old new : Option Text) (e : Stop) → IsTextOf first request text told it → InstallsSo {T = Unit {0}} ops h n (Err e) → new ≡ with_bytes it old → Gains first request text told old new (outcome_of_stop e)
 install-gains first request text told h n ops it old new (stop.Refused refusal) is part all = absurd part
 install-gains first request text told h n ops it old new (stop.Forged rec step) is part all = absurd part
 install-gains first request text told h n ops it old new stop.Spent is part all = absurd part
@@ -271,7 +268,7 @@ end-tally first request (Some held) new before now p launched is same number = r
   };
 }
 
-pub end-gains : (first : KeyValue → Says) (request : Request) (text : Run World → Text) (told : Option Held) (it : Text) (old new : Option Text) (status launched ran : ℕ) → IsTextOf first request text told it → new ≡ with_bytes it old → Gains first request text told old new (out.Ended status launched ran)
+pub end-gains : (first : KeyValue → Says) (request : Request) (text : RunText) (told : Option Held) (it : Text) (old new : Option Text) (status launched ran : ℕ) → IsTextOf first request text told it → new ≡ with_bytes it old → Gains first request text told old new (out.Ended status launched ran)
 end-gains first request text None it old new status launched ran is all = tt
 end-gains first request text (Some held) it old new status launched ran is all =
     record { plain = is.plain; rows = is.rows; old = is.old; kept = is.kept; so = λ spoken. all ∙ ap (λ (t : Text). with_bytes t old) (is.so spoken) }

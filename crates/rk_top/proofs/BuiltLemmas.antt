@@ -1,5 +1,5 @@
 -- What is said of how a build ended is said of its outcome.
-use Rattle.std.proofs.Common.{◌≡◌, ◌≢◌, ℕ, length, Result, Ok, Err, IfOk}
+use Rattle.std.proofs.Common.{◌≢◌, ℕ, length, Result, Ok, Err, IfOk}
 use Rattle.rk_top.specs.Outcomes.{outcome_of, IfEnded, IsNoFault, Started}
 use Rattle.rk_top.specs.Run.{StartsSo}
 use Rattle.rk_top.specs.Texts.{IsNoFault as IsNoStop}

@@ -3,7 +3,6 @@ use Rattle.std.proofs.Common.{◌≡◌, Option, Some, None, Ok, Err, ap, subst}
 use Rattle.rk_folder.specs.Told.{Held}
 use Rattle.rk_install.specs.Imported.{holding_of}
 use Rattle.rk_install.specs.declared.holding.Holding.{Holding}
-use Rattle.rk_folder.specs.declared.hidden_files.State.{State}
 use Rattle.rk_top.specs.Kept.{IsKept, ReadsState, state_in}
 use Rattle.rk_top.specs.Stages.{LooksSo, FindsSo}
 use Rattle.rk_top.specs.declared.found.Found.{Found}

@@ -1,12 +1,12 @@
 -- A folder that holds what a run leaves: the next build finds the very entries that the run left, and its records.
-use Rattle.std.proofs.Common.{◌≡◌, ◌<◌, ◌^◌, ℕ, List, [], ◌∷◌, length, Bool, true, false, ◌&&◌, ◌||◌, Option, Some, None, option_map, cond, refl, sym, ap, subst, ◌∙◌}
+use Rattle.std.proofs.Common.{◌≡◌, List, [], ◌∷◌, Bool, true, false, ◌&&◌, ◌||◌, Option, Some, None, option_map, cond, refl, sym, ap, subst, ◌∙◌}
 use Rattle.std.specs.FinMap.{get}
 use Rattle.std.specs.List.{list_all}
 use Rattle.rk_base.specs.Text.{Text, is_within, same_text}
 use Rattle.rk_base.proofs.CanonicalLemmas.{both}
 use Rattle.rk_base.proofs.WithinLemmas.{same_is}
 use Rattle.tr_record.specs.declared.records.Record.{Record}
-use Rattle.tr_codec.specs.Attrs.{are_rows, attrs_spelling}
+use Rattle.tr_codec.specs.Attrs.{are_rows}
 use Rattle.tr_codec.specs.Fits.{Fits}
 use Rattle.tr_codec.specs.Spelling.{db_spelling}
 use Rattle.tr_codec.specs.declared.rows.AttrRow.{AttrRow}
@@ -17,14 +17,11 @@ use Rattle.rk_tree.specs.Entries.{IsWholeSnapshot}
 use Rattle.rk_tree.specs.Node.{Node}
 use Rattle.rk_tree.specs.Node as entry
 use Rattle.rk_kernel.specs.World.{World}
-use Rattle.rk_folder.specs.Attributes.{with_rows}
-use Rattle.rk_folder.specs.Import.{snapshot_of}
 use Rattle.rk_folder.specs.Listing.{IsFirst}
 use Rattle.rk_folder.specs.Told.{Held, standing, bytes_in, is_dir, is_odd}
 use Rattle.rk_folder.specs.Specials.{first_special, is_fault, is_hidden_fault, is_special, is_other_than_dir, is_other_than_file}
 use Rattle.rk_folder.specs.Whole.{IsWhole}
-use Rattle.rk_folder.specs.declared.folder.Standing.{Standing}
-use Rattle.rk_folder.specs.declared.folder.Standing.TheVariants.{File, Dir}
+use Rattle.rk_folder.specs.declared.folder.Standing.TheVariants.{File}
 use Rattle.rk_folder.proofs.FirstLemmas.{first_special-is}
 use Rattle.rk_install.specs.Attributes.{attrs_of}
 use Rattle.rk_install.specs.Holdings.{IsAfter, dir_where, placed, hidden_dir, attrs_file, db_file}
@@ -32,7 +29,7 @@ use Rattle.rk_install.specs.declared.holding.Holding.{Holding}
 use Rattle.rk_install.proofs.AttributesLemmas.{attrs_are, built-held}
 use Rattle.rk_install.proofs.SeenLemmas.{odd-within}
 use Rattle.rk_top.specs.Fresh.{AreInMemory, IsInMemory, attrs_bytes, held_after}
-use Rattle.rk_top.specs.Kept.{AreRows, IsTable, SpellsRows, Spells, state_in}
+use Rattle.rk_top.specs.Kept.{AreRows, IsTable, state_in}
 use Rattle.rk_top.specs.Outcomes.{IsNext}
 
 -- Nothing of it is special.

@@ -1,13 +1,12 @@
 -- What a build has come to before anything is put out.
-use Rattle.std.proofs.Common.{◌≡◌, ℕ, ◌+◌, ◌≤◌, List, length, Option, Some, None, Ok, Err, refl, sym, ap, subst, ◌∙◌, arith}
+use Rattle.std.proofs.Common.{◌≡◌, ℕ, ◌+◌, ◌++◌, ◌≤◌, List, length, Option, Some, None, Ok, Err, sym, ap, subst, ◌∙◌, arith}
 use Rattle.rk_calls.specs.Keys.{KeyValue}
 use Rattle.rk_calls.specs.Talk.{Says}
 use Rattle.rk_tree.specs.Entries.{Entries}
 use Rattle.rk_folder.specs.Told.{Held}
-use Rattle.rk_folder.specs.Whole.{IsWhole, TellsWhole}
+use Rattle.rk_folder.specs.Whole.{TellsWhole}
 use Rattle.rk_folder.specs.Attributes.{with_rows}
 use Rattle.rk_folder.specs.Import.{snapshot_of}
-use Rattle.rk_folder.specs.Specials.{first_special}
 use Rattle.rk_install.specs.Changes.{after_all}
 use Rattle.rk_install.specs.Holdings.{IsAfter, IsBuilt, MayBecome}
 use Rattle.rk_install.specs.Imported.{holding_of}
@@ -15,14 +14,13 @@ use Rattle.rk_install.specs.Planned.{planned, AreAllowed, LeadTo}
 use Rattle.rk_install.specs.declared.holding.Holding.{Holding}
 use Rattle.rk_install.specs.declared.ops.Op.{Op}
 use Rattle.rk_install.proofs.ImportedLemmas.{may_become-imported}
-use Rattle.rk_runs.specs.Spoken.{AreSpoken}
 use Rattle.rk_words.specs.Asked.{turns}
 use Rattle.rk_words.specs.declared.requests.Request.{Request}
+use Rattle.rk_base.specs.Text.{Text}
+use Rattle.rk_top.specs.Explained.{explanation}
 use Rattle.rk_top.specs.Run.{fresh_run, IsRun, Runs}
-use Rattle.rk_top.specs.Outcomes.{IsNext}
 use Rattle.rk_top.specs.Stages.{FindsSo, PreparesSo}
 use Rattle.rk_top.specs.Fresh.{AreInMemory, IsInMemory, held_after}
-use Rattle.rk_top.specs.Kept.{IsKept, state_in}
 use Rattle.rk_top.specs.declared.found.Found.{Found}
 use Rattle.rk_top.specs.declared.run.Finished.{Finished}
 use Rattle.rk_top.specs.declared.stop.Stop.{Stop}
@@ -58,9 +56,9 @@ in-memory : (f : Finished) (after : Holding) → after ≡ held_after f.world f.
 in-memory f after left small = subst (λ (h : Holding). IsInMemory h.state.attrs × IsInMemory h.state.db) left small
 
 -- all went well
-pub is_prepared : (first : KeyValue → Says) (request : Request) (told : Option Held) (found : Found) (after : Holding) (before now : ℕ) (f : Finished) (ops : List Op) → TellsWhole told → FindsSo told (Ok found) → Runs first request (with_rows found.holding.entries found.attrs) found.old before now (Ok f) → now ≤ before + turns request → after ≡ held_after f.world f.table → IsBuilt after → IsInMemory after.state.attrs × IsInMemory after.state.db → ops ≡ planned found.holding after → AreAllowed ops found.holding after → LeadTo ops found.holding after → PreparesSo first request told before now (Ok (record { finished = f; plan = ops }))
-is_prepared first request None found after before now f ops whole is_found runs most left built small is allowed leads = (tt, most)
-is_prepared first request (Some held) found after before now f ops whole is_found runs most left built small is allowed leads =
+pub is_prepared : (first : KeyValue → Says) (request : Request) (told : Option Held) (found : Found) (after : Holding) (before now : ℕ) (f : Finished) (ops : List Op) (text : Text) → TellsWhole told → FindsSo told (Ok found) → Runs first request (with_rows found.holding.entries found.attrs) found.old before now (Ok f) → now ≤ before + turns request → after ≡ held_after f.world f.table → IsBuilt after → IsInMemory after.state.attrs × IsInMemory after.state.db → ops ≡ planned found.holding after → AreAllowed ops found.holding after → LeadTo ops found.holding after → text ≡ f.world.err ++ explanation request f.ran (length f.table) → PreparesSo first request told before now (Ok (record { finished = f; plan = ops; error_text = text }))
+is_prepared first request None found after before now f ops text whole is_found runs most left built small is allowed leads is_text = (tt, most)
+is_prepared first request (Some held) found after before now f ops text whole is_found runs most left built small is allowed leads is_text =
     let becomes : MayBecome held found.holding after = subst (λ h. MayBecome held h after) (sym is_found.1) (may_become-imported held whole is_found.0 after built) in
     let goes : IsAfter held (after_all ops held) (held_after f.world f.table) = subst (λ h. IsAfter held (after_all ops held) h) left (leads held becomes) in
     let stays : IsBuilt (held_after f.world f.table) = subst IsBuilt left built in (
@@ -70,6 +68,7 @@ is_prepared first request (Some held) found after before now f ops whole is_foun
         old = found.old;
         kept = is_found.2;
         run = subst (λ (e : Entries). IsRun first request e found.old before now f) (entries-same held found is_found.1) runs;
+        text = is_text;
         plan = is ∙ ap (λ h. planned h after) is_found.1 ∙ ap (planned (holding_of held)) left;
         allowed = allowed held becomes;
         leads = goes;

@@ -1,12 +1,11 @@
 -- Sessions stay well, since each record of a fresh run is what its command says.
-use Rattle.std.proofs.Common.{◌≡◌, ℕ, List, [], ◌∷◌, true, Option, Some, None, refl, sym, subst}
-use Rattle.rk_base.specs.Text.{Text, is_within}
+use Rattle.std.proofs.Common.{◌≡◌, ℕ, List, [], ◌∷◌, Option, None, refl, sym, subst}
 use Rattle.rk_calls.specs.Keys.{KeyValue}
 use Rattle.rk_calls.specs.Talk.{Says}
 use Rattle.rk_calls.specs.Refs.{top_refs}
 use Rattle.tr_record.specs.declared.records.Record.{Record}
-use Rattle.rk_folder.specs.Hidden.{hidden_dir, attrs_file, db_file}
-use Rattle.rk_folder.specs.Told.{Held, standing, bytes_in}
+use Rattle.rk_folder.specs.Hidden.{attrs_file, db_file}
+use Rattle.rk_folder.specs.Told.{Held, bytes_in}
 use Rattle.rk_folder.specs.Whole.{IsWhole}
 use Rattle.rk_folder.specs.Specials.{first_special}
 use Rattle.rk_folder.specs.declared.folder.Standing.{Standing}
@@ -22,7 +21,7 @@ use Rattle.rk_replay.specs.Script.{script_key}
 use Rattle.rk_tree.specs.Entries.{Entries}
 use Rattle.rk_words.specs.Asked.{turns}
 use Rattle.rk_words.specs.declared.requests.Request.{Request}
-use Rattle.rk_top.specs.Kept.{AreRows, IsTable, Keeping, state_in}
+use Rattle.rk_top.specs.Kept.{AreRows, IsTable}
 use Rattle.rk_top.specs.Run.{fresh_run}
 use Rattle.rk_top.specs.Sessions.{Item, Edit, Build, Edits, Builds, Becomes, Session, IsWell}
 use Rattle.rk_top.proofs.KeptLemmas.{finds-next}

@@ -1,19 +1,17 @@
 -- What is said of an outcome is said of what is told of it.
-use Rattle.std.proofs.Common.{◌≡◌, ◌⊎◌, ◌≤◌, ◌∙◌, ℕ, List, Option, Some, refl, sym, ap, subst, inl, inr, arith}
+use Rattle.std.proofs.Common.{◌≡◌, ◌≤◌, ◌∙◌, ℕ, List, Option, Some, refl, sym, ap, subst, inl, inr, arith}
 use Rattle.rk_base.specs.Text.{Text}
 use Rattle.rk_calls.specs.Keys.{KeyValue}
 use Rattle.rk_calls.specs.Talk.{Says}
 use Rattle.rk_folder.specs.Counts.{Still}
 use Rattle.rk_folder.specs.Told.{Held}
-use Rattle.rk_kernel.specs.World.{World}
-use Rattle.rk_runs.specs.Run.{Outcome as Run}
 use Rattle.rk_words.specs.Asked.{request_of}
 use Rattle.rk_words.specs.declared.requests.Request.{Request}
 use Rattle.rk_top.specs.Asks.{Asks}
 use Rattle.rk_top.proofs.AskLemmas.{asks}
-use Rattle.rk_top.specs.Fresh.{error_text_of}
-use Rattle.rk_top.specs.Outcomes.{IfEnded, Leaves, FolderCounts, Gains, GainsLine, ErrorsCounted, Counts, Counted, AfterLine, Faults, NoneRose, Ticked, IsNoFault, Settles}
-use Rattle.rk_top.specs.Telling.{SinkState, IsNamed, IsTold, Put, PutsLine, Tells, IsPut, IsCut}
+use Rattle.rk_top.specs.Fresh.{RunText, error_text_of}
+use Rattle.rk_top.specs.Outcomes.{IfEnded, Leaves, FolderCounts, Gains, GainsLine, ErrorsCounted, Counts, Counted, AfterLine, Faults, Ticked, IsNoFault, Settles}
+use Rattle.rk_top.specs.Telling.{SinkState, IsNamed, IsTold, Put, PutsLine, Tells}
 use Rattle.rk_top.specs.declared.outcome.Outcome.{Outcome}
 use Rattle.rk_top.specs.declared.outcome.Outcome.TheVariants as out
 use Rattle.rk_top.proofs.BuildLemmas.{counts-same}
@@ -37,7 +35,7 @@ unnamed-leaves first request told new b n out.NoMemory named l = l
 pub line-leaves : (first : KeyValue → Says) (request : Request) (told new : Option Held) (b n : FolderCounts) (outcome it : Outcome) → IsTold outcome it → Leaves first request told new b n outcome → Leaves first request told new b n it
 line-leaves first request told new b n outcome it t l = as_told (Leaves first request told new b n) outcome it t l (unnamed-leaves first request told new b n outcome)
 
-unnamed-gains : (first : KeyValue → Says) (request : Request) (text : Run World → Text) (told : Option Held) (old new : Option Text) (outcome : Outcome) → IsNamed outcome → Gains first request text told old new outcome → Gains first request text told old new out.NoMemory
+unnamed-gains : (first : KeyValue → Says) (request : Request) (text : RunText) (told : Option Held) (old new : Option Text) (outcome : Outcome) → IsNamed outcome → Gains first request text told old new outcome → Gains first request text told old new out.NoMemory
 unnamed-gains first request text told old new (out.Special path) named g = inl g
 unnamed-gains first request text told old new (out.Damaged file damage) named g = inl g
 unnamed-gains first request text told old new (out.Forged rec step) named g = inl g
@@ -48,7 +46,7 @@ unnamed-gains first request text told old new out.ReadFault named g = absurd nam
 unnamed-gains first request text told old new out.WriteFault named g = absurd named
 unnamed-gains first request text told old new out.NoMemory named g = g
 
-pub told-gains : (first : KeyValue → Says) (request : Request) (text : Run World → Text) (told : Option Held) (old new : Option Text) (outcome it : Outcome) → IsTold outcome it → Gains first request text told old new outcome → Gains first request text told old new it
+pub told-gains : (first : KeyValue → Says) (request : Request) (text : RunText) (told : Option Held) (old new : Option Text) (outcome it : Outcome) → IsTold outcome it → Gains first request text told old new outcome → Gains first request text told old new it
 told-gains first request text told old new outcome it t g = as_told (Gains first request text told old new) outcome it t g (unnamed-gains first request text told old new outcome)
 
 unnamed-errors : (old new : SinkState) (outcome : Outcome) → IsNamed outcome → ErrorsCounted old new outcome → ErrorsCounted old new out.NoMemory

@@ -1,5 +1,5 @@
 -- Texts that were put out.
-use Rattle.std.proofs.Common.{◌≡◌, ◌⊎◌, arith, ℕ, length, Option, Result, Ok, Err, sym, ap, ◌∙◌, inl, inr}
+use Rattle.std.proofs.Common.{◌≡◌, arith, length, Option, Result, Ok, Err, sym, ap, ◌∙◌, inl, inr}
 use Rattle.std.proofs.Math.Seq.{take-length}
 use Rattle.rk_base.specs.Text.{Text}
 use Rattle.rk_folder.specs.Sinks.{with_bytes, Puts, PutCaused, PutMemoryCaused}

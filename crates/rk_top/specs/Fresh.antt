@@ -1,5 +1,5 @@
 -- What the fresh run leaves.
-use Rattle.std.specs.Prelude.{◌<◌, ◌^◌, ℕ, List, [], ◌∷◌, length, true, Option, Some, None}
+use Rattle.std.specs.Prelude.{◌<◌, ◌^◌, List, [], ◌∷◌, ◌++◌, length, true, Option, Some, None}
 use Rattle.rk_base.specs.Text.{Text}
 use Rattle.tr_record.specs.declared.records.Record.{Record}
 use Rattle.tr_codec.specs.Attrs.{attrs_spelling}
@@ -8,17 +8,25 @@ use Rattle.tr_codec.specs.declared.rows.AttrRow.{AttrRow}
 use Rattle.rk_tree.specs.Copies.{snapshot_of as entries_of}
 use Rattle.rk_kernel.specs.World.{World}
 use Rattle.rk_runs.specs.Run.{Outcome, Done, Spent}
+use Rattle.rk_words.specs.declared.requests.Request.{Request}
+use Rattle.rk_replay.specs.Ran.{ran_of}
+use Rattle.rk_top.specs.Explained.{explanation}
 use Rattle.rk_install.specs.Attributes.{attrs_of}
 use Rattle.rk_install.specs.declared.holding.Holding.{Holding}
 
--- the texts of a run that ended
-abbrev pub output_of : Outcome World → Text
-output_of (Done world status left table) = world.out
-output_of Spent = []
+-- a text of a run that was asked for, over the records of an old table
+abbrev pub RunText : Type 0
+RunText = Request → List Record → Outcome World → Text
 
-abbrev pub error_text_of : Outcome World → Text
-error_text_of (Done world status left table) = world.err
-error_text_of Spent = []
+-- the output of a run that ended
+abbrev pub output_of : RunText
+output_of request old (Done world status left table) = world.out
+output_of request old Spent = []
+
+-- its error text, and where they are asked for the lines of what ran over the old table, and why
+abbrev pub error_text_of : RunText
+error_text_of request old (Done world status left table) = world.err ++ explanation request (ran_of old table) (length table)
+error_text_of request old Spent = []
 
 -- attrs as it is to stand: the spelling of rows, or nothing where there are none
 abbrev pub attrs_bytes : List (Text × AttrRow) → Option Text

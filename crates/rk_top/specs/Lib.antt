@@ -1,4 +1,5 @@
 pub mod Asks
+pub mod Explained
 pub mod Fresh
 pub mod Kept
 pub mod Laws
@@ -6,7 +7,6 @@ pub mod Lines
 pub mod Outcomes
 pub mod Run
 pub mod Sessions
-pub mod Shown
 pub mod Stages
 pub mod Telling
 pub mod Texts

@@ -11,7 +11,6 @@ use Rattle.rk_install.specs.Changes.{Partly}
 use Rattle.rk_install.specs.Holdings.{IsAfter}
 use Rattle.rk_install.specs.Imported.{holding_of}
 use Rattle.rk_install.specs.Planned.{planned}
-use Rattle.rk_install.specs.declared.holding.Holding.{Holding}
 use Rattle.rk_install.specs.declared.installation.InstallErr.{InstallErr}
 use Rattle.rk_install.specs.declared.installation.InstallErr.TheVariants as install
 use Rattle.tr_codec.specs.Fits.{Fits}
@@ -25,7 +24,7 @@ use Rattle.rk_runs.specs.Spoken.{AreSpoken}
 use Rattle.rk_replay.specs.Ran.{ran_total}
 use Rattle.rk_words.specs.Asked.{turns}
 use Rattle.rk_words.specs.declared.requests.Request.{Request}
-use Rattle.rk_top.specs.Fresh.{error_text_of, held_after}
+use Rattle.rk_top.specs.Fresh.{RunText, error_text_of, held_after}
 use Rattle.rk_top.specs.Kept.{Keeping, Refuses}
 use Rattle.rk_top.specs.Run.{fresh_run, IsForged, ran_count}
 use Rattle.rk_top.specs.Telling.{SinkState, Put}
@@ -167,18 +166,18 @@ Tallies first request told new before now launched ran =
 -- nothing over the others.
 
 -- over spoken records it is the fresh run's text, of which a front went out
-pub record HaltsIn (first : KeyValue → Says) (request : Request) (text : Run World → Text) (entries : Entries) (kept : List Record) (old new : Option Text) : Type 0 where
+pub record HaltsIn (first : KeyValue → Says) (request : Request) (text : RunText) (entries : Entries) (kept : List Record) (old new : Option Text) : Type 0 where
   pub it : Text
-  pub is_text : AreSpoken first kept → it ≡ text (fresh_run first request entries)
+  pub is_text : AreSpoken first kept → it ≡ text request kept (fresh_run first request entries)
   pub front : Front it old new
 
 -- nothing, or a front of a text
-abbrev pub Halts : (KeyValue → Says) → Request → (Run World → Text) → Option Held → Option Text → Option Text → Type 0
+abbrev pub Halts : (KeyValue → Says) → Request → RunText → Option Held → Option Text → Option Text → Type 0
 Halts first request text told old new =
     (new ≡ old) ⊎ IfSome told (λ held. Keeping held (λ entries kept. HaltsIn first request text entries kept old new))
 
-abbrev pub Gains : (KeyValue → Says) → Request → (Run World → Text) → Option Held → Option Text → Option Text → Outcome → Type 0
-Gains first request text told old new (out.Ended status launched ran) = IfSome told (λ held. Keeping held (λ entries kept. AreSpoken first kept → new ≡ with_bytes (text (fresh_run first request entries)) old))
+abbrev pub Gains : (KeyValue → Says) → Request → RunText → Option Held → Option Text → Option Text → Outcome → Type 0
+Gains first request text told old new (out.Ended status launched ran) = IfSome told (λ held. Keeping held (λ entries kept. AreSpoken first kept → new ≡ with_bytes (text request kept (fresh_run first request entries)) old))
 Gains first request text told old new out.WriteFault = Halts first request text told old new
 Gains first request text told old new out.NoMemory = Halts first request text told old new
 Gains first request text told old new other = new ≡ old

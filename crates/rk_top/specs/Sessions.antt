@@ -15,7 +15,7 @@ use Rattle.rk_runs.specs.Lasting.{AllLast}
 use Rattle.rk_runs.specs.Run.{Outcome as Run, Done, Spent}
 use Rattle.rk_runs.specs.Spoken.{AreSpoken}
 use Rattle.rk_tree.specs.Copies.{snapshot_of as entries_of}
-use Rattle.rk_tree.specs.Entries.{Entries, IsWholeSnapshot}
+use Rattle.rk_tree.specs.Entries.{IsWholeSnapshot}
 use Rattle.rk_words.specs.declared.requests.Request.{Request}
 use Rattle.rk_top.specs.Fresh.{AreInMemory, held_after}
 use Rattle.rk_top.specs.Kept.{Keeping}

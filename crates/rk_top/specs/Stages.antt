@@ -1,5 +1,5 @@
 -- What each stage of a build tells.
-use Rattle.std.specs.Prelude.{◌≡◌, ◌≤◌, ◌+◌, ℕ, Bool, true, List, Option, Some, None, IfSome, option_map, Result, Ok, Err}
+use Rattle.std.specs.Prelude.{◌≡◌, ◌≤◌, ◌+◌, ◌++◌, ℕ, length, Bool, true, List, Option, Some, None, IfSome, option_map, Result, Ok, Err}
 use Rattle.rk_calls.specs.Keys.{KeyValue}
 use Rattle.rk_calls.specs.Talk.{Says}
 use Rattle.rk_folder.specs.Told.{Held}
@@ -24,6 +24,7 @@ use Rattle.rk_runs.specs.Spoken.{AreSpoken}
 use Rattle.rk_words.specs.Asked.{turns}
 use Rattle.rk_words.specs.declared.requests.Request.{Request}
 use Rattle.rk_top.specs.Run.{IsRun, fresh_run, IsForged}
+use Rattle.rk_top.specs.Explained.{explanation}
 use Rattle.rk_top.specs.Fresh.{held_after}
 use Rattle.rk_top.specs.Kept.{IsKept, Keeping, Refuses, state_in}
 use Rattle.rk_top.specs.Outcomes.{IsNext}
@@ -90,6 +91,7 @@ pub record IsPrepared (first : KeyValue → Says) (request : Request) (held : He
   pub old : List Record
   pub kept : IsKept (state_in held) rows old
   pub run : IsRun first request (with_rows (snapshot_of held) rows) old before now p.finished
+  pub text : p.error_text ≡ p.finished.world.err ++ explanation request p.finished.ran (length p.finished.table)
   pub plan : p.plan ≡ planned (holding_of held) (held_after p.finished.world p.finished.table)
   pub allowed : AllowsAll p.plan held
   pub leads : IsAfter held (after_all p.plan held) (held_after p.finished.world p.finished.table)

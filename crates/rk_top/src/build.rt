@@ -67,8 +67,12 @@ pub(crate) fn build<M: Maker, F: Folder, O: Sink, E: Sink, L: Ledger>(
     ensures live { Ticked request.now live.old live.new (outcome_of result) }
     ensures starts { StartsSo (λ e. length e.ran) (M.starts maker.old) (M.starts maker.new) result }
 {
-    let Prepared { finished, plan } = prepare(alloc, maker, request, folder, live)?;
-    put_texts(out, err, finished.world.out(), finished.world.err())?;
+    let Prepared {
+        finished,
+        plan,
+        error_text,
+    } = prepare(alloc, maker, request, folder, live)?;
+    put_texts(out, err, finished.world.out(), error_text.as_slice())?;
     carry_out(alloc, folder, &plan)?;
     let launched = finished.table.len() as u64;
     Ok(Ended {

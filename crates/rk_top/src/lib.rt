@@ -3,6 +3,7 @@
 
 mod build;
 mod exits;
+mod explain;
 mod found;
 mod kept;
 mod laws;
@@ -11,7 +12,6 @@ mod look;
 mod outcome;
 mod prepare;
 mod run;
-mod shown;
 mod stop;
 #[cfg(test)]
 mod tests;

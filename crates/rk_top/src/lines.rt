@@ -3,10 +3,10 @@ ghost use Rattle.std.specs.Prelude.{◌≡◌, IfOk, true};
 ghost use Rattle.rk_top.specs.Lines.{damage_text, damaged_line, digests, fixed_line, forged_line, name_of, special_line};
 ghost use Rattle.rk_top.specs.Telling.{PutsLine, Tells};
 
-use crate::shown::shown;
 use crate::{Outcome, StateFile};
 use rk_base::{Bytes, NoMemory, Path};
 use rk_folder::Sink;
+use rk_lines::shown;
 use std::alloc::Global;
 use tr_codec::Damage;
 

@@ -9,6 +9,7 @@ ghost use Rattle.rk_top.specs.Run.{StartsSo};
 ghost use Rattle.rk_top.specs.Stages.{PreparesSo, ReadsCounted, Steadily};
 ghost use Rattle.rk_top.specs.Fresh.{IsInMemory, attrs_bytes, held_after};
 
+use crate::explain::error_text;
 use crate::found::{Found, find};
 use crate::run::{Finished, run};
 use crate::stop::Stop;
@@ -28,6 +29,8 @@ use tr_record::Table;
 pub(crate) struct Prepared {
     pub finished: Finished,
     pub plan: Plan,
+    /// The run's error text and, where they are asked for, the lines of what ran and why.
+    pub error_text: Bytes,
 }
 
 // attrs as it is to stand beside these entries; nothing where they have no rows.
@@ -77,7 +80,7 @@ fn held_after(alloc: Global, finished: &Finished) -> Result<Holding, NoMemory>
 }
 
 /// Looks at the folder, reads its state files, runs the script on what it holds, where no record answers for it, and
-/// plans what leads to what the run leaves.
+/// plans what leads to what the run leaves; with the error text that is to be put.
 pub(crate) fn prepare<M: Maker, F: Folder, L: Ledger>(
     alloc: Global,
     maker: &mut M,
@@ -102,5 +105,10 @@ pub(crate) fn prepare<M: Maker, F: Folder, L: Ledger>(
     let finished = run(alloc, maker, request, &before.entries, &attrs, &old, live)?;
     let after = held_after(alloc, &finished)?;
     let plan = plan(alloc, &before, &after)?;
-    Ok(Prepared { finished, plan })
+    let error_text = error_text(alloc, request, &finished)?;
+    Ok(Prepared {
+        finished,
+        plan,
+        error_text,
+    })
 }

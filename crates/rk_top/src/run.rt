@@ -37,7 +37,7 @@ fn budget(request: &Request) -> Budget
     ensures few { turns request.now < 2 ^ 32 }
 {
     match request {
-        Request::Build { steps } => Budget::new(*steps).unwrap(),
+        Request::Build { steps, .. } => Budget::new(*steps).unwrap(),
     }
 }
 

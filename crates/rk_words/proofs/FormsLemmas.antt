@@ -1,11 +1,11 @@
 -- What the definition gives for words that are written out.
-use Rattle.std.proofs.Common.{◌≡◌, List, [], ◌∷◌, ◌++◌, Option, Some, None, Result, Ok, Err, false, refl, codes, ap, ◌∙◌, subst, IfOk, IfErr}
+use Rattle.std.proofs.Common.{◌≡◌, List, [], ◌∷◌, ◌++◌, Option, Some, None, Result, Ok, Err, true, false, refl, codes, ap, ◌∙◌, subst, IfOk, IfErr}
 use Rattle.std.specs.Str.{bytes_eq}
 use Rattle.clap.specs.Words.{Text}
 use Rattle.clap.proofs.OnLiterals.{clap_on_literals}
 use Rattle.rk_words.specs.CommandLine.{build_app, command_line}
 use Rattle.rk_words.specs.Asked.{request_of}
-use Rattle.rk_words.specs.Forms.{Answers, IsPlainWord, ReadsForms, build_within}
+use Rattle.rk_words.specs.Forms.{Answers, IsPlainWord, ReadsForms, build_within, explained_within}
 use Rattle.rk_words.specs.declared.requests.Request.{Request}
 use Rattle.rk_words.specs.declared.requests.Request.TheVariants.{Build}
 use Rattle.rk_words.specs.declared.requests.RequestErr.{RequestErr}
@@ -19,7 +19,7 @@ unnamed : (name : Text) → request_of (name ∷ []) ≡ None
 unfolding clap_on_literals command_line build_app request_of
 unnamed name = refl
 
-alone : (name : Text) → request_of (name ∷ codes "build" ∷ []) ≡ Some (Build 1000000)
+alone : (name : Text) → request_of (name ∷ codes "build" ∷ []) ≡ Some (Build 1000000 false)
 unfolding clap_on_literals command_line build_app request_of
 alone name = refl
 
@@ -31,6 +31,22 @@ steps name (d ∷ ds) plain = simp plain refl
 joined : (name n : Text) → request_of (name ∷ codes "build" ∷ (codes "--steps=" ++ n) ∷ []) ≡ build_within n
 unfolding clap_on_literals command_line build_app request_of
 joined name n = refl
+
+explain : (name : Text) → request_of (name ∷ codes "build" ∷ codes "--explain" ∷ []) ≡ Some (Build 1000000 true)
+unfolding clap_on_literals command_line build_app request_of
+explain name = refl
+
+explain_first : (name n : Text) → request_of (name ∷ codes "build" ∷ codes "--explain" ∷ (codes "--steps=" ++ n) ∷ []) ≡ explained_within n
+unfolding clap_on_literals command_line build_app request_of
+explain_first name n = refl
+
+explain_last : (name n : Text) → request_of (name ∷ codes "build" ∷ (codes "--steps=" ++ n) ∷ codes "--explain" ∷ []) ≡ explained_within n
+unfolding clap_on_literals command_line build_app request_of
+explain_last name n = refl
+
+explain_twice : (name : Text) → request_of (name ∷ codes "build" ∷ codes "--explain" ∷ codes "--explain" ∷ []) ≡ None
+unfolding clap_on_literals command_line build_app request_of
+explain_twice name = refl
 
 no_number : (name : Text) → request_of (name ∷ codes "build" ∷ codes "--steps" ∷ []) ≡ None
 unfolding clap_on_literals command_line build_app request_of
@@ -77,6 +93,10 @@ forms words answer asked usage =
       alone = λ name is. at _ _ is (alone name);
       steps = λ name n plain is. at _ _ is (steps name n plain);
       joined = λ name n is. at _ _ is (joined name n);
+      explain = λ name is. at _ _ is (explain name);
+      explain_first = λ name n is. at _ _ is (explain_first name n);
+      explain_last = λ name n is. at _ _ is (explain_last name n);
+      explain_twice = λ name is. at _ _ is (explain_twice name);
       no_number = λ name is. at _ _ is (no_number name);
       twice = λ name m n plain too is. at _ _ is (twice name m n plain too);
       stray = λ name word plain is. at _ _ is (stray name word plain);

@@ -6,7 +6,7 @@ use Rattle.std.proofs.lemmas.Bool.Decides.{nat_tests}
 use Rattle.std.specs.Str.Parse.{digits_value}
 use Rattle.clap.specs.Words.{Kinds, Row, Text, first_of, fault_of, subcommand_of}
 use Rattle.rk_words.specs.CommandLine.{command_line}
-use Rattle.rk_words.specs.Asked.{steps_of, build_request, request_by, if_no_fault, request_of, turns}
+use Rattle.rk_words.specs.Asked.{is_true, steps_of, build_request, request_by, if_no_fault, request_of, turns}
 use Rattle.rk_words.specs.Decimal.{is_decimal, is_within, number_of}
 use Rattle.rk_words.specs.declared.requests.Request.{Request}
 use Rattle.rk_words.specs.declared.requests.RequestErr.{RequestErr}
@@ -24,11 +24,11 @@ turns-some (Some text) n e = let h : 1 ≤ n = number-low 10 1 4294967295 text n
 
 abbrev HasTurns : Option Request → Type 0
 HasTurns None = Unit {0}
-HasTurns (Some (Build n)) = 0 < n
+HasTurns (Some (Build n explain)) = 0 < n
 
-built : (o : Option ℕ) → ((n : ℕ) → o ≡ Some n → 0 < n) → HasTurns (option_map Build o)
-built None h = tt
-built (Some n) h = h n refl
+built : (explain : Bool) (o : Option ℕ) → ((n : ℕ) → o ≡ Some n → 0 < n) → HasTurns (option_map (λ n. Build n explain) o)
+built explain None h = tt
+built explain (Some n) h = h n refl
 
 where_so : (b : Bool) (o : Option Request) → HasTurns o → HasTurns (if b then o else None)
 where_so true o h = h
@@ -37,7 +37,7 @@ where_so false o h = tt
 found : (o : Option (Text × List Row)) → HasTurns (option_and_then (λ p. request_by p.0 p.1) o)
 found None = tt
 found (Some p) =
-    where_so (bytes_eq p.0 (codes "build")) (build_request p.1) (built (steps_of (first_of (codes "steps") p.1)) (turns-some (first_of (codes "steps") p.1)))
+    where_so (bytes_eq p.0 (codes "build")) (build_request p.1) (built (is_true (first_of (codes "explain") p.1)) (steps_of (first_of (codes "steps") p.1)) (turns-some (first_of (codes "steps") p.1)))
 
 unless_fault : (kinds : Kinds) (o : Option Request) → HasTurns o → HasTurns (if_no_fault kinds o)
 unless_fault [] o h = h
@@ -49,7 +49,7 @@ has_turns words = unless_fault (fault_of command_line words) _ (found (subcomman
 
 -- so has the request that words are
 pub some_turns : (words : List Text) (r : Request) → request_of words ≡ Some r → 0 < turns r
-some_turns words (Build n) e = subst HasTurns e (has_turns words)
+some_turns words (Build n explain) e = subst HasTurns e (has_turns words)
 
 pub some-read : (words : List Text) (result : Result Request RequestErr) → IfOk result (λ r. request_of words ≡ Some r) → IfOk result (λ r. 0 < turns r)
 some-read words (Ok r) asked = some_turns words r asked

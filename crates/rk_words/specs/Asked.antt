@@ -1,5 +1,5 @@
 -- What the words ask for.
-use Rattle.std.specs.Prelude.{ℕ, List, [], ◌∷◌, Option, Some, None, codes, if◌then◌else◌, option_and_then, option_map}
+use Rattle.std.specs.Prelude.{ℕ, Bool, false, List, [], ◌∷◌, Option, Some, None, codes, if◌then◌else◌, option_and_then, option_map}
 use Rattle.std.specs.Str.{bytes_eq}
 use Rattle.clap.specs.Words.{Kinds, Row, Text, fault_of, first_of, subcommand_of}
 use Rattle.rk_words.specs.CommandLine.{command_line}
@@ -12,9 +12,14 @@ abbrev pub steps_of : Option Text → Option ℕ
 steps_of None = Some 1000000
 steps_of (Some text) = number_of 10 1 4294967295 text
 
--- `build [--steps N]`
+-- a flag that was given has the text `true`
+abbrev pub is_true : Option Text → Bool
+is_true None = false
+is_true (Some text) = bytes_eq text (codes "true")
+
+-- `build [--steps N] [--explain]`
 abbrev pub build_request : List Row → Option Request
-build_request rows = option_map request.Build (steps_of (first_of (codes "steps") rows))
+build_request rows = option_map (λ steps. request.Build steps (is_true (first_of (codes "explain") rows))) (steps_of (first_of (codes "steps") rows))
 
 -- the request of a subcommand with what its words name
 abbrev pub request_by : Text → List Row → Option Request
@@ -35,4 +40,8 @@ request_of words =
 
 -- the turns within which a build is to end
 abbrev pub turns : Request → ℕ
-turns (request.Build steps) = steps
+turns (request.Build steps explain) = steps
+
+-- whether the lines of what ran are asked for
+abbrev pub explains : Request → Bool
+explains (request.Build steps explain) = explain

@@ -7,8 +7,8 @@ use std::alloc::AllocError;
 /// What the words ask for.
 #[derive(Clone, Copy, Debug, PartialEq, Eq)]
 pub enum Request {
-    /// A build within so many turns, at least one.
-    Build { steps: u32 },
+    /// A build within so many turns, at least one. `explain`: the lines of what ran and why follow the error text.
+    Build { steps: u32, explain: bool },
 }
 
 /// Why there is no request.

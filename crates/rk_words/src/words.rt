@@ -3,7 +3,7 @@ ghost use Rattle.std.specs.Prelude.{◌≡◌, ◌↔◌, ◌≢◌, ◌<◌, []
 ghost use Rattle.clap.specs.Words.{kind_of, fault_of, subcommand_of, subcommand_rows_of, first_of, rows_of, found_of};
 ghost use Rattle.rk_words.specs.declared.requests.RequestErr.TheVariants.{Usage};
 ghost use Rattle.rk_words.specs.CommandLine.{command_line};
-ghost use Rattle.rk_words.specs.Asked.{request_by, request_of, steps_of, turns};
+ghost use Rattle.rk_words.specs.Asked.{is_true, request_by, request_of, steps_of, turns};
 ghost use Rattle.rk_words.specs.Forms.{ReadsForms};
 
 use crate::command_line::command_line;
@@ -31,12 +31,23 @@ fn steps(matches: &ArgMatches<'_>) -> Option<u32>
     }
 }
 
+// Whether a flag was given.
+fn is_set(matches: &ArgMatches<'_>, id: &str) -> bool
+    ensures { result ≡ is_true (first_of id.now (rows_of (found_of matches.now))) }
+{
+    match text_of(matches, id) {
+        None => false,
+        Some(text) => text == "true",
+    }
+}
+
 fn request_by(name: &str, matches: &ArgMatches<'_>) -> Option<Request>
     ensures { result ≡ request_by name.now (rows_of (found_of matches.now)) }
 {
     if name == "build" {
         let steps = steps(matches)?;
-        Some(Request::Build { steps })
+        let explain = is_set(matches, "explain");
+        Some(Request::Build { steps, explain })
     } else {
         None
     }
@@ -96,33 +107,36 @@ mod tests {
     use std::alloc::AllocError;
     use std::test::Fail;
 
-    // The turns of the build that a line of words asks for, and nothing where the line is no request.
-    fn turns(alloc: Global, line: &str) -> Result<Result<u32, RequestErr>, AllocError> {
+    // The turns of the build that a line of words asks for, and whether it is to be explained; nothing where the line is no
+    // request.
+    fn asked(alloc: Global, line: &str) -> Result<Result<(u32, bool), RequestErr>, AllocError> {
         let mut words = Vec::new(alloc);
         for word in line.split(' ') {
             words.push(String::from_str(alloc, word)?)?;
         }
         match request(alloc, &words) {
-            Ok(Request::Build { steps }) => Ok(Ok(steps)),
+            Ok(Request::Build { steps, explain }) => Ok(Ok((steps, explain))),
             Err(e) => Ok(Err(e)),
         }
     }
 
     #[test]
     fn reads_words(rt: HostRuntime) -> Result<(), Fail> {
-        let asked = [
-            ("rkr build", 1000000),
-            ("rkr build --steps 17", 17),
-            ("rkr build --steps=17", 17),
-            ("rkr build --steps 1", 1),
-            ("rkr build --steps 4294967295", 4294967295),
-            ("rkr build --steps 0000000017", 17),
-            ("rkr build --", 1000000),
-            ("rkr build --steps 17 --", 17),
-            ("another build", 1000000),
+        let lines = [
+            ("rkr build", (1000000, false)),
+            ("rkr build --steps 17", (17, false)),
+            ("rkr build --steps=17", (17, false)),
+            ("rkr build --steps 1", (1, false)),
+            ("rkr build --steps 4294967295", (4294967295, false)),
+            ("rkr build --steps 0000000017", (17, false)),
+            ("rkr build --", (1000000, false)),
+            ("rkr build --steps 17 --", (17, false)),
+            ("another build", (1000000, false)),
+            ("rkr build --explain", (1000000, true)),
+            ("rkr build --explain --steps 17", (17, true)),
         ];
-        for (line, steps) in asked {
-            assert!(rt; turns(rt.alloc(), line)? == Ok(steps), "{line}");
+        for (line, is) in lines {
+            assert!(rt; asked(rt.alloc(), line)? == Ok(is), "{line}");
         }
         Ok(())
     }
@@ -167,11 +181,14 @@ mod tests {
             "rkr -V",
             "rkr build --version",
             "rkr check",
-            "rkr build --explain",
+            "rkr build --explain=true",
+            "rkr build --explain --explain",
+            "rkr build --expl",
+            "rkr build --fresh",
         ];
         for line in refused {
             assert!(rt;
-                turns(rt.alloc(), line)? == Err(RequestErr::Usage),
+                asked(rt.alloc(), line)? == Err(RequestErr::Usage),
                 "{line}"
             );
         }

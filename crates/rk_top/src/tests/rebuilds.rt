@@ -46,13 +46,35 @@ fn runs_nothing_again(rt: HostRuntime) -> Result<(), Fail> {
     Ok(())
 }
 
+// A build that is explained, and its error text.
+fn explained(alloc: Global, folder: &mut MemFolder) -> Result<(Outcome, MemSink), Fail> {
+    let mut out = MemSink::new(alloc);
+    let mut err = MemSink::new(alloc);
+    let words = ["rkr", "build", "--explain"];
+    let outcome = call::<Brand>(alloc, &words, folder, &mut out, &mut err, Blank::new(1))?;
+    Ok((outcome, err))
+}
+
+#[test]
+fn explains_after_the_error_text(rt: HostRuntime) -> Result<(), Fail> {
+    let alloc = rt.alloc();
+    let mut folder = folder_of(alloc, b"cat no\n")?;
+    let (_outcome, err) = explained(alloc, &mut folder)?;
+    let text =
+        b"cat: no: no such file\nrkr: ran sh Rikerfile in / #0: no record\nrkr: ran cat no in / #0: no record\nrkr: launched 2, ran 2\n";
+    assert_eq!(rt; err.bytes(), text.as_slice());
+    Ok(())
+}
+
 #[test]
 fn runs_what_reads_an_edited_file(rt: HostRuntime) -> Result<(), Fail> {
     let alloc = rt.alloc();
     let mut folder = built(alloc)?;
     folder.set_file(alloc, &at(alloc, b"/a")?, b"9\n")?;
-    let again = rebuild(alloc, &mut folder)?;
+    let (again, err) = explained(alloc, &mut folder)?;
     assert!(rt; is_end(&again, 0, 2, 1));
+    let text = b"rkr: ran cat a b in / #0: step 2 differs\nrkr: launched 2, ran 1\n";
+    assert_eq!(rt; err.bytes(), text.as_slice());
     assert!(rt; are_written(folder.changes(), b"/out", b"/.rkr/db"));
     assert!(rt; is_file(&folder, &at(alloc, b"/out")?, b"9\n2\n"));
     Ok(())

@@ -15,9 +15,9 @@ returns-in_err-finished-clause-prepares g c =
 
 pub returns-clause-prepares : goal.returns-clause-prepares
 returns-clause-prepares g c =
-    is_prepared g.M.Maker.first c.args.request.now _ c.in_ok-before.field-0 c.in_ok-after.after _ _ c.in_ok-finished.finished c.in_ok-plan.plan (g.met.F.Folder.whole c.args.folder.now)
+    is_prepared g.M.Maker.first c.args.request.now _ c.in_ok-before.field-0 c.in_ok-after.after _ _ c.in_ok-finished.finished c.in_ok-plan.plan c.in_ok-error_text.error_text (g.met.F.Folder.whole c.args.folder.now)
     c.in_ok-before.ensures.finds c.in_ok-finished.ensures.runs c.run.ensures.at_most c.in_ok-after.ensures.holding c.in_ok-after.ensures.built c.in_ok-after.ensures.memory
-    c.in_ok-plan.ensures.planned c.in_ok-plan.ensures.allowed c.in_ok-plan.ensures.leads
+    c.in_ok-plan.ensures.planned c.in_ok-plan.ensures.allowed c.in_ok-plan.ensures.leads c.in_ok-error_text.ensures
 
 pub returns-in_err-plan-clause-reads : goal.returns-in_err-plan-clause-reads
 returns-in_err-plan-clause-reads g c =
@@ -57,4 +57,24 @@ returns-in_err-plan-clause-steady g c =
 pub returns-in_err-plan-clause-starts : goal.returns-in_err-plan-clause-starts
 returns-in_err-plan-clause-starts g c =
     let p = err_from_is_err_and c.from_residual-in_err-plan.result c.from_residual-in_err-plan.ensures.1 in
+    rw (p.1, p.2) tt
+
+pub returns-in_err-error_text-clause-reads : goal.returns-in_err-error_text-clause-reads
+returns-in_err-error_text-clause-reads g c =
+    let p = err_from_is_err_and c.from_residual-in_err-error_text.result c.from_residual-in_err-error_text.ensures.1 in
+    rw (p.1, p.2) c.in_ok-before.ensures.reads
+
+pub returns-in_err-error_text-clause-prepares : goal.returns-in_err-error_text-clause-prepares
+returns-in_err-error_text-clause-prepares g c =
+    let p = err_from_is_err_and c.from_residual-in_err-error_text.result c.from_residual-in_err-error_text.ensures.1 in
+    rw (p.1, p.2) c.run.ensures.at_most
+
+pub returns-in_err-error_text-clause-steady : goal.returns-in_err-error_text-clause-steady
+returns-in_err-error_text-clause-steady g c =
+    let p = err_from_is_err_and c.from_residual-in_err-error_text.result c.from_residual-in_err-error_text.ensures.1 in
+    rw (p.1, p.2) (c.in_ok-before.ensures.steady.0, λ steady. tt)
+
+pub returns-in_err-error_text-clause-starts : goal.returns-in_err-error_text-clause-starts
+returns-in_err-error_text-clause-starts g c =
+    let p = err_from_is_err_and c.from_residual-in_err-error_text.result c.from_residual-in_err-error_text.ensures.1 in
     rw (p.1, p.2) tt

@@ -1,6 +1,3 @@
-use Rattle.std.proofs.Common.{sym, subst}
-use Rattle.rk_top.specs.Outcomes.{IfEnded, HasStatus, Tallies}
-use Rattle.rk_top.specs.declared.outcome.Outcome.{Outcome}
 use Rattle.rk_top.proofs.BuildLemmas.{special-first, damaged-first, forged-so}
 use Rattle.rk_top.proofs.BuiltLemmas.{built-ended, built-no-fault, built-started, built-asked}
 use Rattle.rk_top.proofs.SettledLemmas.{settles}

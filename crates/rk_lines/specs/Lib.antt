@@ -1,0 +1,3 @@
+pub mod Shown
+pub mod Commands
+pub mod Ran
