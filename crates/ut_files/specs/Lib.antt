@@ -1,0 +1,12 @@
+pub mod Answers
+pub mod Complaints
+pub mod FileTasks
+pub mod Linking
+pub mod Making
+pub mod Modes
+pub mod Operands
+pub mod Removing
+pub mod Targets
+pub mod Utilities
+pub mod Working
+pub mod Works
