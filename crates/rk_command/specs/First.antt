@@ -5,6 +5,7 @@ use Rattle.rk_calls.specs.Keys.{KeyValue, shell}
 use Rattle.rk_calls.specs.Talk.{Says, pay}
 use Rattle.rk_command.specs.ShellTalk.{runs_script}
 use Rattle.rk_command.specs.UnknownTalk.{is_unknown}
+use Rattle.ut_files.specs.Utilities.{file_utility}
 use Rattle.ut_text.specs.Starts.{text_utility}
 
 -- `sh` runs the script that its one word names; with other words it is unknown
@@ -18,9 +19,13 @@ abbrev pub says_or : Option Says → Says → Says
 says_or (Some says) other = says
 says_or None other = other
 
+-- the file utility of the first word, or else this
+abbrev pub file_or : Text → List Text → Says → Says
+file_or wd argv other = says_or (file_utility wd argv) other
+
 -- the utility of the first word, or else this
 abbrev pub utility_or : Text → List Text → Says → Says
-utility_or wd argv other = says_or (text_utility wd argv) other
+utility_or wd argv other = says_or (text_utility wd argv) (file_or wd argv other)
 
 -- by the first word
 abbrev pub says_of : Text → List Text → Says

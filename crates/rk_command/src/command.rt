@@ -1,6 +1,6 @@
 // The command of a key.
 ghost use Rattle.std.specs.Prelude.{◌≡◌, IfOk};
-ghost use Rattle.rk_command.specs.First.{shells, says_of, utility_or, first_talk};
+ghost use Rattle.rk_command.specs.First.{shells, says_of, file_or, utility_or, first_talk};
 ghost use Rattle.rk_command.specs.Running.{running_talk, command_talk};
 ghost use Rattle.rk_command.specs.UnknownTalk.{is_unknown};
 
@@ -9,6 +9,7 @@ use rk_base::{Bytes, NoMemory, Path, WordList};
 use rk_calls::{Answer, Key, Machine, Turn, error_line};
 use std::alloc::Global;
 use ut_args::Complaint;
+use ut_files::FileUtility;
 use ut_text::TextUtility;
 
 #[derive(Drop)]
@@ -16,6 +17,7 @@ enum Running {
     Complains(Complaint),
     Shells(Shell),
     Texts(TextUtility),
+    Files(FileUtility),
 }
 
 /// The command of a key, as a machine: the shell of a script for `sh FILE`, a utility by its name, and for any other
@@ -49,14 +51,25 @@ fn shell(alloc: Global, wd: &Path, words: &[Bytes]) -> Result<Running, NoMemory>
     }
 }
 
-// A text utility, or an unknown name.
+// A file utility, or an unknown name.
+fn file_utility(alloc: Global, wd: &Path, argv: &WordList, name: &[u8]) -> Result<Running, NoMemory>
+    ensures { IfOk result (λ r. running_talk r Answer.Go ≡ file_or wd.now argv.now (is_unknown name.now)) }
+{
+    let found = ut_files::start(alloc, wd, argv)?;
+    match found {
+        Some(utility) => Ok(Running::Files(utility)),
+        None => unknown(alloc, name),
+    }
+}
+
+// A utility, or an unknown name.
 fn utility(alloc: Global, wd: &Path, argv: &WordList, name: &[u8]) -> Result<Running, NoMemory>
     ensures { IfOk result (λ r. running_talk r Answer.Go ≡ utility_or wd.now argv.now (is_unknown name.now)) }
 {
     let found = TextUtility::start(alloc, wd, argv)?;
     match found {
         Some(utility) => Ok(Running::Texts(utility)),
-        None => unknown(alloc, name),
+        None => file_utility(alloc, wd, argv, name),
     }
 }
 
@@ -98,6 +111,7 @@ impl Machine for Running {
             Running::Complains(machine) => machine.resume(answer),
             Running::Shells(machine) => machine.resume(answer),
             Running::Texts(machine) => machine.resume(answer),
+            Running::Files(machine) => machine.resume(answer),
         }
     }
 }

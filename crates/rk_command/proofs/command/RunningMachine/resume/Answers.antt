@@ -1,7 +1,7 @@
 use Rattle.std.proofs.Common.{◌≡◌, ℕ, IfOk, sym, subst}
 use Rattle.rk_calls.specs.Talk.{after}
 use Rattle.rk_command.specs.declared.command.Running.{Running}
-use Rattle.rk_command.specs.declared.command.Running.TheVariants.{Complains, Shells, Texts}
+use Rattle.rk_command.specs.declared.command.Running.TheVariants.{Complains, Shells, Texts, Files}
 use Rattle.rk_command.specs.Running.{running_talk}
 use Rattle.rk_command.proofs.command.RunningMachine.resume.Goals as goal
 
@@ -19,3 +19,8 @@ pub returns-in-Texts-clause-talk : goal.returns-in-Texts-clause-talk
 returns-in-Texts-clause-talk c =
     let P : Running → Type 0 = λ r. IfOk c.resume-in-Texts.result (λ t. (p : ℕ) → running_talk r c.args.answer p ≡ after t (running_talk (Texts c.resume-in-Texts.new.self)) p) in
     subst P (sym c.in-Texts.is) c.resume-in-Texts.ensures.talk
+
+pub returns-in-Files-clause-talk : goal.returns-in-Files-clause-talk
+returns-in-Files-clause-talk c =
+    let P : Running → Type 0 = λ r. IfOk c.resume-in-Files.result (λ t. (p : ℕ) → running_talk r c.args.answer p ≡ after t (running_talk (Files c.resume-in-Files.new.self)) p) in
+    subst P (sym c.in-Files.is) c.resume-in-Files.ensures.talk
