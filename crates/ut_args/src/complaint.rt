@@ -1,6 +1,7 @@
 // Utilities that only complain.
 ghost use Rattle.std.specs.Prelude.{◌≡◌, ◌++◌, IfOk, codes};
 ghost use Rattle.ut_args.specs.Usage.{complains, misuses, misuses_option, complaint_talk};
+ghost use Rattle.rk_calls.specs.Lines.{error_line};
 
 use rk_base::{Bytes, NoMemory};
 use rk_calls::{Answer, Call, Machine, Turn, error_line, turns};
@@ -22,14 +23,21 @@ fn usage_line(alloc: Global, name: &[u8]) -> Result<Bytes, NoMemory>
 }
 
 impl Complaint {
-    /// Any text, whole lines as a rule.
-    pub fn new(text: Bytes, status: u8) -> Complaint
-        ensures { complaint_talk result Answer.Go ≡ complains text status }
+    /// That of an operand: `NAME: OPERAND: word`.
+    pub fn of_operand(
+        alloc: Global,
+        name: &[u8],
+        operand: &[u8],
+        word: &[u8],
+        status: u8,
+    ) -> Result<Complaint, NoMemory>
+        ensures { IfOk result (λ c. complaint_talk c Answer.Go ≡ complains (error_line name.now operand.now word.now) status) }
     {
-        Complaint {
-            text: Some(text),
+        let line = error_line(alloc, name, operand, word)?;
+        Ok(Complaint {
+            text: Some(line),
             status,
-        }
+        })
     }
 
     /// That of an option, as `-X`: `NAME: -X: usage`.
@@ -41,11 +49,7 @@ impl Complaint {
     ) -> Result<Complaint, NoMemory>
         ensures { IfOk result (λ c. complaint_talk c Answer.Go ≡ misuses_option name.now option.now status) }
     {
-        let line = error_line(alloc, name, option, b"usage")?;
-        Ok(Complaint {
-            text: Some(line),
-            status,
-        })
+        Complaint::of_operand(alloc, name, option, b"usage", status)
     }
 
     /// That of operands, of which one is missing, out of form or too many: `NAME: usage`.

@@ -1,9 +1,9 @@
 // Options that were given.
-ghost use Rattle.std.specs.Prelude.{◌≡◌, ◌∷◌, ◌++◌, ◌==◌, [], OnOk, Some, None, option_copied, if◌then◌else◌};
+ghost use Rattle.std.specs.Prelude.{◌≡◌, ◌∷◌, ◌++◌, ◌==◌, [], OnOk, IfOk, Some, None, option_copied, if◌then◌else◌};
 ghost use Rattle.std.specs.List.{list_any};
-ghost use Rattle.ut_args.specs.Opts.{has, last_argument};
+ghost use Rattle.ut_args.specs.Opts.{has, last_argument, argument_of, arguments_of};
 
-use rk_base::{Bytes, NoMemory};
+use rk_base::{Bytes, NoMemory, WordList};
 use std::alloc::Global;
 use std::marker::Model;
 
@@ -37,6 +37,18 @@ fn newer<'a>(given: &'a Given, letter: u8, found: Option<&'a Bytes>) -> Option<&
         given.argument.as_ref()
     } else {
         found
+    }
+}
+
+fn add_argument_of(given: &Given, letter: u8, words: &mut WordList) -> Result<(), NoMemory>
+    ensures { OnOk result (words.new ≡ words.old ++ argument_of letter given.now) }
+{
+    if given.letter != letter {
+        return Ok(());
+    }
+    match &given.argument {
+        None => Ok(()),
+        Some(argument) => words.push(argument.copy()?),
     }
 }
 
@@ -91,5 +103,16 @@ impl OptList {
             found = newer(given, letter, found);
         }
         found
+    }
+
+    /// All arguments that an option has, in their order.
+    pub fn arguments(&self, alloc: Global, letter: u8) -> Result<WordList, NoMemory>
+        ensures { IfOk result (λ words. words ≡ arguments_of letter self.now) }
+    {
+        let mut words = WordList::new(Vec::new(alloc));
+        for given in self.given.as_slice() {
+            add_argument_of(given, letter, &mut words)?;
+        }
+        Ok(words)
     }
 }

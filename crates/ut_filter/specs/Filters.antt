@@ -31,8 +31,9 @@ pub record Seen : Type 0 where
   pub inputs : List Input
   pub next : ℕ
 
-abbrev pub nothing : Seen
-nothing = record { inputs = []; next = 10 }
+-- nothing yet, where the next file that is opened has this number
+abbrev pub nothing_from : ℕ → Seen
+nothing_from next = record { inputs = []; next = next }
 
 -- an input was read, or not
 abbrev pub added : Text → Seen → Result Text Errno → Seen
@@ -94,6 +95,10 @@ abbrev pub or_dash : List Text → List Text
 or_dash [] = dash ∷ []
 or_dash (operand ∷ more) = operand ∷ more
 
--- a filter of these inputs, in a working directory
+-- a filter of these inputs, in a working directory; the next file that it opens has this number
+unfoldable pub filters_from : ℕ → Job → Text → List Text → Says
+filters_from next job wd inputs = reads_all job wd inputs (nothing_from next)
+
+-- the same where no file was opened before
 abbrev pub filters : Job → Text → List Text → Says
-filters job wd inputs = reads_all job wd inputs nothing
+filters = filters_from 10

@@ -13,7 +13,7 @@ use Rattle.rk_calls.specs.Talk.{Says}
 use Rattle.rk_calls.specs.Turns.{turns}
 use Rattle.rk_calls.specs.Views.{IsCommandTalk, talk-exits, talk-ask, talk-if}
 use Rattle.ut_filter.specs.declared.made.Made.{Made}
-use Rattle.ut_filter.specs.Filters.{Job, Seen, added, complains, tells, told, puts, emptied, writes, opened, reads, reads_all, nothing, dash, filters}
+use Rattle.ut_filter.specs.Filters.{Job, Seen, added, complains, tells, told, puts, emptied, writes, opened, reads, reads_all, nothing_from, dash, filters, filters_from}
 
 pub talk-complains : (text : Text) (status : ℕ) → IsCommandTalk (complains text status)
 talk-complains text status = talk-ask (Write 2 text) (1 + turns text) _ tt (λ a. talk-exits status 0)
@@ -52,8 +52,12 @@ talk-reads_all : (job : Job) (wd : Text) (operands : List Text) (seen : Seen) �
 talk-reads_all job wd [] seen = talk-writes job wd seen.next (job.makes seen.inputs) job.out
 talk-reads_all job wd (operand ∷ more) seen = talk-reads (reads_all job wd more) (talk-reads_all job wd more) wd operand seen
 
+pub talk-filters_from : (next : ℕ) (job : Job) (wd : Text) (inputs : List Text) → IsCommandTalk (filters_from next job wd inputs)
+unfolding filters_from
+talk-filters_from next job wd inputs = talk-reads_all job wd inputs (nothing_from next)
+
 pub talk-filters : (job : Job) (wd : Text) (inputs : List Text) → IsCommandTalk (filters job wd inputs)
-talk-filters job wd inputs = talk-reads_all job wd inputs nothing
+talk-filters = talk-filters_from 10
 
 -- Whatever a filter makes of its inputs, fewer turns only cut what it says, and its calls are proper.
 abbrev pub EachIsCommandTalk : Type 0

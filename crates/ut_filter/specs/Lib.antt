@@ -1,5 +1,8 @@
 pub mod Filters
 pub mod Laws
+pub mod Lines
 pub mod Machine
+pub mod Parts
 pub mod Refusals
 pub mod Stages
+pub mod Statuses

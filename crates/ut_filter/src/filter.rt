@@ -3,7 +3,7 @@ ghost use Rattle.std.specs.Prelude.{◌≡◌, List, IfOk};
 ghost use Rattle.rk_base.specs.Text.{Text};
 ghost use Rattle.rk_calls.specs.Costly.{IsCostly};
 ghost use Rattle.rk_calls.specs.Brought.{brought};
-ghost use Rattle.ut_filter.specs.Filters.{Job, Seen, refused, told, emptied, writes, opened, reads, reads_all, added, filters};
+ghost use Rattle.ut_filter.specs.Filters.{Job, Seen, refused, told, emptied, writes, opened, reads, reads_all, added, filters, filters_from};
 ghost use Rattle.ut_filter.specs.Machine.{filter_talk};
 ghost use Rattle.ut_filter.specs.Stages.{IsSaidBy, stage_talk};
 
@@ -197,6 +197,20 @@ impl<W: Work> Filter<W> {
     pub fn new(alloc: Global, wd: &Path, work: W, inputs: &WordList) -> Result<Filter<W>, NoMemory>
         ensures { IfOk result (λ f. filter_talk W.job f Answer.Go ≡ filters (W.job work) wd.now inputs.now) }
     {
+        Filter::from_number(alloc, wd, work, inputs, 10)
+    }
+
+    /// The same, where the command opened files before: the next one has this number.
+    #[tactic(auto, unfolding(crate::specs::Filters::filters_from))]
+    pub fn from_number(
+        alloc: Global,
+        wd: &Path,
+        work: W,
+        inputs: &WordList,
+        next: u64,
+    ) -> Result<Filter<W>, NoMemory>
+        ensures { IfOk result (λ f. filter_talk W.job f Answer.Go ≡ filters_from next (W.job work) wd.now inputs.now) }
+    {
         let operands = copies(alloc, inputs.as_slice())?;
         let wd = wd.copy()?;
         Ok(Filter {
@@ -204,7 +218,7 @@ impl<W: Work> Filter<W> {
             wd,
             work,
             operands,
-            reader: Reader::new(alloc),
+            reader: Reader::from_number(alloc, next),
             stage: Stage::Next,
         })
     }

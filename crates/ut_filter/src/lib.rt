@@ -4,16 +4,22 @@
 mod filter;
 mod inputs;
 mod laws;
+mod lines;
 mod made;
+mod parts;
 mod reader;
 mod refusals;
 mod stage;
+mod status;
 mod telling;
 mod work;
 
 pub use filter::Filter;
 pub use inputs::or_dash;
 pub use laws::filters_say_what_commands_may;
+pub use lines::front_line;
 pub use made::{Input, InputList, Made};
+pub use parts::joined;
 pub use refusals::refusal_lines;
+pub use status::status_of;
 pub use work::Work;

@@ -1,6 +1,6 @@
 // What was read so far.
 ghost use Rattle.std.specs.Prelude.{◌≡◌, ◌+◌, IfOk, OnOk};
-ghost use Rattle.ut_filter.specs.Filters.{nothing, added};
+ghost use Rattle.ut_filter.specs.Filters.{nothing_from, added};
 
 use crate::made::{Input, InputList};
 use rk_base::{Bytes, Errno, NoMemory};
@@ -23,12 +23,12 @@ impl Model for Reader {
 }
 
 impl Reader {
-    pub(crate) fn new(alloc: Global) -> Reader
-        ensures { result ≡ nothing }
+    pub(crate) fn from_number(alloc: Global, next: u64) -> Reader
+        ensures { result ≡ nothing_from next }
     {
         Reader {
             inputs: InputList::new(alloc),
-            next: 10,
+            next,
         }
     }
 

@@ -7,7 +7,7 @@ use Rattle.ut_filter.specs.declared.made.Input.{Input}
 use Rattle.ut_filter.specs.declared.made.Made.{Made}
 use Rattle.ut_filter.specs.Filters.{Job}
 use Rattle.ut_filter.specs.Refusals.{refusals}
-use Rattle.ut_text.specs.Statuses.{status_of}
+use Rattle.ut_filter.specs.Statuses.{status_of}
 use Rattle.ut_text.specs.declared.head.Head.{Head}
 
 -- so many lines of a text, each with its newline

@@ -1,9 +1,10 @@
 pub mod Cats
+pub mod Cmps
 pub mod Counts
 pub mod Heads
 pub mod Laws
 pub mod Starts
-pub mod Statuses
+pub mod Uniqs
 pub mod Utilities
 pub mod Wcs
 pub mod Works

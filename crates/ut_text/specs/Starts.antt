@@ -6,14 +6,18 @@ use Rattle.ut_args.specs.declared.form.Form.TheVariants.{Number}
 use Rattle.ut_args.specs.Numbers.{number_or}
 use Rattle.ut_args.specs.Opts.{ArgsValue, gives, argument}
 use Rattle.ut_args.specs.Tables.{alone, taking}
-use Rattle.ut_args.specs.Usage.{begins}
+use Rattle.ut_args.specs.Usage.{begins, misuses}
 use Rattle.ut_args.specs.Words.{options}
-use Rattle.ut_filter.specs.Filters.{Job, filters, or_dash}
+use Rattle.ut_filter.specs.Filters.{Job, filters, dash, or_dash}
 use Rattle.ut_text.specs.declared.head.Head.{Head}
 use Rattle.ut_text.specs.declared.wc.Wc.{Wc}
+use Rattle.ut_text.specs.declared.uniq.Uniq.{Uniq}
+use Rattle.ut_text.specs.declared.cmp.Cmp.{Cmp}
 use Rattle.ut_text.specs.Cats.{cat_job}
 use Rattle.ut_text.specs.Heads.{head_job}
 use Rattle.ut_text.specs.Wcs.{wc_job}
+use Rattle.ut_text.specs.Uniqs.{uniq_job}
+use Rattle.ut_text.specs.Cmps.{cmp_job}
 
 -- a filter of the operands, or of the standard input where there is none
 abbrev pub filters_operands : Job → Text → ArgsValue → Says
@@ -50,12 +54,42 @@ wc_of args =
 abbrev pub wcs : Text → List Text → Says
 wcs wd argv = begins (codes "wc") 1 (options (alone (codes "clw")) argv) (λ args. filters_operands (wc_job (wc_of args)) wd args)
 
+-- which runs are shown, and where they go
+abbrev pub uniq_of : ArgsValue → Option Text → Uniq
+uniq_of args out = record { counted = gives args (codes "c"); repeated = gives args (codes "d"); single = gives args (codes "u"); out = out }
+
+-- the lines of an input, to the standard output or to a file
+abbrev pub filters_runs : Text → ArgsValue → Text → Option Text → Says
+filters_runs wd args input out = filters (uniq_job (uniq_of args out)) wd (input ∷ [])
+
+abbrev pub uniq_operands : Text → ArgsValue → List Text → Says
+uniq_operands wd args [] = filters_runs wd args dash None
+uniq_operands wd args (input ∷ []) = filters_runs wd args input None
+uniq_operands wd args (input ∷ out ∷ []) = filters_runs wd args input (Some out)
+uniq_operands wd args (input ∷ out ∷ surplus ∷ more) = misuses (codes "uniq") 1
+
+-- `uniq [-c] [-d] [-u] [IN [OUT]]`
+abbrev pub uniqs : Text → List Text → Says
+uniqs wd argv = begins (codes "uniq") 1 (options (alone (codes "cdu")) argv) (λ args. uniq_operands wd args args.operands)
+
+abbrev pub cmp_operands : Text → Cmp → List Text → Says
+cmp_operands wd c [] = misuses (codes "cmp") 2
+cmp_operands wd c (a ∷ []) = misuses (codes "cmp") 2
+cmp_operands wd c (a ∷ b ∷ []) = filters (cmp_job c) wd (a ∷ b ∷ [])
+cmp_operands wd c (a ∷ b ∷ surplus ∷ more) = misuses (codes "cmp") 2
+
+-- `cmp [-s] A B`
+abbrev pub cmps : Text → List Text → Says
+cmps wd argv = begins (codes "cmp") 2 (options (alone (codes "s")) argv) (λ args. cmp_operands wd (record { silent = gives args (codes "s") }) args.operands)
+
 -- the utility of a name, where this crate has it
 abbrev pub named : Text → Text → List Text → Option Says
 named name wd argv =
     if same_text name (codes "cat") then Some (cats wd argv) else
     (if same_text name (codes "head") then Some (heads wd argv) else
-    (if same_text name (codes "wc") then Some (wcs wd argv) else None))
+    (if same_text name (codes "wc") then Some (wcs wd argv) else
+    (if same_text name (codes "uniq") then Some (uniqs wd argv) else
+    (if same_text name (codes "cmp") then Some (cmps wd argv) else None))))
 
 -- the utility of some words in a working directory
 abbrev pub text_utility : Text → List Text → Option Says

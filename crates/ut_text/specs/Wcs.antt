@@ -11,7 +11,7 @@ use Rattle.ut_filter.specs.Refusals.{refusals}
 use Rattle.ut_text.specs.declared.count.Count.{Count}
 use Rattle.ut_text.specs.declared.wc.Wc.{Wc}
 use Rattle.ut_text.specs.Counts.{count, sum}
-use Rattle.ut_text.specs.Statuses.{status_of}
+use Rattle.ut_filter.specs.Statuses.{status_of}
 
 -- a number, after a blank where something stands before it
 abbrev pub put_number : Bool → ℕ → Text → Text

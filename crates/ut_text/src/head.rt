@@ -2,10 +2,9 @@
 ghost use Rattle.std.specs.Prelude.{◌≡◌, ◌≤◌, ◌++◌, [], IfOk, OnOk, codes, length};
 ghost use Rattle.ut_text.specs.Heads.{first_lines, header, part_of, parts};
 
-use crate::status::status_of;
 use rk_base::{Bytes, NoMemory};
 use std::alloc::Global;
-use ut_filter::{Input, Made, Work, refusal_lines};
+use ut_filter::{Input, Made, Work, refusal_lines, status_of};
 
 /// How many lines `head` shows of each input, and whether headers stand before them.
 #[derive(Clone, Copy, Debug, Drop)]

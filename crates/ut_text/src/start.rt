@@ -1,26 +1,41 @@
 // How the text utilities begin.
-ghost use Rattle.std.specs.Prelude.{◌≡◌, IfOk, option_map};
-ghost use Rattle.ut_args.specs.Opts.{gives};
+ghost use Rattle.std.specs.Prelude.{◌≡◌, ◌∷◌, [], IfOk, option_map};
+ghost use Rattle.ut_args.specs.Usage.{misuses};
 ghost use Rattle.ut_filter.specs.Filters.{filters, or_dash};
-ghost use Rattle.ut_text.specs.Starts.{cats, heads, head_of, counts, wcs, wc_of, named, text_utility};
+ghost use Rattle.ut_text.specs.Starts.{cats, heads, head_of, wcs, wc_of, uniqs, uniq_of, uniq_operands, filters_runs, cmps, cmp_operands, named, text_utility};
+ghost use Rattle.ut_text.specs.Cmps.{cmp_job};
 ghost use Rattle.ut_text.specs.Utilities.{text_talk};
 ghost use Rattle.ut_text.specs.Works.{text_job};
 
 use crate::cat::Cat;
+use crate::cmp::Cmp;
 use crate::head::Head;
+use crate::uniq::Uniq;
 use crate::utility::TextUtility;
 use crate::wc::Wc;
 use crate::work::TextWork;
-use rk_base::{NoMemory, Path, WordList};
+use rk_base::{Bytes, NoMemory, Path, WordList};
 use rk_calls::Answer;
 use std::alloc::Global;
-use ut_args::{Args, Form, Opt, begin, number_or};
+use ut_args::{Args, Complaint, Form, Opt, begin, number_or};
 use ut_filter::{Filter, or_dash};
 
 fn opt(letter: u8, form: Form) -> Opt
     ensures { result ≡ record { letter = letter; form = form } }
 {
     Opt { letter, form }
+}
+
+fn filter_inputs(
+    alloc: Global,
+    wd: &Path,
+    work: TextWork,
+    inputs: &WordList,
+) -> Result<TextUtility, NoMemory>
+    ensures { IfOk result (λ u. text_talk u Answer.Go ≡ filters (text_job work) wd.now inputs.now) }
+{
+    let filter = Filter::new(alloc, wd, work, inputs)?;
+    Ok(TextUtility::Filters(filter))
 }
 
 // A filter of the operands, or of the standard input where there is none.
@@ -33,8 +48,7 @@ fn filter(
     ensures { IfOk result (λ u. text_talk u Answer.Go ≡ filters (text_job work) wd.now (or_dash operands)) }
 {
     let inputs = or_dash(alloc, operands)?;
-    let filter = Filter::new(alloc, wd, work, &inputs)?;
-    Ok(TextUtility::Filters(filter))
+    filter_inputs(alloc, wd, work, &inputs)
 }
 
 fn cat(alloc: Global, wd: &Path, argv: &WordList) -> Result<TextUtility, NoMemory>
@@ -103,6 +117,151 @@ fn wc(alloc: Global, wd: &Path, argv: &WordList) -> Result<TextUtility, NoMemory
     }
 }
 
+fn misused(alloc: Global, name: &[u8], status: u8) -> Result<TextUtility, NoMemory>
+    ensures { IfOk result (λ u. text_talk u Answer.Go ≡ misuses name.now status) }
+{
+    let complaint = Complaint::of_operands(alloc, name, status)?;
+    Ok(TextUtility::Complains(complaint))
+}
+
+fn one(alloc: Global, word: &[u8]) -> Result<WordList, NoMemory>
+    ensures { IfOk result (λ words. words ≡ word.now ∷ []) }
+{
+    let mut words = WordList::new(Vec::new(alloc));
+    words.push(Bytes::from_slice(alloc, word)?)?;
+    Ok(words)
+}
+
+fn uniq_of(args: &Args, out: Option<Bytes>) -> Uniq
+    ensures { result ≡ uniq_of args.now out }
+{
+    Uniq {
+        counted: args.given.has(b'c'),
+        repeated: args.given.has(b'd'),
+        single: args.given.has(b'u'),
+        out,
+    }
+}
+
+// The lines of an input, to the standard output or to a file.
+fn filter_runs(
+    alloc: Global,
+    wd: &Path,
+    args: &Args,
+    input: &[u8],
+    out: Option<Bytes>,
+) -> Result<TextUtility, NoMemory>
+    ensures { IfOk result (λ u. text_talk u Answer.Go ≡ filters_runs wd.now args.now input.now out) }
+{
+    let uniq = uniq_of(args, out);
+    let inputs = one(alloc, input)?;
+    let utility = filter_inputs(alloc, wd, TextWork::Uniqs(uniq), &inputs)?;
+    Ok(utility)
+}
+
+fn filter_runs_into(
+    alloc: Global,
+    wd: &Path,
+    args: &Args,
+    input: &[u8],
+    out: &Bytes,
+) -> Result<TextUtility, NoMemory>
+    ensures { IfOk result (λ u. text_talk u Answer.Go ≡ filters_runs wd.now args.now input.now (Some out.now)) }
+{
+    let out = out.copy()?;
+    let utility = filter_runs(alloc, wd, args, input, Some(out))?;
+    Ok(utility)
+}
+
+fn uniq_operands(alloc: Global, wd: &Path, args: &Args) -> Result<TextUtility, NoMemory>
+    ensures { IfOk result (λ u. text_talk u Answer.Go ≡ uniq_operands wd.now args.now args.now.operands) }
+{
+    match args.operands.as_slice() {
+        [] => filter_runs(alloc, wd, args, b"-", None),
+        [input] => {
+            let utility = filter_runs(alloc, wd, args, input.as_slice(), None)?;
+            Ok(utility)
+        }
+        [input, out] => {
+            let utility = filter_runs_into(alloc, wd, args, input.as_slice(), out)?;
+            Ok(utility)
+        }
+        [_, _, _, ..] => misused(alloc, b"uniq", 1),
+    }
+}
+
+fn uniq(alloc: Global, wd: &Path, argv: &WordList) -> Result<TextUtility, NoMemory>
+    ensures { IfOk result (λ u. text_talk u Answer.Go ≡ uniqs wd.now argv.now) }
+{
+    let table = [
+        opt(b'c', Form::Alone),
+        opt(b'd', Form::Alone),
+        opt(b'u', Form::Alone),
+    ];
+    let begun = begin(alloc, b"uniq", 1, &table, argv)?;
+    match begun {
+        Ok(args) => uniq_operands(alloc, wd, &args),
+        Err(complaint) => Ok(TextUtility::Complains(complaint)),
+    }
+}
+
+fn two(alloc: Global, a: &Bytes, b: &Bytes) -> Result<WordList, NoMemory>
+    ensures { IfOk result (λ words. words ≡ a.now ∷ b.now ∷ []) }
+{
+    let mut words = one(alloc, a.as_slice())?;
+    words.push(b.copy()?)?;
+    Ok(words)
+}
+
+fn compare(
+    alloc: Global,
+    wd: &Path,
+    cmp: Cmp,
+    a: &Bytes,
+    b: &Bytes,
+) -> Result<TextUtility, NoMemory>
+    ensures { IfOk result (λ u. text_talk u Answer.Go ≡ filters (cmp_job cmp) wd.now (a.now ∷ b.now ∷ [])) }
+{
+    let inputs = two(alloc, a, b)?;
+    let utility = filter_inputs(alloc, wd, TextWork::Cmps(cmp), &inputs)?;
+    Ok(utility)
+}
+
+fn cmp_operands(
+    alloc: Global,
+    wd: &Path,
+    cmp: Cmp,
+    operands: &WordList,
+) -> Result<TextUtility, NoMemory>
+    ensures { IfOk result (λ u. text_talk u Answer.Go ≡ cmp_operands wd.now cmp operands.now) }
+{
+    match operands.as_slice() {
+        [] => misused(alloc, b"cmp", 2),
+        [_] => misused(alloc, b"cmp", 2),
+        [a, b] => {
+            let utility = compare(alloc, wd, cmp, a, b)?;
+            Ok(utility)
+        }
+        [_, _, _, ..] => misused(alloc, b"cmp", 2),
+    }
+}
+
+fn cmp(alloc: Global, wd: &Path, argv: &WordList) -> Result<TextUtility, NoMemory>
+    ensures { IfOk result (λ u. text_talk u Answer.Go ≡ cmps wd.now argv.now) }
+{
+    let table = [opt(b's', Form::Alone)];
+    let begun = begin(alloc, b"cmp", 2, &table, argv)?;
+    match begun {
+        Ok(args) => {
+            let cmp = Cmp {
+                silent: args.given.has(b's'),
+            };
+            cmp_operands(alloc, wd, cmp, &args.operands)
+        }
+        Err(complaint) => Ok(TextUtility::Complains(complaint)),
+    }
+}
+
 fn start_named(
     alloc: Global,
     name: &[u8],
@@ -121,6 +280,14 @@ fn start_named(
     }
     if name == b"wc".as_slice() {
         let utility = wc(alloc, wd, argv)?;
+        return Ok(Some(utility));
+    }
+    if name == b"uniq".as_slice() {
+        let utility = uniq(alloc, wd, argv)?;
+        return Ok(Some(utility));
+    }
+    if name == b"cmp".as_slice() {
+        let utility = cmp(alloc, wd, argv)?;
         return Ok(Some(utility));
     }
     Ok(None)

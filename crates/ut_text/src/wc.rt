@@ -4,10 +4,9 @@ ghost use Rattle.ut_text.specs.Counts.{count, sum};
 ghost use Rattle.ut_text.specs.Wcs.{put_number, numbers, row, row_of, rows, totalled, none, plus_input, with_total};
 
 use crate::count::Count;
-use crate::status::status_of;
 use rk_base::{Bytes, NoMemory};
 use std::alloc::Global;
-use ut_filter::{Input, Made, Work, refusal_lines};
+use ut_filter::{Input, Made, Work, refusal_lines, status_of};
 
 /// What `wc` tells of each input, and whether names and a total are told.
 #[derive(Clone, Copy, Debug, Drop)]

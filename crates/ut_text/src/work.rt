@@ -2,7 +2,9 @@
 ghost use Rattle.std.specs.Prelude.{◌≡◌};
 
 use crate::cat::Cat;
+use crate::cmp::Cmp;
 use crate::head::Head;
+use crate::uniq::Uniq;
 use crate::wc::Wc;
 use rk_base::{Bytes, NoMemory};
 use std::alloc::Global;
@@ -14,6 +16,8 @@ pub enum TextWork {
     Cats(Cat),
     Heads(Head),
     Wcs(Wc),
+    Uniqs(Uniq),
+    Cmps(Cmp),
 }
 
 impl Work for TextWork {
@@ -26,6 +30,8 @@ impl Work for TextWork {
             TextWork::Cats(work) => work.name(),
             TextWork::Heads(work) => work.name(),
             TextWork::Wcs(work) => work.name(),
+            TextWork::Uniqs(work) => work.name(),
+            TextWork::Cmps(work) => work.name(),
         }
     }
 
@@ -34,6 +40,8 @@ impl Work for TextWork {
             TextWork::Cats(work) => work.failed(),
             TextWork::Heads(work) => work.failed(),
             TextWork::Wcs(work) => work.failed(),
+            TextWork::Uniqs(work) => work.failed(),
+            TextWork::Cmps(work) => work.failed(),
         }
     }
 
@@ -42,6 +50,8 @@ impl Work for TextWork {
             TextWork::Cats(work) => work.out(),
             TextWork::Heads(work) => work.out(),
             TextWork::Wcs(work) => work.out(),
+            TextWork::Uniqs(work) => work.out(),
+            TextWork::Cmps(work) => work.out(),
         }
     }
 
@@ -50,6 +60,8 @@ impl Work for TextWork {
             TextWork::Cats(work) => work.make(alloc, inputs),
             TextWork::Heads(work) => work.make(alloc, inputs),
             TextWork::Wcs(work) => work.make(alloc, inputs),
+            TextWork::Uniqs(work) => work.make(alloc, inputs),
+            TextWork::Cmps(work) => work.make(alloc, inputs),
         }
     }
 }

@@ -1,11 +1,11 @@
 // The status of a filter.
 ghost use Rattle.std.specs.Prelude.{◌≡◌};
-ghost use Rattle.ut_text.specs.Statuses.{status_of};
+ghost use Rattle.ut_filter.specs.Statuses.{status_of};
 
 use rk_base::Bytes;
 
 /// Zero where there is no error text.
-pub(crate) fn status_of(failed: u8, errors: &Bytes) -> u8
+pub fn status_of(failed: u8, errors: &Bytes) -> u8
     ensures { result ≡ status_of failed errors.now }
 {
     if errors.is_empty() { 0 } else { failed }
