@@ -8,7 +8,7 @@ use Rattle.rk_calls.specs.Keys.{KeyValue, key_of, shell}
 use Rattle.rk_calls.specs.Talk.{Says}
 use Rattle.rk_calls.specs.Views.{IsCommandTalk, talk-exits, talk-pay, talk-ask, talk-if}
 use Rattle.rk_calls.specs.Brought.{brought, joined}
-use Rattle.rk_command.specs.First.{shells, says_or, file_or, utility_or, says_of, first_talk}
+use Rattle.rk_command.specs.First.{shells, says_or, copy_or, file_or, utility_or, says_of, first_talk}
 use Rattle.rk_calls.specs.Places.{absolute}
 use Rattle.rk_command.specs.Output.{with_output}
 use Rattle.rk_command.specs.Script.{LineValue, expanded, script_of}
@@ -16,6 +16,7 @@ use Rattle.rk_command.specs.ShellTalk.{launches, redirected, redirects, runs_lin
 use Rattle.rk_calls.specs.Turns.{turns, pay_words}
 use Rattle.rk_command.specs.UnknownTalk.{is_unknown}
 use Rattle.ut_args.specs.Usage.{talk-complains}
+use Rattle.ut_copy.specs.Utilities.{copy_utility, talk-copy_utility}
 use Rattle.ut_files.specs.Utilities.{file_utility, talk-file_utility}
 use Rattle.ut_text.specs.Starts.{text_utility}
 use Rattle.ut_text.specs.Laws.{talk-text_utility}
@@ -66,8 +67,11 @@ talk-says_or : (o : Option Says) (other : Says) → IfSome o IsCommandTalk → I
 talk-says_or (Some says) other is_talk other_is = is_talk
 talk-says_or None other is_talk other_is = other_is
 
+talk-copy_or : (wd : Text) (argv : List Text) (other : Says) → IsCommandTalk other → IsCommandTalk (copy_or wd argv other)
+talk-copy_or wd argv other is_talk = talk-says_or (copy_utility wd argv) other (talk-copy_utility wd argv) is_talk
+
 talk-file_or : (wd : Text) (argv : List Text) (other : Says) → IsCommandTalk other → IsCommandTalk (file_or wd argv other)
-talk-file_or wd argv other is_talk = talk-says_or (file_utility wd argv) other (talk-file_utility wd argv) is_talk
+talk-file_or wd argv other is_talk = talk-says_or (file_utility wd argv) _ (talk-file_utility wd argv) (talk-copy_or wd argv other is_talk)
 
 talk-utility_or : (wd : Text) (argv : List Text) (other : Says) → IsCommandTalk other → IsCommandTalk (utility_or wd argv other)
 talk-utility_or wd argv other is_talk = talk-says_or (text_utility wd argv) _ (talk-text_utility wd argv) (talk-file_or wd argv other is_talk)

@@ -5,6 +5,7 @@ use Rattle.rk_calls.specs.Keys.{KeyValue, shell}
 use Rattle.rk_calls.specs.Talk.{Says, pay}
 use Rattle.rk_command.specs.ShellTalk.{runs_script}
 use Rattle.rk_command.specs.UnknownTalk.{is_unknown}
+use Rattle.ut_copy.specs.Utilities.{copy_utility}
 use Rattle.ut_files.specs.Utilities.{file_utility}
 use Rattle.ut_text.specs.Starts.{text_utility}
 
@@ -19,9 +20,13 @@ abbrev pub says_or : Option Says → Says → Says
 says_or (Some says) other = says
 says_or None other = other
 
--- the file utility of the first word, or else this
+-- the utility of the first word that copies or moves, or else this
+abbrev pub copy_or : Text → List Text → Says → Says
+copy_or wd argv other = says_or (copy_utility wd argv) other
+
+-- its file utility, or else one of those, or else this
 abbrev pub file_or : Text → List Text → Says → Says
-file_or wd argv other = says_or (file_utility wd argv) other
+file_or wd argv other = says_or (file_utility wd argv) (copy_or wd argv other)
 
 -- the utility of the first word, or else this
 abbrev pub utility_or : Text → List Text → Says → Says

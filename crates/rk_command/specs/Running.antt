@@ -4,10 +4,11 @@ use Rattle.rk_calls.specs.declared.answer.Answer.{Answer}
 use Rattle.rk_calls.specs.declared.answer.Answer.TheVariants.{Go}
 use Rattle.rk_calls.specs.Talk.{Says, pay}
 use Rattle.rk_command.specs.declared.command.Running.{Running}
-use Rattle.rk_command.specs.declared.command.Running.TheVariants.{Complains, Shells, Texts, Files}
+use Rattle.rk_command.specs.declared.command.Running.TheVariants.{Complains, Shells, Texts, Files, Copies}
 use Rattle.rk_command.specs.declared.command.Command.{Command}
 use Rattle.rk_command.specs.ShellStages.{shell_talk}
 use Rattle.ut_args.specs.Usage.{complaint_talk}
+use Rattle.ut_copy.specs.Utilities.{copy_talk}
 use Rattle.ut_files.specs.Utilities.{file_talk}
 use Rattle.ut_text.specs.Utilities.{text_talk}
 
@@ -16,6 +17,7 @@ running_talk (Complains m) a = complaint_talk m a
 running_talk (Shells m) a = shell_talk m a
 running_talk (Texts m) a = text_talk m a
 running_talk (Files m) a = file_talk m a
+running_talk (Copies m) a = copy_talk m a
 
 -- before it has paid for its start, and afterwards
 abbrev pub paid_talk : Bool → (Answer → Says) → Answer → Says

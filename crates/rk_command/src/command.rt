@@ -1,14 +1,15 @@
 // The command of a key.
 ghost use Rattle.std.specs.Prelude.{◌≡◌, IfOk};
-ghost use Rattle.rk_command.specs.First.{shells, says_of, file_or, utility_or, first_talk};
+ghost use Rattle.rk_command.specs.First.{shells, says_of, copy_or, file_or, utility_or, first_talk};
 ghost use Rattle.rk_command.specs.Running.{running_talk, command_talk};
 ghost use Rattle.rk_command.specs.UnknownTalk.{is_unknown};
 
 use crate::shell::Shell;
 use rk_base::{Bytes, NoMemory, Path, WordList};
-use rk_calls::{Answer, Key, Machine, Turn, error_line};
+use rk_calls::{Answer, Key, Machine, Turn};
 use std::alloc::Global;
 use ut_args::Complaint;
+use ut_copy::CopyUtility;
 use ut_files::FileUtility;
 use ut_text::TextUtility;
 
@@ -18,6 +19,7 @@ enum Running {
     Shells(Shell),
     Texts(TextUtility),
     Files(FileUtility),
+    Copies(CopyUtility),
 }
 
 /// The command of a key, as a machine: the shell of a script for `sh FILE`, a utility by its name, and for any other
@@ -33,8 +35,7 @@ pub struct Command {
 fn unknown(alloc: Global, name: &[u8]) -> Result<Running, NoMemory>
     ensures { IfOk result (λ r. running_talk r Answer.Go ≡ is_unknown name.now) }
 {
-    let text = error_line(alloc, b"sh", name, b"not found")?;
-    let complaint = Complaint::new(text, 127);
+    let complaint = Complaint::of_operand(alloc, b"sh", name, b"not found", 127)?;
     Ok(Running::Complains(complaint))
 }
 
@@ -51,14 +52,25 @@ fn shell(alloc: Global, wd: &Path, words: &[Bytes]) -> Result<Running, NoMemory>
     }
 }
 
-// A file utility, or an unknown name.
+// A utility that copies or moves, or an unknown name.
+fn copy_utility(alloc: Global, wd: &Path, argv: &WordList, name: &[u8]) -> Result<Running, NoMemory>
+    ensures { IfOk result (λ r. running_talk r Answer.Go ≡ copy_or wd.now argv.now (is_unknown name.now)) }
+{
+    let found = ut_copy::start(alloc, wd, argv)?;
+    match found {
+        Some(utility) => Ok(Running::Copies(utility)),
+        None => unknown(alloc, name),
+    }
+}
+
+// A file utility, one that copies, or an unknown name.
 fn file_utility(alloc: Global, wd: &Path, argv: &WordList, name: &[u8]) -> Result<Running, NoMemory>
     ensures { IfOk result (λ r. running_talk r Answer.Go ≡ file_or wd.now argv.now (is_unknown name.now)) }
 {
     let found = ut_files::start(alloc, wd, argv)?;
     match found {
         Some(utility) => Ok(Running::Files(utility)),
-        None => unknown(alloc, name),
+        None => copy_utility(alloc, wd, argv, name),
     }
 }
 
@@ -112,6 +124,7 @@ impl Machine for Running {
             Running::Shells(machine) => machine.resume(answer),
             Running::Texts(machine) => machine.resume(answer),
             Running::Files(machine) => machine.resume(answer),
+            Running::Copies(machine) => machine.resume(answer),
         }
     }
 }

@@ -1,7 +1,7 @@
 use Rattle.std.proofs.Common.{◌≡◌, ℕ, IfOk, sym, subst}
 use Rattle.rk_calls.specs.Talk.{after}
 use Rattle.rk_command.specs.declared.command.Running.{Running}
-use Rattle.rk_command.specs.declared.command.Running.TheVariants.{Complains, Shells, Texts, Files}
+use Rattle.rk_command.specs.declared.command.Running.TheVariants.{Complains, Shells, Texts, Files, Copies}
 use Rattle.rk_command.specs.Running.{running_talk}
 use Rattle.rk_command.proofs.command.RunningMachine.resume.Goals as goal
 
@@ -24,3 +24,8 @@ pub returns-in-Files-clause-talk : goal.returns-in-Files-clause-talk
 returns-in-Files-clause-talk c =
     let P : Running → Type 0 = λ r. IfOk c.resume-in-Files.result (λ t. (p : ℕ) → running_talk r c.args.answer p ≡ after t (running_talk (Files c.resume-in-Files.new.self)) p) in
     subst P (sym c.in-Files.is) c.resume-in-Files.ensures.talk
+
+pub returns-in-Copies-clause-talk : goal.returns-in-Copies-clause-talk
+returns-in-Copies-clause-talk c =
+    let P : Running → Type 0 = λ r. IfOk c.resume-in-Copies.result (λ t. (p : ℕ) → running_talk r c.args.answer p ≡ after t (running_talk (Copies c.resume-in-Copies.new.self)) p) in
+    subst P (sym c.in-Copies.is) c.resume-in-Copies.ensures.talk
