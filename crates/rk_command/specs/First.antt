@@ -7,6 +7,7 @@ use Rattle.rk_command.specs.ShellTalk.{runs_script}
 use Rattle.rk_command.specs.UnknownTalk.{is_unknown}
 use Rattle.ut_copy.specs.Utilities.{copy_utility}
 use Rattle.ut_files.specs.Utilities.{file_utility}
+use Rattle.ut_plain.specs.Starts.{plain_utility}
 use Rattle.ut_text.specs.Starts.{text_utility}
 
 -- `sh` runs the script that its one word names; with other words it is unknown
@@ -28,9 +29,13 @@ copy_or wd argv other = says_or (copy_utility wd argv) other
 abbrev pub file_or : Text → List Text → Says → Says
 file_or wd argv other = says_or (file_utility wd argv) (copy_or wd argv other)
 
+-- `basename`, `dirname` or `tee`, or else a file utility, or else this
+abbrev pub plain_or : Text → List Text → Says → Says
+plain_or wd argv other = says_or (plain_utility wd argv) (file_or wd argv other)
+
 -- the utility of the first word, or else this
 abbrev pub utility_or : Text → List Text → Says → Says
-utility_or wd argv other = says_or (text_utility wd argv) (file_or wd argv other)
+utility_or wd argv other = says_or (text_utility wd argv) (plain_or wd argv other)
 
 -- by the first word
 abbrev pub says_of : Text → List Text → Says

@@ -1,6 +1,6 @@
 // The command of a key.
 ghost use Rattle.std.specs.Prelude.{◌≡◌, IfOk};
-ghost use Rattle.rk_command.specs.First.{shells, says_of, copy_or, file_or, utility_or, first_talk};
+ghost use Rattle.rk_command.specs.First.{shells, says_of, copy_or, file_or, plain_or, utility_or, first_talk};
 ghost use Rattle.rk_command.specs.Running.{running_talk, command_talk};
 ghost use Rattle.rk_command.specs.UnknownTalk.{is_unknown};
 
@@ -11,6 +11,7 @@ use std::alloc::Global;
 use ut_args::Complaint;
 use ut_copy::CopyUtility;
 use ut_files::FileUtility;
+use ut_plain::PlainUtility;
 use ut_text::TextUtility;
 
 #[derive(Drop)]
@@ -18,6 +19,7 @@ enum Running {
     Complains(Complaint),
     Shells(Shell),
     Texts(TextUtility),
+    Plain(PlainUtility),
     Files(FileUtility),
     Copies(CopyUtility),
 }
@@ -74,6 +76,22 @@ fn file_utility(alloc: Global, wd: &Path, argv: &WordList, name: &[u8]) -> Resul
     }
 }
 
+// `basename`, `dirname` or `tee`, a file utility, or an unknown name.
+fn plain_utility(
+    alloc: Global,
+    wd: &Path,
+    argv: &WordList,
+    name: &[u8],
+) -> Result<Running, NoMemory>
+    ensures { IfOk result (λ r. running_talk r Answer.Go ≡ plain_or wd.now argv.now (is_unknown name.now)) }
+{
+    let found = PlainUtility::start(alloc, wd, argv)?;
+    match found {
+        Some(utility) => Ok(Running::Plain(utility)),
+        None => file_utility(alloc, wd, argv, name),
+    }
+}
+
 // A utility, or an unknown name.
 fn utility(alloc: Global, wd: &Path, argv: &WordList, name: &[u8]) -> Result<Running, NoMemory>
     ensures { IfOk result (λ r. running_talk r Answer.Go ≡ utility_or wd.now argv.now (is_unknown name.now)) }
@@ -81,7 +99,7 @@ fn utility(alloc: Global, wd: &Path, argv: &WordList, name: &[u8]) -> Result<Run
     let found = TextUtility::start(alloc, wd, argv)?;
     match found {
         Some(utility) => Ok(Running::Texts(utility)),
-        None => file_utility(alloc, wd, argv, name),
+        None => plain_utility(alloc, wd, argv, name),
     }
 }
 
@@ -123,6 +141,7 @@ impl Machine for Running {
             Running::Complains(machine) => machine.resume(answer),
             Running::Shells(machine) => machine.resume(answer),
             Running::Texts(machine) => machine.resume(answer),
+            Running::Plain(machine) => machine.resume(answer),
             Running::Files(machine) => machine.resume(answer),
             Running::Copies(machine) => machine.resume(answer),
         }

@@ -1,7 +1,7 @@
 use Rattle.std.proofs.Common.{◌≡◌, ℕ, IfOk, sym, subst}
 use Rattle.rk_calls.specs.Talk.{after}
 use Rattle.rk_command.specs.declared.command.Running.{Running}
-use Rattle.rk_command.specs.declared.command.Running.TheVariants.{Complains, Shells, Texts, Files, Copies}
+use Rattle.rk_command.specs.declared.command.Running.TheVariants.{Complains, Shells, Texts, Plain, Files, Copies}
 use Rattle.rk_command.specs.Running.{running_talk}
 use Rattle.rk_command.proofs.command.RunningMachine.resume.Goals as goal
 
@@ -29,3 +29,8 @@ pub returns-in-Copies-clause-talk : goal.returns-in-Copies-clause-talk
 returns-in-Copies-clause-talk c =
     let P : Running → Type 0 = λ r. IfOk c.resume-in-Copies.result (λ t. (p : ℕ) → running_talk r c.args.answer p ≡ after t (running_talk (Copies c.resume-in-Copies.new.self)) p) in
     subst P (sym c.in-Copies.is) c.resume-in-Copies.ensures.talk
+
+pub returns-in-Plain-clause-talk : goal.returns-in-Plain-clause-talk
+returns-in-Plain-clause-talk c =
+    let P : Running → Type 0 = λ r. IfOk c.resume-in-Plain.result (λ t. (p : ℕ) → running_talk r c.args.answer p ≡ after t (running_talk (Plain c.resume-in-Plain.new.self)) p) in
+    subst P (sym c.in-Plain.is) c.resume-in-Plain.ensures.talk
