@@ -1,6 +1,7 @@
 pub mod Answers
 pub mod Complaints
 pub mod FileTasks
+pub mod First
 pub mod Linking
 pub mod Making
 pub mod Modes

@@ -3,7 +3,7 @@ use Rattle.rk_calls.specs.declared.answer.Answer.TheVariants.{Go}
 use Rattle.ut_args.specs.Opts.{ArgsValue}
 use Rattle.ut_files.proofs.WorkLemmas.{of_parts}
 use Rattle.ut_files.specs.Utilities.{begins, file_talk}
-use Rattle.ut_files.proofs.utility.begin_args.Goals as goal
+use Rattle.ut_files.proofs.starting.begin_args.Goals as goal
 
 pub returns : goal.returns
 returns c =

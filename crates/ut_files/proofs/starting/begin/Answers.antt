@@ -1,8 +1,9 @@
 use Rattle.std.proofs.Common.{ap, ◌∙◌}
 use Rattle.ut_files.specs.FileTasks.{file_rules}
-use Rattle.ut_files.specs.Utilities.{manner_of, first_steps}
+use Rattle.ut_files.specs.First.{first_steps}
+use Rattle.ut_files.specs.Utilities.{manner_of}
 use Rattle.ut_files.proofs.WorkLemmas.{newly}
-use Rattle.ut_files.proofs.utility.begin.Goals as goal
+use Rattle.ut_files.proofs.starting.begin.Goals as goal
 
 pub returns : goal.returns
 returns c =

@@ -4,7 +4,7 @@ use Rattle.ut_files.specs.FileTasks.{file_rules}
 use Rattle.ut_files.specs.Utilities.{manner_of}
 use Rattle.ut_files.specs.Complaints.{bad_option}
 use Rattle.ut_files.proofs.WorkLemmas.{newly}
-use Rattle.ut_files.proofs.utility.refuse.Goals as goal
+use Rattle.ut_files.proofs.starting.refuse.Goals as goal
 
 pub returns : goal.returns
 returns c =
