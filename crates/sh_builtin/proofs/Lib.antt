@@ -1,0 +1,5 @@
+pub mod Alone
+pub mod Assigning
+pub mod Ending
+pub mod Filling
+pub mod Values

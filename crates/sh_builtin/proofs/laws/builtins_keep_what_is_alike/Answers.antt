@@ -1,0 +1,5 @@
+use Rattle.sh_builtin.specs.Laws.{alike-does}
+use Rattle.sh_builtin.proofs.laws.builtins_keep_what_is_alike.Goals as goal
+
+pub returns : goal.returns
+returns c = alike-does

@@ -1,0 +1,5 @@
+use Rattle.sh_builtin.specs.Laws.{talk-says}
+use Rattle.sh_builtin.proofs.laws.builtins_say_what_commands_may.Goals as goal
+
+pub returns : goal.returns
+returns c = talk-says

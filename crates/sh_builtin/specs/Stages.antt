@@ -1,0 +1,35 @@
+-- What the machine of builtins does at each stage.
+use Rattle.std.specs.Prelude.{◌≡◌, ℕ, drop}
+use Rattle.rk_calls.specs.declared.answer.Answer.{Answer}
+use Rattle.rk_calls.specs.Brought.{brought}
+use Rattle.sh_vars.specs.declared.env.Env.{Env}
+use Rattle.sh_builtin.specs.declared.stage.Stage.{Stage}
+use Rattle.sh_builtin.specs.declared.stage.Stage.TheVariants.{Begins, Writing, Walking, Reading, Printing, Judging, Over}
+use Rattle.sh_builtin.specs.declared.stage.Move.{Move}
+use Rattle.sh_builtin.specs.declared.builtin.Builtin.{Builtin}
+use Rattle.sh_builtin.specs.Builtins.{does}
+use Rattle.sh_builtin.specs.Cds.{walked}
+use Rattle.sh_builtin.specs.Doing.{Slots, Ended, Doing, ends, after}
+use Rattle.sh_builtin.specs.Primaries.{holds}
+use Rattle.sh_builtin.specs.Prints.{tells_bad}
+use Rattle.sh_builtin.specs.Reads.{line_read, reads_on}
+use Rattle.sh_builtin.specs.Telling.{written}
+use Rattle.sh_builtin.specs.Tests.{status_of, inverted_if}
+
+-- by the answer
+abbrev pub stage_does : Stage → Answer → Doing
+stage_does (Begins words) a = does words
+stage_does (Writing name status) a = written name status (brought a)
+stage_does (Walking operand) a = walked operand a
+stage_does (Reading raw names marks) a = line_read reads_on raw names marks (brought a)
+stage_does (Printing bad at output status) a = tells_bad (drop at bad) output status
+stage_does (Judging p negated) a = ends (status_of (inverted_if negated (holds p a)))
+stage_does (Over status) a = ends status
+
+-- this is done by a turn and by what comes after it
+abbrev pub IsDoneBy : Doing → Env → Move → Env → Type 0
+IsDoneBy x env move env' =
+    (slots : Slots) (k : Ended) (p : ℕ) → x slots k env p ≡ after slots move.turn (λ a. stage_does move.stage a slots k) k env' p
+
+abbrev pub builtin_does : Builtin → Answer → Doing
+builtin_does b a = stage_does b.stage a

@@ -1,0 +1,32 @@
+// Where a builtin stands.
+use crate::marks::Marks;
+use crate::name::Name;
+use crate::primary::Primary;
+use rk_base::{Bytes, WordList};
+use rk_calls::Turn;
+
+/// What a builtin waits for, or does next.
+#[derive(Drop)]
+pub enum Stage {
+    /// It begins, with these words, its name first.
+    Begins(WordList),
+    /// Its output is being written; it has this status then.
+    Writing(Name, u8),
+    /// This directory is looked up.
+    Walking(Bytes),
+    /// A line is read, as `-r` has it or not, for these variables, behind these bytes.
+    Reading(bool, WordList, Marks),
+    /// These operands that are no numbers are told, from a place on; the output and the status come after them.
+    Printing(WordList, usize, Bytes, u8),
+    /// What stands at a path is looked up, which decides by this primary, or the opposite.
+    Judging(Primary, bool),
+    /// It has this status, whatever is answered.
+    Over(u8),
+}
+
+/// A turn, and the stage after it.
+#[derive(Drop)]
+pub struct Move {
+    pub turn: Turn,
+    pub stage: Stage,
+}
