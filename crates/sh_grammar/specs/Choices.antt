@@ -1,0 +1,42 @@
+-- Which rule a token chooses, by what each rule begins with.
+use Rattle.std.specs.Prelude.{nat_eq, List, [], ◌∷◌, Option, Some, None, Bool, true, false}
+use Rattle.sh_rules.specs.declared.kind.Kind.{Kind}
+use Rattle.sh_rules.specs.Parts.{Part}
+use Rattle.sh_rules.specs.Rules.{Rule}
+use Rattle.sh_rules.specs.LookAhead.{number, all_kinds, choose}
+use Rattle.sh_rules.proofs.Tables.{is_rule, each}
+use Rattle.sh_rules.specs.Begin.{begins_command, begins_compound, begins_expansion, begins_quoted, begins_redirect, begins_stage, begins_word}
+use Rattle.sh_grammar.specs.declared.rule.Rule as dr
+use Rattle.sh_grammar.specs.declared.choice.Begins.{Begins}
+use Rattle.sh_grammar.specs.declared.choice.Begins.TheVariants as b
+use Rattle.sh_grammar.specs.Named.{rule_named}
+
+-- a token of a kind begins so
+abbrev pub is_met : Begins → Kind → Bool
+is_met (b.Token token) kind = nat_eq (number token) (number kind)
+is_met b.Command kind = begins_command kind
+is_met b.Stage kind = begins_stage kind
+is_met b.Compound kind = begins_compound kind
+is_met b.Redirect kind = begins_redirect kind
+is_met b.Word kind = begins_word kind
+is_met b.Quoted kind = begins_quoted kind
+is_met b.Expansion kind = begins_expansion kind
+is_met b.Anything kind = true
+
+abbrev pub rule_if : Bool → Rule → Option Rule → Option Rule
+rule_if true rule other = Some rule
+rule_if false rule other = other
+
+-- the first of the rules that begins so
+abbrev pub first_met : List (Begins × dr.Rule) → Kind → Option Rule
+first_met [] kind = None
+first_met (choice ∷ choices) kind = rule_if (is_met choice.0 kind) (rule_named choice.1) (first_met choices kind)
+
+abbrev pub agree : Option Rule → Option Rule → Bool
+agree None None = true
+agree (Some q) None = false
+agree o (Some q) = is_rule o q
+
+-- for each kind it is the rule that the grammar says
+abbrev pub tells : Part → List (Begins × dr.Rule) → Bool
+tells part choices = each (λ kind. agree (first_met choices kind) (choose part kind)) all_kinds

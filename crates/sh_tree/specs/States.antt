@@ -1,0 +1,124 @@
+-- What is built, from the end of a text to its beginning.
+use Rattle.std.specs.Prelude.{ℕ, zero, suc, ◌+◌, List, [], ◌∷◌, ◌++◌, length, Option, Some, None}
+use Rattle.sh_ast.specs.Commands.{CommandTree, CommandsTree, WordTree}
+use Rattle.sh_tree.specs.Values.{Value, nothing, commands}
+
+-- The values of what was read, that of the first symbol in front; for each word that is being read, and then the one around
+-- it, the bodies of its substitutions from the last to the first of the text; and for each here-document's body that is being
+-- read, and then for the text around it, the here-documents' bodies that no operator has yet, in their order.
+pub record State : Type 0 where
+  pub values : List Value
+  pub bodies : List (List CommandsTree)
+  pub documents : List (List WordTree)
+
+abbrev pub start : State
+start = record { values = []; bodies = []; documents = [] ∷ [] }
+
+abbrev pub head : List Value → Value
+head [] = nothing
+head (v ∷ vs) = v
+
+abbrev pub tail : {A : Type 0} → List A → List A
+tail [] = []
+tail (v ∷ vs) = vs
+
+-- the value in front; without it; and with another one
+abbrev pub top : State → Value
+top s = head s.values
+
+abbrev pub less : State → State
+less s = record s { values = tail s.values }
+
+abbrev pub with : Value → State → State
+with v s = record s { values = v ∷ s.values }
+
+-- the second value, and so on
+abbrev pub second : State → Value
+second s = top (less s)
+
+abbrev pub third : State → Value
+third s = top (less (less s))
+
+abbrev pub fourth : State → Value
+fourth s = top (less (less (less s)))
+
+abbrev pub fifth : State → Value
+fifth s = top (less (less (less (less s))))
+
+abbrev pub sixth : State → Value
+sixth s = top (less (less (less (less (less s)))))
+
+-- one value in place of one, two and so on
+abbrev pub for_one : Value → State → State
+for_one v s = with v (less s)
+
+abbrev pub for_two : Value → State → State
+for_two v s = with v (less (less s))
+
+abbrev pub for_three : Value → State → State
+for_three v s = with v (less (less (less s)))
+
+abbrev pub for_four : Value → State → State
+for_four v s = with v (less (less (less (less s))))
+
+abbrev pub for_five : Value → State → State
+for_five v s = with v (less (less (less (less (less s)))))
+
+abbrev pub for_six : Value → State → State
+for_six v s = with v (less (less (less (less (less (less s))))))
+
+abbrev pub one_command : CommandTree → Value
+one_command c = commands (c ∷ [])
+
+-- the list in front
+abbrev pub front : {A : Type 0} → List (List A) → List A
+front [] = []
+front (xs ∷ more) = xs
+
+-- a word ends here; and begins here
+abbrev pub word_opened : State → State
+word_opened s = record s { bodies = [] ∷ s.bodies }
+
+abbrev pub word_closed : State → State
+word_closed s = record s { bodies = tail s.bodies }
+
+-- the body of a substitution, by its number
+abbrev pub added : {A : Type 0} → A → List (List A) → List (List A)
+added x [] = []
+added x (xs ∷ more) = (xs ++ x ∷ []) ∷ more
+
+abbrev pub with_body : CommandsTree → State → State
+with_body body s = record s { bodies = added body s.bodies }
+
+-- a here-document's body that is expanded ends here; and begins here
+abbrev pub body_opened : State → State
+body_opened s = record s { documents = [] ∷ s.documents; bodies = [] ∷ s.bodies }
+
+abbrev pub body_closed : State → State
+body_closed s = record s { documents = tail s.documents; bodies = tail s.bodies }
+
+-- a body is met
+abbrev pub put_first : {A : Type 0} → A → List (List A) → List (List A)
+put_first x [] = []
+put_first x (xs ∷ more) = (x ∷ xs) ∷ more
+
+abbrev pub with_document : WordTree → State → State
+with_document body s = record s { documents = put_first body s.documents }
+
+-- the last of a list, and the list without it
+abbrev pub last : {A : Type 0} → List A → Option A
+last [] = None
+last (x ∷ []) = Some x
+last (x ∷ (y ∷ xs)) = last (y ∷ xs)
+
+abbrev pub but_last : {A : Type 0} → List A → List A
+but_last [] = []
+but_last (x ∷ []) = []
+but_last (x ∷ (y ∷ xs)) = x ∷ but_last (y ∷ xs)
+
+abbrev pub last_taken : {A : Type 0} → List (List A) → List (List A)
+last_taken [] = []
+last_taken (xs ∷ more) = but_last xs ∷ more
+
+abbrev pub without_document : State → State
+without_document s = record s { documents = last_taken s.documents }
