@@ -29,7 +29,7 @@ wait_talk wd cs Over a k = globs wd false cs [] k
 
 -- what it wants, and what it says afterwards
 abbrev pub after_glob : Globbing → (Answer → Numbered) → Found → Numbered
-after_glob (Ask call c) next k = asks call c next
+after_glob (Ask call) next k = asks call 1 next
 after_glob (Finds paths) next k = k paths
 
 abbrev pub IsStep : (Found → Numbered) → Text → List Component → Step → Type 0

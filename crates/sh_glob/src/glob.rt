@@ -22,7 +22,8 @@ pub enum Component {
 /// What it wants next.
 #[derive(Drop)]
 pub enum Globbing {
-    Ask(Call, u64),
+    /// This call is to be answered, at the cost of one turn.
+    Ask(Call),
     Found(PathList),
 }
 

@@ -213,7 +213,7 @@ fn list_next(
             let path = listed(alloc, wd, prefix.as_slice())?;
             Ok(Step::Wants(
                 Wait::Listing(pattern, prefix, todo, done),
-                Globbing::Ask(Call::List(path), 1),
+                Globbing::Ask(Call::List(path)),
             ))
         }
     }
@@ -231,7 +231,7 @@ fn check_next(alloc: Global, wd: &Path, todo: PathList, done: PathList) -> Resul
             let text = absolute(alloc, wd, path.as_slice())?;
             Ok(Step::Wants(
                 Wait::Stating(path, todo, done),
-                Globbing::Ask(Call::Stat(text, false), 1),
+                Globbing::Ask(Call::Stat(text, false)),
             ))
         }
     }

@@ -1,0 +1,91 @@
+-- What the code does at a part of a word.
+use Rattle.std.specs.Prelude.{◌≡◌, ℕ, ◌+◌, List, [], ◌++◌, Option, Some, None, Bool, true, false}
+use Rattle.std.specs.declared.rc.Rc.{Rc}
+use Rattle.std.specs.declared.alloc.Global.{Global}
+use Rattle.rk_base.specs.Text.{Text}
+use Rattle.sh_ast.specs.declared.parameter.Parameter.{Parameter}
+use Rattle.sh_ast.specs.declared.word.Part.{Part}
+use Rattle.sh_ast.specs.declared.word.Parts.{Parts}
+use Rattle.sh_ast.specs.declared.word.Removal.{Removal}
+use Rattle.sh_ast.specs.declared.word.Substitute.{Substitute}
+use Rattle.sh_ast.specs.Words.{part, parts, PartTree, literal, value_of, length_of, substitute, without, output_of, OperatorWord, operator_word, no_word, the_word, PartsTree, no_parts, part_and}
+use Rattle.sh_vars.specs.declared.env.Env.{Env}
+use Rattle.sh_vars.specs.Held.{is_readonly}
+use Rattle.sh_split.specs.Cutting.{Marks}
+use Rattle.sh_parameter.specs.Values.{all_removed}
+use Rattle.sh_parameter.specs.Marked.{text_of, pattern_of}
+use Rattle.sh_expand.specs.declared.acts.Then.{Then}
+use Rattle.sh_expand.specs.declared.acts.Then.TheVariants.{Keep, Assign, Message, Remove}
+use Rattle.sh_expand.specs.declared.acts.Acted.{Acted}
+use Rattle.sh_expand.specs.declared.acts.Acted.TheVariants.{Put, Enter, Subst, Fault}
+use Rattle.sh_expand.specs.Expands.{Go_on, Body, Ended, Failed, shown, put_by, used, not_set, substituted, expand, expand_part, expand_word, expand_text}
+
+-- what comes after a word within a word
+abbrev pub then_over : Then → Ended → Failed → Ended
+then_over Keep k fail ms e = k ms e
+then_over (Assign quoted name outer) k fail ms e = put_by (is_readonly e.vars name) quoted name (text_of ms) outer k fail e
+then_over (Message parameter) k fail ms e = fail parameter (text_of ms) e
+then_over (Remove removal apart quoted words outer) k fail ms e = k (outer ++ shown apart quoted (all_removed removal (pattern_of ms) words) e) e
+
+-- what comes after a part
+abbrev pub acted_on : (ℕ → Body) → Acted → Marks → Ended → Failed → Go_on
+acted_on body Put marks k fail e = k marks e
+acted_on body (Enter inner splits then) marks k fail e = expand body true splits (parts inner.value) marks (then_over then k fail) fail e
+acted_on body (Subst quoted n) marks k fail e = substituted (body n) quoted marks k e
+acted_on body (Fault parameter message) marks k fail e = fail parameter message e
+
+-- what is said of a part is what was done, from these marks to those
+abbrev pub Does : ((ℕ → Body) → Marks → Ended → Failed → Go_on) → Env → Marks → Marks → Acted → Type 0
+Does x e old new acted = (body : ℕ → Body) (k : Ended) (fail : Failed) (p : ℕ) → x body old k fail e p ≡ acted_on body acted new k fail e p
+
+-- the word of an operator, as the code has it
+abbrev pub word_of : Option (Rc Parts Global) → OperatorWord
+word_of None = no_word
+word_of (Some inner) = the_word (parts inner.value)
+
+-- the parts of an operator's word; none where it is left out
+abbrev pub parts_in : OperatorWord → PartsTree
+parts_in no_word = no_parts
+parts_in (the_word ps) = ps
+
+-- a parameter with an operator and this word
+abbrev pub used_by : Substitute → Bool → Bool → Bool → Parameter → OperatorWord → (ℕ → Body) → Marks → Ended → Failed → Go_on
+used_by by counts splits quoted parameter word body marks k fail e =
+    used by counts splits quoted parameter marks
+    (λ ms k' e'. expand_word body splits quoted word ms k' fail e')
+    (λ k' e'. expand_text body [] word k' fail e')
+    (λ k' e'. expand_text body not_set word k' fail e')
+    k fail e
+
+-- what was left of a word within a word: it goes on, or a fault
+abbrev pub left_on : Option (Text × Text) → Marks → Ended → Failed → Go_on
+left_on None marks k fail e = k marks e
+left_on (Some fault) marks k fail e = fail fault.0 fault.1 e
+
+abbrev pub LeavesAs : Then → Marks → Env → Marks → Env → Option (Text × Text) → Type 0
+LeavesAs then old before new now r = (k : Ended) (fail : Failed) (p : ℕ) → then_over then k fail old before p ≡ left_on r new k fail now p
+
+-- how much there is of a word, as a measure
+abbrev mutual
+  pub size : PartsTree → ℕ
+  size no_parts = 0
+  size (part_and p ps) = size_part p + size ps
+
+  pub size_part : PartTree → ℕ
+  size_part (literal quoting text) = 1
+  size_part (value_of quoting parameter) = 1
+  size_part (length_of quoting parameter) = 1
+  size_part (substitute quoting parameter condition by word) = size_word word + 2
+  size_part (without quoting parameter removal pattern) = size pattern + 2
+  size_part (output_of quoting n) = 1
+
+  pub size_word : OperatorWord → ℕ
+  size_word no_word = 0
+  size_word (the_word ps) = size ps
+
+-- the size of a word that is entered
+abbrev pub acted_size : Acted → ℕ
+acted_size Put = 0
+acted_size (Enter inner splits then) = size (parts inner.value) + 1
+acted_size (Subst quoted n) = 0
+acted_size (Fault parameter message) = 0

@@ -1,0 +1,18 @@
+//! Word expansion (XCU 2.6): a machine that is lent the shell's state at each turn and ends with fields, a value or a
+//! fault.
+#![tactic(auto)]
+
+mod acts;
+mod answers;
+mod expander;
+mod machine;
+mod mode;
+mod names;
+mod parts;
+mod pieces;
+
+pub use acts::{Acted, Then};
+pub use expander::{Expander, Expanding, Step};
+pub use machine::{Frame, Level, Machine, Stage, Wants};
+pub use mode::{ExpandFault, Expanded, Mode};
+pub use names::{Named, Names};

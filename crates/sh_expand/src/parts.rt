@@ -1,0 +1,391 @@
+// What the parts of a word do.
+ghost use Rattle.std.specs.Prelude.{◌≡◌, ◌++◌, ◌+◌, ◌<◌, [], ℕ, IfOk, OnOk, true, false};
+ghost use Rattle.rk_base.specs.Text.{Text};
+ghost use Rattle.sh_ast.specs.Parameters.{spelling};
+ghost use Rattle.sh_ast.specs.Words.{part, parts};
+ghost use Rattle.sh_vars.specs.declared.env.Env.{Env};
+ghost use Rattle.sh_parameter.specs.Values.{values, value, counts};
+ghost use Rattle.sh_expand.specs.Expands.{Body, Ended, Failed, is_quoted, literal_marks, unset, got, measured, assigning, taken, not_set, expand, expand_part, expand_word, expand_text};
+ghost use Rattle.sh_expand.specs.Acting.{Does, word_of, parts_in, used_by, acted_size, size, size_part, size_word};
+
+use crate::acts::{Acted, Then, take};
+use rk_base::{Bytes, NoMemory, WordList};
+use sh_ast::{Condition, Parameter, Part, Parts, Quoting, Removal, Substitute};
+use sh_parameter::{
+    counts, is_apart, joined, put_all, put_given, put_literal, separator, value, values,
+};
+use sh_split::Mark;
+use sh_vars::Env;
+use std::alloc::Global;
+use std::rc::Rc;
+
+fn is_quoted(quoting: Quoting) -> bool
+    ensures { result ≡ is_quoted quoting }
+{
+    match quoting {
+        Quoting::Quoted => true,
+        Quoting::Unquoted => false,
+    }
+}
+
+// The bytes of a word itself; whether it is an operator's.
+fn put_text(
+    inner: bool,
+    quoting: Quoting,
+    text: &[u8],
+    marks: &mut Vec<Mark>,
+) -> Result<(), NoMemory>
+    ensures { OnOk result (marks.new.items ≡ marks.old.items ++ literal_marks inner quoting text.now) }
+{
+    match quoting {
+        Quoting::Quoted => put_given(true, text, marks),
+        Quoting::Unquoted => if inner {
+            put_given(false, text, marks)
+        } else {
+            put_literal(text, marks)
+        },
+    }
+}
+
+// A fault of a parameter.
+fn fault(alloc: Global, parameter: &Parameter, message: &[u8]) -> Result<Acted, NoMemory>
+    ensures less { IfOk result (λ acted. acted_size acted < 1) }
+    ensures is { IfOk result (λ acted. acted ≡ Acted.Fault (spelling parameter.now) message.now) }
+{
+    let parameter = Bytes::from_slice(alloc, parameter.spelling())?;
+    let message = Bytes::from_slice(alloc, message)?;
+    Ok(Acted::Fault(parameter, message))
+}
+
+// An unset parameter.
+fn put_unset(
+    alloc: Global,
+    env: &Env,
+    quoted: bool,
+    parameter: &Parameter,
+    marks: &mut Vec<Mark>,
+) -> Result<Acted, NoMemory>
+    ensures less { IfOk result (λ acted. acted_size acted < 1) }
+    ensures does { IfOk result (Does (λ body ms k fail e. unset env.now.nounset quoted parameter.now ms k fail e) env.now marks.old.items marks.new.items) }
+{
+    if env.nounset {
+        let acted = fault(alloc, parameter, b"not set")?;
+        return Ok(acted);
+    }
+    put_given(quoted, b"", marks)?;
+    Ok(Acted::Put)
+}
+
+// Values where they stand.
+fn put_values(
+    alloc: Global,
+    env: &Env,
+    splits: bool,
+    quoted: bool,
+    parameter: &Parameter,
+    marks: &mut Vec<Mark>,
+) -> Result<Acted, NoMemory>
+    ensures less { IfOk result (λ acted. acted_size acted < 1) }
+    ensures does { IfOk result (Does (λ body ms k fail e. got splits quoted parameter.now (values env.now parameter.now) ms k fail e) env.now marks.old.items marks.new.items) }
+{
+    let words = values(alloc, env, parameter)?;
+    match words {
+        None => put_unset(alloc, env, quoted, parameter, marks),
+        Some(words) => {
+            let apart = is_apart(splits, quoted, parameter);
+            put_all(
+                alloc,
+                apart,
+                quoted,
+                separator(env),
+                words.as_slice(),
+                marks,
+            )?;
+            Ok(Acted::Put)
+        }
+    }
+}
+
+// How many bytes the values have.
+fn put_length(
+    alloc: Global,
+    env: &Env,
+    quoted: bool,
+    parameter: &Parameter,
+    marks: &mut Vec<Mark>,
+) -> Result<Acted, NoMemory>
+    ensures less { IfOk result (λ acted. acted_size acted < 1) }
+    ensures does { IfOk result (Does (λ body ms k fail e. measured quoted parameter.now (values env.now parameter.now) ms k fail e) env.now marks.old.items marks.new.items) }
+{
+    let words = values(alloc, env, parameter)?;
+    match words {
+        None => put_unset(alloc, env, quoted, parameter, marks),
+        Some(words) => {
+            let text = joined(alloc, separator(env), words.as_slice())?;
+            let digits = format!(in alloc; "{}", text.len() as u64)?;
+            put_given(quoted, digits.as_bytes(), marks)?;
+            Ok(Acted::Put)
+        }
+    }
+}
+
+/// The same parts once more.
+pub(crate) fn share(parts: &Rc<Parts>) -> Result<Rc<Parts>, NoMemory>
+    ensures { IfOk result (λ copy. copy.value ≡ parts.now.value) }
+{
+    let copy = parts.clone()?;
+    Ok(copy)
+}
+
+// Values without what a pattern matches.
+fn put_removed(
+    alloc: Global,
+    env: &Env,
+    splits: bool,
+    quoted: bool,
+    parameter: &Parameter,
+    removal: Removal,
+    pattern: &Rc<Parts>,
+    marks: &mut Vec<Mark>,
+) -> Result<Acted, NoMemory>
+    ensures less { IfOk result (λ acted. acted_size acted < size (parts pattern.now.value) + 2) }
+    ensures does { IfOk result (Does (λ body ms k fail e. taken removal splits quoted parameter.now (values env.now parameter.now) ms (λ k' e'. expand body true false (parts pattern.now.value) [] k' fail e') k fail e) env.now marks.old.items marks.new.items) }
+{
+    let words = values(alloc, env, parameter)?;
+    match words {
+        None => put_unset(alloc, env, quoted, parameter, marks),
+        Some(words) => {
+            let apart = is_apart(splits, quoted, parameter);
+            let pattern = share(pattern)?;
+            Ok(Acted::Enter(
+                pattern,
+                false,
+                Then::Remove(removal, apart, quoted, words, take(marks)),
+            ))
+        }
+    }
+}
+
+// An operator's word where it stands.
+fn put_word(
+    splits: bool,
+    quoted: bool,
+    word: &Option<Rc<Parts>>,
+    marks: &mut Vec<Mark>,
+) -> Result<Acted, NoMemory>
+    ensures less { IfOk result (λ acted. acted_size acted < size_word (word_of word.now) + 2) }
+    ensures does { IfOk result (λ acted. (e : Env) → Does (λ body ms k fail e'. expand_word body splits quoted (word_of word.now) ms k fail e') e marks.old.items marks.new.items acted) }
+{
+    match word {
+        None => {
+            put_given(quoted, b"", marks)?;
+            Ok(Acted::Put)
+        }
+        Some(word) => {
+            let word = share(word)?;
+            Ok(Acted::Enter(word, splits, Then::Keep))
+        }
+    }
+}
+
+// The parts of an operator's word; none where it is left out.
+fn parts_in(alloc: Global, word: &Option<Rc<Parts>>) -> Result<Rc<Parts>, NoMemory>
+    ensures { IfOk result (λ inner. parts inner.value ≡ parts_in (word_of word.now)) }
+{
+    match word {
+        None => {
+            let none = Rc::new(
+                alloc,
+                Parts {
+                    items: Vec::new(alloc),
+                },
+            )?;
+            Ok(none)
+        }
+        Some(word) => {
+            let word = share(word)?;
+            Ok(word)
+        }
+    }
+}
+
+// A variable takes an operator's word.
+fn assign_word(
+    alloc: Global,
+    quoted: bool,
+    parameter: &Parameter,
+    word: &Option<Rc<Parts>>,
+    marks: &mut Vec<Mark>,
+) -> Result<Acted, NoMemory>
+    ensures less { IfOk result (λ acted. acted_size acted < size_word (word_of word.now) + 2) }
+    ensures does { IfOk result (λ acted. (e : Env) → Does (λ body ms k fail e'. assigning quoted parameter.now ms (λ k' e'. expand_text body [] (word_of word.now) k' fail e') k fail e') e marks.old.items marks.new.items acted) }
+{
+    match parameter {
+        Parameter::Variable(name) => {
+            let name = name.copy()?;
+            let inner = parts_in(alloc, word)?;
+            Ok(Acted::Enter(inner, false, Then::Assign(quoted, name, take(marks))))
+        }
+        Parameter::Positional(_) => fault(alloc, parameter, b"not valid"),
+        Parameter::At => fault(alloc, parameter, b"not valid"),
+        Parameter::Asterisk => fault(alloc, parameter, b"not valid"),
+        Parameter::Count => fault(alloc, parameter, b"not valid"),
+        Parameter::Status => fault(alloc, parameter, b"not valid"),
+        Parameter::Zero => fault(alloc, parameter, b"not valid"),
+    }
+}
+
+// An operator's word is the message of a fault.
+fn fail_with(
+    alloc: Global,
+    parameter: &Parameter,
+    word: &Option<Rc<Parts>>,
+    marks: &mut Vec<Mark>,
+) -> Result<Acted, NoMemory>
+    ensures less { IfOk result (λ acted. acted_size acted < size_word (word_of word.now) + 2) }
+    ensures does { IfOk result (λ acted. (e : Env) → Does (λ body ms k fail e'. expand_text body not_set (word_of word.now) (λ t e''. fail (spelling parameter.now) t e'') fail e') e marks.old.items marks.new.items acted) }
+{
+    match word {
+        None => fault(alloc, parameter, b"not set"),
+        Some(word) => {
+            let _ = take(marks);
+            let inner = share(word)?;
+            let parameter = Bytes::from_slice(alloc, parameter.spelling())?;
+            Ok(Acted::Enter(inner, false, Then::Message(parameter)))
+        }
+    }
+}
+
+// A parameter with an operator, where its value counts.
+fn use_set(
+    alloc: Global,
+    env: &Env,
+    splits: bool,
+    quoted: bool,
+    parameter: &Parameter,
+    by: Substitute,
+    word: &Option<Rc<Parts>>,
+    marks: &mut Vec<Mark>,
+) -> Result<Acted, NoMemory>
+    ensures less { IfOk result (λ acted. acted_size acted < size_word (word_of word.now) + 2) }
+    ensures does { IfOk result (Does (used_by by true splits quoted parameter.now (word_of word.now)) env.now marks.old.items marks.new.items) }
+{
+    match by {
+        Substitute::Default => {
+            let acted = put_values(alloc, env, splits, quoted, parameter, marks)?;
+            Ok(acted)
+        }
+        Substitute::Assign => {
+            let acted = put_values(alloc, env, splits, quoted, parameter, marks)?;
+            Ok(acted)
+        }
+        Substitute::Fault => {
+            let acted = put_values(alloc, env, splits, quoted, parameter, marks)?;
+            Ok(acted)
+        }
+        Substitute::Alternative => {
+            let acted = put_word(splits, quoted, word, marks)?;
+            Ok(acted)
+        }
+    }
+}
+
+// A parameter with an operator, where its value doesn't count.
+fn use_unset(
+    alloc: Global,
+    splits: bool,
+    quoted: bool,
+    parameter: &Parameter,
+    by: Substitute,
+    word: &Option<Rc<Parts>>,
+    marks: &mut Vec<Mark>,
+) -> Result<Acted, NoMemory>
+    ensures less { IfOk result (λ acted. acted_size acted < size_word (word_of word.now) + 2) }
+    ensures does { IfOk result (λ acted. (e : Env) → Does (used_by by false splits quoted parameter.now (word_of word.now)) e marks.old.items marks.new.items acted) }
+{
+    match by {
+        Substitute::Default => {
+            let acted = put_word(splits, quoted, word, marks)?;
+            Ok(acted)
+        }
+        Substitute::Assign => {
+            let acted = assign_word(alloc, quoted, parameter, word, marks)?;
+            Ok(acted)
+        }
+        Substitute::Fault => {
+            let acted = fail_with(alloc, parameter, word, marks)?;
+            Ok(acted)
+        }
+        Substitute::Alternative => {
+            put_given(quoted, b"", marks)?;
+            Ok(Acted::Put)
+        }
+    }
+}
+
+// A parameter with an operator.
+fn use_parameter(
+    alloc: Global,
+    env: &Env,
+    splits: bool,
+    quoted: bool,
+    parameter: &Parameter,
+    condition: Condition,
+    by: Substitute,
+    word: &Option<Rc<Parts>>,
+    marks: &mut Vec<Mark>,
+) -> Result<Acted, NoMemory>
+    ensures less { IfOk result (λ acted. acted_size acted < size_word (word_of word.now) + 2) }
+    ensures does { IfOk result (Does (λ body ms k fail e. used_by by (counts condition (value e parameter.now)) splits quoted parameter.now (word_of word.now) body ms k fail e) env.now marks.old.items marks.new.items) }
+{
+    let text = value(alloc, env, parameter)?;
+    if counts(condition, text.as_ref()) {
+        let acted = use_set(alloc, env, splits, quoted, parameter, by, word, marks)?;
+        return Ok(acted);
+    }
+    let acted = use_unset(alloc, splits, quoted, parameter, by, word, marks)?;
+    Ok(acted)
+}
+
+/// What a part of a word does: whether the word is an operator's, and whether fields are split.
+pub(crate) fn act(
+    alloc: Global,
+    env: &Env,
+    inner: bool,
+    splits: bool,
+    it: &Part,
+    marks: &mut Vec<Mark>,
+) -> Result<Acted, NoMemory>
+    ensures less { IfOk result (λ acted. acted_size acted < size_part (part it.now)) }
+    ensures does { IfOk result (Does (λ body ms k fail e. expand_part body inner splits (part it.now) ms k fail e) env.now marks.old.items marks.new.items) }
+{
+    match it {
+        Part::Literal(quoting, text) => {
+            put_text(inner, *quoting, text.as_slice(), marks)?;
+            Ok(Acted::Put)
+        }
+        Part::Value(quoting, parameter) => {
+            let acted = put_values(alloc, env, splits, is_quoted(*quoting), parameter, marks)?;
+            Ok(acted)
+        }
+        Part::Length(quoting, parameter) => {
+            let acted = put_length(alloc, env, is_quoted(*quoting), parameter, marks)?;
+            Ok(acted)
+        }
+        Part::Substitute(quoting, parameter, condition, by, word) => {
+            let quoted = is_quoted(*quoting);
+            let acted = use_parameter(
+                alloc, env, splits, quoted, parameter, *condition, *by, word, marks,
+            )?;
+            Ok(acted)
+        }
+        Part::Remove(quoting, parameter, removal, pattern) => {
+            let quoted = is_quoted(*quoting);
+            let acted = put_removed(
+                alloc, env, splits, quoted, parameter, *removal, pattern, marks,
+            )?;
+            Ok(acted)
+        }
+        Part::Command(quoting, number) => Ok(Acted::Subst(is_quoted(*quoting), *number)),
+    }
+}
