@@ -1,0 +1,6 @@
+pub mod Chosen
+pub mod Gathering
+pub mod Greps
+pub mod Laws
+pub mod Starts
+pub mod Utilities

@@ -1,0 +1,8 @@
+// Laws over the definitions alone.
+ghost use Rattle.ut_grep.specs.Laws.{EachIsCommandTalk};
+
+/// Whatever the words are, fewer turns only cut what `grep` says, and a mode in a call that it asks is at most
+/// 0777.
+pub fn grep_says_what_commands_may()
+    ensures { EachIsCommandTalk }
+{}

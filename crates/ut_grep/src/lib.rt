@@ -1,0 +1,20 @@
+//! `grep -F`, and how it gathers its patterns.
+#![tactic(auto)]
+
+mod chosen;
+mod gatherer;
+mod grep;
+mod laws;
+mod occurs;
+mod seek;
+mod start;
+mod told;
+mod utility;
+
+pub use gatherer::{Gathered, Gatherer, Waits};
+pub use grep::{Grep, Manner};
+pub use laws::grep_says_what_commands_may;
+pub use utility::{GrepUtility, Move};
+
+#[cfg(test)]
+mod tests;

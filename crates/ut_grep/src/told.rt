@@ -1,0 +1,251 @@
+// What `grep` tells of its inputs.
+ghost use Rattle.std.specs.Prelude.{◌≡◌, ◌+◌, ◌++◌, ◌||◌, IfOk, OnOk, nat_lt, if◌then◌else◌, [], ◌∷◌};
+ghost use Rattle.std.specs.Fmt.{decimal};
+ghost use Rattle.std.specs.List.{list_any};
+ghost use Rattle.ut_filter.specs.Lines.{lines_of};
+ghost use Rattle.ut_grep.specs.Greps.{selects, prefix, number_of, row, rows, selected, count_line, told, name_of, brought_told, told_all, some_of, status};
+
+use crate::grep::Grep;
+use crate::occurs::is_same;
+use rk_base::{Bytes, NoMemory};
+use std::alloc::Global;
+use ut_filter::{Input, front_line};
+
+fn put_number(alloc: Global, n: u64, line: &mut Vec<u8>) -> Result<(), NoMemory>
+    ensures { OnOk result (line.new.items ≡ line.old.items ++ decimal n) }
+{
+    let digits = format!(in alloc; "{n}")?;
+    line.extend_from_slice(digits.as_bytes())?;
+    Ok(())
+}
+
+fn name_of(operand: &Bytes) -> &[u8]
+    ensures { result.now ≡ name_of operand.now }
+{
+    if is_same(operand.as_slice(), b"-") {
+        b"(standard input)"
+    } else {
+        operand.as_slice()
+    }
+}
+
+fn either(a: bool, b: bool) -> bool
+    ensures { result ≡ a || b }
+{
+    a || b
+}
+
+// So many lines that the numbers end are more than memory can hold.
+fn counted(count: u64, selects: bool) -> Result<u64, NoMemory>
+    ensures { IfOk result (λ n. n ≡ (if selects then count + 1 else count)) }
+{
+    if selects {
+        count.checked_add(1).ok_or(NoMemory)
+    } else {
+        Ok(count)
+    }
+}
+
+impl Grep {
+    fn put_prefix(&self, name: &[u8], output: &mut Vec<u8>) -> Result<(), NoMemory>
+        ensures { OnOk result (output.new.items ≡ output.old.items ++ prefix self.now name.now) }
+    {
+        if !self.manner.many {
+            return Ok(());
+        }
+        output.extend_from_slice(name)?;
+        output.push(b':')?;
+        Ok(())
+    }
+
+    fn put_number_of(&self, alloc: Global, n: u64, output: &mut Vec<u8>) -> Result<(), NoMemory>
+        ensures { OnOk result (output.new.items ≡ output.old.items ++ number_of self.now n) }
+    {
+        if !self.manner.numbered {
+            return Ok(());
+        }
+        put_number(alloc, n, output)?;
+        output.push(b':')?;
+        Ok(())
+    }
+
+    fn put_row(
+        &self,
+        alloc: Global,
+        name: &[u8],
+        n: u64,
+        line: &[u8],
+        output: &mut Vec<u8>,
+    ) -> Result<(), NoMemory>
+        ensures { OnOk result (output.new.items ≡ output.old.items ++ row self.now name.now n line.now) }
+    {
+        self.put_prefix(name, output)?;
+        self.put_number_of(alloc, n, output)?;
+        output.extend_from_slice(line)?;
+        output.push(b'\n')?;
+        Ok(())
+    }
+
+    // A line, where it is selected, and whether it is.
+    fn put_greped(
+        &self,
+        alloc: Global,
+        name: &[u8],
+        n: u64,
+        line: &[u8],
+        output: &mut Vec<u8>,
+    ) -> Result<bool, NoMemory>
+        ensures output { OnOk result (output.new.items ≡ output.old.items ++ (if selects self.now line.now then row self.now name.now n line.now else [])) }
+        ensures selects { IfOk result (λ b. b ≡ selects self.now line.now) }
+    {
+        if !self.selects(alloc, line)? {
+            return Ok(false);
+        }
+        self.put_row(alloc, name, n, line, output)?;
+        Ok(true)
+    }
+
+    // The lines of a text that are selected, and how many they are.
+    fn put_rows(
+        &self,
+        alloc: Global,
+        name: &[u8],
+        text: &[u8],
+        output: &mut Vec<u8>,
+    ) -> Result<u64, NoMemory>
+        ensures output { OnOk result (output.new.items ≡ output.old.items ++ rows self.now name.now 1 (lines_of text.now)) }
+        ensures count { IfOk result (λ n. n ≡ selected self.now text.now) }
+    {
+        let mut number = 1u64;
+        let mut count = 0u64;
+        let mut rest = text;
+        'lines: while let Some((line, after)) = front_line(rest) {
+            let selects = self.put_greped(alloc, name, number, line, output)?;
+            count = counted(count, selects)?;
+            number = number.checked_add(1).ok_or(NoMemory)?;
+            rest = after;
+        }
+        Ok(count)
+    }
+
+    // How many lines of a text are selected.
+    fn count(&self, alloc: Global, text: &[u8]) -> Result<u64, NoMemory>
+        ensures { IfOk result (λ n. n ≡ selected self.now text.now) }
+    {
+        let mut count = 0u64;
+        let mut rest = text;
+        'lines: while let Some((line, after)) = front_line(rest) {
+            let selects = self.selects(alloc, line)?;
+            count = counted(count, selects)?;
+            rest = after;
+        }
+        Ok(count)
+    }
+
+    // What is told of a text, and how many of its lines are selected.
+    fn tell(
+        &self,
+        alloc: Global,
+        name: &[u8],
+        text: &[u8],
+        output: &mut Vec<u8>,
+    ) -> Result<u64, NoMemory>
+        ensures output { OnOk result (output.new.items ≡ output.old.items ++ told self.now name.now text.now) }
+        ensures count { IfOk result (λ n. n ≡ selected self.now text.now) }
+    {
+        if self.manner.quiet {
+            return self.count(alloc, text);
+        }
+        if self.manner.listed {
+            return self.tell_name(alloc, name, text, output);
+        }
+        if self.manner.counted {
+            return self.tell_count(alloc, name, text, output);
+        }
+        self.put_rows(alloc, name, text, output)
+    }
+
+    fn tell_name(
+        &self,
+        alloc: Global,
+        name: &[u8],
+        text: &[u8],
+        output: &mut Vec<u8>,
+    ) -> Result<u64, NoMemory>
+        ensures output { OnOk result (output.new.items ≡ output.old.items ++ (if nat_lt 0 (selected self.now text.now) then name.now ++ 10 ∷ [] else [])) }
+        ensures count { IfOk result (λ n. n ≡ selected self.now text.now) }
+    {
+        let count = self.count(alloc, text)?;
+        if count == 0 {
+            return Ok(count);
+        }
+        output.extend_from_slice(name)?;
+        output.push(b'\n')?;
+        Ok(count)
+    }
+
+    fn tell_count(
+        &self,
+        alloc: Global,
+        name: &[u8],
+        text: &[u8],
+        output: &mut Vec<u8>,
+    ) -> Result<u64, NoMemory>
+        ensures output { OnOk result (output.new.items ≡ output.old.items ++ count_line self.now name.now (selected self.now text.now)) }
+        ensures count { IfOk result (λ n. n ≡ selected self.now text.now) }
+    {
+        let count = self.count(alloc, text)?;
+        self.put_prefix(name, output)?;
+        put_number(alloc, count, output)?;
+        output.push(b'\n')?;
+        Ok(count)
+    }
+
+    fn tell_input(
+        &self,
+        alloc: Global,
+        input: &Input,
+        output: &mut Vec<u8>,
+    ) -> Result<bool, NoMemory>
+        ensures output { OnOk result (output.new.items ≡ output.old.items ++ brought_told self.now input.now.operand input.now.brought) }
+        ensures some { IfOk result (λ b. b ≡ some_of self.now input.now) }
+    {
+        match &input.brought {
+            Err(_) => Ok(false),
+            Ok(text) => {
+                let count = self.tell(alloc, name_of(&input.operand), text.as_slice(), output)?;
+                Ok(count > 0)
+            }
+        }
+    }
+
+    // What is told of the inputs, and whether a line of theirs is selected.
+    pub(crate) fn tell_all(
+        &self,
+        alloc: Global,
+        inputs: &[Input],
+        output: &mut Vec<u8>,
+    ) -> Result<bool, NoMemory>
+        ensures output { OnOk result (output.new.items ≡ output.old.items ++ told_all self.now inputs.now) }
+        ensures some { IfOk result (λ b. b ≡ list_any (some_of self.now) inputs.now) }
+    {
+        let mut some = false;
+        'inputs: for input in inputs {
+            let one = self.tell_input(alloc, input, output)?;
+            some = either(some, one);
+        }
+        Ok(some)
+    }
+
+    pub(crate) fn status(&self, some: bool, errors: &Bytes) -> u8
+        ensures { result ≡ status self.now some errors.now }
+    {
+        if self.manner.quiet && some {
+            return 0;
+        }
+        if !errors.is_empty() {
+            return 2;
+        }
+        if some { 0 } else { 1 }
+    }
+}

@@ -1,0 +1,9 @@
+use Rattle.std.proofs.Common.{◌≡◌, ◌++◌, length}
+use Rattle.ut_filter.specs.Lines.{lines_of}
+use Rattle.ut_select.proofs.sort.add_lines.Given as goal
+
+abbrev pub invariant-lines : goal.invariant-lines
+invariant-lines l = l.lines.items ++ lines_of l.rest ≡ l.initial.lines.items ++ lines_of l.text
+
+abbrev pub decreases-lines : goal.decreases-lines
+decreases-lines l = length l.rest

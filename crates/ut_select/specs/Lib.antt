@@ -1,0 +1,12 @@
+pub mod Chosen
+pub mod Cuts
+pub mod Fields
+pub mod Items
+pub mod Laws
+pub mod Sets
+pub mod Sorts
+pub mod Starts
+pub mod Tables
+pub mod Trs
+pub mod Utilities
+pub mod Works
