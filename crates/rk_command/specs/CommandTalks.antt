@@ -8,7 +8,7 @@ use Rattle.rk_calls.specs.Keys.{KeyValue, key_of, shell}
 use Rattle.rk_calls.specs.Talk.{Says}
 use Rattle.rk_calls.specs.Views.{IsCommandTalk, talk-exits, talk-pay, talk-ask, talk-if}
 use Rattle.rk_calls.specs.Brought.{brought, joined}
-use Rattle.rk_command.specs.First.{shells, says_or, copy_or, file_or, plain_or, utility_or, says_of, first_talk}
+use Rattle.rk_command.specs.First.{shells, says_or, copy_or, file_or, grep_or, select_or, plain_or, utility_or, says_of, first_talk}
 use Rattle.rk_calls.specs.Places.{absolute}
 use Rattle.rk_command.specs.Output.{with_output}
 use Rattle.rk_command.specs.Script.{LineValue, expanded, script_of}
@@ -18,6 +18,10 @@ use Rattle.rk_command.specs.UnknownTalk.{is_unknown}
 use Rattle.ut_args.specs.Usage.{talk-complains}
 use Rattle.ut_copy.specs.Utilities.{copy_utility, talk-copy_utility}
 use Rattle.ut_files.specs.Utilities.{file_utility, talk-file_utility}
+use Rattle.ut_grep.specs.Starts.{grep_utility}
+use Rattle.ut_grep.specs.Laws.{talk-grep_utility}
+use Rattle.ut_select.specs.Starts.{select_utility}
+use Rattle.ut_select.specs.Laws.{talk-select_utility}
 use Rattle.ut_plain.specs.Starts.{plain_utility}
 use Rattle.ut_plain.specs.Laws.{talk-plain_utility}
 use Rattle.ut_text.specs.Starts.{text_utility}
@@ -75,8 +79,14 @@ talk-copy_or wd argv other is_talk = talk-says_or (copy_utility wd argv) other (
 talk-file_or : (wd : Text) (argv : List Text) (other : Says) → IsCommandTalk other → IsCommandTalk (file_or wd argv other)
 talk-file_or wd argv other is_talk = talk-says_or (file_utility wd argv) _ (talk-file_utility wd argv) (talk-copy_or wd argv other is_talk)
 
+talk-grep_or : (wd : Text) (argv : List Text) (other : Says) → IsCommandTalk other → IsCommandTalk (grep_or wd argv other)
+talk-grep_or wd argv other is_talk = talk-says_or (grep_utility wd argv) _ (talk-grep_utility wd argv) (talk-file_or wd argv other is_talk)
+
+talk-select_or : (wd : Text) (argv : List Text) (other : Says) → IsCommandTalk other → IsCommandTalk (select_or wd argv other)
+talk-select_or wd argv other is_talk = talk-says_or (select_utility wd argv) _ (talk-select_utility wd argv) (talk-grep_or wd argv other is_talk)
+
 talk-plain_or : (wd : Text) (argv : List Text) (other : Says) → IsCommandTalk other → IsCommandTalk (plain_or wd argv other)
-talk-plain_or wd argv other is_talk = talk-says_or (plain_utility wd argv) _ (talk-plain_utility wd argv) (talk-file_or wd argv other is_talk)
+talk-plain_or wd argv other is_talk = talk-says_or (plain_utility wd argv) _ (talk-plain_utility wd argv) (talk-select_or wd argv other is_talk)
 
 talk-utility_or : (wd : Text) (argv : List Text) (other : Says) → IsCommandTalk other → IsCommandTalk (utility_or wd argv other)
 talk-utility_or wd argv other is_talk = talk-says_or (text_utility wd argv) _ (talk-text_utility wd argv) (talk-plain_or wd argv other is_talk)

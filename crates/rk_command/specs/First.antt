@@ -7,7 +7,9 @@ use Rattle.rk_command.specs.ShellTalk.{runs_script}
 use Rattle.rk_command.specs.UnknownTalk.{is_unknown}
 use Rattle.ut_copy.specs.Utilities.{copy_utility}
 use Rattle.ut_files.specs.Utilities.{file_utility}
+use Rattle.ut_grep.specs.Starts.{grep_utility}
 use Rattle.ut_plain.specs.Starts.{plain_utility}
+use Rattle.ut_select.specs.Starts.{select_utility}
 use Rattle.ut_text.specs.Starts.{text_utility}
 
 -- `sh` runs the script that its one word names; with other words it is unknown
@@ -29,9 +31,17 @@ copy_or wd argv other = says_or (copy_utility wd argv) other
 abbrev pub file_or : Text → List Text → Says → Says
 file_or wd argv other = says_or (file_utility wd argv) (copy_or wd argv other)
 
--- `basename`, `dirname` or `tee`, or else a file utility, or else this
+-- `grep`, or else a file utility, or else this
+abbrev pub grep_or : Text → List Text → Says → Says
+grep_or wd argv other = says_or (grep_utility wd argv) (file_or wd argv other)
+
+-- `sort`, `cut` or `tr`, or else one of those, or else this
+abbrev pub select_or : Text → List Text → Says → Says
+select_or wd argv other = says_or (select_utility wd argv) (grep_or wd argv other)
+
+-- `basename`, `dirname` or `tee`, or else one of those, or else this
 abbrev pub plain_or : Text → List Text → Says → Says
-plain_or wd argv other = says_or (plain_utility wd argv) (file_or wd argv other)
+plain_or wd argv other = says_or (plain_utility wd argv) (select_or wd argv other)
 
 -- the utility of the first word, or else this
 abbrev pub utility_or : Text → List Text → Says → Says

@@ -1,6 +1,6 @@
 // The command of a key.
 ghost use Rattle.std.specs.Prelude.{◌≡◌, IfOk};
-ghost use Rattle.rk_command.specs.First.{shells, says_of, copy_or, file_or, plain_or, utility_or, first_talk};
+ghost use Rattle.rk_command.specs.First.{shells, says_of, copy_or, file_or, grep_or, select_or, plain_or, utility_or, first_talk};
 ghost use Rattle.rk_command.specs.Running.{running_talk, command_talk};
 ghost use Rattle.rk_command.specs.UnknownTalk.{is_unknown};
 
@@ -11,7 +11,9 @@ use std::alloc::Global;
 use ut_args::Complaint;
 use ut_copy::CopyUtility;
 use ut_files::FileUtility;
+use ut_grep::GrepUtility;
 use ut_plain::PlainUtility;
+use ut_select::SelectUtility;
 use ut_text::TextUtility;
 
 #[derive(Drop)]
@@ -20,6 +22,8 @@ enum Running {
     Shells(Shell),
     Texts(TextUtility),
     Plain(PlainUtility),
+    Selects(SelectUtility),
+    Greps(GrepUtility),
     Files(FileUtility),
     Copies(CopyUtility),
 }
@@ -76,7 +80,34 @@ fn file_utility(alloc: Global, wd: &Path, argv: &WordList, name: &[u8]) -> Resul
     }
 }
 
-// `basename`, `dirname` or `tee`, a file utility, or an unknown name.
+// `grep`, a file utility, or an unknown name.
+fn grep_utility(alloc: Global, wd: &Path, argv: &WordList, name: &[u8]) -> Result<Running, NoMemory>
+    ensures { IfOk result (λ r. running_talk r Answer.Go ≡ grep_or wd.now argv.now (is_unknown name.now)) }
+{
+    let found = GrepUtility::start(alloc, wd, argv)?;
+    match found {
+        Some(utility) => Ok(Running::Greps(utility)),
+        None => file_utility(alloc, wd, argv, name),
+    }
+}
+
+// `sort`, `cut` or `tr`, `grep`, a file utility, or an unknown name.
+fn select_utility(
+    alloc: Global,
+    wd: &Path,
+    argv: &WordList,
+    name: &[u8],
+) -> Result<Running, NoMemory>
+    ensures { IfOk result (λ r. running_talk r Answer.Go ≡ select_or wd.now argv.now (is_unknown name.now)) }
+{
+    let found = SelectUtility::start(alloc, wd, argv)?;
+    match found {
+        Some(utility) => Ok(Running::Selects(utility)),
+        None => grep_utility(alloc, wd, argv, name),
+    }
+}
+
+// `basename`, `dirname` or `tee`, a utility after these, or an unknown name.
 fn plain_utility(
     alloc: Global,
     wd: &Path,
@@ -88,7 +119,7 @@ fn plain_utility(
     let found = PlainUtility::start(alloc, wd, argv)?;
     match found {
         Some(utility) => Ok(Running::Plain(utility)),
-        None => file_utility(alloc, wd, argv, name),
+        None => select_utility(alloc, wd, argv, name),
     }
 }
 
@@ -142,6 +173,8 @@ impl Machine for Running {
             Running::Shells(machine) => machine.resume(answer),
             Running::Texts(machine) => machine.resume(answer),
             Running::Plain(machine) => machine.resume(answer),
+            Running::Selects(machine) => machine.resume(answer),
+            Running::Greps(machine) => machine.resume(answer),
             Running::Files(machine) => machine.resume(answer),
             Running::Copies(machine) => machine.resume(answer),
         }

@@ -1,7 +1,7 @@
 use Rattle.std.proofs.Common.{◌≡◌, ℕ, IfOk, sym, subst}
 use Rattle.rk_calls.specs.Talk.{after}
 use Rattle.rk_command.specs.declared.command.Running.{Running}
-use Rattle.rk_command.specs.declared.command.Running.TheVariants.{Complains, Shells, Texts, Plain, Files, Copies}
+use Rattle.rk_command.specs.declared.command.Running.TheVariants.{Complains, Shells, Texts, Plain, Selects, Greps, Files, Copies}
 use Rattle.rk_command.specs.Running.{running_talk}
 use Rattle.rk_command.proofs.command.RunningMachine.resume.Goals as goal
 
@@ -34,3 +34,13 @@ pub returns-in-Plain-clause-talk : goal.returns-in-Plain-clause-talk
 returns-in-Plain-clause-talk c =
     let P : Running → Type 0 = λ r. IfOk c.resume-in-Plain.result (λ t. (p : ℕ) → running_talk r c.args.answer p ≡ after t (running_talk (Plain c.resume-in-Plain.new.self)) p) in
     subst P (sym c.in-Plain.is) c.resume-in-Plain.ensures.talk
+
+pub returns-in-Selects-clause-talk : goal.returns-in-Selects-clause-talk
+returns-in-Selects-clause-talk c =
+    let P : Running → Type 0 = λ r. IfOk c.resume-in-Selects.result (λ t. (p : ℕ) → running_talk r c.args.answer p ≡ after t (running_talk (Selects c.resume-in-Selects.new.self)) p) in
+    subst P (sym c.in-Selects.is) c.resume-in-Selects.ensures.talk
+
+pub returns-in-Greps-clause-talk : goal.returns-in-Greps-clause-talk
+returns-in-Greps-clause-talk c =
+    let P : Running → Type 0 = λ r. IfOk c.resume-in-Greps.result (λ t. (p : ℕ) → running_talk r c.args.answer p ≡ after t (running_talk (Greps c.resume-in-Greps.new.self)) p) in
+    subst P (sym c.in-Greps.is) c.resume-in-Greps.ensures.talk
