@@ -8,4 +8,12 @@ pub mod Expansions
 pub mod Quoting
 pub mod Commands
 pub mod Words
-pub mod Clauses
+pub mod HereDocuments
+pub mod Fronts
+pub mod Recognizers
+pub mod Places
+pub mod Lexemes
+pub mod Effects
+pub mod Steps
+pub mod Faults
+pub mod Takes

@@ -18,8 +18,7 @@ more_by n (Some x) = Some (x.0, n + x.1)
 -- what controls: newline ; ;; && | || ) (the opening parenthesis stands with the words)
 abbrev pub operator : ℕ → ℕ → Look
 operator c d =
-    if c == 10 then token k.Newline 1
-    else if c == 59 then (if d == 59 then token k.DoubleSemi 2 else token k.Semi 1)
+    if c == 59 then (if d == 59 then token k.DoubleSemi 2 else token k.Semi 1)
     else if c == 38 then (if d == 38 then token k.AndIf 2 else None)
     else if c == 124 then (if d == 124 then token k.OrIf 2 else token k.Pipe 1)
     else if c == 41 then token k.RightParen 1

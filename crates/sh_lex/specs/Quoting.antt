@@ -1,9 +1,8 @@
--- What quotes in a word (XCU 2.2), by the text as it stands and as it is read.
+-- What quotes one byte or all but itself (XCU 2.2.1, 2.2.2): a text as it stands.
 use Rattle.std.specs.Prelude.{ℕ, ◌+◌, ◌==◌, List, length, drop, slice_index, Bool, if◌then◌else◌, None}
 use Rattle.sh_rules.specs.declared.kind.Kind.TheVariants as k
 use Rattle.sh_lex.specs.Bytes.{◌or◌, not_so}
-use Rattle.sh_lex.specs.Folded.{run, folded}
-use Rattle.sh_lex.specs.Expansions.{dollar}
+use Rattle.sh_lex.specs.Folded.{run}
 use Rattle.sh_lex.specs.Tokens.{Look, token}
 
 -- a backslash and the byte that it quotes; at the text's end it is itself (XCU 2.2.1)
@@ -17,12 +16,3 @@ not_quote c = not_so (c == 0 or c == 39)
 -- single quotes (XCU 2.2.2): joined lines stay in them
 abbrev pub single : List ℕ → Look
 single text = let n = run not_quote (drop 1 text) in if slice_index text (n + 1) == 39 then token k.Single (n + 2) else None
-
-unfoldable pub quoting : List ℕ → Look
-quoting text =
-    let c = slice_index text 0 in
-    if c == 92 then escape text
-    else if c == 39 then single text
-    else if c == 34 then token k.QuoteOpen 1
-    else if c == 36 then dollar k.Brace (folded text)
-    else None

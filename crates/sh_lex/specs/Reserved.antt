@@ -21,7 +21,7 @@ opener text =
     else if is_word (codes "until") text then token k.Until 5
     else None
 
--- those that close a compound command, or go on with it
+-- those that close a compound command, or go on with it, but esac
 unfoldable pub closer : List ℕ → Look
 closer text =
     if is_word (125 ∷ []) text then token k.RightBrace 1
@@ -31,5 +31,4 @@ closer text =
     else if is_word (codes "fi") text then token k.Fi 2
     else if is_word (codes "do") text then token k.Do 2
     else if is_word (codes "done") text then token k.Done 4
-    else if is_word (codes "esac") text then token k.Esac 4
     else None

@@ -6,7 +6,7 @@ use crate::bytes::is_blank;
 
 /// What stands in front of a token: nothing that is passed over, a blank or a byte of a comment, a comment's sign, or a joined line.
 #[derive(Clone, Copy)]
-pub(crate) enum Skip {
+pub enum Skip {
     Stop,
     One,
     Hash,

@@ -21,6 +21,9 @@ pub enum Class {
     QuotedBraceText,
     /// In a here-document that is expanded (XCU 2.7.4).
     BodyText,
+    Tab,
+    /// What quotes nothing in a here-document's delimiter.
+    Unquoted,
 }
 
 pub(crate) fn is_blank(c: u8) -> bool
@@ -74,7 +77,7 @@ pub(crate) fn is_end(c: u8) -> bool
         || c == b')'
 }
 
-fn is_quoting(c: u8) -> bool
+pub(crate) fn is_quoting(c: u8) -> bool
     ensures { result ≡ class.is_quoting c }
 {
     c == b'\\' || c == b'\'' || c == b'"' || c == b'`' || c == b'$'
@@ -110,6 +113,18 @@ fn is_body_text(c: u8) -> bool
     !(c == 0 || c == b'$' || c == b'`' || c == b'\\')
 }
 
+pub(crate) fn is_tab(c: u8) -> bool
+    ensures { result ≡ class.is_tab c }
+{
+    c == b'\t'
+}
+
+fn is_unquoted(c: u8) -> bool
+    ensures { result ≡ class.is_unquoted c }
+{
+    !(c == 0 || c == b'\\' || c == b'\'' || c == b'"')
+}
+
 pub(crate) fn is_in(class: Class, c: u8) -> bool
     ensures { result ≡ class_is class c }
 {
@@ -122,5 +137,7 @@ pub(crate) fn is_in(class: Class, c: u8) -> bool
         Class::BraceText => is_brace_text(c),
         Class::QuotedBraceText => is_quoted_brace_text(c),
         Class::BodyText => is_body_text(c),
+        Class::Tab => is_tab(c),
+        Class::Unquoted => is_unquoted(c),
     }
 }

@@ -21,7 +21,7 @@ fn substitutes(c: u8) -> bool
 
 // How many bytes the parameter has with which a text begins, 0 where it begins with none.
 #[tactic(auto, unfolding(crate::specs::Expansions::parameter))]
-fn parameter(text: &[u8]) -> usize
+pub(crate) fn parameter(text: &[u8]) -> usize
     ensures count { result ≡ lem.parameter (folded text.now) }
     ensures small { result < 2 ^ 63 }
 {

@@ -1,7 +1,8 @@
 // A text as it is read, without its joined lines (XCU 2.2.1).
 ghost use Rattle.std.specs.Prelude.{◌≡◌, ◌≤◌, length, slice_index, drop};
 ghost use Rattle.sh_lex.specs.Bytes.{class_is};
-ghost use Rattle.sh_lex.specs.Folded.{folded, run as run_lem};
+ghost use Rattle.sh_lex.specs.Places.{is_none};
+ghost use Rattle.sh_lex.specs.Folded.{folded, behind, behind_one, run as run_lem, run_on as run_on_lem};
 
 use crate::blanks::past_joins;
 use crate::bytes::{Class, is_in};
@@ -16,9 +17,18 @@ pub(crate) fn first(text: &[u8]) -> u8
     }
 }
 
+// Nothing is left but joined lines.
+pub(crate) fn is_read_out(text: &[u8]) -> bool
+    ensures { result ≡ is_none (folded text.now) }
+{
+    past_joins(text).is_empty()
+}
+
 // What stands behind the first byte.
 pub(crate) fn rest(text: &[u8]) -> &[u8]
-    ensures { folded result.now ≡ drop 1 (folded text.now) }
+    ensures read { folded result.now ≡ drop 1 (folded text.now) }
+    ensures left { result.now ≡ behind_one text.now }
+    ensures within { length result.now ≤ length text.now }
 {
     let here = past_joins(text);
     match here {
@@ -29,7 +39,9 @@ pub(crate) fn rest(text: &[u8]) -> &[u8]
 
 /// What is left of a text behind so many bytes, joined lines not counted.
 pub fn skip(text: &[u8], count: usize) -> &[u8]
-    ensures { folded result.now ≡ drop count (folded text.now) }
+    ensures read { folded result.now ≡ drop count (folded text.now) }
+    ensures left { result.now ≡ behind count text.now }
+    ensures within { length result.now ≤ length text.now }
 {
     let mut left = text;
     for at in 0..count {
@@ -59,4 +71,12 @@ pub fn run(class: Class, text: &[u8]) -> usize
         }
     }
     text.len()
+}
+
+/// The same where the first byte is in any case.
+pub fn run_on(class: Class, text: &[u8]) -> usize
+    ensures { result ≡ run_on_lem (class_is class) (folded text.now) }
+{
+    let behind = rest(text);
+    run(class, behind) + 1
 }

@@ -2,28 +2,35 @@
 #![tactic(auto)]
 
 mod blanks;
+mod body;
 mod bytes;
-mod clauses;
 mod commands;
+mod cursor;
+mod delimiter;
+mod effect;
 mod expansions;
+mod fault;
 mod folded;
+mod front;
+mod kinds;
+mod lexeme;
+mod moves;
 mod operators;
 mod place;
+mod queue;
 mod quotes;
+mod recognizer;
 mod reserved;
+mod taken;
+mod telling;
 mod words;
 
-pub use blanks::{past_blanks, past_joins};
-pub use bytes::Class;
-pub use clauses::{case_in_look, name_look, one_byte, pattern_look, pattern_rest_look};
-pub use commands::{argument_look, command_look, prefix_look};
-pub use expansions::{braced, dollar};
-pub use folded::{byte, run, skip};
-pub use operators::{numbered, operator, redirect};
-pub use place::Words;
-pub use quotes::quoting;
-pub use reserved::{closer, is_word, opener};
-pub use words::{brace_look, quoted_brace_look, quotes_look, value_look, word_look};
+pub use cursor::Stop;
+pub use effect::Effect;
+pub use fault::{ScriptFault, Why};
+pub use kinds::mode_of;
+pub use place::{Cursor, Words};
+pub use taken::Taken;
 
 #[cfg(test)]
 mod tests;

@@ -47,9 +47,7 @@ pub fn numbered(d: u8, e: u8, f: u8) -> Option<(Kind, usize)>
 pub fn operator(c: u8, d: u8) -> Option<(Kind, usize)>
     ensures { result ≡ operator_lem c d }
 {
-    if c == b'\n' {
-        Some((Kind::Newline, 1))
-    } else if c == b';' {
+    if c == b';' {
         if d == b';' {
             Some((Kind::DoubleSemi, 2))
         } else {

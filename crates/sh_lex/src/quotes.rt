@@ -3,7 +3,6 @@ ghost use Rattle.std.specs.Prelude.{◌≡◌, ◌≤◌, length, slice_index};
 ghost use Rattle.sh_lex.specs.Folded.{run as run_lem};
 ghost use Rattle.sh_lex.specs.Quoting as lem;
 
-use crate::expansions::dollar;
 use sh_rules::Kind;
 
 // The byte at a place of a text as it stands; 0 past its end.
@@ -20,7 +19,7 @@ fn not_quote(c: u8) -> bool
 }
 
 // How many bytes in front are neither a single quote nor NUL.
-fn before_quote(text: &[u8]) -> usize
+pub(crate) fn before_quote(text: &[u8]) -> usize
     ensures count { result ≡ run_lem lem.not_quote text.now }
     ensures within { result ≤ length text.now }
 {
@@ -32,7 +31,7 @@ fn before_quote(text: &[u8]) -> usize
     text.len()
 }
 
-fn escape(text: &[u8]) -> Option<(Kind, usize)>
+pub(crate) fn escape(text: &[u8]) -> Option<(Kind, usize)>
     ensures { result ≡ lem.escape text.now }
 {
     if text.len() == 1 {
@@ -44,7 +43,7 @@ fn escape(text: &[u8]) -> Option<(Kind, usize)>
     }
 }
 
-fn single(text: &[u8]) -> Option<(Kind, usize)>
+fn closed_single(text: &[u8]) -> Option<(Kind, usize)>
     requires { 1 ≤ length text.now }
     ensures { result ≡ lem.single text.now }
 {
@@ -56,21 +55,12 @@ fn single(text: &[u8]) -> Option<(Kind, usize)>
     }
 }
 
-/// What quotes or expands in front of a text, which begins with no joined line (XCU 2.2, 2.6).
-#[tactic(auto, unfolding(crate::specs::Quoting::quoting))]
-pub fn quoting(text: &[u8]) -> Option<(Kind, usize)>
-    ensures { result ≡ lem.quoting text.now }
+/// Single quotes in front of a text that begins with one (XCU 2.2.2).
+pub(crate) fn single(text: &[u8]) -> Option<(Kind, usize)>
+    ensures { result ≡ lem.single text.now }
 {
-    let c = raw_byte(text, 0);
-    if c == b'\\' {
-        escape(text)
-    } else if c == b'\'' {
-        single(text)
-    } else if c == b'"' {
-        Some((Kind::QuoteOpen, 1))
-    } else if c == b'$' {
-        dollar(Kind::Brace, text)
-    } else {
-        None
+    match text {
+        [] => None,
+        [_, ..] => closed_single(text),
     }
 }

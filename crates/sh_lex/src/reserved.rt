@@ -45,7 +45,7 @@ pub fn opener(text: &[u8]) -> Option<(Kind, usize)>
     }
 }
 
-/// The reserved word that a text begins with, of those that close a compound command or go on with it.
+/// The reserved word that a text begins with, of those but `esac` that close a compound command or go on with it.
 #[tactic(auto, unfolding(crate::specs::Reserved::closer))]
 pub fn closer(text: &[u8]) -> Option<(Kind, usize)>
     ensures { result ≡ closer_lem (folded text.now) }
@@ -64,8 +64,6 @@ pub fn closer(text: &[u8]) -> Option<(Kind, usize)>
         Some((Kind::Do, 2))
     } else if is_word(b"done", text) {
         Some((Kind::Done, 4))
-    } else if is_word(b"esac", text) {
-        Some((Kind::Esac, 4))
     } else {
         None
     }

@@ -1,100 +1,164 @@
-// The tokens in front of texts.
-use crate::{
-    Words, argument_look, brace_look, case_in_look, command_look, name_look, past_blanks,
-    pattern_look, pattern_rest_look, prefix_look, quoted_brace_look, quotes_look, value_look,
-    word_look,
-};
-use sh_rules::Kind;
+// Tokens of texts, one after another.
+use crate::{Cursor, Stop, Why};
+use rk_base::{Bytes, NoMemory};
+use sh_rules::Mode;
+use std::alloc::Global;
 use std::test::Fail;
 
-#[test]
-fn finds_tokens_of_commands(rt: HostRuntime) -> Result<(), Fail> {
-    let all = Words::All;
-    assert!(rt; matches!(command_look(true, all, b"if\n"), Some((Kind::If, 2))));
-    assert!(rt; matches!(command_look(true, all, b"i\\\nf\n"), Some((Kind::If, 2))));
-    assert!(rt;
-        matches!(
-            command_look(true, all, b"{a}"),
-            Some((Kind::CommandText, 3))
-        )
-    );
-    assert!(rt; matches!(command_look(true, all, b"in a"), None));
-    assert!(rt;
-        matches!(
-            command_look(true, all, b"f \\\n()"),
-            Some((Kind::FunctionName, 1))
-        )
-    );
-    assert!(rt; matches!(command_look(true, all, b"x=1"), Some((Kind::Assignment, 2))));
-    assert!(rt; matches!(command_look(true, all, b"2>&1"), Some((Kind::Redirect, 3))));
-    assert!(rt; matches!(command_look(true, all, b"22>&1"), None));
-    assert!(rt; matches!(command_look(true, all, b"& b"), None));
-    assert!(rt; matches!(command_look(true, all, b"&\\\n& b"), Some((Kind::AndIf, 2))));
-    assert!(rt; matches!(command_look(true, all, b""), Some((Kind::End, 0))));
-    assert!(rt; matches!(command_look(true, all, b"\0"), None));
-    assert!(rt;
-        matches!(
-            prefix_look(true, Words::Ordinary, b"if"),
-            Some((Kind::PrefixText, 2))
-        )
-    );
-    assert!(rt;
-        matches!(
-            argument_look(true, Words::Ordinary, b"in"),
-            Some((Kind::WordText, 2))
-        )
-    );
-    assert!(rt;
-        matches!(
-            argument_look(true, Words::Closers, b"in"),
-            Some((Kind::In, 2))
-        )
-    );
-    Ok(())
+fn mode(letter: u8) -> Mode {
+    match letter {
+        b'c' => Mode::CommandStart,
+        b'p' => Mode::Prefix,
+        b'a' => Mode::Argument,
+        b'P' => Mode::PatternStart,
+        b'C' => Mode::CaseIn,
+        b'R' => Mode::PatternRest,
+        b'B' => Mode::Bodies,
+        b'T' => Mode::BodyText,
+        b'v' => Mode::Value,
+        b'w' => Mode::InWord,
+        b'q' => Mode::InQuotes,
+        b's' => Mode::BraceStart,
+        b'b' => Mode::InBraces,
+        b'Q' => Mode::InQuotedBraces,
+        b'n' => Mode::ForName,
+        b'f' => Mode::FunctionOpen,
+        b'g' => Mode::FunctionClose,
+        _ => Mode::HereDelimiter,
+    }
+}
+
+fn letter(why: &Why) -> u8 {
+    match why {
+        Why::Syntax => b'S',
+        Why::Unclosed => b'U',
+        Why::Deep => b'D',
+        Why::Long => b'L',
+        Why::NotInProfile(_) => b'N',
+    }
+}
+
+fn told(alloc: Global, cursor: &Cursor, deep: bool) -> Result<(usize, u8), NoMemory> {
+    let fault = cursor.fault(alloc, deep)?;
+    Ok((fault.at, letter(&fault.why)))
+}
+
+// Where one stands when in each mode a token was taken, or the fault where none was.
+fn walk(alloc: Global, text: &[u8], modes: &[u8]) -> Result<(usize, u8), NoMemory> {
+    let mut cursor = Cursor::new(alloc, text);
+    for m in modes {
+        match cursor.look(mode(*m)) {
+            None => return told(alloc, &cursor, false),
+            Some((kind, n)) => match cursor.take(kind, n) {
+                Err(Stop::Memory) => return Err(NoMemory),
+                Err(Stop::Deep) => return told(alloc, &cursor, true),
+                Ok(_) => (),
+            },
+        }
+    }
+    Ok((cursor.at, b'-'))
 }
 
 #[test]
-fn finds_tokens_in_words(rt: HostRuntime) -> Result<(), Fail> {
-    assert!(rt; matches!(word_look(b"ab#c d"), Some((Kind::Text, 4))));
-    assert!(rt; matches!(word_look(b";"), Some((Kind::WordEnd, 0))));
-    assert!(rt; matches!(word_look(b"'a\\\nb'"), Some((Kind::Single, 6))));
-    assert!(rt; matches!(word_look(b"'a"), None));
-    assert!(rt; matches!(word_look(b"$((1))"), None));
-    assert!(rt; matches!(word_look(b"${#x}"), Some((Kind::Braced, 5))));
-    assert!(rt; matches!(word_look(b"${##}"), Some((Kind::Braced, 5))));
-    assert!(rt; matches!(word_look(b"${#%x}"), Some((Kind::PatternBrace, 4))));
-    assert!(rt; matches!(word_look(b"${x:-a}"), Some((Kind::Brace, 5))));
-    assert!(rt; matches!(word_look(b"${x:a}"), None));
-    assert!(rt; matches!(word_look(b"$10"), Some((Kind::Parameter, 2))));
-    assert!(rt; matches!(word_look(b"$)"), Some((Kind::Dollar, 1))));
-    assert!(rt; matches!(quotes_look(b"\\a"), Some((Kind::QuotedText, 1))));
-    assert!(rt; matches!(quotes_look(b"\\\""), Some((Kind::QuotedEscape, 2))));
-    assert!(rt; matches!(quotes_look(b"${x:-a}"), Some((Kind::QuotedBrace, 5))));
-    assert!(rt;
-        matches!(
-            quoted_brace_look(b"\\}"),
-            Some((Kind::QuotedBraceEscape, 2))
-        )
-    );
-    assert!(rt; matches!(brace_look(true, Kind::BraceStartText, b"~"), None));
-    assert!(rt;
-        matches!(
-            brace_look(false, Kind::BraceText, b"~ ;}"),
-            Some((Kind::BraceText, 3))
-        )
-    );
-    assert!(rt; matches!(value_look(b"~"), None));
+fn goes_from_place_to_place(rt: HostRuntime) -> Result<(), Fail> {
+    let rows: [(&[u8], &[u8], usize, u8); 38] = [
+        (b"echo a#b # c\n", b"cwaw", 12, b'-'),
+        (b"echo a#b # c\n", b"cwawcBc", 13, b'-'),
+        (b"i\\\nf a", b"c", 5, b'-'),
+        (b"\"a\\\nb\" c", b"cqqw", 7, b'-'),
+        (b"'a\\\nb' c", b"cw", 7, b'-'),
+        (b"echo \"a", b"cwaqq", 5, b'U'),
+        (b"echo 'a", b"cwa", 5, b'U'),
+        (b"echo 'a\0'", b"cwa", 7, b'S'),
+        (b"echo `a`", b"cwa", 5, b'N'),
+        (b"a & b", b"cwa", 2, b'N'),
+        (b"&& b", b"c", 3, b'-'),
+        (b"cat 10> x", b"cwa", 4, b'N'),
+        (b"cat 1>x", b"cwaaw", 7, b'-'),
+        (b"echo ${x", b"cwa", 5, b'U'),
+        (b"echo ${x!}", b"cwa", 5, b'S'),
+        (b"echo ${x:-\"~\"}", b"cwasqqbw", 14, b'-'),
+        (b"cat <<X", b"cwada", 4, b'U'),
+        (b"cat <<X\na\nX\nb", b"cwadaBTTBc", 13, b'-'),
+        (b"cat <<X\na\nXY\n", b"cwadaB", 4, b'U'),
+        (b"cat <<'X'\n$a\nX\nb", b"cwadaBBc", 16, b'-'),
+        (b"cat <<\\X\n$a\nX", b"cwadaBBc", 13, b'-'),
+        (b"cat <<-X\n\ta\n\tX\nb", b"cwadaBTTBc", 16, b'-'),
+        (b"cat <<X <<Y\nX\nY\n", b"cwadadaBTBTBc", 16, b'-'),
+        (b"cat <<X\n$(\nX\n", b"cwadaBT", 10, b'-'),
+        (b"cat <<X\n$(\nX\n", b"cwadaBTcBc", 8, b'U'),
+        (b"cat <<X\n`\nX\n", b"cwadaBT", 8, b'N'),
+        (b"cat <<'X'\n\0\nX\n", b"cwadaB", 10, b'S'),
+        (b"cat <<X\nX\\\n\nX\n", b"cwadaBTTBc", 14, b'-'),
+        (b"cat <<X\na\\\\\nX\n", b"cwadaBTTTTBc", 14, b'-'),
+        (b"cat <<\"a", b"cwad", 4, b'U'),
+        (b"cat <<'a\0'", b"cwad", 8, b'S'),
+        (b"cat <<`a", b"cwad", 6, b'N'),
+        (b"$(cat <<X)\na\nX\n", b"ccwadcwcBTTBc", 15, b'-'),
+        (b"x=~", b"cv", 2, b'N'),
+        (b"a~", b"cwa", 2, b'-'),
+        (b"f \\\n()", b"cfg", 6, b'-'),
+        (b"case x in esac", b"cawCPc", 14, b'-'),
+        (b"for x in y", b"cnaaw", 10, b'-'),
+    ];
+    for (text, modes, at, why) in rows {
+        assert_eq!(rt; walk(rt.alloc(), text, modes)?, (at, why));
+    }
     Ok(())
 }
 
+// Levels: each opens one, up to the 64th.
 #[test]
-fn finds_tokens_of_clauses(rt: HostRuntime) -> Result<(), Fail> {
-    assert!(rt; matches!(pattern_look(b"esac;"), Some((Kind::Esac, 4))));
-    assert!(rt; matches!(pattern_look(b"(esac)"), Some((Kind::PatternOpen, 1))));
-    assert!(rt; matches!(pattern_look(b"esacs)"), Some((Kind::PatternText, 5))));
-    assert!(rt; matches!(pattern_rest_look(b"||"), None));
-    assert!(rt; matches!(case_in_look(b"in\n"), Some((Kind::CaseIn, 2))));
-    assert!(rt; matches!(name_look(b"ab\"c"), None));
-    assert_eq!(rt; past_blanks(b" \t\\\n# a\\\nb"), b"\nb".as_slice());
+fn counts_levels(rt: HostRuntime) -> Result<(), Fail> {
+    let rows: [(&[u8], &[u8]); 4] = [
+        (b"{ ", b"c"),
+        (b"$(", b"c"),
+        (b"( ", b"c"),
+        (b"${x:-", b"s"),
+    ];
+    for (part, m) in rows {
+        let mut text = Vec::new(rt.alloc());
+        let mut modes = Vec::new(rt.alloc());
+        for _ in 0..65 {
+            text.extend_from_slice(part)?;
+            modes.extend_from_slice(m)?;
+        }
+        let deep = 64 * part.len();
+        assert_eq!(rt;
+            walk(rt.alloc(), text.as_slice(), modes.as_slice())?,
+            (deep, b'D')
+        );
+    }
+    Ok(())
+}
+
+// The bytes of the last token that is taken in these modes, as they are read.
+fn last(alloc: Global, text: &[u8], modes: &[u8]) -> Result<Bytes, NoMemory> {
+    let mut cursor = Cursor::new(alloc, text);
+    let mut last = Bytes::from_slice(alloc, b"")?;
+    for m in modes {
+        if let Some((kind, n)) = cursor.look(mode(*m)) {
+            if let Ok(taken) = cursor.take(kind, n) {
+                last = taken.bytes(alloc)?;
+            }
+        }
+    }
+    Ok(last)
+}
+
+#[test]
+fn reads_tokens(rt: HostRuntime) -> Result<(), Fail> {
+    let rows: [(&[u8], &[u8], &[u8]); 6] = [
+        (b"a\\\nb c", b"c", b"ab"),
+        (b"'a\\\nb'", b"c", b"'a\\\nb'"),
+        (b"\"a\\\nb\"", b"cq", b"ab"),
+        (b"cat <<-'X'\n\ta\n\t\tb\n\tX\n", b"cwadaB", b"a\nb\n"),
+        (b"cat <<-X\n\ta\n\t\tb\n\tX\n", b"cwadaBT", b"a\nb\n"),
+        (b"cat <<-X\n$(\"a\n\tb\")\nX\n", b"cwadaBTcq", b"a\nb"),
+    ];
+    for (text, modes, bytes) in rows {
+        let read = last(rt.alloc(), text, modes)?;
+        assert_eq!(rt; read.as_slice(), bytes);
+    }
     Ok(())
 }

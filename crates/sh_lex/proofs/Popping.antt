@@ -1,0 +1,36 @@
+-- The last of a list goes.
+use Rattle.std.proofs.Common.{◌≡◌, ◌<◌, ℕ, zero, suc, List, [], ◌∷◌, ◌++◌, Bool, true, false, Option, Some, None, refl, sym, ap, ◌∙◌, arith, length}
+use Rattle.std.specs.Prelude.{option_to_list, MatchOption, ◌+◌}
+use Rattle.sh_lex.specs.Steps.{popped, last_paren, last_around, or_false}
+use Rattle.sh_lex.specs.Places.{Around}
+
+popped_one : {A : Type 0} (xs : List A) (x : A) → popped (xs ++ x ∷ []) ≡ xs
+popped_one [] x = refl
+popped_one (y ∷ []) x = refl
+popped_one (y ∷ (z ∷ xs)) x = ap (λ xs. y ∷ xs) (popped_one (z ∷ xs) x)
+
+last_one : (xs : List Around) (x : Around) → last_around (xs ++ x ∷ []) ≡ Some x
+last_one [] x = refl
+last_one (y ∷ []) x = refl
+last_one (y ∷ (z ∷ xs)) x = last_one (z ∷ xs) x
+
+paren_one : (xs : List Bool) (x : Bool) → last_paren (xs ++ x ∷ []) ≡ x
+paren_one [] x = refl
+paren_one (y ∷ []) x = refl
+paren_one (y ∷ (z ∷ xs)) x = paren_one (z ∷ xs) x
+
+nil : {A : Type 0} (xs : List A) → length xs ≡ 0 → xs ≡ []
+nil [] h = refl
+nil (x ∷ xs) h = cc
+
+pub pops : {A : Type 0} (xs ys : List A) (m n : ℕ) (o : Option A) → n ≡ length xs → m ≡ length ys → xs ≡ ys ++ option_to_list o → MatchOption o ((n ≡ 0) × (m ≡ 0)) (λ _. m + 1 ≡ n) → ys ≡ popped xs
+pops xs ys m n None i j e c = nil ys (sym j ∙ c.1) ∙ ap popped (sym (nil xs (sym i ∙ c.0)))
+pops xs ys m n (Some x) i j e c = sym (popped_one ys x) ∙ ap popped (sym e)
+
+pub lasts : (xs ys : List Around) (m n : ℕ) (o : Option Around) → n ≡ length xs → m ≡ length ys → xs ≡ ys ++ option_to_list o → MatchOption o ((n ≡ 0) × (m ≡ 0)) (λ _. m + 1 ≡ n) → o ≡ last_around xs
+lasts xs ys m n None i j e c = ap last_around (sym (nil xs (sym i ∙ c.0)))
+lasts xs ys m n (Some x) i j e c = sym (last_one ys x) ∙ ap last_around (sym e)
+
+pub parens : (xs ys : List Bool) (m n : ℕ) (o : Option Bool) → n ≡ length xs → m ≡ length ys → xs ≡ ys ++ option_to_list o → MatchOption o ((n ≡ 0) × (m ≡ 0)) (λ _. m + 1 ≡ n) → or_false o ≡ last_paren xs
+parens xs ys m n None i j e c = ap last_paren (sym (nil xs (sym i ∙ c.0)))
+parens xs ys m n (Some x) i j e c = sym (paren_one ys x) ∙ ap last_paren (sym e)

@@ -1,0 +1,9 @@
+use Rattle.std.proofs.Common.{◌≡◌, suc, ◌+◌, ap, ◌∙◌, arith}
+use Rattle.sh_lex.specs.Bytes.{class_is}
+use Rattle.sh_lex.specs.Folded.{folded, run, run_on}
+use Rattle.sh_lex.proofs.folded.run_on.Goals as goal
+
+pub returns : goal.returns
+returns c =
+    let e = c.run.ensures.count ∙ ap (λ xs. run (class_is c.args.class) xs) c.rest-behind.ensures.read in
+    omega (arith, e)

@@ -1,0 +1,148 @@
+// The cursor: which token stands where it is.
+ghost use Rattle.std.specs.Prelude.{◌≡◌, ◌≤◌, nat_lt, length, take as first_bytes, ◌+◌, Some, IfSome};
+ghost use Rattle.sh_lex.specs.Bytes.{◌also◌, not_so};
+ghost use Rattle.sh_lex.specs.Places.{begin, begin_at};
+ghost use Rattle.sh_rules.specs.LookAhead.{mode_of as mode_lem};
+ghost use Rattle.sh_lex.specs.Lexemes.{look as look_lem};
+ghost use Rattle.sh_lex.specs.Steps.{drops as drops_lem, next_drops as next_lem, opens_level as opens_lem};
+ghost use Rattle.sh_lex.specs.Takes.{Takes};
+
+use crate::blanks::past_blanks;
+use crate::effect::{Effect, effect_of, opens_level, takes_body};
+use crate::front::front_of;
+use crate::kinds::is_raw;
+use crate::lexeme::measured;
+use crate::place::{Cursor, Words};
+use crate::queue::Queue;
+use crate::recognizer::tried;
+use crate::taken::Taken;
+use rk_base::NoMemory;
+use sh_rules::{Kind, Mode};
+use std::alloc::{AllocFailed, Global};
+
+/// Why no token is taken: memory ran out, or it opens one level too many.
+#[derive(Clone, Copy)]
+pub enum Stop {
+    Memory,
+    Deep,
+}
+
+impl From<NoMemory> for Stop {
+    fn from(_: NoMemory) -> Stop {
+        Stop::Memory
+    }
+}
+
+impl<T: Drop> From<AllocFailed<T>> for Stop {
+    fn from(_: AllocFailed<T>) -> Stop {
+        Stop::Memory
+    }
+}
+
+impl<'a> Cursor<'a> {
+    /// At a text's beginning, where a script begins.
+    pub fn new(alloc: Global, text: &'a [u8]) -> Cursor<'a>
+        ensures { result ≡ begin text.now }
+    {
+        Cursor::from(alloc, text, 0)
+    }
+
+    /// At a byte of a text, as if a script began there.
+    pub(crate) fn from(alloc: Global, text: &'a [u8], at: usize) -> Cursor<'a>
+        requires { at ≤ length text.now }
+        ensures begins { result ≡ begin_at at text.now }
+        ensures whole { result.at + length result.text ≡ length text.now }
+    {
+        let rest = past_blanks(text.split_at(at).1);
+        Cursor {
+            alloc,
+            text: rest,
+            at: text.len() - rest.len(),
+            words: Words::All,
+            levels: 0,
+            opened: Vec::new(alloc),
+            parens: Vec::new(alloc),
+            awaited: Queue::new(alloc),
+            in_bodies: false,
+            due: false,
+            operator: 0,
+            dashed: false,
+            tabs: false,
+            around: Vec::new(alloc),
+        }
+    }
+
+    /// The kind of the token that stands here in a mode, and how many bytes of the text it has.
+    #[tactic(auto, unfolding(crate::specs::Lexemes::look))]
+    pub fn look(&self, mode: Mode) -> Option<(Kind, usize)>
+        ensures found { result ≡ look_lem mode self.now }
+        ensures within { IfSome result (λ x. x.1 ≤ length self.now.text) }
+    {
+        let front = front_of(self.words, self.text);
+        measured(
+            tried(mode, front),
+            self.is_whole(),
+            self.is_closed(),
+            self.words,
+            &self.awaited,
+            self.text,
+        )
+    }
+    // Whether the tabs at the beginning of lines are dropped from a token.
+    fn drops(&self, effect: Effect) -> bool
+        ensures { result ≡ drops_lem effect self.now }
+    {
+        if takes_body(effect) {
+            next_drops(self.awaited.next())
+        } else {
+            self.tabs
+        }
+    }
+
+    // The first bytes of what is left.
+    fn front_bytes(&self, n: usize) -> &'a [u8]
+        requires { n ≤ length self.now.text }
+        ensures { result.now ≡ first_bytes n self.now.text }
+    {
+        self.text.split_at(n).0
+    }
+
+    /// Takes the token of a kind that stands here, of so many bytes, as `look` told them.
+    #[tactic(auto, unfolding(crate::specs::Steps::over, crate::specs::Takes::Takes))]
+    pub fn take(&mut self, kind: Kind, length: usize) -> Result<Taken<'a>, Stop>
+        requires { look_lem (mode_lem kind) self.old ≡ Some (kind, length) }
+        ensures { Takes kind length self.old self.new result }
+    {
+        let effect = effect_of(kind);
+        if is_over(effect, self.levels) {
+            return Err(Stop::Deep);
+        }
+        let text = self.front_bytes(length);
+        let tabs = self.drops(effect);
+        match self.step(effect, length) {
+            Err(_) => Err(Stop::Memory),
+            Ok(()) => Ok(Taken {
+                text,
+                raw: is_raw(kind),
+                tabs,
+                begins: takes_body(effect),
+            }),
+        }
+    }
+}
+
+// A token with an effect opens a level too many.
+fn is_over(effect: Effect, levels: usize) -> bool
+    ensures { result ≡ (opens_lem effect also not_so (nat_lt levels 64)) }
+{
+    opens_level(effect) && levels >= 64
+}
+
+fn next_drops(next: Option<(bool, usize, bool)>) -> bool
+    ensures { result ≡ next_lem next }
+{
+    match next {
+        None => false,
+        Some((_, _, tabs)) => tabs,
+    }
+}

@@ -1,0 +1,191 @@
+// Which token stands at a place.
+ghost use Rattle.std.specs.Prelude.{◌≡◌, ◌≤◌, length, false, IfSome};
+ghost use Rattle.sh_lex.specs.Bytes.{is_tab};
+ghost use Rattle.sh_lex.specs.Folded.{folded, run as run_lem};
+ghost use Rattle.sh_lex.specs.Lexemes as lem;
+
+use crate::body::body;
+use crate::bytes::Class;
+use crate::commands::{
+    argument_word, assignment, case_in, command_word, name_look, prefix_word, redirection, text_of,
+};
+use crate::delimiter::walk;
+use crate::expansions::dollar;
+use crate::folded::{byte, run, run_on, skip};
+use crate::kinds::is_raw;
+use crate::operators::operator;
+use crate::place::{HereDocument, Words};
+use crate::queue::Queue;
+use crate::quotes::{escape, raw_byte, single};
+use crate::recognizer::Recognizer;
+use crate::reserved::closer;
+use crate::words::{backslash, is_quotable, is_quotable_in_body, is_quotable_in_braces};
+use sh_rules::Kind;
+
+type Look = Option<(Kind, usize)>;
+
+fn token_if(stands: bool, kind: Kind, n: usize) -> Look
+    ensures { result ≡ lem.token_if stands kind n }
+{
+    if stands { Some((kind, n)) } else { None }
+}
+
+fn delimiter_look(text: &[u8]) -> Look
+    ensures { result ≡ lem.delimiter_look text.now }
+{
+    let (count, ends) = walk(text);
+    if ends && count > 0 {
+        Some((Kind::Delimiter, count))
+    } else {
+        None
+    }
+}
+
+fn body_found(literal: bool, found: Option<usize>) -> Look
+    ensures { result ≡ lem.body_found literal found }
+{
+    match found {
+        None => None,
+        Some(n) => {
+            if literal {
+                Some((Kind::LiteralBody, n))
+            } else {
+                Some((Kind::BodyOpen, n))
+            }
+        }
+    }
+}
+
+fn body_look(document: &HereDocument, text: &[u8]) -> Look
+    ensures { result ≡ lem.body_look document.now text.now }
+{
+    body_found(document.quoted, body(document, text))
+}
+
+fn bodies_look(awaited: &Queue, text: &[u8]) -> Look
+    ensures { result ≡ lem.bodies_look awaited.now text.now }
+{
+    match awaited.left() {
+        [] => Some((Kind::NoBody, 0)),
+        [document, ..] => body_look(document, text),
+    }
+}
+
+fn operator_look(text: &[u8]) -> Look
+    ensures { result ≡ lem.operator_look (folded text.now) }
+{
+    operator(byte(text, 0), byte(text, 1))
+}
+
+fn pattern_bar(text: &[u8]) -> Look
+    ensures { result ≡ lem.pattern_bar (folded text.now) }
+{
+    token_if(byte(text, 1) != b'|', Kind::PatternBar, 1)
+}
+
+// What a recognizer finds, and how many bytes it has, as the text is read or as it stands.
+#[tactic(auto, unfolding(crate::specs::Lexemes::recognized))]
+fn recognized(
+    recognizer: Recognizer,
+    whole: bool,
+    closed: bool,
+    words: Words,
+    awaited: &Queue,
+    text: &[u8],
+) -> Look
+    ensures { result ≡ lem.recognized recognizer whole closed words awaited.now text.now }
+{
+    match recognizer {
+        Recognizer::Nothing => None,
+        Recognizer::AtEnd => token_if(whole, Kind::End, 0),
+        Recognizer::Newline => Some((Kind::Newline, 1)),
+        Recognizer::Operator => operator_look(text),
+        Recognizer::Redirects => redirection(text),
+        Recognizer::LeftParen => Some((Kind::LeftParen, 1)),
+        Recognizer::Escape => escape(text),
+        Recognizer::Single => single(text),
+        Recognizer::QuoteOpen => Some((Kind::QuoteOpen, 1)),
+        Recognizer::Expands => dollar(Kind::Brace, text),
+        Recognizer::ExpandsQuoted => dollar(Kind::QuotedBrace, text),
+        Recognizer::Closer => closer(text),
+        Recognizer::Esac => Some((Kind::Esac, 4)),
+        Recognizer::Assignment => assignment(text),
+        Recognizer::CommandWord => command_word(words, text),
+        Recognizer::PrefixWord => prefix_word(text),
+        Recognizer::ArgumentWord => argument_word(words, text),
+        Recognizer::PatternOpen => Some((Kind::PatternOpen, 1)),
+        Recognizer::PatternText => text_of(Kind::PatternText, text),
+        Recognizer::CaseIn => case_in(text),
+        Recognizer::PatternClose => Some((Kind::PatternClose, 1)),
+        Recognizer::PatternBar => pattern_bar(text),
+        Recognizer::Bodies => bodies_look(awaited, text),
+        Recognizer::BodyClose => token_if(closed, Kind::BodyClose, 0),
+        Recognizer::BodyBackslash => {
+            let quotes = is_quotable_in_body(raw_byte(text, 1));
+            backslash(quotes, Kind::BodyEscape, Kind::BodyText)
+        }
+        Recognizer::BodyText => Some((Kind::BodyText, run_on(Class::BodyText, text))),
+        Recognizer::WordEnd => Some((Kind::WordEnd, 0)),
+        Recognizer::ValueText => text_of(Kind::ValueText, text),
+        Recognizer::Text => text_of(Kind::Text, text),
+        Recognizer::QuoteClose => Some((Kind::QuoteClose, 1)),
+        Recognizer::QuotedBackslash => {
+            let quotes = is_quotable(raw_byte(text, 1));
+            backslash(quotes, Kind::QuotedEscape, Kind::QuotedText)
+        }
+        Recognizer::QuotedText => Some((Kind::QuotedText, run_on(Class::QuotedText, text))),
+        Recognizer::BraceClose => Some((Kind::BraceClose, 1)),
+        Recognizer::BraceStartText => Some((Kind::BraceStartText, run_on(Class::BraceText, text))),
+        Recognizer::BraceText => Some((Kind::BraceText, run_on(Class::BraceText, text))),
+        Recognizer::QuotedBraceBackslash => {
+            let quotes = is_quotable_in_braces(raw_byte(text, 1));
+            backslash(quotes, Kind::QuotedBraceEscape, Kind::QuotedBraceText)
+        }
+        Recognizer::QuotedBraceText => {
+            Some((Kind::QuotedBraceText, run_on(Class::QuotedBraceText, text)))
+        }
+        Recognizer::Name => name_look(text),
+        Recognizer::FunctionOpen => Some((Kind::FunctionOpen, 1)),
+        Recognizer::FunctionClose => Some((Kind::FunctionClose, 1)),
+        Recognizer::Delimiter => delimiter_look(text),
+    }
+}
+
+/// How many bytes of a text a token has that is so long, as the text is read or as it stands.
+pub(crate) fn extent(raw: bool, n: usize, text: &[u8]) -> usize
+    ensures count { result ≡ lem.extent raw n text.now }
+    ensures within { result ≤ length text.now }
+{
+    if raw {
+        if n < text.len() { n } else { text.len() }
+    } else {
+        text.len() - skip(text, n).len()
+    }
+}
+
+/// How many bytes of a text are tabs in front.
+pub(crate) fn tabs_extent(text: &[u8]) -> usize
+    ensures count { result ≡ lem.extent false (run_lem is_tab (folded text.now)) text.now }
+    ensures within { result ≤ length text.now }
+{
+    let n = run(Class::Tab, text);
+    extent(false, n, text)
+}
+
+/// What a recognizer finds, and how many bytes of the text it has.
+pub(crate) fn measured(
+    recognizer: Recognizer,
+    whole: bool,
+    closed: bool,
+    words: Words,
+    awaited: &Queue,
+    text: &[u8],
+) -> Look
+    ensures found { result ≡ lem.measured text.now (lem.recognized recognizer whole closed words awaited.now text.now) }
+    ensures within { IfSome result (λ x. x.1 ≤ length text.now) }
+{
+    match recognized(recognizer, whole, closed, words, awaited, text) {
+        None => None,
+        Some((kind, n)) => Some((kind, extent(is_raw(kind), n, text))),
+    }
+}
