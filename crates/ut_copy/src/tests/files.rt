@@ -9,12 +9,11 @@ const SIXTY_FIVE: &[u8] = b"0123456789012345678901234567890123456789012345678901
 
 #[test]
 fn copies_files(rt: HostRuntime) -> Result<(), Fail> {
-    let absent = Reply::No(Errno::NoEntry);
     let rows: [(&[u8], &[Reply], &[u8], u64); 5] = [
         (
             b"cp a b",
             &[
-                absent,
+                Reply::No(Errno::NoEntry),
                 Reply::File(0o644),
                 Reply::Done,
                 Reply::Content(SIXTY_FOUR),
@@ -27,7 +26,7 @@ fn copies_files(rt: HostRuntime) -> Result<(), Fail> {
         (
             b"cp a b",
             &[
-                absent,
+                Reply::No(Errno::NoEntry),
                 Reply::File(0o755),
                 Reply::Done,
                 Reply::Content(SIXTY_FIVE),
@@ -49,7 +48,7 @@ fn copies_files(rt: HostRuntime) -> Result<(), Fail> {
                 Reply::Content(b""),
                 Reply::Done,
                 Reply::File(0o700),
-                absent,
+                Reply::No(Errno::NoEntry),
                 Reply::Done,
                 Reply::Content(b"x"),
                 Reply::Done,
@@ -72,7 +71,7 @@ fn copies_files(rt: HostRuntime) -> Result<(), Fail> {
         ),
         (
             b"cp d b",
-            &[absent, Reply::Dir(0o755), Reply::Done],
+            &[Reply::No(Errno::NoEntry), Reply::Dir(0o755), Reply::Done],
             b"stat /w/b;stat /w/d;cp: d: is a directory\n1",
             4,
         ),
@@ -83,50 +82,89 @@ fn copies_files(rt: HostRuntime) -> Result<(), Fail> {
 
 #[test]
 fn tells_refusals(rt: HostRuntime) -> Result<(), Fail> {
-    let no = Reply::No(Errno::Denied);
-    let yes = Reply::Done;
-    let absent = Reply::No(Errno::NoEntry);
-    let file = Reply::File(0o700);
     let rows: [(&[u8], &[Reply], &[u8], u64); 7] = [
         (
             b"cp a b",
-            &[absent, no, yes],
+            &[
+                Reply::No(Errno::NoEntry),
+                Reply::No(Errno::Denied),
+                Reply::Done,
+            ],
             b"stat /w/b;stat /w/a;cp: a: denied\n1",
             4,
         ),
         (
             b"cp a b",
-            &[file, file, no, yes],
+            &[
+                Reply::File(0o700),
+                Reply::File(0o700),
+                Reply::No(Errno::Denied),
+                Reply::Done,
+            ],
             b"stat /w/b;stat /w/a;same /w/a /w/b;cp: a: denied\n1",
             5,
         ),
         (
             b"cp a b",
-            &[absent, file, no, yes],
+            &[
+                Reply::No(Errno::NoEntry),
+                Reply::File(0o700),
+                Reply::No(Errno::Denied),
+                Reply::Done,
+            ],
             b"stat /w/b;stat /w/a;open /w/a;cp: a: denied\n1",
             5,
         ),
         (
             b"cp a b",
-            &[absent, file, yes, no, yes],
+            &[
+                Reply::No(Errno::NoEntry),
+                Reply::File(0o700),
+                Reply::Done,
+                Reply::No(Errno::Denied),
+                Reply::Done,
+            ],
             b"stat /w/b;stat /w/a;open /w/a;read 10;cp: a: denied\n1",
             6,
         ),
         (
             b"cp a b",
-            &[absent, file, yes, Reply::Content(b"x"), no, yes],
+            &[
+                Reply::No(Errno::NoEntry),
+                Reply::File(0o700),
+                Reply::Done,
+                Reply::Content(b"x"),
+                Reply::No(Errno::Denied),
+                Reply::Done,
+            ],
             b"stat /w/b;stat /w/a;open /w/a;read 10;make /w/b;cp: b: denied\n1",
             7,
         ),
         (
             b"cp a b",
-            &[absent, file, yes, Reply::Content(b"x"), yes, no, yes],
+            &[
+                Reply::No(Errno::NoEntry),
+                Reply::File(0o700),
+                Reply::Done,
+                Reply::Content(b"x"),
+                Reply::Done,
+                Reply::No(Errno::Denied),
+                Reply::Done,
+            ],
             b"stat /w/b;stat /w/a;open /w/a;read 10;make /w/b;write 11 x;cp: b: denied\n1",
             9,
         ),
         (
             b"cp a b",
-            &[absent, file, yes, Reply::Content(b""), yes, no, yes],
+            &[
+                Reply::No(Errno::NoEntry),
+                Reply::File(0o700),
+                Reply::Done,
+                Reply::Content(b""),
+                Reply::Done,
+                Reply::No(Errno::Denied),
+                Reply::Done,
+            ],
             b"stat /w/b;stat /w/a;open /w/a;read 10;make /w/b;chmod /w/b 700;cp: b: denied\n1",
             8,
         ),

@@ -5,23 +5,22 @@ use std::test::Fail;
 
 #[test]
 fn copies_trees(rt: HostRuntime) -> Result<(), Fail> {
-    let absent = Reply::No(Errno::NoEntry);
     let rows: [(&[u8], &[Reply], &[u8], u64); 3] = [
         (
             b"cp -R p q",
             &[
-                absent,
+                Reply::No(Errno::NoEntry),
                 Reply::Dir(0o700),
                 Reply::Place(b"/w/p"),
                 Reply::Place(b"/w"),
                 Reply::Names(&[b"d", b"l"]),
                 Reply::Done,
                 Reply::Dir(0o755),
-                absent,
+                Reply::No(Errno::NoEntry),
                 Reply::Names(&[]),
                 Reply::Done,
                 Reply::Link,
-                absent,
+                Reply::No(Errno::NoEntry),
                 Reply::Text(b"../x"),
                 Reply::No(Errno::Exists),
                 Reply::Done,
@@ -35,7 +34,7 @@ fn copies_trees(rt: HostRuntime) -> Result<(), Fail> {
             &[
                 Reply::Dir(0o755),
                 Reply::Dir(0o755),
-                absent,
+                Reply::No(Errno::NoEntry),
                 Reply::Place(b"/w/d"),
                 Reply::Place(b"/w/d/e"),
                 Reply::Done,
@@ -64,47 +63,80 @@ fn copies_trees(rt: HostRuntime) -> Result<(), Fail> {
 
 #[test]
 fn tells_refusals_in_trees(rt: HostRuntime) -> Result<(), Fail> {
-    let no = Reply::No(Errno::Denied);
-    let yes = Reply::Done;
-    let absent = Reply::No(Errno::NoEntry);
-    let dir = Reply::Dir(0o700);
-    let at = Reply::Place(b"/w/p");
-    let to = Reply::Place(b"/w");
-    let none = Reply::Names(&[]);
     let rows: [(&[u8], &[Reply], &[u8], u64); 6] = [
         (
             b"cp -R p q",
-            &[absent, dir, no, yes],
+            &[
+                Reply::No(Errno::NoEntry),
+                Reply::Dir(0o700),
+                Reply::No(Errno::Denied),
+                Reply::Done,
+            ],
             b"stat /w/q;lstat /w/p;walk /w/p;cp: p: denied\n1",
             5,
         ),
         (
             b"cp -R p q",
-            &[absent, dir, at, no, yes],
+            &[
+                Reply::No(Errno::NoEntry),
+                Reply::Dir(0o700),
+                Reply::Place(b"/w/p"),
+                Reply::No(Errno::Denied),
+                Reply::Done,
+            ],
             b"stat /w/q;lstat /w/p;walk /w/p;walk /w;cp: q: denied\n1",
             6,
         ),
         (
             b"cp -R p q",
-            &[absent, dir, at, to, no, yes],
+            &[
+                Reply::No(Errno::NoEntry),
+                Reply::Dir(0o700),
+                Reply::Place(b"/w/p"),
+                Reply::Place(b"/w"),
+                Reply::No(Errno::Denied),
+                Reply::Done,
+            ],
             b"stat /w/q;lstat /w/p;walk /w/p;walk /w;list /w/p;cp: p: denied\n1",
             7,
         ),
         (
             b"cp -R p q",
-            &[absent, dir, at, to, none, no, yes],
+            &[
+                Reply::No(Errno::NoEntry),
+                Reply::Dir(0o700),
+                Reply::Place(b"/w/p"),
+                Reply::Place(b"/w"),
+                Reply::Names(&[]),
+                Reply::No(Errno::Denied),
+                Reply::Done,
+            ],
             b"stat /w/q;lstat /w/p;walk /w/p;walk /w;list /w/p;mkdir /w/q 755;cp: q: denied\n1",
             8,
         ),
         (
             b"cp -R p q",
-            &[absent, dir, at, to, none, yes, no, yes],
+            &[
+                Reply::No(Errno::NoEntry),
+                Reply::Dir(0o700),
+                Reply::Place(b"/w/p"),
+                Reply::Place(b"/w"),
+                Reply::Names(&[]),
+                Reply::Done,
+                Reply::No(Errno::Denied),
+                Reply::Done,
+            ],
             b"stat /w/q;lstat /w/p;walk /w/p;walk /w;list /w/p;mkdir /w/q 755;chmod /w/q 700;cp: q: denied\n1",
             9,
         ),
         (
             b"cp -R l q",
-            &[absent, Reply::Link, no, yes],
+            &[
+                Reply::No(Errno::NoEntry),
+                Reply::Link,
+                Reply::No(Errno::Denied),
+                Reply::Done,
+            ],
             b"stat /w/q;lstat /w/l;readlink /w/l;cp: l: denied\n1",
             5,
         ),
