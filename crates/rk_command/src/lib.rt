@@ -10,6 +10,3 @@ mod shell;
 
 pub use command::Command;
 pub use commands::Commands;
-
-#[cfg(test)]
-mod tests;

@@ -162,7 +162,7 @@ abbrev dollars : Kind → List ℕ
 dollars brace = 54 ∷ 55 ∷ 56 ∷ 57 ∷ 58 ∷ number brace ∷ []
 
 of_brace : (brace : Kind) (n : ℕ) → HasBrace (dollars brace) brace → 1 ≤ n → Of (dollars brace) (token brace n)
-of_brace brace n h one = (h.0, subst (λ b. Wide b n) (sym h.1) one)
+of_brace _ n h one = (h.0, subst (λ b. Wide b n) (sym h.1) one)
 
 of_operation : (brace : Kind) (n c d : ℕ) → HasBrace (dollars brace) brace → Of (dollars brace) (operation brace n c d)
 of_operation brace n c d h =

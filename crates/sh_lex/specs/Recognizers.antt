@@ -57,21 +57,21 @@ break_among paren br.CloseParen = r.Operator
 
 -- and by what a word and an assignment are
 abbrev pub plain_among : Recognizer → Recognizer → p.Plain → Recognizer
-plain_among word named pl.RightBrace = r.Closer
-plain_among word named pl.CloseBrace = word
-plain_among word named pl.Esac = r.Esac
-plain_among word named pl.Closer = r.Closer
-plain_among word named pl.Assignment = named
-plain_among word named pl.Numbered = r.Redirects
-plain_among word named pl.Text = word
+plain_among word where_named pl.RightBrace = r.Closer
+plain_among word where_named pl.CloseBrace = word
+plain_among word where_named pl.Esac = r.Esac
+plain_among word where_named pl.Closer = r.Closer
+plain_among word where_named pl.Assignment = where_named
+plain_among word where_named pl.Numbered = r.Redirects
+plain_among word where_named pl.Text = word
 
 abbrev pub among : Recognizer → Recognizer → Recognizer → Front → Recognizer
-among paren word named f.End = r.AtEnd
-among paren word named f.Nul = r.Nothing
-among paren word named (f.Break x) = break_among paren x
-among paren word named (f.Quote x) = unquoted x
-among paren word named f.Tilde = r.Nothing
-among paren word named (f.Plain x) = plain_among word named x
+among paren word where_named f.End = r.AtEnd
+among paren word where_named f.Nul = r.Nothing
+among paren word where_named (f.Break x) = break_among paren x
+among paren word where_named (f.Quote x) = unquoted x
+among paren word where_named f.Tilde = r.Nothing
+among paren word where_named (f.Plain x) = plain_among word where_named x
 
 -- where an item of a case begins (XCU 2.9.4)
 abbrev pub break_of_item : b.Break → Recognizer
