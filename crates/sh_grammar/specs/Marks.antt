@@ -1,6 +1,6 @@
 -- A parse tree, mark by mark: each rule in front of what its symbols are.
 use Rattle.std.specs.Prelude.{ℕ, List, [], ◌∷◌, ◌++◌}
-use Rattle.sh_table.specs.Grammar.{Parse, Leaf, Node, Parses, no_parses, parse_and}
+use Rattle.sh_rules.specs.Grammar.{Parse, Leaf, Node, Parses, no_parses, parse_and}
 use Rattle.sh_rules.specs.Rules.{Rule, Token}
 use Rattle.sh_grammar.specs.Named.{rule_named}
 use Rattle.sh_grammar.specs.declared.mark.Mark as d

@@ -1,5 +1,5 @@
 -- Parts, rules and symbols by their names in the grammar.
-use Rattle.sh_table.specs.Grammar.{Symbol, Want, Do}
+use Rattle.sh_rules.specs.Grammar.{Symbol, Want, Do}
 use Rattle.sh_rules.specs.declared.kind.Kind.{Kind}
 use Rattle.sh_rules.specs.Parts as p
 use Rattle.sh_rules.specs.Rules as r

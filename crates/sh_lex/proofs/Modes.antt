@@ -2,8 +2,8 @@
 use Rattle.std.proofs.Common.{◌≡◌, ℕ, zero, suc, ◌+◌, List, [], ◌∷◌, Bool, true, false, Option, Some, None, refl, sym, ap, ◌∙◌, subst, ◌⊎◌, inl, inr}
 use Rattle.std.specs.Prelude.{nat_eq, if◌then◌else◌, ◌==◌, slice_index, drop}
 use Rattle.std.proofs.lemmas.Bool.{eqb-true}
-use Rattle.sh_table.specs.Reading.{Stands}
-use Rattle.sh_table.specs.Checked.{ModesAgree}
+use Rattle.sh_rules.specs.Reading.{Stands}
+use Rattle.sh_rules.specs.Checked.{ModesAgree}
 use Rattle.sh_rules.specs.declared.kind.Kind.{Kind}
 use Rattle.sh_rules.specs.declared.kind.Mode.{Mode}
 use Rattle.sh_rules.specs.declared.kind.Kind.TheVariants as k

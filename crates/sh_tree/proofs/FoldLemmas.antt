@@ -1,7 +1,7 @@
 -- A tree's value is that of its marks.
 use Rattle.std.proofs.Common.{◌≡◌, List, [], ◌∷◌, ◌++◌, refl, sym, ap, ◌∙◌}
 use Rattle.sh_ast.specs.Commands.{commands_of}
-use Rattle.sh_table.specs.Grammar.{Parse, Leaf, Node, Parses, no_parses, parse_and}
+use Rattle.sh_rules.specs.Grammar.{Parse, Leaf, Node, Parses, no_parses, parse_and}
 use Rattle.sh_rules.specs.Rules.{Rule, Token}
 use Rattle.sh_grammar.specs.Marks.{Mark, node, leaf, flat, flat_all}
 use Rattle.sh_tree.specs.Values.{token, commands_in}

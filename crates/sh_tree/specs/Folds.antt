@@ -1,7 +1,7 @@
 -- The value of a parse tree: of each node, after all that stands behind it in the text, what its rule makes of the values of its symbols.
 use Rattle.std.specs.Prelude.{List, [], ◌∷◌}
 use Rattle.sh_ast.specs.Commands.{CommandsTree, commands_of}
-use Rattle.sh_table.specs.Grammar.{Parse, Leaf, Node, Parses, no_parses, parse_and}
+use Rattle.sh_rules.specs.Grammar.{Parse, Leaf, Node, Parses, no_parses, parse_and}
 use Rattle.sh_rules.specs.Rules.{Rule, Token}
 use Rattle.sh_grammar.specs.Marks.{Mark, node, leaf}
 use Rattle.sh_tree.specs.Values.{token, commands_in}
