@@ -1,10 +1,10 @@
 // Lists of names.
-ghost use Rattle.std.specs.Prelude.{◌≡◌, ◌↔◌, IsTrue, IfOk, Some, None, true, length, if◌then◌else◌};
+ghost use Rattle.std.specs.Prelude.{◌≡◌, ◌↔◌, ◌&&◌, IsTrue, IfOk, Some, None, true, length, if◌then◌else◌};
 ghost use Rattle.std.specs.List.{list_all};
 ghost use Rattle.std.specs.Ordering.{is_lt};
 ghost use Rattle.rk_base.specs.Text.{text_cmp};
 ghost use Rattle.rk_base.specs.Canonical.{is_name};
-ghost use Rattle.rk_base.specs.Names.{ascend, ascend_from, are_names};
+ghost use Rattle.rk_base.specs.Names.{ascend_from, are_names};
 
 use crate::{Name, NoMemory};
 use std::cmp::Ordering;
@@ -27,17 +27,19 @@ impl Model for NameList {
     ghost invariant = { λ n. are_names n.names.items ≡ true };
 }
 
-fn is_below(a: &Name, b: &Name) -> bool
+fn is_below(a: &[u8], b: &[u8]) -> bool
     ensures { result ≡ is_lt (text_cmp a.now b.now) }
 {
-    matches!(a.as_slice().cmp(b.as_slice()), Ordering::Less)
+    matches!(a.cmp(b), Ordering::Less)
 }
 
-fn ascends_from(first: &Name, names: &[Name]) -> bool
-    ensures { result ≡ ascend_from first.now names.now }
+// Names by their type; whether they ascend from a text on.
+fn ascends_from(first: &[u8], names: &[Name]) -> bool
+    ensures { result ≡ (list_all is_name names.now && ascend_from first.now names.now) }
 {
     let mut last = first;
     'names: for name in names {
+        let name = name.as_slice();
         if !is_below(last, name) {
             return false;
         }
@@ -46,30 +48,14 @@ fn ascends_from(first: &Name, names: &[Name]) -> bool
     true
 }
 
-fn ascends(names: &[Name]) -> bool
-    ensures { result ≡ ascend names.now }
-{
-    match names {
-        [] => true,
-        [name, rest @ ..] => ascends_from(name, rest),
-    }
-}
-
-// Each is a name, by its type.
-fn all_names(names: &[Name])
-    ensures { list_all is_name names.now ≡ true }
-{
-    'names: for name in names {
-        let _bytes = name.as_slice();
-    }
-}
-
 #[tactic(auto, unfolding(crate::specs::Names::are_names))]
 fn are_names(names: &[Name]) -> bool
     ensures { result ≡ are_names names.now }
 {
-    all_names(names);
-    ascends(names)
+    match names {
+        [] => true,
+        [first, rest @ ..] => ascends_from(first.as_slice(), rest),
+    }
 }
 
 impl NameList {

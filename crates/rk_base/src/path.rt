@@ -98,6 +98,8 @@ impl Path {
     /// The path of a name in this directory.
     pub fn join(&self, alloc: Global, name: &Name) -> Result<Path, NoMemory>
         ensures path { IfOk result (λ p. p ≡ join self.now name.now) }
+        ensures dir { is_canonical self.now ≡ true }
+        ensures name { is_name name.now ≡ true }
         ensures deeper { depth (join self.now name.now) ≡ depth self.now + 1 }
     {
         let text = join(alloc, self.text.as_slice(), name.as_slice())?;
@@ -187,8 +189,10 @@ impl Path {
         self.text.same(&other.text)
     }
 
+    /// The same path again.
     pub fn copy(&self) -> Result<Path, NoMemory>
-        ensures { IfOk result (λ p. p ≡ self.now) }
+        ensures copy { IfOk result (λ p. p ≡ self.now) }
+        ensures canonical { is_canonical self.now ≡ true }
     {
         let text = self.text.copy()?;
         Ok(Path { text })

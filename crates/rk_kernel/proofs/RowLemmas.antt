@@ -1,5 +1,5 @@
 -- What the tree refuses at a place is what the rows say.
-use Rattle.std.proofs.Common.{◌≡◌, ℕ, List, [], ◌∷◌, ◌++◌, Bool, true, false, cond, not, ◌&&◌, Option, Some, None, Result, Ok, Err, length, refl, sym, ap, subst, ◌∙◌, eqb}
+use Rattle.std.proofs.Common.{◌≡◌, ℕ, List, [], ◌∷◌, ◌++◌, Bool, true, false, cond, not, ◌&&◌, Option, Some, None, length, refl, sym, ap, ◌∙◌, eqb}
 use Rattle.std.specs.Prelude.{nat_lt}
 use Rattle.rk_base.specs.Text.{Text, join}
 use Rattle.rk_base.specs.declared.errno.Errno.{Errno}
@@ -8,7 +8,7 @@ use Rattle.rk_calls.specs.Given.{Given}
 use Rattle.rk_calls.specs.Refs.{RefsHeld}
 use Rattle.rk_tree.specs.Entries.{is_dir}
 use Rattle.rk_tree.specs.Hierarchy.{Hierarchy, added, node, child, is_same, moved_paths, path_of, renamed, with_path}
-use Rattle.rk_tree.specs.Refusals.{first_of, entry_checks, mode_checks, is_there, has_names, lacks_w, goes_below, over_checks, rename_checks, rename_found, add_refusal, link_refusal, remove_refusal, remove_found, rename_refusal, mode_refusal}
+use Rattle.rk_tree.specs.Refusals.{first_of, entry_checks, mode_checks, is_there, has_names, lacks_w, goes_below, rename_checks, rename_found, add_refusal, link_refusal, remove_refusal, remove_found, rename_refusal, mode_refusal}
 use Rattle.rk_tree.specs.Node.{Node, File, Dir, Link}
 use Rattle.rk_calls.specs.declared.call.How.{How}
 use Rattle.rk_kernel.specs.Opening.{is_read, open_at, opened}

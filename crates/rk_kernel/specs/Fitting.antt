@@ -1,10 +1,10 @@
 -- The world's answers fit their calls.
-use Rattle.std.proofs.Common.{◌≡◌, ℕ, ◌%◌, List, [], ◌∷◌, length, Bool, true, false, cond, not, ◌||◌, Option, Some, None, Result, Ok, Err, refl, arith}
+use Rattle.std.proofs.Common.{◌≡◌, ℕ, ◌%◌, List, [], ◌∷◌, length, Bool, true, false, cond, not, ◌||◌, Option, Some, None, Ok, Err, refl, arith}
 use Rattle.std.proofs.lemmas.Bool.{le-leb}
 use Rattle.std.specs.Prelude.{slice_get, nat_le, nat_lt}
 use Rattle.rk_base.specs.Text.{Text}
 use Rattle.rk_base.specs.declared.errno.Errno.{Errno}
-use Rattle.rk_base.specs.declared.errno.Errno.TheVariants.{NoEntry, NotDir, IsDir, Denied, BadRef, Invalid}
+use Rattle.rk_base.specs.declared.errno.Errno.TheVariants.{NoEntry, IsDir, Denied, BadRef, Invalid}
 use Rattle.rk_tree.specs.Hierarchy.{node, mode_of, added, text_of}
 use Rattle.rk_tree.specs.Entries.{is_dir}
 use Rattle.rk_tree.specs.Refusals.{lacks_w}

@@ -11,7 +11,7 @@ use Rattle.rk_calls.specs.Refs.{RefsHeld, with_opened}
 use Rattle.rk_tree.specs.Entries.{is_dir}
 use Rattle.rk_tree.specs.Hierarchy.{Hierarchy, node, mode_of, has_r, has_w, added, set_bytes}
 use Rattle.rk_tree.specs.Refusals.{add_refusal, lacks_w}
-use Rattle.rk_tree.specs.Node.{Node, File}
+use Rattle.rk_tree.specs.Node.{File}
 use Rattle.rk_walk.specs.declared.place.Place.{Place}
 use Rattle.rk_walk.specs.declared.place.Place.TheVariants.{Found, Absent}
 use Rattle.rk_kernel.specs.World.{World, with_tree, with_open}

@@ -66,15 +66,6 @@ impl World {
         })
     }
 
-    /// The tree. It is whole, whatever was asked.
-    pub fn tree(&self) -> &Tree
-        ensures tree { result.now ≡ self.now.tree }
-        ensures whole { IsWhole self.now.tree }
-    {
-        let _root = self.tree.root();
-        &self.tree
-    }
-
     /// What was written to the output.
     pub fn out(&self) -> &[u8]
         ensures { result.now ≡ self.now.out }
@@ -89,8 +80,9 @@ impl World {
         self.err.as_slice()
     }
 
-    /// Each path of the tree with what stands there. It is whole.
+    /// Each path of the tree with what stands there. The tree is whole, whatever was asked, and so is what it shows.
     pub fn snapshot(&self) -> Result<Snapshot, NoMemory>
+        ensures tree { IsWhole self.now.tree }
         ensures snapshot { IfOk result (λ s. s ≡ snapshot_of self.now.tree) }
         ensures whole { IfOk result IsWholeSnapshot }
     {

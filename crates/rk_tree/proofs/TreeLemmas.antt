@@ -46,9 +46,13 @@ pub tree_same : (old new : List Inode) (tree : Hierarchy) → new ≡ old → Is
 tree_same old new tree same t = subst (λ (ns : List Inode). IsTree ns tree) (sym same) t
 
 -- what is shown after a change that may fail
-pub shown_either : {A E : Type 0} (r : Result A E) (old new after : List Inode) (tree then : Hierarchy) → OnOk r (new ≡ after) → OnErr r (new ≡ old) → IsTree old tree → IsTree after then → Shown new
+pub shown_either : {A E : Type 0} (r : Result A E) (old new after : List Inode) (tree then : Hierarchy) → OnOk r (new ≡ after) → OnErr r (new ≡ old) → IsTree old tree → OnOk r (IsTree after then) → Shown new
 shown_either (Ok x) old new after tree then ok err t u = shown_by new then (tree_same after new then ok u)
 shown_either (Err e) old new after tree then ok err t u = shown_by new tree (tree_same old new tree err t)
+
+pub on_ok : {A E B C : Type 0} (r : Result A E) → (B → C) → OnOk r B → OnOk r C
+on_ok (Ok x) f b = f b
+on_ok (Err e) f b = b
 
 -- or after a node was pushed, if there was room
 pub pushed_either : {A E : Type 0} (r : Result A E) (old new : List Inode) (it known : Inode) (tree then : Hierarchy) → new ≡ cond (is_ok r) (old ++ it ∷ []) old → it ≡ known → IsTree old tree → IsTree (old ++ known ∷ []) then → Shown new

@@ -1,5 +1,5 @@
 -- What stands at each path.
-use Rattle.std.specs.Prelude.{◌≡◌, ◌≢◌, ◌≤◌, ℕ, [], Bool, true, false, Option, Some, None}
+use Rattle.std.specs.Prelude.{◌≡◌, ◌≢◌, ◌≤◌, [], Bool, true, false, Option, Some, None}
 use Rattle.std.specs.FinMap.{FinMap, get}
 use Rattle.rk_base.specs.Text.{Text, text_cmp, root, parent, join, hidden, is_within}
 use Rattle.rk_base.specs.Canonical.{has_nul, is_canonical}

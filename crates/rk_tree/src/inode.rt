@@ -1,7 +1,7 @@
 // Nodes, each with its place and its names.
-ghost use Rattle.std.specs.Prelude.{◌≡◌, ℕ, List, ◌++◌, ◌∷◌, [], IfOk, OnOk, OnErr, not, length, slice_get, option_copied, Some};
+ghost use Rattle.std.specs.Prelude.{◌≡◌, ℕ, List, ◌++◌, ◌∷◌, [], IfOk, OnOk, OnErr, not, length, slice_get, option_copied, Some, true};
 ghost use Rattle.std.specs.FinMap.{entries, keys};
-ghost use Rattle.rk_base.specs.Canonical.{is_empty};
+ghost use Rattle.rk_base.specs.Canonical.{is_empty, is_name};
 ghost use Rattle.rk_tree.specs.Hierarchy as hierarchy;
 ghost use Rattle.rk_tree.specs.Inodes.{change, cleared, nodes_of, lost, names_in, place_in, place_of, placed, under, as_node, with_name, with_place, without_name};
 
@@ -127,10 +127,12 @@ pub(crate) fn put_name(
 ) -> Result<(), NoMemory>
     ensures ok { OnOk result (nodes.new.items ≡ change (with_name name.now n) nodes.old.items dir) }
     ensures err { OnErr result (nodes.new.items ≡ nodes.old.items) }
+    ensures name { OnOk result (is_name name.now ≡ true) }
 {
+    let text = Vec::from_slice(alloc, name.as_slice())?;
     match nodes.get_mut(dir.number()) {
         None => Ok(()),
-        Some(inode) => inode.names.put(alloc, name, n),
+        Some(inode) => inode.names.put(text, n),
     }
 }
 
@@ -156,6 +158,7 @@ pub(crate) fn move_name(
 ) -> Result<(), NoMemory>
     ensures ok { OnOk result (nodes.new.items ≡ change (without_name name.now) (change (with_name new.now n) nodes.old.items to) dir) }
     ensures err { OnErr result (nodes.new.items ≡ nodes.old.items) }
+    ensures name { OnOk result (is_name new.now ≡ true) }
 {
     put_name(alloc, nodes, to, new, n)?;
     take_name(nodes, dir, name);
@@ -173,6 +176,7 @@ pub(crate) fn add_under(
     ensures number { IfOk result (λ n. n ≡ length nodes.old.items) }
     ensures added { OnOk result (nodes.new.items ≡ change (with_name name.now (length nodes.old.items)) (nodes.old.items ++ placed dir name.now it ∷ []) dir) }
     ensures err { OnErr result (nodes.new.items ≡ nodes.old.items) }
+    ensures name { OnOk result (is_name name.now ≡ true) }
 {
     let n = NodeId::new(nodes.len());
     let inode = Inode::placed(alloc, dir, name, it)?;

@@ -1,7 +1,7 @@
 // The names in a directory.
-ghost use Rattle.std.specs.Prelude.{◌≡◌, IfOk, OnOk, OnErr};
+ghost use Rattle.std.specs.Prelude.{◌≡◌, IfOk, OnOk, OnErr, true};
 ghost use Rattle.std.specs.FinMap.{empty, entries, get, insert, keys, remove};
-ghost use Rattle.rk_base.specs.Canonical.{is_empty};
+ghost use Rattle.rk_base.specs.Canonical.{is_empty, is_name};
 
 use crate::NodeId;
 use rk_base::{Name, NoMemory, PathFault};
@@ -63,12 +63,12 @@ impl Names {
     }
 
     /// A name stands for this number, in the place of what it stood for.
-    pub(crate) fn put(&mut self, alloc: Global, name: &Name, n: NodeId) -> Result<(), NoMemory>
-        ensures ok { OnOk result (self.new ≡ insert self.old name.now n) }
+    pub(crate) fn put(&mut self, name: Vec<u8>, n: NodeId) -> Result<(), NoMemory>
+        requires { is_name name.items ≡ true }
+        ensures ok { OnOk result (self.new ≡ insert self.old name.items n) }
         ensures err { OnErr result (self.new ≡ self.old) }
     {
-        let text = Vec::from_slice(alloc, name.as_slice())?;
-        self.rows.insert(text, n)?;
+        self.rows.insert(name, n)?;
         Ok(())
     }
 

@@ -29,6 +29,12 @@ impl Model for Snapshot {
     ghost use Rattle.rk_tree.specs.Rows.{map_of};
 
     ghost view = { λ s. map_of s.rows.entries };
+
+    ghost use Rattle.std.specs.Prelude.{map};
+    ghost use Rattle.std.specs.List.Sorted.{IsStrictlySortedBy};
+    ghost use Rattle.rk_base.specs.Text.{text_cmp};
+
+    ghost invariant = { λ s. IsStrictlySortedBy text_cmp (map (λ row. row.0) s.rows.entries) };
 }
 
 impl Snapshot {
@@ -81,7 +87,6 @@ impl Snapshot {
     pub fn rows(&self) -> &BTreeMap<Path, Node>
         ensures { result.now.entries ≡ entries self.now }
     {
-        let _count = self.rows.len();
         &self.rows
     }
 }

@@ -174,7 +174,7 @@ impl Tree {
         requires { is_dir (hierarchy.node self.now dir) ≡ true }
         ensures { result ≡ hierarchy.parent_of self.now dir }
     {
-        let _root = self.look(NodeId::root());
+        let _ = &self.nodes;
         if dir.is_root() {
             return Some(dir);
         }
@@ -196,7 +196,7 @@ impl Tree {
         requires { is_dir (hierarchy.node self.now dir) ≡ true }
         ensures { IfOk result (λ list. list ≡ hierarchy.names self.now dir) }
     {
-        let _root = self.look(NodeId::root());
+        let _ = &self.nodes;
         let names = self.names(dir)?;
         match NameList::from_vec(names) {
             None => unreachable!(),

@@ -1,5 +1,5 @@
 -- What is known of the place that a path leads to.
-use Rattle.std.proofs.Common.{◌≡◌, ℕ, zero, suc, List, [], ◌∷◌, ◌++◌, Bool, true, false, cond, not, ◌&&◌, ◌||◌, Option, Some, None, Ok, Err, IfOk, refl, sym, ap, ◌∙◌, eqb}
+use Rattle.std.proofs.Common.{◌≡◌, ℕ, zero, suc, List, [], ◌∷◌, ◌++◌, Bool, true, false, cond, not, ◌&&◌, ◌||◌, Option, Some, None, Ok, Err, IfOk, refl, ap, ◌∙◌, eqb}
 use Rattle.std.proofs.lemmas.Bool.{eq-eqb}
 use Rattle.std.specs.Option.{option_and_then}
 use Rattle.rk_base.specs.Text.{Text, is_slash, same_text, hidden, dot, dot_dot, join, parent}
@@ -12,7 +12,7 @@ use Rattle.rk_tree.specs.Whole.{IsWhole, MayHold}
 use Rattle.rk_tree.specs.Node.{Node, File, Dir, Link}
 use Rattle.rk_tree.proofs.HierarchyLemmas.{path_stands}
 use Rattle.rk_tree.proofs.TextLemmas.{same_itself}
-use Rattle.rk_walk.specs.Places.{IsNameOf, IsFreeName, StandsUnder, IsPlaceOf}
+use Rattle.rk_walk.specs.Places.{IsNameOf, StandsUnder, IsPlaceOf}
 use Rattle.rk_walk.specs.Walk.{Spot, Part, parts, ends_slash, at_node, at_child, at_parent, at_part, walk, start, leads, resolve, begins_slash, here_at, as_spot}
 use Rattle.rk_walk.specs.declared.place.Here.{Here}
 use Rattle.rk_walk.specs.declared.place.Place.TheVariants.{Found, Absent}

@@ -3,6 +3,7 @@ ghost use Rattle.std.specs.Prelude.{IfOk, ◌≡◌, ◌<◌, [], ◌∷◌, Ok,
 ghost use Rattle.std.specs.List.{list_all};
 ghost use Rattle.rk_base.specs.Canonical.{has_nul, is_empty};
 ghost use Rattle.rk_tree.specs.Hierarchy.{top};
+ghost use Rattle.rk_tree.specs.Whole.{IsWhole};
 ghost use Rattle.rk_walk.specs.Course.{only_slashes, IsFirst, Advances, Course, IsCourse, marked};
 ghost use Rattle.rk_walk.specs.Places.{IsPlaceOf};
 ghost use Rattle.rk_walk.specs.Walk.{as_spot, leads, resolve, start};
@@ -48,11 +49,12 @@ impl<'a> Model for Walker<'a> {
 }
 
 impl<'a> Walker<'a> {
-    pub(crate) fn new(path: &'a [u8]) -> Walker<'a>
-        ensures { result ≡ record { here = start top path.now; ahead = path.now; marks = []; links = 32 } }
+    // The walk along a path from the root.
+    pub(crate) fn new(root: NodeId, path: &'a [u8]) -> Walker<'a>
+        ensures { result ≡ record { here = start root path.now; ahead = path.now; marks = []; links = 32 } }
     {
         Walker {
-            here: start(NodeId::root(), path),
+            here: start(root, path),
             ahead: path,
             marks: Marks::new(),
             links: 32,
@@ -162,7 +164,6 @@ impl<'a> Walker<'a> {
         requires kept { IsCourse self.old }
         ensures { MatchOption result ((0 < self.old.links) × (length text.now < 2 ^ 64) × (self.new ≡ record { here = start self.old.here.node text.now; ahead = text.now; marks = marked self.old.marks rest.now; links = self.old.links - 1 })) (λ spot. (self.old.links ≡ 0) × (spot ≡ Err Loops)) }
     {
-        let _length = text.len();
         if self.links == 0 {
             return Some(Err(Errno::Loops));
         }
@@ -189,9 +190,10 @@ impl<'a> Walker<'a> {
 }
 
 pub(crate) fn leads<'a>(tree: &'a Tree, path: &'a [u8], follow: bool) -> Result<Place<'a>, Errno>
-    ensures { result ≡ leads as_spot 32 tree.now follow top path.now [] }
+    ensures place { result ≡ leads as_spot 32 tree.now follow top path.now [] }
+    ensures whole { IsWhole tree.now }
 {
-    let mut walker = Walker::new(path);
+    let mut walker = Walker::new(tree.root(), path);
     loop {
         if let Some(end) = walker.advance(tree, follow) {
             return end;
@@ -204,7 +206,6 @@ pub fn resolve<'a>(tree: &'a Tree, path: &'a [u8], follow: bool) -> Result<Place
     ensures place { result ≡ resolve tree.now path.now follow }
     ensures stands { IfOk result (IsPlaceOf tree.now) }
 {
-    let _root = tree.root();
     match path {
         [] => Err(Errno::NoEntry),
         [first, ..] => {

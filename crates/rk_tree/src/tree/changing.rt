@@ -19,7 +19,6 @@ impl Tree {
         ensures added { OnOk result (self.new ≡ hierarchy.added self.old dir name.now it) }
         ensures err { OnErr result (self.new ≡ self.old) }
     {
-        let _name = name.as_slice();
         let alloc = *self.nodes.allocator();
         if self.has_path(dir) {
             let n = add_under(alloc, &mut self.nodes, dir, name, it)?;
@@ -57,7 +56,6 @@ impl Tree {
         ensures ok { OnOk result (self.new ≡ hierarchy.linked self.old dir name.now n) }
         ensures err { OnErr result (self.new ≡ self.old) }
     {
-        let _name = name.as_slice();
         let alloc = *self.nodes.allocator();
         if self.has_path(dir) {
             put_name(alloc, &mut self.nodes, dir, name, n)?;
@@ -87,7 +85,6 @@ impl Tree {
         requires bare { has_names self.old n ≡ false }
         ensures { self.new ≡ hierarchy.removed self.old dir name.now }
     {
-        let _name = name.as_slice();
         take_name(&mut self.nodes, dir, name);
         put_place(&mut self.nodes, n, None);
     }

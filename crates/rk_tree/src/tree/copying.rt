@@ -8,6 +8,7 @@ ghost use Rattle.rk_tree.specs.Entries.{is_dir, IsWholeSnapshot};
 ghost use Rattle.rk_tree.specs.Hierarchy as hierarchy;
 ghost use Rattle.rk_tree.specs.Rows.{map_of};
 ghost use Rattle.rk_tree.specs.Node.{Dir};
+ghost use Rattle.rk_tree.specs.Whole.{IsWhole};
 
 use crate::{Entry, Node, NodeId, Snapshot, Tree};
 use rk_base::{Name, NoMemory, Path};
@@ -59,14 +60,16 @@ impl Tree {
         }
     }
 
-    /// Each path with what stands there. It is whole.
+    /// Each path with what stands there. It is whole, as the tree is.
     pub fn snapshot(&self) -> Result<Snapshot, NoMemory>
+        ensures tree { IsWhole self.now }
         ensures snapshot { IfOk result (λ s. s ≡ snapshot_of self.now) }
         ensures whole { IfOk result IsWholeSnapshot }
     {
         let alloc = *self.nodes.allocator();
         let mut snapshot = Snapshot::new(alloc);
-        put_found(&mut snapshot, Path::root(alloc)?, self.look(NodeId::root()))?;
+        let root = self.look(NodeId::root());
+        put_found(&mut snapshot, Path::root(alloc)?, root)?;
         for dir in 0..self.nodes.len() {
             self.put_dir(&mut snapshot, NodeId::new(dir))?;
         }
@@ -85,7 +88,7 @@ impl Tree {
         ensures tree { OnOk result (self.new ≡ with_node_at self.old path.now it.now) }
         ensures numbers { OnOk result (map_of numbers.new.entries ≡ self.new.paths) }
     {
-        let _root = self.look(NodeId::root());
+        let _ = &self.nodes;
         let Some(name) = path.last()? else {
             unreachable!();
         };

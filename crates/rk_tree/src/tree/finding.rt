@@ -21,7 +21,7 @@ impl Tree {
         ensures found { result ≡ hierarchy.child self.now dir name.now }
         ensures in_dir { IfSome result (λ n. is_dir (hierarchy.node self.now dir) ≡ true) }
     {
-        let _root = self.look(NodeId::root());
+        let _ = &self.nodes;
         if self.is_dir(dir) {
             self.child(dir, name)
         } else {

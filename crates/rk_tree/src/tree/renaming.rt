@@ -55,8 +55,6 @@ impl Tree {
         ensures ok { OnOk result (self.new ≡ hierarchy.renamed self.old dir name.now to new.now) }
         ensures err { OnErr result (self.new ≡ self.old) }
     {
-        let _name = name.as_slice();
-        let _new = new.as_slice();
         let alloc = *self.nodes.allocator();
         if !self.has_path(to) {
             return Ok(());

@@ -5,4 +5,4 @@ use Rattle.rk_tree.proofs.RowsLemmas.{entries-map_of}
 use Rattle.rk_tree.proofs.snapshot.Snapshot.rows.Goals as goal
 
 pub returns : goal.returns
-returns c = sym (entries-map_of c.self.inside.rows.entries c.len-count.ensures.ordered) ∙ ap (λ (m : Entries). entries m) c.self.view_is
+returns c = sym (entries-map_of c.self.inside.rows.entries c.self.invariant) ∙ ap (λ (m : Entries). entries m) c.self.view_is

@@ -26,7 +26,7 @@ invariant_of-self-inside-2 c =
       shown_by c.put_places.new.nodes.items (hierarchy.renamed c.args.self.now c.args.dir c.args.name.now c.args.to c.args.new.now)
           (tree_same (change (with_place c.in_ok-place.place) (cleared (change (without_name c.args.name.now) (change (with_name c.args.new.now c.args.n) c.self.inside.nodes.items c.args.to) c.args.dir) c.args.over) c.args.n) c.put_places.new.nodes.items (hierarchy.renamed c.args.self.now c.args.dir c.args.name.now c.args.to c.args.new.now)
           (c.put_places.ensures ∙ ap (λ (ns : List Inode). change (with_place c.in_ok-place.place) (cleared ns c.args.over) c.args.n) c.in_ok-move_name.ensures.ok)
-          (renamed-tree c.self.inside.nodes.items c.args.self.now c.args.dir c.args.n c.args.to c.args.name.now c.args.new.now c.args.over c.in_ok-place.place t c.as_slice-new.ensures.name c.requires.found c.requires.over c.requires.apart c.requires.holds c.requires.allowed (sym c.has_path.ensures ∙ c.if-not-has_path.false) c.in_ok-place.ensures)),
+          (renamed-tree c.self.inside.nodes.items c.args.self.now c.args.dir c.args.n c.args.to c.args.name.now c.args.new.now c.args.over c.in_ok-place.place t c.in_ok-move_name.ensures.name c.requires.found c.requires.over c.requires.apart c.requires.holds c.requires.allowed (sym c.has_path.ensures ∙ c.if-not-has_path.false) c.in_ok-place.ensures)),
       tt,
     )
 
@@ -36,7 +36,7 @@ invariant_of-self-2 c =
     kept_by c.put_places.new.nodes.items (hierarchy.renamed c.args.self.now c.args.dir c.args.name.now c.args.to c.args.new.now)
     (tree_same (change (with_place c.in_ok-place.place) (cleared (change (without_name c.args.name.now) (change (with_name c.args.new.now c.args.n) c.self.inside.nodes.items c.args.to) c.args.dir) c.args.over) c.args.n) c.put_places.new.nodes.items (hierarchy.renamed c.args.self.now c.args.dir c.args.name.now c.args.to c.args.new.now)
     (c.put_places.ensures ∙ ap (λ (ns : List Inode). change (with_place c.in_ok-place.place) (cleared ns c.args.over) c.args.n) c.in_ok-move_name.ensures.ok)
-    (renamed-tree c.self.inside.nodes.items c.args.self.now c.args.dir c.args.n c.args.to c.args.name.now c.args.new.now c.args.over c.in_ok-place.place t c.as_slice-new.ensures.name c.requires.found c.requires.over c.requires.apart c.requires.holds c.requires.allowed (sym c.has_path.ensures ∙ c.if-not-has_path.false) c.in_ok-place.ensures)) c.self-2-1.given.0
+    (renamed-tree c.self.inside.nodes.items c.args.self.now c.args.dir c.args.n c.args.to c.args.name.now c.args.new.now c.args.over c.in_ok-place.place t c.in_ok-move_name.ensures.name c.requires.found c.requires.over c.requires.apart c.requires.holds c.requires.allowed (sym c.has_path.ensures ∙ c.if-not-has_path.false) c.in_ok-place.ensures)) c.self-2-1.given.0
 
 pub returns-clause-ok : goal.returns-clause-ok
 returns-clause-ok c =
@@ -44,4 +44,4 @@ returns-clause-ok c =
     view_by c.put_places.new.nodes.items (hierarchy.renamed c.args.self.now c.args.dir c.args.name.now c.args.to c.args.new.now)
     (tree_same (change (with_place c.in_ok-place.place) (cleared (change (without_name c.args.name.now) (change (with_name c.args.new.now c.args.n) c.self.inside.nodes.items c.args.to) c.args.dir) c.args.over) c.args.n) c.put_places.new.nodes.items (hierarchy.renamed c.args.self.now c.args.dir c.args.name.now c.args.to c.args.new.now)
     (c.put_places.ensures ∙ ap (λ (ns : List Inode). change (with_place c.in_ok-place.place) (cleared ns c.args.over) c.args.n) c.in_ok-move_name.ensures.ok)
-    (renamed-tree c.self.inside.nodes.items c.args.self.now c.args.dir c.args.n c.args.to c.args.name.now c.args.new.now c.args.over c.in_ok-place.place t c.as_slice-new.ensures.name c.requires.found c.requires.over c.requires.apart c.requires.holds c.requires.allowed (sym c.has_path.ensures ∙ c.if-not-has_path.false) c.in_ok-place.ensures)) c.self-2-1.given.0
+    (renamed-tree c.self.inside.nodes.items c.args.self.now c.args.dir c.args.n c.args.to c.args.name.now c.args.new.now c.args.over c.in_ok-place.place t c.in_ok-move_name.ensures.name c.requires.found c.requires.over c.requires.apart c.requires.holds c.requires.allowed (sym c.has_path.ensures ∙ c.if-not-has_path.false) c.in_ok-place.ensures)) c.self-2-1.given.0

@@ -1,4 +1,4 @@
-use Rattle.std.proofs.Common.{◌≡◌, ◌∙◌, sym, ap, Some, None}
+use Rattle.std.proofs.Common.{◌≡◌, ◌∙◌, sym, ap, Some, None, subst}
 use Rattle.std.specs.FinMap.{insert}
 use Rattle.rk_base.specs.Text.{Text, parent}
 use Rattle.rk_tree.specs.Hierarchy.{Hierarchy, Paths, added}
@@ -6,22 +6,23 @@ use Rattle.rk_tree.specs.Copying.{with_node_at}
 use Rattle.rk_tree.proofs.BelowLemmas.{none_some}
 use Rattle.rk_tree.proofs.PlantedLemmas.{Lands, lands, may_hold, child_absent, added_at, number_by, not_the_root, has_last}
 use Rattle.rk_tree.proofs.RowsLemmas.{map_of-put}
+use Rattle.rk_tree.specs.Whole.{IsWhole}
 use Rattle.rk_tree.proofs.tree.Tree.put_path.Goals as goal
 use Rattle.rk_tree.proofs.tree.Tree.put_path.Goals.{In-Some-get, After-drop-name-inside-2}
 
 pub unreachable-requires : goal.unreachable-requires
-unreachable-requires c = has_last c.args.path.now c.in_ok-name.field-0 (not_the_root c.args.self.now c.args.path.now c.look-root.ensures.whole c.requires.takes.absent) c.in_ok-name.ensures c.in_default.is
+unreachable-requires c = has_last c.args.path.now c.in_ok-name.field-0 (not_the_root c.args.self.now c.args.path.now (subst IsWhole c.self.view_is c.self.invariant.0) c.requires.takes.absent) c.in_ok-name.ensures c.in_default.is
 
 pub unreachable-requires-in-None : goal.unreachable-requires-in-None
 unreachable-requires-in-None c =
     none_some (sym (number_by c.args.self.now c.args.numbers.now.entries (parent c.args.path.now) c.in_ok-parent.field-0 None c.requires.numbers c.in_ok-parent.ensures c.in-None.ensures.value)) c.requires.takes.placed.stands
 
 lands_at : (c : In-Some-get) → Lands c.args.self.now c.args.path.now c.in-Some.name c.in-Some-get.up.now
-lands_at c = lands c.args.self.now c.args.path.now c.in-Some.name c.args.it.now c.in-Some-get.up.now c.look-root.ensures.whole c.requires.takes (sym c.in_ok-name.ensures ∙ c.in-Some.is)
+lands_at c = lands c.args.self.now c.args.path.now c.in-Some.name c.args.it.now c.in-Some-get.up.now (subst IsWhole c.self.view_is c.self.invariant.0) c.requires.takes (sym c.in_ok-name.ensures ∙ c.in-Some.is)
     (sym (number_by c.args.self.now c.args.numbers.now.entries (parent c.args.path.now) c.in_ok-parent.field-0 (Some c.in-Some-get.up.now) c.requires.numbers c.in_ok-parent.ensures c.in-Some-get.ensures.value))
 
 pub adds-requires-clause-holds : goal.adds-requires-clause-holds
-adds-requires-clause-holds c = may_hold c.args.self.now c.args.path.now c.in-Some.name c.args.it.now c.in-Some-get.up.now c.look-root.ensures.whole c.requires.takes (lands_at (goal.at.adds-requires-clause-holds c).In-Some-get)
+adds-requires-clause-holds c = may_hold c.args.self.now c.args.path.now c.in-Some.name c.args.it.now c.in-Some-get.up.now (subst IsWhole c.self.view_is c.self.invariant.0) c.requires.takes (lands_at (goal.at.adds-requires-clause-holds c).In-Some-get)
 
 pub adds-requires-clause-absent : goal.adds-requires-clause-absent
 adds-requires-clause-absent c = child_absent c.args.self.now c.args.path.now c.in-Some.name c.args.it.now c.in-Some-get.up.now c.requires.takes (lands_at (goal.at.adds-requires-clause-absent c).In-Some-get)
@@ -39,6 +40,6 @@ pub returns-clause-numbers : goal.returns-clause-numbers
 returns-clause-numbers c =
     map_of-put c.args.numbers.now.entries c.insert.new.self.entries c.in_ok-copy-in-Some-get-2.field-0 c.in_ok-n-in-Some-get.n c.in_ok-insert-in-Some-get.ensures.updates.0
     ∙ ap (λ (m : Paths). insert m c.in_ok-copy-in-Some-get-2.field-0 c.in_ok-n-in-Some-get.n) c.requires.numbers
-    ∙ ap (λ (path : Text). insert c.args.self.now.paths path c.in_ok-n-in-Some-get.n) c.in_ok-copy-in-Some-get-2.ensures
+    ∙ ap (λ (path : Text). insert c.args.self.now.paths path c.in_ok-n-in-Some-get.n) c.in_ok-copy-in-Some-get-2.ensures.copy
     ∙ ap (insert c.args.self.now.paths c.args.path.now) c.in_ok-n-in-Some-get.ensures.number
     ∙ sym (ap (λ (h : Hierarchy). h.paths) (planted c (lands_at (goal.at.returns-clause-numbers c).In-Some-get)))

@@ -16,9 +16,9 @@ use Rattle.rk_tree.proofs.tree.Tree.snapshot.Goals.{After-loop-dir}
 pub loop-dir-init : goal.loop-dir-init
 loop-dir-init c =
     c.in_ok-put_found.ensures
-    ∙ ap (λ (m : Entries). put_found m c.in_ok-root.field-0 (option_copied c.look.result)) c.new-snapshot.ensures
-    ∙ ap (λ (path : Text). put_found empty path (option_copied c.look.result)) c.in_ok-root.ensures
-    ∙ ap (put_found empty root) (c.look.ensures.node ∙ ap (node c.args.self.now) c.root-2.ensures)
+    ∙ ap (λ (m : Entries). put_found m c.in_ok-root.field-0 (option_copied c.look-root.result)) c.new-snapshot.ensures
+    ∙ ap (λ (path : Text). put_found empty path (option_copied c.look-root.result)) c.in_ok-root.ensures
+    ∙ ap (put_found empty root) (c.look-root.ensures.node ∙ ap (node c.args.self.now) c.root.ensures)
 
 pub loop-dir-preserved : goal.loop-dir-preserved
 loop-dir-preserved c = dirs_on c.args.self.now c.loop-dir.snapshot c.put_dir.new.snapshot c.loop-dir.dir c.loop-dir.invariant (c.in_ok-put_dir.ensures ∙ ap (put_dir c.args.self.now c.loop-dir.snapshot) c.new.ensures)
@@ -30,10 +30,11 @@ all_nodes c =
     last ∙ c.len-dir-end.ensures ∙ c.self.inside.nodes.ok.0 ∙ sym (length-map c.self.inside.nodes.items (λ (n : Inode). n.node)) ∙ ap (λ (h : Hierarchy). length h.nodes) c.self.view_is
 
 made : (c : After-loop-dir) → c.loop-dir.snapshot ≡ snapshot_of c.args.self.now
-made c = dirs_all c.args.self.now c.loop-dir.snapshot c.loop-dir.dir c.look.ensures.whole c.loop-dir.invariant (all_nodes c)
+made c = dirs_all c.args.self.now c.loop-dir.snapshot c.loop-dir.dir c.look-root.ensures.whole c.loop-dir.invariant (all_nodes c)
 
 pub returns : goal.returns
 returns c = record {
+  tree = c.look-root.ensures.whole;
   snapshot = made c;
-  whole = subst IsWholeSnapshot (sym (made c)) (snapshot_of-whole c.args.self.now c.look.ensures.whole);
+  whole = subst IsWholeSnapshot (sym (made c)) (snapshot_of-whole c.args.self.now c.look-root.ensures.whole);
 }

@@ -1,8 +1,7 @@
-use Rattle.std.proofs.Common.{ℕ, List}
 use Rattle.rk_tree.specs.Hierarchy as hierarchy
 use Rattle.rk_tree.specs.Inodes.{change, as_node}
 use Rattle.rk_tree.proofs.ReplacedLemmas.{entry-tree}
-use Rattle.rk_tree.proofs.TreeLemmas.{IsTree, tree_inside, tree_same, shown_by, kept_by, view_by, ok_view}
+use Rattle.rk_tree.proofs.TreeLemmas.{tree_inside, tree_same, shown_by, kept_by, view_by, ok_view}
 use Rattle.rk_tree.proofs.WholeLemmas.{alike_replaced, fit_replaced, alike_written, fit_written}
 use Rattle.rk_tree.proofs.tree.Tree.write.Goals as goal
 
