@@ -61,15 +61,6 @@ fn can_hold(it: Option<&Standing>, in_dir: bool) -> bool
     }
 }
 
-fn copy_of(path: &Path) -> Result<Path, NoMemory>
-    ensures copy { IfOk result (λ p. p ≡ path.now) }
-    ensures canonical { is_canonical path.now ≡ true }
-{
-    let _text = path.text();
-    let copy = path.copy()?;
-    Ok(copy)
-}
-
 fn item_of(name: Name, it: &Standing) -> Item
     ensures { result ≡ told.item_of name it.now }
 {
@@ -242,7 +233,7 @@ impl HeldRows {
         ensures ok { OnOk result (self.new ≡ told.with_standing file.now (File bytes.now) self.old) }
         ensures err { OnErr result (self.new ≡ self.old) }
     {
-        let path = copy_of(file)?;
+        let path = file.copy()?;
         let bytes = Bytes::from_slice(alloc, bytes)?;
         self.put(path, Standing::File(bytes))?;
         Ok(())
@@ -278,7 +269,7 @@ impl HeldRows {
         ensures ok { OnOk result (self.new ≡ told.with_standing dir.now Dir self.old) }
         ensures err { OnErr result (self.new ≡ self.old) }
     {
-        let path = copy_of(dir)?;
+        let path = dir.copy()?;
         self.put(path, Standing::Dir)?;
         Ok(())
     }
@@ -290,7 +281,7 @@ impl HeldRows {
         ensures ok { OnOk result (self.new ≡ told.with_standing path.now Special self.old) }
         ensures err { OnErr result (self.new ≡ self.old) }
     {
-        let path = copy_of(path)?;
+        let path = path.copy()?;
         self.put(path, Standing::Special)?;
         Ok(())
     }

@@ -200,19 +200,6 @@ fn is_hidden(path: &Path) -> bool
     path.text() == b"/.rkr".as_slice()
 }
 
-// The path of a name in a directory.
-fn path_in(alloc: Global, dir: &Path, name: &Name) -> Result<Path, NoMemory>
-    ensures path { IfOk result (λ p. p ≡ join dir.now name.now) }
-    ensures name { is_name name.now ≡ true }
-    ensures dir { is_canonical dir.now ≡ true }
-    ensures deeper { depth (join dir.now name.now) ≡ depth dir.now + 1 }
-{
-    let _text = dir.text();
-    let _name = name.as_slice();
-    let path = dir.join(alloc, name)?;
-    Ok(path)
-}
-
 fn is_dir(it: Option<&Node>) -> bool
     ensures { result ≡ tree.is_dir (option_copied it.entry) }
 {
@@ -257,7 +244,7 @@ fn take_file<F: Folder>(
     ensures writes { F.write_faults folder.new ≡ F.write_faults folder.old }
     ensures reach { F.reach folder.new ≡ F.reach folder.old }
 {
-    let path = path_in(alloc, dir, name)?;
+    let path = dir.join(alloc, name)?;
     if is_hidden(&path) {
         return Err(ImportErr::Special(path));
     }
@@ -291,7 +278,7 @@ fn take_dir<F: Folder>(
     ensures writes { F.write_faults folder.new ≡ F.write_faults folder.old }
     ensures reach { F.reach folder.new ≡ F.reach folder.old }
 {
-    let path = path_in(alloc, dir, name)?;
+    let path = dir.join(alloc, name)?;
     if is_hidden(&path) {
         return look_at_state(alloc, folder);
     }
@@ -326,7 +313,7 @@ fn take_item<F: Folder>(
     match item {
         Item::File(name) => take_file(alloc, folder, dir, name, snapshot),
         Item::Dir(name) => take_dir(alloc, folder, dir, name, snapshot),
-        Item::Special(name) => Err(ImportErr::Special(path_in(alloc, dir, name)?)),
+        Item::Special(name) => Err(ImportErr::Special(dir.join(alloc, name)?)),
         Item::Odd => Ok(()),
     }
 }

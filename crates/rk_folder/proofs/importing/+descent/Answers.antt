@@ -6,14 +6,14 @@ use Rattle.rk_folder.proofs.ReadingLemmas.{told-same, told-agree-now}
 use Rattle.rk_folder.proofs.TakenLemmas.{not_hidden, entered-canonical, entered-seen, with_dir-whole, with_dir-stands, told-lists, told-special_item, told-odd, told-items, told-state_taken, told-dir, placed-on}
 use Rattle.rk_folder.proofs.importing.+descent.Goals as goal
 
-pub take_item-returns-in_ok-path_in-in-Special-clause-taken :
-    goal.take_item-returns-in_ok-path_in-in-Special-clause-taken
-take_item-returns-in_ok-path_in-in-Special-clause-taken g t c =
-    told-special_item _ c.args.dir.now c.args.item.now c.in-Special.name c.in_ok-path_in-in-Special.field-0 c.requires.agrees c.in-Special.is c.in_ok-path_in-in-Special.ensures.dir c.requires.seen c.in_ok-path_in-in-Special.ensures.path
+pub take_item-returns-in_ok-join-in-Special-clause-taken :
+    goal.take_item-returns-in_ok-join-in-Special-clause-taken
+take_item-returns-in_ok-join-in-Special-clause-taken g t c =
+    told-special_item _ c.args.dir.now c.args.item.now c.in-Special.name c.in_ok-join-in-Special.field-0 c.requires.agrees c.in-Special.is c.in_ok-join-in-Special.ensures.dir c.requires.seen c.in_ok-join-in-Special.ensures.path
 
 pub take_all-returns-then-has_odd-clause-taken : goal.take_all-returns-then-has_odd-clause-taken
 take_all-returns-then-has_odd-clause-taken g t c =
-    told-odd _ c.args.dir.now c.in_ok-copy.field-0 c.in_ok-items.items.items _ c.requires.lists c.requires.seen c.in_ok-items.ensures.items (c.has_odd.ensures ∙ ap (λ (xs : List Item). list_any is_odd_item xs) c.deref.ensures.value) c.if-has_odd.true c.in_ok-copy.ensures
+    told-odd _ c.args.dir.now c.in_ok-copy.field-0 c.in_ok-items.items.items _ c.requires.lists c.requires.seen c.in_ok-items.ensures.items (c.has_odd.ensures ∙ ap (λ (xs : List Item). list_any is_odd_item xs) c.deref.ensures.value) c.if-has_odd.true c.in_ok-copy.ensures.copy
 
 pub take_all-take_items-requires : goal.take_all-take_items-requires
 take_all-take_items-requires g t c κs within = (
@@ -51,8 +51,8 @@ take_dir-take_all-requires g t c κs within =
             (
               entered-seen c.in_ok-path.path c.args.dir.now c.args.name.now c.in_ok-path.ensures.path c.in_ok-path.ensures.dir c.in_ok-path.ensures.name c.requires.seen other,
               (
-                with_dir-whole c.args.snapshot.now c.lay.new.snapshot c.in_ok-copy.field-0 c.args.dir.now c.args.name.now c.requires.whole c.requires.placed c.in_ok-path.ensures.dir c.in_ok-path.ensures.name c.requires.seen other (c.in_ok-copy.ensures ∙ c.in_ok-path.ensures.path) c.in_ok-lay.ensures,
-                with_dir-stands c.args.snapshot.now c.lay.new.snapshot c.in_ok-copy.field-0 c.in_ok-path.path c.in_ok-copy.ensures c.in_ok-lay.ensures,
+                with_dir-whole c.args.snapshot.now c.lay.new.snapshot c.in_ok-copy.field-0 c.args.dir.now c.args.name.now c.requires.whole c.requires.placed c.in_ok-path.ensures.dir c.in_ok-path.ensures.name c.requires.seen other (c.in_ok-copy.ensures.copy ∙ c.in_ok-path.ensures.path) c.in_ok-lay.ensures,
+                with_dir-stands c.args.snapshot.now c.lay.new.snapshot c.in_ok-copy.field-0 c.in_ok-path.path c.in_ok-copy.ensures.copy c.in_ok-lay.ensures,
               ),
             ),
           ),
@@ -66,5 +66,5 @@ take_dir-returns-clause-placed g t c =
 
 pub take_dir-returns-clause-taken : goal.take_dir-returns-clause-taken
 take_dir-returns-clause-taken g t c =
-    told-dir _ _ c.args.dir.now c.args.name.now c.in_ok-path.path c.in_ok-copy.field-0 c.args.snapshot.now c.lay.new.snapshot c.take_all.new.snapshot c.take_all.result refl c.requires.seen c.in_ok-path.ensures.dir c.in_ok-path.ensures.name c.requires.agrees c.in_ok-path.ensures.path c.in_ok-copy.ensures
+    told-dir _ _ c.args.dir.now c.args.name.now c.in_ok-path.path c.in_ok-copy.field-0 c.args.snapshot.now c.lay.new.snapshot c.take_all.new.snapshot c.take_all.result refl c.requires.seen c.in_ok-path.ensures.dir c.in_ok-path.ensures.name c.requires.agrees c.in_ok-path.ensures.path c.in_ok-copy.ensures.copy
     (not_hidden c.in_ok-path.path c.args.dir.now c.args.name.now _ c.in_ok-path.ensures.path c.is_hidden.ensures c.if-is_hidden.false) c.in_ok-lay.ensures c.take_all.ensures.taken
