@@ -60,6 +60,7 @@ pub fn build_with<K: Maker, W: Answerer, L: Ledger>(
     ensures live { IfOk result (λ b. live.new ≡ live.old + ran_total old.now b.table) }
     ensures paid { IfOk result (λ b. budget.new.used ≡ budget.old.used + total b.table) }
     ensures limit { budget.new.limit ≡ budget.old.limit }
+    ensures within { IfOk result (λ b. budget.new.used ≤ budget.new.limit) }
     ensures at_most { live.new ≤ live.old + left budget.old }
 {
     let mut table = Table::new(alloc);

@@ -113,6 +113,7 @@ returns-in_err-answer-in_default g c =
       live = rw p.1 tt;
       paid = rw p.1 tt;
       limit = omega arith;
+      within = rw p.1 tt;
       at_most = omega (arith, c.in_err-answer-in_default.ensures.still);
     }
 
