@@ -1,7 +1,7 @@
 -- Reading one after the other, as a loop does.
-use Rattle.std.proofs.Common.{◌≡◌, ℕ, suc, ◌-◌, ◌+◌, ◌≤◌, ◌<◌, List, [], ◌∷◌, ◌++◌, Option, Some, None, length, drop, get_or, refl, sym, subst, ◌∙◌, arith}
+use Rattle.std.proofs.Common.{◌≡◌, ℕ, suc, ◌-◌, ◌+◌, ◌≤◌, ◌<◌, List, [], ◌∷◌, ◌++◌, Option, Some, None, length, take, get_or, refl, sym, subst, ◌∙◌, arith}
 use Rattle.std.specs.List.{AllByRecursion}
-use Rattle.std.proofs.lemmas.List.{drop_more}
+use Rattle.std.proofs.lemmas.List.{take_more, take_all}
 use Rattle.tr_codec.specs.declared.fault.PartErr.{PartErr}
 use Rattle.tr_codec.specs.declared.fault.PartErr.TheVariants.{Form, NoMemory}
 use Rattle.tr_codec.specs.Reads.{Fails}
@@ -35,6 +35,13 @@ module _ {A : Type 0} (one : List A → List ℕ → Option (A × List ℕ)) whe
       let step : many_at one (count - i) front bytes ≡ Some (front, bytes) = rw k refl in
       sym so_far ∙ step
 
--- what holds of an item and of all after it holds from the item on
-pub all_next : {X : Type 0} (P : X → Type 0) (xs : List X) (i : ℕ) (d x : X) → i < length xs → x ≡ get_or xs i d → P x → AllByRecursion P (drop (i + 1) xs) → AllByRecursion P (drop i xs)
-all_next P xs i d x lt e p h = subst (AllByRecursion P) (sym (drop_more xs i d lt)) (subst P e p, h)
+all-push : {X : Type 0} (P : X → Type 0) (xs : List X) (x : X) → AllByRecursion P xs → P x → AllByRecursion P (xs ++ x ∷ [])
+all-push P [] x h p = (p, tt)
+all-push P (y ∷ ys) x h p = (h.0, all-push P ys x h.1 p)
+
+-- what holds of all items before one, and of it, holds of one item more
+pub all_next : {X : Type 0} (P : X → Type 0) (xs : List X) (i : ℕ) (d x : X) → i < length xs → x ≡ get_or xs i d → P x → AllByRecursion P (take i xs) → AllByRecursion P (take (i + 1) xs)
+all_next P xs i d x lt e p h = subst (AllByRecursion P) (sym (take_more xs i d lt)) (all-push P (take i xs) (get_or xs i d) h (subst P e p))
+
+pub all_done : {X : Type 0} (P : X → Type 0) (xs : List X) (i : ℕ) → length xs ≤ i → AllByRecursion P (take i xs) → AllByRecursion P xs
+all_done P xs i le h = subst (AllByRecursion P) (take_all i xs le) h

@@ -1,8 +1,11 @@
 // The pieces of answers, put by a writer.
-ghost use Rattle.std.specs.Prelude.{◌≡◌, OnOk};
+ghost use Rattle.std.specs.Prelude.{◌≡◌, ◌<◌, ◌^◌, true, OnOk};
+ghost use Rattle.rk_base.specs.Canonical.{is_canonical};
+ghost use Rattle.rk_base.specs.Names.{are_names};
 ghost use Rattle.tr_codec.specs.Piece.{◌⊕◌, blob, byte, mode, each, counted};
 ghost use Rattle.tr_codec.specs.Spelling.{kind_code, flag_code, errno_code, answer_piece};
 ghost use Rattle.tr_codec.specs.Puts.{Puts};
+ghost use Rattle.tr_codec.specs.Sound.{SpeltAnswer};
 
 use crate::call_pieces::flag_code;
 use crate::writer::Writer;
@@ -44,7 +47,8 @@ fn put_text_answer(w: &mut Writer, kind: u8, text: &Bytes) -> Result<(), NoMemor
 }
 
 fn put_code_answer(w: &mut Writer, kind: u8, code: u8) -> Result<(), NoMemory>
-    ensures { OnOk result (Puts (byte kind ⊕ byte code) w.old w.new) }
+    ensures puts { OnOk result (Puts (byte kind ⊕ byte code) w.old w.new) }
+    ensures range { OnOk result (code < 2 ^ 8) }
 {
     w.put_byte(kind)?;
     w.put_byte(code)?;
@@ -72,7 +76,8 @@ fn put_list(w: &mut Writer, names: &[Name]) -> Result<(), NoMemory>
 }
 
 fn put_names(w: &mut Writer, names: &NameList) -> Result<(), NoMemory>
-    ensures { OnOk result (Puts (byte 6 ⊕ counted blob names.now) w.old w.new) }
+    ensures puts { OnOk result (Puts (byte 6 ⊕ counted blob names.now) w.old w.new) }
+    ensures names { OnOk result (are_names names.now ≡ true) }
 {
     w.put_byte(6)?;
     put_list(w, names.as_slice())?;
@@ -80,7 +85,8 @@ fn put_names(w: &mut Writer, names: &NameList) -> Result<(), NoMemory>
 }
 
 fn put_place(w: &mut Writer, path: &Path) -> Result<(), NoMemory>
-    ensures { OnOk result (Puts (byte 8 ⊕ blob path.now) w.old w.new) }
+    ensures puts { OnOk result (Puts (byte 8 ⊕ blob path.now) w.old w.new) }
+    ensures canonical { OnOk result (is_canonical path.now ≡ true) }
 {
     w.put_byte(8)?;
     w.put_path(path)?;
@@ -89,7 +95,8 @@ fn put_place(w: &mut Writer, path: &Path) -> Result<(), NoMemory>
 
 /// An answer: its kind and its fields.
 pub(crate) fn put_answer(w: &mut Writer, answer: &Answer) -> Result<(), NoMemory>
-    ensures { OnOk result (Puts (answer_piece answer.now) w.old w.new) }
+    ensures puts { OnOk result (Puts (answer_piece answer.now) w.old w.new) }
+    ensures fits { OnOk result (SpeltAnswer answer.now) }
 {
     match answer {
         Answer::Go => w.put_byte(0),

@@ -1,5 +1,5 @@
 // The attributes of paths as bytes, written and read.
-ghost use Rattle.std.specs.Prelude.{◌≡◌, ◌≢◌, ◌<◌, ◌≤◌, ◌++◌, ℕ, [], List, length, drop, true, IfOk, OnOk};
+ghost use Rattle.std.specs.Prelude.{◌≡◌, ◌≢◌, ◌<◌, ◌≤◌, ◌^◌, ◌++◌, ℕ, [], List, length, drop, true, IfOk, OnOk};
 ghost use Rattle.std.specs.List.{flat_map};
 ghost use Rattle.sha2.specs.Sha256.{sha256};
 ghost use Rattle.rk_base.specs.Text.{Text};
@@ -59,17 +59,21 @@ fn push_rows(out: &mut Vec<u8>, rows: &[(Path, AttrRow)]) -> Result<(), NoMemory
 
 // All but the digest.
 fn rows_body(alloc: Global, attrs: &Attrs) -> Result<Vec<u8>, NoMemory>
-    ensures { IfOk result (λ out. out.items ≡ attrs_body attrs.now) }
+    ensures body { IfOk result (λ out. out.items ≡ attrs_body attrs.now) }
+    ensures rows { are_rows attrs.now ≡ true }
 {
+    let rows = attrs.as_slice();
     let mut out = Vec::from_slice(alloc, b"RKA1")?;
-    push_number(&mut out, attrs.len() as u64)?;
-    push_rows(&mut out, attrs.as_slice())?;
+    push_number(&mut out, rows.len() as u64)?;
+    push_rows(&mut out, rows)?;
     Ok(out)
 }
 
 /// The one spelling of attributes.
 pub fn write_attrs(alloc: Global, attrs: &Attrs) -> Result<Bytes, NoMemory>
-    ensures { IfOk result (λ bytes. bytes ≡ attrs_spelling attrs.now) }
+    ensures bytes { IfOk result (λ bytes. bytes ≡ attrs_spelling attrs.now) }
+    ensures rows { are_rows attrs.now ≡ true }
+    ensures memory { IfOk result (λ bytes. length bytes < 2 ^ 64) }
 {
     let out = rows_body(alloc, attrs)?;
     seal(out)
@@ -175,7 +179,6 @@ fn body_rows(alloc: Global, front: &[u8]) -> Result<Attrs, PartErr>
 {
     let attrs = candidate(alloc, front)?;
     let again = rows_body(alloc, &attrs)?;
-    let _rows = attrs.as_slice();
     if is_same(&again, front) {
         Ok(attrs)
     } else {

@@ -1,8 +1,10 @@
 // The pieces of calls, put by a writer.
-ghost use Rattle.std.specs.Prelude.{◌≡◌, OnOk};
+ghost use Rattle.std.specs.Prelude.{◌≡◌, ◌<◌, ◌^◌, OnOk};
+ghost use Rattle.tr_codec.specs.Fits.{FitsKey, FitsMap};
 ghost use Rattle.tr_codec.specs.Piece.{◌⊕◌, blob, byte, mode, number, counted};
 ghost use Rattle.tr_codec.specs.Spelling.{key_piece, pair_piece, how_code, flag_code, call_piece};
 ghost use Rattle.tr_codec.specs.Puts.{Puts};
+ghost use Rattle.tr_codec.specs.Sound.{SpeltCall};
 
 use crate::key_pieces::{put_key, put_pairs};
 use crate::writer::Writer;
@@ -27,7 +29,8 @@ pub(crate) fn flag_code(flag: bool) -> u8
 }
 
 fn put_number_call(w: &mut Writer, kind: u8, r: u64) -> Result<(), NoMemory>
-    ensures { OnOk result (Puts (byte kind ⊕ number r) w.old w.new) }
+    ensures puts { OnOk result (Puts (byte kind ⊕ number r) w.old w.new) }
+    ensures range { r < 2 ^ 64 }
 {
     w.put_byte(kind)?;
     w.put_number(r)?;
@@ -70,7 +73,8 @@ fn put_texts_call(w: &mut Writer, kind: u8, a: &Bytes, b: &Bytes) -> Result<(), 
 }
 
 fn put_write(w: &mut Writer, r: u64, bytes: &Bytes) -> Result<(), NoMemory>
-    ensures { OnOk result (Puts (byte 4 ⊕ number r ⊕ blob bytes.now) w.old w.new) }
+    ensures puts { OnOk result (Puts (byte 4 ⊕ number r ⊕ blob bytes.now) w.old w.new) }
+    ensures range { r < 2 ^ 64 }
 {
     w.put_byte(4)?;
     w.put_number(r)?;
@@ -79,7 +83,9 @@ fn put_write(w: &mut Writer, r: u64, bytes: &Bytes) -> Result<(), NoMemory>
 }
 
 fn put_launch(w: &mut Writer, key: &Key, map: &RefMap) -> Result<(), NoMemory>
-    ensures { OnOk result (Puts (byte 18 ⊕ key_piece key.now ⊕ counted pair_piece map.now) w.old w.new) }
+    ensures puts { OnOk result (Puts (byte 18 ⊕ key_piece key.now ⊕ counted pair_piece map.now) w.old w.new) }
+    ensures key { OnOk result (FitsKey key.now) }
+    ensures map { OnOk result (FitsMap map.now) }
 {
     w.put_byte(18)?;
     put_key(w, key)?;
@@ -89,7 +95,8 @@ fn put_launch(w: &mut Writer, key: &Key, map: &RefMap) -> Result<(), NoMemory>
 
 /// A call: its kind and its fields.
 pub(crate) fn put_call(w: &mut Writer, call: &Call) -> Result<(), NoMemory>
-    ensures { OnOk result (Puts (call_piece call.now) w.old w.new) }
+    ensures puts { OnOk result (Puts (call_piece call.now) w.old w.new) }
+    ensures fits { OnOk result (SpeltCall call.now) }
 {
     match call {
         Call::Open(path, how) => put_code_call(w, 1, path, how_code(*how)),

@@ -1,5 +1,7 @@
 // The pieces of keys and of descriptors, put by a writer.
-ghost use Rattle.std.specs.Prelude.{◌≡◌, OnOk};
+ghost use Rattle.std.specs.Prelude.{◌≡◌, ◌<◌, ◌^◌, OnOk};
+ghost use Rattle.std.specs.List.{AllByRecursion};
+ghost use Rattle.tr_codec.specs.Fits.{FitsKey};
 ghost use Rattle.tr_codec.specs.Piece.{blob, each, counted};
 ghost use Rattle.tr_codec.specs.Spelling.{var_piece, key_piece, pair_piece};
 ghost use Rattle.tr_codec.specs.Puts.{Puts};
@@ -37,7 +39,8 @@ fn put_vars(w: &mut Writer, vars: &[Var]) -> Result<(), NoMemory>
 }
 
 pub(crate) fn put_key(w: &mut Writer, key: &Key) -> Result<(), NoMemory>
-    ensures { OnOk result (Puts (key_piece key.now) w.old w.new) }
+    ensures puts { OnOk result (Puts (key_piece key.now) w.old w.new) }
+    ensures fits { OnOk result (FitsKey key.now) }
 {
     put_words(w, key.argv().as_slice())?;
     w.put_path(key.wd())?;
@@ -46,7 +49,8 @@ pub(crate) fn put_key(w: &mut Writer, key: &Key) -> Result<(), NoMemory>
 }
 
 fn put_pair(w: &mut Writer, pair: (u8, u64)) -> Result<(), NoMemory>
-    ensures { OnOk result (Puts (pair_piece pair) w.old w.new) }
+    ensures puts { OnOk result (Puts (pair_piece pair) w.old w.new) }
+    ensures range { pair.1 < 2 ^ 64 }
 {
     w.put_byte(pair.0)?;
     w.put_number(pair.1)?;
@@ -54,7 +58,8 @@ fn put_pair(w: &mut Writer, pair: (u8, u64)) -> Result<(), NoMemory>
 }
 
 pub(crate) fn put_pairs(w: &mut Writer, pairs: &[(u8, u64)]) -> Result<(), NoMemory>
-    ensures { OnOk result (Puts (counted pair_piece pairs.now) w.old w.new) }
+    ensures puts { OnOk result (Puts (counted pair_piece pairs.now) w.old w.new) }
+    ensures numbers { OnOk result (AllByRecursion (λ pair. pair.1 < 2 ^ 64) pairs.now) }
 {
     w.put_number(pairs.len() as u64)?;
     'pairs: for pair in pairs {

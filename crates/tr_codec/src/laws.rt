@@ -35,7 +35,6 @@ pub fn read_back(alloc: Global, table: &Table) -> Result<Table, CodecErr>
 pub fn read_back_attrs(alloc: Global, attrs: &Attrs) -> Result<Attrs, CodecErr>
     ensures { Finds result attrs.now }
 {
-    let _rows = attrs.as_slice();
     match write_attrs(alloc, attrs) {
         Ok(bytes) => read_attrs(alloc, bytes.as_slice()),
         Err(_) => Err(CodecErr::NoMemory),

@@ -16,7 +16,6 @@ mod reading;
 mod records;
 mod rows;
 mod sealing;
-mod sound;
 mod writer;
 mod writing;
 
@@ -25,7 +24,6 @@ pub use fault::{CodecErr, Damage};
 pub use laws::{one_attrs, one_table, read_back, read_back_attrs};
 pub use reading::read_db;
 pub use rows::{AttrRow, Attrs, DIR_MODE, FILE_MODE};
-pub use sound::has_spelling;
 pub use writing::write_db;
 
 #[cfg(test)]

@@ -1,8 +1,11 @@
 // The pieces of a table, put by a writer.
 ghost use Rattle.std.specs.Prelude.{◌≡◌, OnOk};
+ghost use Rattle.std.specs.List.{AllByRecursion};
+ghost use Rattle.tr_codec.specs.Fits.{Fits};
 ghost use Rattle.tr_codec.specs.Piece.{each, counted};
 ghost use Rattle.tr_codec.specs.Spelling.{step_piece, record_piece, table_piece};
 ghost use Rattle.tr_codec.specs.Puts.{Puts};
+ghost use Rattle.tr_codec.specs.Sound.{IsSound, Spelt, SpeltRecord};
 
 use crate::answer_pieces::put_answer;
 use crate::call_pieces::put_call;
@@ -12,7 +15,8 @@ use rk_base::NoMemory;
 use tr_record::{Record, Step, Table};
 
 fn put_step(w: &mut Writer, step: &Step) -> Result<(), NoMemory>
-    ensures { OnOk result (Puts (step_piece step.now) w.old w.new) }
+    ensures puts { OnOk result (Puts (step_piece step.now) w.old w.new) }
+    ensures fits { OnOk result (Spelt step.now) }
 {
     w.put_cost(step.cost)?;
     put_call(w, &step.call)?;
@@ -21,7 +25,8 @@ fn put_step(w: &mut Writer, step: &Step) -> Result<(), NoMemory>
 }
 
 fn put_steps(w: &mut Writer, steps: &[Step]) -> Result<(), NoMemory>
-    ensures { OnOk result (Puts (counted step_piece steps.now) w.old w.new) }
+    ensures puts { OnOk result (Puts (counted step_piece steps.now) w.old w.new) }
+    ensures fits { OnOk result (AllByRecursion Spelt steps.now) }
 {
     w.put_number(steps.len() as u64)?;
     'steps: for step in steps {
@@ -31,7 +36,8 @@ fn put_steps(w: &mut Writer, steps: &[Step]) -> Result<(), NoMemory>
 }
 
 fn put_record(w: &mut Writer, rec: &Record) -> Result<(), NoMemory>
-    ensures { OnOk result (Puts (record_piece rec.now) w.old w.new) }
+    ensures puts { OnOk result (Puts (record_piece rec.now) w.old w.new) }
+    ensures fits { OnOk result (SpeltRecord rec.now) }
 {
     put_key(w, &rec.key)?;
     put_steps(w, rec.steps.as_slice())?;
@@ -40,14 +46,22 @@ fn put_record(w: &mut Writer, rec: &Record) -> Result<(), NoMemory>
     Ok(())
 }
 
+fn put_records(w: &mut Writer, records: &[Record]) -> Result<(), NoMemory>
+    ensures puts { OnOk result (Puts (counted record_piece records.now) w.old w.new) }
+    ensures fits { OnOk result (AllByRecursion SpeltRecord records.now) }
+{
+    w.put_number(records.len() as u64)?;
+    'records: for rec in records {
+        put_record(w, rec)?;
+    }
+    Ok(())
+}
+
 /// All records of a table.
 pub(crate) fn put_table(w: &mut Writer, table: &Table) -> Result<(), NoMemory>
-    ensures { OnOk result (Puts (table_piece table.now) w.old w.new) }
+    ensures puts { OnOk result (Puts (table_piece table.now) w.old w.new) }
+    ensures fits { OnOk result (AllByRecursion IsSound table.now → Fits table.now) }
 {
-    let len = table.len();
-    w.put_number(len as u64)?;
-    'records: for i in 0..len {
-        put_record(w, table.at(i))?;
-    }
+    put_records(w, table.as_slice())?;
     Ok(())
 }

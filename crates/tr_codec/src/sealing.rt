@@ -1,5 +1,5 @@
 // The digest at the end of a file.
-ghost use Rattle.std.specs.Prelude.{◌≡◌, ◌↔◌, ◌≤◌, IsTrue, IfOk, length};
+ghost use Rattle.std.specs.Prelude.{◌≡◌, ◌↔◌, ◌<◌, ◌≤◌, ◌^◌, IsTrue, IfOk, length};
 ghost use Rattle.tr_codec.specs.Spelling.{sealed};
 ghost use Rattle.tr_codec.specs.Reads.{Opens};
 
@@ -9,7 +9,8 @@ use sha2::{Digest, Sha256};
 
 /// Bytes, and their digest.
 pub(crate) fn seal(mut out: Vec<u8>) -> Result<Bytes, NoMemory>
-    ensures { IfOk result (λ bytes. bytes ≡ sealed out.items) }
+    ensures bytes { IfOk result (λ bytes. bytes ≡ sealed out.items) }
+    ensures memory { IfOk result (λ bytes. length bytes < 2 ^ 64) }
 {
     let digest = Sha256::digest(out.as_slice());
     out.extend_from_slice(&digest)?;

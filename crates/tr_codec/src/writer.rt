@@ -1,7 +1,8 @@
 // A writer of pieces.
-ghost use Rattle.std.specs.Prelude.{◌≡◌, ◌++◌, ◌∷◌, [], length, IfOk, OnOk};
+ghost use Rattle.std.specs.Prelude.{◌≡◌, ◌<◌, ◌^◌, ◌++◌, ◌∷◌, [], length, true, IfOk, OnOk};
 ghost use Rattle.std.specs.Int.{w16, w32, to_be_bytes};
 ghost use Rattle.std.specs.List.{flat_map};
+ghost use Rattle.rk_base.specs.Canonical.{is_canonical};
 ghost use Rattle.tr_codec.specs.Piece.{with_use, number_of, num, string, plain, blob, byte, mode, cost, number};
 ghost use Rattle.tr_codec.specs.Puts.{Puts};
 
@@ -93,7 +94,8 @@ impl Writer {
     }
 
     pub(crate) fn put_byte(&mut self, b: u8) -> Result<(), NoMemory>
-        ensures { OnOk result (Puts (byte b) self.old self.new) }
+        ensures puts { OnOk result (Puts (byte b) self.old self.new) }
+        ensures range { b < 2 ^ 8 }
     {
         self.put_plain(&[b])?;
         Ok(())
@@ -109,7 +111,8 @@ impl Writer {
 
     /// Four bytes.
     pub(crate) fn put_cost(&mut self, n: u32) -> Result<(), NoMemory>
-        ensures { OnOk result (Puts (cost n) self.old self.new) }
+        ensures puts { OnOk result (Puts (cost n) self.old self.new) }
+        ensures range { n < 2 ^ 32 }
     {
         self.put_plain(&n.to_be_bytes())?;
         Ok(())
@@ -118,7 +121,8 @@ impl Writer {
     /// Eight bytes.
     #[tactic(auto, unfolding(crate::specs::Piece::num))]
     pub(crate) fn put_number(&mut self, n: u64) -> Result<(), NoMemory>
-        ensures { OnOk result (Puts (number n) self.old self.new) }
+        ensures puts { OnOk result (Puts (number n) self.old self.new) }
+        ensures range { n < 2 ^ 64 }
     {
         self.put_plain(&n.to_be_bytes())?;
         Ok(())
@@ -135,7 +139,8 @@ impl Writer {
 
     /// The number of a path's blob.
     pub(crate) fn put_path(&mut self, path: &Path) -> Result<(), NoMemory>
-        ensures { OnOk result (Puts (blob path.now) self.old self.new) }
+        ensures puts { OnOk result (Puts (blob path.now) self.old self.new) }
+        ensures canonical { is_canonical path.now ≡ true }
     {
         let alloc = *self.out.allocator();
         let text = Bytes::from_slice(alloc, path.text())?;

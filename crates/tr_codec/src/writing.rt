@@ -1,5 +1,8 @@
 // The spelling of a table.
-ghost use Rattle.std.specs.Prelude.{◌≡◌, IfOk};
+ghost use Rattle.std.specs.Prelude.{◌≡◌, ◌<◌, ◌^◌, length, IfOk, OnOk};
+ghost use Rattle.std.specs.List.{AllByRecursion};
+ghost use Rattle.tr_codec.specs.Fits.{Fits};
+ghost use Rattle.tr_codec.specs.Sound.{IsSound};
 ghost use Rattle.tr_codec.specs.Spelling.{body, table_piece, db_spelling};
 
 use crate::pieces::put_table;
@@ -11,16 +14,20 @@ use tr_record::Table;
 
 // All but the digest.
 pub(crate) fn body_of(alloc: Global, table: &Table) -> Result<Vec<u8>, NoMemory>
-    ensures { IfOk result (λ out. out.items ≡ body (table_piece table.now)) }
+    ensures body { IfOk result (λ out. out.items ≡ body (table_piece table.now)) }
+    ensures fits { OnOk result (AllByRecursion IsSound table.now → Fits table.now) }
 {
     let mut writer = Writer::new(alloc);
     put_table(&mut writer, table)?;
     writer.body(b"RKR1")
 }
 
-/// The one spelling of a table.
+/// The one spelling of a table. Where each recorded answer fits its call, a mode in a call is at most 0777, and no record
+/// paid 2^64 turns or more, it is one that is read back.
 pub fn write_db(alloc: Global, table: &Table) -> Result<Bytes, NoMemory>
-    ensures { IfOk result (λ bytes. bytes ≡ db_spelling table.now) }
+    ensures bytes { IfOk result (λ bytes. bytes ≡ db_spelling table.now) }
+    ensures fits { OnOk result (AllByRecursion IsSound table.now → Fits table.now) }
+    ensures memory { IfOk result (λ bytes. length bytes < 2 ^ 64) }
 {
     let out = body_of(alloc, table)?;
     seal(out)

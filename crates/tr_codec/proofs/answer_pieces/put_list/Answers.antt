@@ -9,4 +9,4 @@ pub names-preserved : goal.names-preserved
 names-preserved c = puts_next blob c.args.names.now c.names.name-index _ _ _ _ _ c.names-test.true c.name-item.is c.names.invariant c.in_ok-put_name.ensures
 
 pub returns : goal.returns
-returns c = puts_then _ _ _ _ _ c.in_ok-put_number.ensures (puts_all blob c.args.names.now c.names.name-index _ _ c.names-test.false c.names.invariant)
+returns c = puts_then _ _ _ _ _ c.in_ok-put_number.ensures.puts (puts_all blob c.args.names.now c.names.name-index _ _ c.names-test.false c.names.invariant)

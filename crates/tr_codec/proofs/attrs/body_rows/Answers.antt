@@ -17,7 +17,7 @@ returns-in_err-attrs-clause-only c = λ rows are e.
 pub returns-then-is_same-clause-found : goal.returns-then-is_same-clause-found
 returns-then-is_same-clause-found c =
     let same = sym c.deref.ensures.value ∙ c.is_same.ensures.0 c.if-is_same.true in
-    (c.as_slice-rows.ensures.rows, sym same ∙ c.in_ok-again.ensures)
+    (c.in_ok-again.ensures.rows, sym same ∙ c.in_ok-again.ensures.body)
 
 pub returns-then-is_same-clause-only : goal.returns-then-is_same-clause-only
 returns-then-is_same-clause-only c = λ rows are e.
@@ -31,5 +31,5 @@ returns-else-is_same-clause-only c = λ rows are e.
     let found : rows_at (drop 4 c.args.front.now) ≡ Some c.in_ok-attrs.attrs = c.in_ok-attrs.ensures in
     let is = parsed_rows c.args.front.now rows are small e in
     let items : c.in_ok-attrs.attrs ≡ rows = cc in
-    let alike : c.in_ok-again.again.items ≡ c.args.front.now = c.in_ok-again.ensures ∙ ap (λ (r : List (Text × AttrRow)). attrs_body r) items ∙ sym e in
+    let alike : c.in_ok-again.again.items ≡ c.args.front.now = c.in_ok-again.ensures.body ∙ ap (λ (r : List (Text × AttrRow)). attrs_body r) items ∙ sym e in
     let bad : false ≡ true = sym c.if-is_same.false ∙ c.is_same.ensures.1 (c.deref.ensures.value ∙ alike) in cc

@@ -1,5 +1,5 @@
 use Rattle.tr_codec.proofs.PutsLemmas.{puts_then}
 use Rattle.tr_codec.proofs.key_pieces.put_pair.Goals as goal
 
-pub returns : goal.returns
-returns c = puts_then _ _ _ _ _ c.in_ok-put_byte.ensures c.in_ok-put_number.ensures
+pub returns-clause-puts : goal.returns-clause-puts
+returns-clause-puts c = puts_then _ _ _ _ _ c.in_ok-put_byte.ensures.puts c.in_ok-put_number.ensures.puts

@@ -16,7 +16,7 @@ returns-in_err-table-clause-only c = λ table fits e.
 pub returns-then-is_same-clause-found : goal.returns-then-is_same-clause-found
 returns-then-is_same-clause-found c =
     let same = sym c.deref.ensures.value ∙ c.is_same.ensures.0 c.if-is_same.true in
-    (table_fits (drop 4 c.args.front.now) c.in_ok-table.table c.in_ok-table.ensures, sym same ∙ c.in_ok-again.ensures)
+    (table_fits (drop 4 c.args.front.now) c.in_ok-table.table c.in_ok-table.ensures, sym same ∙ c.in_ok-again.ensures.body)
 
 pub returns-then-is_same-clause-only : goal.returns-then-is_same-clause-only
 returns-then-is_same-clause-only c = λ table fits e.
@@ -30,5 +30,5 @@ returns-else-is_same-clause-only c = λ table fits e.
     let found : table_at (drop 4 c.args.front.now) ≡ Some c.in_ok-table.table = c.in_ok-table.ensures in
     let is = parsed c.args.front.now table fits small e in
     let items : c.in_ok-table.table ≡ table = cc in
-    let alike : c.in_ok-again.again.items ≡ c.args.front.now = c.in_ok-again.ensures ∙ ap (λ (t : List Record). body (table_piece t)) items ∙ sym e in
+    let alike : c.in_ok-again.again.items ≡ c.args.front.now = c.in_ok-again.ensures.body ∙ ap (λ (t : List Record). body (table_piece t)) items ∙ sym e in
     let bad : false ≡ true = sym c.if-is_same.false ∙ c.is_same.ensures.1 (c.deref.ensures.value ∙ alike) in cc
