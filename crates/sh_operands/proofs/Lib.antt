@@ -1,0 +1,3 @@
+pub mod Capping
+pub mod Filling
+pub mod Values

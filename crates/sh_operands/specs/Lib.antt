@@ -1,0 +1,9 @@
+pub mod Counts
+pub mod Formats
+pub mod Made
+pub mod Modes
+pub mod Numbers
+pub mod Primaries
+pub mod Printed
+pub mod Verdicts
+pub mod Words
