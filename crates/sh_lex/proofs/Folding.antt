@@ -53,7 +53,7 @@ folded-length (c ∷ (d ∷ cs)) = by (c == 92 also d == 10) (folded-length (d �
     by false x y = omega (arith, x)
 
 -- no class has the byte that stands for the end
-no_end : (k : Class) → class_is k 0 ≡ true → ⊥
+pub no_end : (k : Class) → class_is k 0 ≡ true → ⊥
 no_end cl.Plain h = cc
 no_end cl.Blank h = cc
 no_end cl.Digit h = cc

@@ -1,6 +1,6 @@
 -- Which kinds a recognizer finds, and that their tokens have a byte.
-use Rattle.std.proofs.Common.{◌≡◌, ◌≤◌, ◌<◌, ℕ, zero, suc, ◌+◌, List, [], ◌∷◌, Bool, true, false, Option, Some, None, refl, sym, ap, ◌∙◌, subst, arith, drop}
-use Rattle.std.specs.Prelude.{if◌then◌else◌, ◌==◌, nat_lt, nat_eq, slice_index, length, codes}
+use Rattle.std.proofs.Common.{◌≡◌, ◌≤◌, ℕ, suc, ◌+◌, List, [], ◌∷◌, Bool, true, false, Option, Some, None, refl, sym, subst, arith, drop}
+use Rattle.std.specs.Prelude.{if◌then◌else◌, ◌==◌, nat_lt, slice_index, length, codes}
 use Rattle.std.proofs.lemmas.Bool.{ltb-true}
 use Rattle.sh_rules.specs.declared.kind.Kind.{Kind}
 use Rattle.sh_rules.specs.declared.kind.Kind.TheVariants as k
@@ -10,17 +10,18 @@ use Rattle.sh_lex.specs.declared.recognizer.Recognizer.TheVariants as r
 use Rattle.sh_lex.specs.declared.delimiter.Within.TheVariants as w
 use Rattle.sh_lex.specs.declared.place.Words.{Words}
 use Rattle.sh_lex.specs.declared.place.Words.TheVariants.{All, Closers, Ordinary}
-use Rattle.sh_lex.specs.Bytes.{◌or◌, ◌also◌, is_letter, is_digit, is_name, is_end}
+use Rattle.sh_lex.specs.Bytes.{◌or◌, ◌also◌, is_letter, is_digit, is_name, is_end, is_plain, is_brace_text}
 use Rattle.sh_lex.specs.Folded.{folded, run, run_on}
 use Rattle.sh_lex.specs.Tokens.{Look, token}
-use Rattle.sh_lex.specs.Operators.{operator, redirect, more_by}
+use Rattle.sh_lex.specs.Operators.{operator, redirect, numbered, more_by}
 use Rattle.sh_lex.specs.Reserved.{is_word, opener, closer}
-use Rattle.sh_lex.specs.Expansions.{dollar, braced, operation, operated, length_of, length_look, parameter, parameter_in_braces, or_else, named, is_special, substitutes}
+use Rattle.sh_lex.specs.Expansions.{dollar, braced, operation, operated, length_of, length_look, parameter, parameter_in_braces, or_else, is_special, substitutes}
+use Rattle.sh_lex.specs.Brackets.{has_symbol, text_run, text_look}
 use Rattle.sh_lex.specs.Quoting.{escape, single, not_quote}
-use Rattle.sh_lex.specs.Commands.{command_word, prefix_word, argument_word, text_of, name_look, case_in, redirection, assignment, opening, is_in, name_or_text, function_name, long_number, opens_parenthesis}
+use Rattle.sh_lex.specs.Commands.{command_word, prefix_word, argument_word, text_of, name_look, redirection, opening, is_in, name_or_text, function_name, long_number, opens_parenthesis}
 use Rattle.sh_lex.specs.Words.{backslash}
-use Rattle.sh_lex.specs.HereDocuments.{Awaited, Walk, walk, body}
-use Rattle.sh_lex.specs.Lexemes.{recognized, token_if, body_found, bodies_look, operator_look, pattern_bar, delimiter_look}
+use Rattle.sh_lex.specs.HereDocuments.{Awaited, walk, body}
+use Rattle.sh_lex.specs.Lexemes.{recognized, token_if, body_found, bodies_look, delimiter_look}
 
 -- tokens that may have no byte
 abbrev pub may_have_none : Kind → Bool
@@ -57,6 +58,10 @@ of_more : (ks : List ℕ) (x : Look) → Of ks x → Of ks (more_by 1 x)
 of_more ks None p = p
 of_more ks (Some x) p = (p.0, wider (may_have_none x.0) x.1 p.1)
 
+-- a kind that is found, with a byte
+abbrev pub Finds : List ℕ → Kind → Type 0
+Finds ks kind = (member (number kind) ks ≡ true) × (may_have_none kind ≡ false)
+
 abbrev rd : List ℕ
 rd = 42 ∷ 43 ∷ []
 
@@ -73,11 +78,14 @@ of_redirect c d e =
     (of_if rd (d == 38) _ _ (refl, some_bytes _) (of_if rd (d == 62) _ _ tt (refl, some_bytes _))))
     (of_if rd (c == 62) _ _ (of_if rd (d == 62 or d == 38 or d == 124) _ _ (refl, some_bytes _) (refl, some_bytes _)) tt)
 
+of_numbered : (c d e : ℕ) → Of rd (numbered c d e)
+of_numbered c d e = of_if rd (c == 60 also d == 62) _ _ (refl, some_bytes _) (of_more rd (redirect c d e) (of_redirect c d e))
+
 of_redirection : (text : List ℕ) → Of rd (redirection text)
 of_redirection text =
     of_if rd (slice_index text 0 == 60 or slice_index text 0 == 62) _ _
     (of_redirect (slice_index text 0) (slice_index text 1) (slice_index text 2))
-    (of_more rd (redirect (slice_index text 1) (slice_index text 2) (slice_index text 3)) (of_redirect (slice_index text 1) (slice_index text 2) (slice_index text 3)))
+    (of_numbered (slice_index text 1) (slice_index text 2) (slice_index text 3))
 
 abbrev op : List ℕ
 op = 0 ∷ 9 ∷ 10 ∷ 12 ∷ 21 ∷ 41 ∷ []
@@ -97,6 +105,10 @@ of_escape text = of_if esc (length text == 1) _ _ (refl, some_bytes _) (of_if es
 
 of_single : (text : List ℕ) → Of (51 ∷ []) (single text)
 of_single text = of_if (51 ∷ []) (slice_index text (run not_quote (drop 1 text) + 1) == 39) _ _ (refl, omega arith) tt
+
+of_text : (ks : List ℕ) (f : ℕ → Bool) (kind : Kind) (text : List ℕ) → Finds ks kind → Of ks (text_look f kind text)
+of_text ks f kind text h =
+    of_if ks (has_symbol f text) _ _ tt (h.0, subst (λ b. Wide b (suc (text_run f (drop 1 text)))) (sym h.1) (some_bytes _))
 
 -- of the words that begin or close a command
 abbrev opens : List ℕ
@@ -137,7 +149,7 @@ of_function text = of_if opens (is_letter (slice_index text 0) also opens_parent
 
 of_name_or_text : (b : Bool) (text : List ℕ) → Of opens (name_or_text b text)
 of_name_or_text true text = tt
-of_name_or_text false text = of_or opens (function_name text) (text_of k.CommandText text) (of_function text) (refl, some_bytes _)
+of_name_or_text false text = of_or opens (function_name text) (text_of k.CommandText text) (of_function text) (of_text opens is_plain k.CommandText text (refl, refl))
 
 of_command_word : (words : Words) (text : List ℕ) → Of opens (command_word words text)
 unfolding command_word
@@ -147,24 +159,21 @@ of_command_word words text =
 
 of_prefix_word : (text : List ℕ) → Of (45 ∷ []) (prefix_word text)
 unfolding prefix_word
-of_prefix_word text = of_if (45 ∷ []) (long_number text) _ _ tt (refl, some_bytes _)
+of_prefix_word text = of_if (45 ∷ []) (long_number text) _ _ tt (of_text (45 ∷ []) is_plain k.PrefixText text (refl, refl))
 
 of_argument_word : (words : Words) (text : List ℕ) → Of (34 ∷ 46 ∷ []) (argument_word words text)
 unfolding argument_word
 of_argument_word words text =
-    of_if (34 ∷ 46 ∷ []) (long_number text) _ _ tt (of_if (34 ∷ 46 ∷ []) (is_in words text) _ _ (refl, some_bytes _) (refl, some_bytes _))
+    of_if (34 ∷ 46 ∷ []) (long_number text) _ _ tt (of_if (34 ∷ 46 ∷ []) (is_in words text) _ _ (refl, some_bytes _) (of_text (34 ∷ 46 ∷ []) is_plain k.WordText text (refl, refl)))
 
--- what expands: of the kind of braces that is given, or of the others
-abbrev pub HasBrace : List ℕ → Kind → Type 0
-HasBrace ks brace = (member (number brace) ks ≡ true) × (may_have_none brace ≡ false)
-
+-- what expands: the kind of braces that is given, and the others
 abbrev dollars : Kind → List ℕ
 dollars brace = 54 ∷ 55 ∷ 56 ∷ 57 ∷ 58 ∷ number brace ∷ []
 
-of_brace : (brace : Kind) (n : ℕ) → HasBrace (dollars brace) brace → 1 ≤ n → Of (dollars brace) (token brace n)
+of_brace : (brace : Kind) (n : ℕ) → Finds (dollars brace) brace → 1 ≤ n → Of (dollars brace) (token brace n)
 of_brace _ n h one = (h.0, subst (λ b. Wide b n) (sym h.1) one)
 
-of_operation : (brace : Kind) (n c d : ℕ) → HasBrace (dollars brace) brace → Of (dollars brace) (operation brace n c d)
+of_operation : (brace : Kind) (n c d : ℕ) → Finds (dollars brace) brace → Of (dollars brace) (operation brace n c d)
 of_operation brace n c d h =
     of_if (dollars brace) (c == 125) _ _ (refl, omega arith)
     (of_if (dollars brace) (c == 58) _ _ (of_if (dollars brace) (substitutes d) _ _ (of_brace brace (n + 2) h (omega arith)) tt)
@@ -172,7 +181,7 @@ of_operation brace n c d h =
     (of_if (dollars brace) (c == 37) _ _ (of_if (dollars brace) (d == 37) _ _ (refl, omega arith) (refl, omega arith))
     (of_if (dollars brace) (c == 35) _ _ (of_if (dollars brace) (d == 35) _ _ (refl, omega arith) (refl, omega arith)) tt))))
 
-of_operated : (brace : Kind) (n : ℕ) (text : List ℕ) → HasBrace (dollars brace) brace → Of (dollars brace) (operated brace n text)
+of_operated : (brace : Kind) (n : ℕ) (text : List ℕ) → Finds (dollars brace) brace → Of (dollars brace) (operated brace n text)
 of_operated brace n text h = of_if (dollars brace) (n == 0) _ _ tt (of_operation brace (n + 2) (slice_index text (n + 2)) (slice_index text (n + 3)) h)
 
 of_length : (brace : Kind) (n : ℕ) (text : List ℕ) → Of (dollars brace) (length_of n text)
@@ -181,12 +190,12 @@ of_length brace n text = of_if (dollars brace) (n == 0) _ _ tt (of_if (dollars b
 of_length_look : (brace : Kind) (text : List ℕ) → Of (dollars brace) (length_look text)
 of_length_look brace text = of_if (dollars brace) (slice_index text 2 == 35) _ _ (of_length brace (parameter (drop 3 text)) text) tt
 
-of_braced : (brace : Kind) (text : List ℕ) → HasBrace (dollars brace) brace → Of (dollars brace) (braced brace text)
+of_braced : (brace : Kind) (text : List ℕ) → Finds (dollars brace) brace → Of (dollars brace) (braced brace text)
 unfolding braced
 of_braced brace text h =
     of_or (dollars brace) (length_look text) (operated brace (parameter_in_braces text) text) (of_length_look brace text) (of_operated brace (parameter_in_braces text) text h)
 
-pub of_dollar : (brace : Kind) (text : List ℕ) → HasBrace (dollars brace) brace → Of (dollars brace) (dollar brace text)
+pub of_dollar : (brace : Kind) (text : List ℕ) → Finds (dollars brace) brace → Of (dollars brace) (dollar brace text)
 unfolding dollar
 of_dollar brace text h =
     of_if (dollars brace) (is_letter (slice_index text 1)) _ _ (refl, omega arith)
@@ -195,7 +204,7 @@ of_dollar brace text h =
     (of_if (dollars brace) (slice_index text 1 == 40) _ _ (of_if (dollars brace) (slice_index text 2 == 40) _ _ tt (refl, some_bytes _))
     (of_if (dollars brace) (slice_index text 1 == 123) _ _ (of_braced brace text h) (refl, some_bytes _)))))
 
-of_backslash : (ks : List ℕ) (b : Bool) (quoted alone : Kind) → HasBrace ks quoted → HasBrace ks alone → Of ks (backslash b quoted alone)
+of_backslash : (ks : List ℕ) (b : Bool) (quoted alone : Kind) → Finds ks quoted → Finds ks alone → Of ks (backslash b quoted alone)
 of_backslash ks true quoted alone h i = (h.0, subst (λ b. Wide b 2) (sym h.1) (some_bytes _))
 of_backslash ks false quoted alone h i = (i.0, subst (λ b. Wide b 1) (sym i.1) (some_bytes _))
 
@@ -297,7 +306,7 @@ of_recognized r.CommandWord whole closed words awaited text = of_command_word wo
 of_recognized r.PrefixWord whole closed words awaited text = of_prefix_word (folded text)
 of_recognized r.ArgumentWord whole closed words awaited text = of_argument_word words (folded text)
 of_recognized r.PatternOpen whole closed words awaited text = (refl, some_bytes _)
-of_recognized r.PatternText whole closed words awaited text = (refl, some_bytes _)
+of_recognized r.PatternText whole closed words awaited text = of_text (38 ∷ []) is_plain k.PatternText (folded text) (refl, refl)
 of_recognized r.CaseIn whole closed words awaited text = of_if (35 ∷ []) (is_word (codes "in") (folded text)) _ _ (refl, some_bytes _) tt
 of_recognized r.PatternClose whole closed words awaited text = (refl, some_bytes _)
 of_recognized r.PatternBar whole closed words awaited text = of_if (40 ∷ []) (slice_index (folded text) 1 == 124) _ _ tt (refl, some_bytes _)
@@ -306,14 +315,14 @@ of_recognized r.BodyClose whole closed words awaited text = of_token_if (5 ∷ [
 of_recognized r.BodyBackslash whole closed words awaited text = of_backslash (6 ∷ 7 ∷ []) _ k.BodyEscape k.BodyText (refl, refl) (refl, refl)
 of_recognized r.BodyText whole closed words awaited text = (refl, some_bytes _)
 of_recognized r.WordEnd whole closed words awaited text = (refl, tt)
-of_recognized r.ValueText whole closed words awaited text = (refl, some_bytes _)
-of_recognized r.Text whole closed words awaited text = (refl, some_bytes _)
+of_recognized r.ValueText whole closed words awaited text = of_text (48 ∷ []) is_plain k.ValueText (folded text) (refl, refl)
+of_recognized r.Text whole closed words awaited text = of_text (49 ∷ []) is_plain k.Text (folded text) (refl, refl)
 of_recognized r.QuoteClose whole closed words awaited text = (refl, some_bytes _)
 of_recognized r.QuotedBackslash whole closed words awaited text = of_backslash (60 ∷ 61 ∷ []) _ k.QuotedEscape k.QuotedText (refl, refl) (refl, refl)
 of_recognized r.QuotedText whole closed words awaited text = (refl, some_bytes _)
 of_recognized r.BraceClose whole closed words awaited text = (refl, some_bytes _)
-of_recognized r.BraceStartText whole closed words awaited text = (refl, some_bytes _)
-of_recognized r.BraceText whole closed words awaited text = (refl, some_bytes _)
+of_recognized r.BraceStartText whole closed words awaited text = of_text (63 ∷ []) is_brace_text k.BraceStartText (folded text) (refl, refl)
+of_recognized r.BraceText whole closed words awaited text = of_text (64 ∷ []) is_brace_text k.BraceText (folded text) (refl, refl)
 of_recognized r.QuotedBraceBackslash whole closed words awaited text = of_backslash (65 ∷ 66 ∷ []) _ k.QuotedBraceEscape k.QuotedBraceText (refl, refl) (refl, refl)
 of_recognized r.QuotedBraceText whole closed words awaited text = (refl, some_bytes _)
 of_recognized r.Name whole closed words awaited text = of_name (folded text)

@@ -1,4 +1,5 @@
 pub mod Folding
+pub mod Symbols
 pub mod Runs
 pub mod Found
 pub mod Modes

@@ -1,8 +1,7 @@
 -- All modes find the same token where it belongs to them.
 use Rattle.std.proofs.Common.{◌≡◌, ℕ, zero, suc, ◌+◌, List, [], ◌∷◌, Bool, true, false, Option, Some, None, refl, sym, ap, ◌∙◌, subst, ◌⊎◌, inl, inr}
-use Rattle.std.specs.Prelude.{nat_eq, if◌then◌else◌, ◌==◌, slice_index, drop}
+use Rattle.std.specs.Prelude.{nat_eq, if◌then◌else◌, ◌==◌, slice_index}
 use Rattle.std.proofs.lemmas.Bool.{eqb-true}
-use Rattle.sh_rules.specs.Reading.{Stands}
 use Rattle.sh_rules.specs.Checked.{ModesAgree}
 use Rattle.sh_rules.specs.declared.kind.Kind.{Kind}
 use Rattle.sh_rules.specs.declared.kind.Mode.{Mode}
@@ -21,18 +20,15 @@ use Rattle.sh_lex.specs.declared.front.Quote as q
 use Rattle.sh_lex.specs.declared.front.Quote.TheVariants as qu
 use Rattle.sh_lex.specs.declared.front.Plain as p
 use Rattle.sh_lex.specs.declared.front.Plain.TheVariants as pl
-use Rattle.sh_lex.specs.declared.place.Words.{Words}
 use Rattle.sh_lex.specs.Bytes.{◌or◌, is_digit, is_letter}
 use Rattle.sh_lex.specs.Folded.{folded}
 use Rattle.sh_lex.specs.Tokens.{Look, token}
-use Rattle.sh_lex.specs.Expansions.{dollar, braced, operation, operated, length_look, parameter_in_braces, or_else, named, is_special, substitutes}
-use Rattle.sh_lex.specs.HereDocuments.{Awaited}
+use Rattle.sh_lex.specs.Expansions.{dollar, braced, operation, operated, length_look, parameter_in_braces, or_else, is_special, substitutes}
 use Rattle.sh_lex.specs.Fronts.{front_of}
 use Rattle.sh_lex.specs.Recognizers.{recognizer}
 use Rattle.sh_lex.specs.Lexemes.{recognized, is_raw, extent, measured, look}
-use Rattle.sh_lex.specs.Effects.{effect_of}
 use Rattle.sh_lex.specs.Places.{Place, is_whole, is_closed}
-use Rattle.sh_lex.specs.Steps.{lexed, lex, over, token_of, after}
+use Rattle.sh_lex.specs.Steps.{lexed, lex, over, token_of}
 use Rattle.sh_lex.proofs.Found.{Of, kinds_by, of_recognized}
 
 -- numbers of recognizers

@@ -1,5 +1,5 @@
 -- The last of a list goes.
-use Rattle.std.proofs.Common.{◌≡◌, ◌<◌, ℕ, zero, suc, List, [], ◌∷◌, ◌++◌, Bool, true, false, Option, Some, None, refl, sym, ap, ◌∙◌, arith, length}
+use Rattle.std.proofs.Common.{◌≡◌, ℕ, List, [], ◌∷◌, ◌++◌, Bool, Option, Some, None, refl, sym, ap, ◌∙◌, length}
 use Rattle.std.specs.Prelude.{option_to_list, MatchOption, ◌+◌}
 use Rattle.sh_lex.specs.Steps.{popped, last_paren, last_around, or_false}
 use Rattle.sh_lex.specs.Places.{Around}

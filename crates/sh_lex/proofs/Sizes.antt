@@ -9,7 +9,6 @@ use Rattle.sh_rules.specs.declared.kind.Kind.TheVariants as k
 use Rattle.sh_rules.specs.declared.kind.Mode.TheVariants as m
 use Rattle.sh_rules.specs.Rules.{Token}
 use Rattle.sh_rules.specs.LookAhead.{mode_of}
-use Rattle.sh_lex.specs.declared.recognizer.Recognizer.TheVariants as r
 use Rattle.sh_lex.specs.declared.front.Front.TheVariants as f
 use Rattle.sh_lex.specs.declared.effect.Effect.{Effect}
 use Rattle.sh_lex.specs.declared.effect.Effect.TheVariants as e
@@ -19,15 +18,15 @@ use Rattle.sh_lex.specs.declared.body.Piece.{Piece}
 use Rattle.sh_lex.specs.declared.body.Piece.TheVariants as pc
 use Rattle.sh_lex.specs.Bytes.{◌also◌, not_so, is_tab}
 use Rattle.sh_lex.specs.Blanks.{joins, blanks}
-use Rattle.sh_lex.specs.Folded.{folded, run, behind, behind_one}
-use Rattle.sh_lex.specs.Tokens.{Look, token}
+use Rattle.sh_lex.specs.Folded.{folded, run, behind}
+use Rattle.sh_lex.specs.Tokens.{token}
 use Rattle.sh_lex.specs.HereDocuments.{Awaited, piece, closes, counted_body, counted_line, more_by, one_piece, body, line}
 use Rattle.sh_lex.specs.Fronts.{front_of}
 use Rattle.sh_lex.specs.Recognizers.{recognizer}
-use Rattle.sh_lex.specs.Lexemes.{recognized, token_if, body_found, bodies_look, is_raw, extent, measured, look}
+use Rattle.sh_lex.specs.Lexemes.{recognized, token_if, body_found, bodies_look, is_raw, extent, look}
 use Rattle.sh_lex.specs.Effects.{effect_of}
-use Rattle.sh_lex.specs.Places.{Place, Around, moved, past_joins, past_blanks, is_whole, is_closed, size, left_around}
-use Rattle.sh_lex.specs.Steps.{lexed, lex, token_of, after, popped, last_paren, last_around, paren_closed, past_line, body_passed, body_taken, past_tabs_if, aside, put_aside, body_begun, body_opened, body_closed, next}
+use Rattle.sh_lex.specs.Places.{Place, Around, moved, is_whole, is_closed, size, left_around}
+use Rattle.sh_lex.specs.Steps.{lex, after, popped, last_paren, last_around, paren_closed, body_passed, body_taken, past_tabs_if, aside, put_aside, body_begun, body_opened, body_closed, next}
 use Rattle.sh_lex.proofs.Found.{Of, Wide, may_have_none, kinds_by, of_recognized}
 use Rattle.sh_lex.proofs.Modes.{found, front_at_place, unmeasured, unlexed, found_by_itself, kind_or, count_or, place_or}
 

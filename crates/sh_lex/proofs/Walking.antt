@@ -1,15 +1,12 @@
 -- Delimiters and bodies of here-documents, step by step.
-use Rattle.std.proofs.Common.{◌≡◌, ◌≤◌, ℕ, zero, suc, ◌+◌, List, [], ◌∷◌, ◌++◌, Bool, true, false, Option, Some, None, refl, sym, ap, ◌∙◌, arith, drop, length, length-drop, ◌⊎◌, inl, inr}
+use Rattle.std.proofs.Common.{◌≡◌, ◌≤◌, ℕ, ◌+◌, List, [], ◌∷◌, ◌++◌, Bool, true, false, refl, sym, ap, ◌∙◌, arith, drop, length, length-drop, ◌⊎◌, inl, inr}
 use Rattle.std.specs.Prelude.{if◌then◌else◌, ◌==◌, slice_index}
 use Rattle.sh_lex.specs.declared.delimiter.Within.{Within}
 use Rattle.sh_lex.specs.declared.delimiter.Within.TheVariants as w
 use Rattle.sh_lex.specs.declared.delimiter.Step.{Step}
 use Rattle.sh_lex.specs.declared.delimiter.Step.TheVariants as s
-use Rattle.sh_lex.specs.declared.body.Piece.{Piece}
-use Rattle.sh_lex.specs.declared.body.Piece.TheVariants as pc
-use Rattle.sh_lex.specs.Bytes.{◌or◌, ◌also◌, not_so, is_end}
-use Rattle.sh_lex.specs.Words.{is_quotable}
-use Rattle.sh_lex.specs.HereDocuments.{Walk, further, stopped, walked, at_end, step, step_at, nowhere, walk, one_left, two_left, left, nothing, delimiter_of, Awaited, closes, one_piece, piece, counted_line, line, more_by, counted_body, body}
+use Rattle.sh_lex.specs.Bytes.{◌or◌, ◌also◌, is_end}
+use Rattle.sh_lex.specs.HereDocuments.{Walk, further, stopped, walked, at_end, step, step_at, nowhere, walk, one_left, two_left, left, nothing, delimiter_of}
 
 -- so many bytes went by of a delimiter
 pub record Walked (whole rest : List ℕ) (x : Within) (count : ℕ) : Type 0 where

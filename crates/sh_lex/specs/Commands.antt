@@ -1,12 +1,13 @@
 -- Words among commands, in clauses and behind redirections (XCU 2.3, 2.7, 2.9, 2.10.2): a text as it is read, that begins with no blank or comment.
-use Rattle.std.specs.Prelude.{ℕ, suc, ◌+◌, ◌==◌, nat_lt, List, [], ◌∷◌, drop, slice_index, codes, Bool, true, false, if◌then◌else◌, None}
+use Rattle.std.specs.Prelude.{ℕ, suc, ◌==◌, nat_lt, List, drop, slice_index, codes, Bool, true, false, if◌then◌else◌, None}
 use Rattle.sh_rules.specs.declared.kind.Kind.{Kind}
 use Rattle.sh_rules.specs.declared.kind.Kind.TheVariants as k
 use Rattle.sh_lex.specs.declared.place.Words.{Words}
 use Rattle.sh_lex.specs.declared.place.Words.TheVariants.{All, Closers, Ordinary}
 use Rattle.sh_lex.specs.Bytes.{◌or◌, ◌also◌, is_blank, is_digit, is_letter, is_name, is_end, is_plain}
 use Rattle.sh_lex.specs.Folded.{run, run_on}
-use Rattle.sh_lex.specs.Operators.{redirect, more_by}
+use Rattle.sh_lex.specs.Brackets.{text_look}
+use Rattle.sh_lex.specs.Operators.{redirect, numbered}
 use Rattle.sh_lex.specs.Reserved.{is_word, opener}
 use Rattle.sh_lex.specs.Expansions.{or_else}
 use Rattle.sh_lex.specs.Tokens.{Look, token}
@@ -17,7 +18,7 @@ redirection text =
     let c = slice_index text 0 in
     let d = slice_index text 1 in
     let e = slice_index text 2 in
-    if (c == 60 or c == 62) then redirect c d e else more_by 1 (redirect d e (slice_index text 3))
+    if (c == 60 or c == 62) then redirect c d e else numbered d e (slice_index text 3)
 
 -- reserved words that begin a command, where one may begin
 abbrev pub opening : Words → List ℕ → Look
@@ -46,7 +47,7 @@ function_name text =
 
 -- the first text of a word
 abbrev pub text_of : Kind → List ℕ → Look
-text_of kind text = token kind (run_on is_plain text)
+text_of kind text = text_look is_plain kind text
 
 -- a descriptor's number of two digits or more, which the profile leaves out
 abbrev pub long_number : List ℕ → Bool

@@ -2,7 +2,7 @@
 use Rattle.std.specs.Prelude.{ℕ, ◌+◌, ◌==◌, List, drop, slice_index, Bool, if◌then◌else◌, Some, None}
 use Rattle.sh_rules.specs.declared.kind.Kind.{Kind}
 use Rattle.sh_rules.specs.declared.kind.Kind.TheVariants as k
-use Rattle.sh_lex.specs.Bytes.{◌or◌, is_digit, is_letter, is_name}
+use Rattle.sh_lex.specs.Bytes.{◌or◌, ◌also◌, not_so, is_digit, is_letter, is_name}
 use Rattle.sh_lex.specs.Folded.{run}
 use Rattle.sh_lex.specs.Tokens.{Look, token}
 
@@ -17,6 +17,14 @@ parameter text =
     if is_letter c then run is_name text
     else if is_digit c then run is_digit text
     else if is_special c then 1 else 0
+
+-- a dollar sign begins something by the byte behind it: a parameter, one of $$ $! $-, a substitution or braces
+abbrev pub is_begun : ℕ → Bool
+is_begun d = is_letter d or is_digit d or is_special d or d == 36 or d == 33 or d == 45 or d == 40 or d == 123
+
+-- one that begins nothing stands for itself
+abbrev pub is_dollar : List ℕ → Bool
+is_dollar text = slice_index text 0 == 36 also not_so (is_begun (slice_index text 1))
 
 -- the operator behind a parameter in braces: - = ? +, each also behind a colon; % %% # ## (XCU 2.6.2)
 abbrev pub substitutes : ℕ → Bool

@@ -1,16 +1,17 @@
 -- Why no script goes on at a place: by the place alone. At one place what the profile leaves out comes first, then a level too many, then what isn't closed, then syntax.
-use Rattle.std.specs.Prelude.{ℕ, suc, ◌+◌, ◌-◌, ◌==◌, ◌≤◌, nat_lt, List, [], ◌∷◌, take, drop, length, slice_index, Option, Some, None, Bool, true, false, if◌then◌else◌}
+use Rattle.std.specs.Prelude.{ℕ, suc, ◌+◌, ◌==◌, nat_lt, List, [], ◌∷◌, take, drop, length, slice_index, Option, Some, None, Bool, true, false, if◌then◌else◌}
 use Rattle.sh_rules.specs.Reading.{Halt, Blocked, Over}
 use Rattle.sh_rules.specs.Rules.{Token}
 use Rattle.sh_lex.specs.declared.fault.Why.{Why}
 use Rattle.sh_lex.specs.declared.fault.Why.TheVariants as y
 use Rattle.sh_lex.specs.declared.fault.ScriptFault.{ScriptFault}
 use Rattle.sh_lex.specs.declared.delimiter.Within.TheVariants as w
-use Rattle.sh_lex.specs.Bytes.{◌or◌, ◌also◌, not_so, is_digit, is_letter}
-use Rattle.sh_lex.specs.Folded.{folded, run, behind}
+use Rattle.sh_lex.specs.Bytes.{◌or◌, ◌also◌, not_so, is_digit, is_plain}
+use Rattle.sh_lex.specs.Folded.{folded, run}
 use Rattle.sh_lex.specs.Expansions.{parameter}
+use Rattle.sh_lex.specs.Brackets.{begins_symbol, has_symbol}
 use Rattle.sh_lex.specs.Quoting.{not_quote}
-use Rattle.sh_lex.specs.HereDocuments.{Awaited, Walk, walk}
+use Rattle.sh_lex.specs.HereDocuments.{Awaited, walk}
 use Rattle.sh_lex.specs.Places.{Place, is_none, is_closed}
 use Rattle.sh_lex.specs.Steps.{next}
 
@@ -28,15 +29,21 @@ dollar_out text =
     let d = slice_index text 1 in
     if (d == 36 or d == 33 or d == 45) then 2 else if (d == 40 also slice_index text 2 == 40) then 3 else 0
 
--- what this profile leaves out, in front of a text as it is read: ` ~ & <> $$ $! $- $(( and long numbers of descriptors
-unfoldable pub left_out : List ℕ → ℕ
-left_out text =
+-- in the middle of a word it is its bracket alone at which no text stands
+abbrev pub is_bracket_out : Bool → List ℕ → Bool
+is_bracket_out true text = begins_symbol text
+is_bracket_out false text = has_symbol is_plain text
+
+-- what this profile leaves out, in front of a text as it is read: ` ~ & <> $$ $! $- $(( and long numbers of descriptors, [. and [= in a bracket
+unfoldable pub left_out : Bool → List ℕ → ℕ
+left_out in_word text =
     let c = slice_index text 0 in
     if (c == 96 or c == 126) then 1
     else if c == 38 then (if slice_index text 1 == 38 then 0 else 1)
     else if c == 60 then (if slice_index text 1 == 62 then 2 else 0)
     else if is_digit c then digits_out text
     else if c == 36 then dollar_out text
+    else if c == 91 then (if is_bracket_out in_word text then 2 else 0)
     else 0
 
 abbrev pub least : ℕ → ℕ → ℕ
@@ -66,18 +73,18 @@ unclosed p = fault (open_at p) y.Unclosed
 abbrev pub end_fault : Place → ScriptFault
 end_fault p = if (is_closed p also not_so p.due) then fault p.at y.Syntax else unclosed p
 
--- a literal body has a NUL, or a body isn't closed
+-- where no body stands: it has a NUL, or isn't closed
 abbrev pub not_nul : ℕ → Bool
 not_nul c = not_so (c == 0)
 
-abbrev pub body_fault : Bool → Place → ScriptFault
-body_fault literal p =
+abbrev pub body_fault : Place → ScriptFault
+body_fault p =
     let n = run not_nul p.text in
-    if (literal also nat_lt n (length p.text)) then fault (p.at + n) y.Syntax else unclosed p
+    if nat_lt n (length p.text) then fault (p.at + n) y.Syntax else unclosed p
 
 abbrev pub bodies_fault : Option (Bool × ℕ × Bool) → Place → ScriptFault
 bodies_fault None p = fault p.at y.Syntax
-bodies_fault (Some d) p = body_fault d.0 p
+bodies_fault (Some d) p = body_fault p
 
 -- a delimiter isn't closed, or has what can't stand in it
 abbrev pub delimiter_fault : ℕ → Place → ScriptFault
@@ -110,7 +117,7 @@ text_fault p =
     if is_none p.text then end_fault p
     else if slice_index p.text 0 == 39 then single_fault (suc (run not_quote (drop 1 p.text))) p
     else if breaks_off (folded p.text) then unclosed p
-    else out_fault (left_out (folded p.text)) p.at p.text
+    else out_fault (left_out p.in_word (folded p.text)) p.at p.text
 
 -- where a delimiter is due
 abbrev pub due_fault : Place → ScriptFault

@@ -11,7 +11,7 @@ use Rattle.sh_lex.specs.declared.front.Quote.TheVariants as qu
 use Rattle.sh_lex.specs.declared.front.Plain as p
 use Rattle.sh_lex.specs.declared.front.Plain.TheVariants as pl
 use Rattle.sh_lex.specs.Bytes.{◌or◌, ◌also◌, is_digit, is_letter, is_name, is_end, is_quoting}
-use Rattle.sh_lex.specs.Folded.{folded, run}
+use Rattle.sh_lex.specs.Folded.{run}
 use Rattle.sh_lex.specs.Reserved.{is_word, closer}
 use Rattle.sh_lex.specs.Tokens.{Look}
 

@@ -1,5 +1,5 @@
 -- Here-documents: their delimiters, and where their bodies end (XCU 2.7.4).
-use Rattle.std.specs.Prelude.{ℕ, zero, suc, ◌+◌, ◌==◌, List, [], ◌∷◌, ◌++◌, Option, Some, None, Bool, true, false, if◌then◌else◌, drop, slice_index}
+use Rattle.std.specs.Prelude.{ℕ, suc, ◌+◌, ◌==◌, List, [], ◌∷◌, ◌++◌, Option, Some, None, Bool, true, false, if◌then◌else◌, drop, slice_index}
 use Rattle.sh_lex.specs.declared.delimiter.Within.{Within}
 use Rattle.sh_lex.specs.declared.delimiter.Within.TheVariants as w
 use Rattle.sh_lex.specs.declared.delimiter.Step.{Step}

@@ -1,5 +1,5 @@
 -- Which token stands at a place.
-use Rattle.std.specs.Prelude.{ℕ, zero, suc, ◌+◌, ◌-◌, ◌==◌, nat_lt, List, [], ◌∷◌, Bool, true, false, if◌then◌else◌, slice_index, codes, Option, Some, None, drop, length}
+use Rattle.std.specs.Prelude.{ℕ, ◌-◌, ◌==◌, nat_lt, List, [], ◌∷◌, Bool, true, false, if◌then◌else◌, slice_index, Option, Some, None, length}
 use Rattle.sh_rules.specs.declared.kind.Kind.{Kind}
 use Rattle.sh_rules.specs.declared.kind.Mode.{Mode}
 use Rattle.sh_rules.specs.declared.kind.Kind.TheVariants as k
@@ -7,16 +7,17 @@ use Rattle.sh_lex.specs.declared.recognizer.Recognizer.{Recognizer}
 use Rattle.sh_lex.specs.declared.recognizer.Recognizer.TheVariants as r
 use Rattle.sh_lex.specs.declared.delimiter.Within.TheVariants as w
 use Rattle.sh_lex.specs.declared.place.Words.{Words}
-use Rattle.sh_lex.specs.Bytes.{◌also◌, is_letter, is_name, is_end, is_plain, is_quoted_text, is_brace_text, is_quoted_brace_text, is_body_text}
+use Rattle.sh_lex.specs.Bytes.{◌also◌, is_quoted_text, is_brace_text, is_quoted_brace_text, is_body_text}
 use Rattle.sh_lex.specs.Folded.{folded, run_on, behind}
 use Rattle.sh_lex.specs.Tokens.{Look, token}
-use Rattle.sh_lex.specs.Operators.{operator, redirect, more_by}
-use Rattle.sh_lex.specs.Reserved.{is_word, closer}
+use Rattle.sh_lex.specs.Operators.{operator}
+use Rattle.sh_lex.specs.Reserved.{closer}
 use Rattle.sh_lex.specs.Expansions.{dollar}
+use Rattle.sh_lex.specs.Brackets.{text_look}
 use Rattle.sh_lex.specs.Quoting.{escape, single}
 use Rattle.sh_lex.specs.Commands.{command_word, prefix_word, argument_word, text_of, name_look, case_in, redirection, assignment}
 use Rattle.sh_lex.specs.Words.{is_quotable, is_quotable_in_braces, is_quotable_in_body, backslash}
-use Rattle.sh_lex.specs.HereDocuments.{Awaited, Walk, walk, body}
+use Rattle.sh_lex.specs.HereDocuments.{Awaited, walk, body}
 use Rattle.sh_lex.specs.Fronts.{front_of}
 use Rattle.sh_lex.specs.Recognizers.{recognizer}
 use Rattle.sh_lex.specs.Places.{Place, is_closed, is_whole}
@@ -85,8 +86,8 @@ recognized r.QuoteClose whole closed words awaited text = token k.QuoteClose 1
 recognized r.QuotedBackslash whole closed words awaited text = backslash (is_quotable (slice_index text 1)) k.QuotedEscape k.QuotedText
 recognized r.QuotedText whole closed words awaited text = token k.QuotedText (run_on is_quoted_text (folded text))
 recognized r.BraceClose whole closed words awaited text = token k.BraceClose 1
-recognized r.BraceStartText whole closed words awaited text = token k.BraceStartText (run_on is_brace_text (folded text))
-recognized r.BraceText whole closed words awaited text = token k.BraceText (run_on is_brace_text (folded text))
+recognized r.BraceStartText whole closed words awaited text = text_look is_brace_text k.BraceStartText (folded text)
+recognized r.BraceText whole closed words awaited text = text_look is_brace_text k.BraceText (folded text)
 recognized r.QuotedBraceBackslash whole closed words awaited text = backslash (is_quotable_in_braces (slice_index text 1)) k.QuotedBraceEscape k.QuotedBraceText
 recognized r.QuotedBraceText whole closed words awaited text = token k.QuotedBraceText (run_on is_quoted_brace_text (folded text))
 recognized r.Name whole closed words awaited text = name_look (folded text)

@@ -5,6 +5,7 @@ pub mod Tokens
 pub mod Operators
 pub mod Reserved
 pub mod Expansions
+pub mod Brackets
 pub mod Quoting
 pub mod Commands
 pub mod Words

@@ -1,7 +1,7 @@
 -- Operators (XCU 2.10.1), by their first bytes.
 use Rattle.std.specs.Prelude.{ℕ, ◌+◌, ◌==◌, if◌then◌else◌, Some, None}
 use Rattle.sh_rules.specs.declared.kind.Kind.TheVariants as k
-use Rattle.sh_lex.specs.Bytes.{◌or◌}
+use Rattle.sh_lex.specs.Bytes.{◌or◌, ◌also◌}
 use Rattle.sh_lex.specs.Tokens.{Look, token}
 
 -- what redirects (XCU 2.7): < << <<- <& and > >> >& >|
@@ -14,6 +14,11 @@ redirect c d e =
 abbrev pub more_by : ℕ → Look → Look
 more_by n None = None
 more_by n (Some x) = Some (x.0, n + x.1)
+
+-- Behind a descriptor's number of one digit: the operator with it. In front of <>, which the profile leaves out, the number stands by
+-- itself, and no word follows it.
+abbrev pub numbered : ℕ → ℕ → ℕ → Look
+numbered c d e = if (c == 60 also d == 62) then token k.Redirect 1 else more_by 1 (redirect c d e)
 
 -- what controls: newline ; ;; && | || ) (the opening parenthesis stands with the words)
 abbrev pub operator : ℕ → ℕ → Look

@@ -1,7 +1,7 @@
 -- Places of a text: what is left of it, and what the tokens before have left open.
-use Rattle.std.specs.Prelude.{ℕ, zero, suc, ◌+◌, List, [], ◌∷◌, ◌++◌, Bool, true, false, drop, length}
+use Rattle.std.specs.Prelude.{ℕ, ◌+◌, List, [], ◌∷◌, Bool, true, false, drop, length}
 use Rattle.sh_lex.specs.declared.place.Words.{Words}
-use Rattle.sh_lex.specs.declared.place.Words.TheVariants.{All, Closers, Ordinary}
+use Rattle.sh_lex.specs.declared.place.Words.TheVariants.{All}
 use Rattle.sh_lex.specs.Bytes.{◌also◌}
 use Rattle.sh_lex.specs.Blanks.{joins, blanks}
 use Rattle.sh_lex.specs.HereDocuments.{Awaited}
@@ -19,6 +19,7 @@ pub record Around : Type 0 where
 -- A place: what is left of the text, or of the body that is read, and how many bytes of the whole stand before it;
 -- which words are reserved there; how many levels are open; where the open quotes, substitutions and braces were opened, the outermost first;
 -- which of the open parentheses are substitutions; the here-documents to come, and whether their bodies stand there;
+-- whether a word goes on there;
 -- whether a here-document's delimiter is due, where its operator stands, and whether it drops tabs;
 -- whether the tabs at the beginning of lines are dropped here;
 -- and what stands around the body.
@@ -31,6 +32,7 @@ pub record Place : Type 0 where
   pub parens : List Bool
   pub awaited : List Awaited
   pub in_bodies : Bool
+  pub in_word : Bool
   pub due : Bool
   pub operator : ℕ
   pub dashed : Bool
@@ -52,12 +54,12 @@ is_whole p = is_closed p also is_none p.around
 abbrev pub moved : ℕ → Place → Place
 moved n p = record p { text = drop n p.text; at = p.at + n }
 
--- past joined lines; past blanks and a comment too
+-- past joined lines, where a word goes on; past blanks and a comment too, where none does
 abbrev pub past_joins : Place → Place
-past_joins p = moved (joins p.text) p
+past_joins p = record (moved (joins p.text) p) { in_word = true }
 
 abbrev pub past_blanks : Place → Place
-past_blanks p = moved (blanks false p.text) p
+past_blanks p = record (moved (blanks false p.text) p) { in_word = false }
 
 -- where the text begins from a byte on
 abbrev pub begin_at : ℕ → List ℕ → Place
@@ -71,6 +73,7 @@ begin_at n text =
       parens = [];
       awaited = [];
       in_bodies = false;
+      in_word = false;
       due = false;
       operator = 0;
       dashed = false;

@@ -1,8 +1,7 @@
 -- From a place to the next one, by what a token leaves open.
-use Rattle.std.specs.Prelude.{ℕ, zero, suc, ◌+◌, ◌-◌, ◌==◌, nat_lt, List, [], ◌∷◌, ◌++◌, Bool, true, false, if◌then◌else◌, Option, Some, None, take, drop, length, slice_index}
+use Rattle.std.specs.Prelude.{ℕ, suc, ◌-◌, ◌==◌, nat_lt, List, [], ◌∷◌, ◌++◌, Bool, true, false, if◌then◌else◌, Option, Some, None, take, drop}
 use Rattle.sh_rules.specs.declared.kind.Kind.{Kind}
 use Rattle.sh_rules.specs.declared.kind.Mode.{Mode}
-use Rattle.sh_rules.specs.declared.kind.Kind.TheVariants as k
 use Rattle.sh_rules.specs.Rules.{Token}
 use Rattle.sh_lex.specs.declared.place.Words.TheVariants.{All, Closers, Ordinary}
 use Rattle.sh_lex.specs.declared.effect.Effect.{Effect}
@@ -10,7 +9,7 @@ use Rattle.sh_lex.specs.declared.effect.Effect.TheVariants as e
 use Rattle.sh_lex.specs.declared.delimiter.Within.TheVariants as w
 use Rattle.sh_lex.specs.Effects.{effect_of}
 use Rattle.sh_lex.specs.Bytes.{◌or◌, ◌also◌, not_so, is_tab}
-use Rattle.sh_lex.specs.Folded.{folded, run, behind}
+use Rattle.sh_lex.specs.Folded.{folded, run}
 use Rattle.sh_lex.specs.HereDocuments.{Awaited, delimiter_of, is_quoted, lines, line}
 use Rattle.sh_lex.specs.Tokens.{Look}
 use Rattle.sh_lex.specs.Lexemes.{look, is_raw, extent}

@@ -1,7 +1,6 @@
 -- What taking a token comes to.
 use Rattle.std.specs.Prelude.{◌≡◌, ℕ, List, true, false, Result, Ok, Err}
 use Rattle.sh_rules.specs.declared.kind.Kind.{Kind}
-use Rattle.sh_rules.specs.Rules.{Token}
 use Rattle.sh_lex.specs.declared.cursor.Stop.{Stop}
 use Rattle.sh_lex.specs.declared.cursor.Stop.TheVariants as stop
 use Rattle.sh_lex.specs.declared.taken.Taken.{Taken}

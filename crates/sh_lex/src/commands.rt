@@ -4,6 +4,7 @@ ghost use Rattle.sh_lex.specs.Folded.{folded};
 ghost use Rattle.sh_lex.specs.Expansions.{or_else as or_else_lem};
 ghost use Rattle.sh_lex.specs.Commands as lem;
 
+use crate::brackets::text_look;
 use crate::bytes::{Class, is_end, is_letter};
 use crate::folded::{byte, run, run_on, skip};
 use crate::operators::{numbered, redirect};
@@ -88,7 +89,7 @@ fn function_name(text: &[u8]) -> Look
 pub(crate) fn text_of(kind: Kind, text: &[u8]) -> Look
     ensures { result ≡ lem.text_of kind (folded text.now) }
 {
-    Some((kind, run_on(Class::Plain, text)))
+    text_look(Class::Plain, kind, text)
 }
 
 // A descriptor's number of two digits or more.

@@ -64,6 +64,7 @@ impl<'a> Cursor<'a> {
             parens: Vec::new(alloc),
             awaited: Queue::new(alloc),
             in_bodies: false,
+            in_word: false,
             due: false,
             operator: 0,
             dashed: false,

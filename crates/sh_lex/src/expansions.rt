@@ -19,6 +19,27 @@ fn substitutes(c: u8) -> bool
     c == b'-' || c == b'=' || c == b'?' || c == b'+'
 }
 
+// A dollar sign begins something by the byte behind it.
+fn is_begun(d: u8) -> bool
+    ensures { result ≡ lem.is_begun d }
+{
+    is_letter(d)
+        || is_digit(d)
+        || is_special(d)
+        || d == b'$'
+        || d == b'!'
+        || d == b'-'
+        || d == b'('
+        || d == b'{'
+}
+
+/// A dollar sign stands in front that begins nothing.
+pub(crate) fn is_dollar(text: &[u8]) -> bool
+    ensures { result ≡ lem.is_dollar (folded text.now) }
+{
+    byte(text, 0) == b'$' && !is_begun(byte(text, 1))
+}
+
 // How many bytes the parameter has with which a text begins, 0 where it begins with none.
 #[tactic(auto, unfolding(crate::specs::Expansions::parameter))]
 pub(crate) fn parameter(text: &[u8]) -> usize

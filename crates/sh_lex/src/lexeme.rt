@@ -5,6 +5,7 @@ ghost use Rattle.sh_lex.specs.Folded.{folded, run as run_lem};
 ghost use Rattle.sh_lex.specs.Lexemes as lem;
 
 use crate::body::body;
+use crate::brackets::text_look;
 use crate::bytes::Class;
 use crate::commands::{
     argument_word, assignment, case_in, command_word, name_look, prefix_word, redirection, text_of,
@@ -135,8 +136,8 @@ fn recognized(
         }
         Recognizer::QuotedText => Some((Kind::QuotedText, run_on(Class::QuotedText, text))),
         Recognizer::BraceClose => Some((Kind::BraceClose, 1)),
-        Recognizer::BraceStartText => Some((Kind::BraceStartText, run_on(Class::BraceText, text))),
-        Recognizer::BraceText => Some((Kind::BraceText, run_on(Class::BraceText, text))),
+        Recognizer::BraceStartText => text_look(Class::BraceText, Kind::BraceStartText, text),
+        Recognizer::BraceText => text_look(Class::BraceText, Kind::BraceText, text),
         Recognizer::QuotedBraceBackslash => {
             let quotes = is_quotable_in_braces(raw_byte(text, 1));
             backslash(quotes, Kind::QuotedBraceEscape, Kind::QuotedBraceText)

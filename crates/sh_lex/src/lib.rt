@@ -3,6 +3,7 @@
 
 mod blanks;
 mod body;
+mod brackets;
 mod bytes;
 mod commands;
 mod cursor;

@@ -33,6 +33,7 @@ impl<'a> Cursor<'a> {
         let rest = past_joins(self.text);
         self.at += self.text.len() - rest.len();
         self.text = rest;
+        self.in_word = true;
     }
 
     fn pass_blanks(&mut self)
@@ -41,6 +42,7 @@ impl<'a> Cursor<'a> {
         let rest = past_blanks(self.text);
         self.at += self.text.len() - rest.len();
         self.text = rest;
+        self.in_word = false;
     }
 
     #[tactic(auto, unfolding(crate::specs::Steps::after))]

@@ -1,6 +1,6 @@
 // Operators (XCU 2.10.1).
 ghost use Rattle.std.specs.Prelude.{◌≡◌};
-ghost use Rattle.sh_lex.specs.Operators.{operator as operator_lem, redirect as redirect_lem, more_by};
+ghost use Rattle.sh_lex.specs.Operators.{operator as operator_lem, redirect as redirect_lem, numbered as numbered_lem, more_by};
 
 use sh_rules::Kind;
 
@@ -33,13 +33,23 @@ pub fn redirect(c: u8, d: u8, e: u8) -> Option<(Kind, usize)>
     }
 }
 
-/// The same behind one digit, the number of its descriptor.
-pub fn numbered(d: u8, e: u8, f: u8) -> Option<(Kind, usize)>
-    ensures { result ≡ more_by 1 (redirect_lem d e f) }
+fn behind_digit(c: u8, d: u8, e: u8) -> Option<(Kind, usize)>
+    ensures { result ≡ more_by 1 (redirect_lem c d e) }
 {
-    match redirect(d, e, f) {
+    match redirect(c, d, e) {
         None => None,
         Some((kind, n)) => Some((kind, 1 + n)),
+    }
+}
+
+/// The same behind one digit, the number of its descriptor; in front of `<>` that number by itself.
+pub fn numbered(c: u8, d: u8, e: u8) -> Option<(Kind, usize)>
+    ensures { result ≡ numbered_lem c d e }
+{
+    if c == b'<' && d == b'>' {
+        Some((Kind::Redirect, 1))
+    } else {
+        behind_digit(c, d, e)
     }
 }
 

@@ -70,6 +70,7 @@ pub struct Cursor<'a> {
     pub(crate) parens: Vec<bool>,
     pub(crate) awaited: Queue,
     pub(crate) in_bodies: bool,
+    pub(crate) in_word: bool,
     pub(crate) due: bool,
     pub(crate) operator: usize,
     pub(crate) dashed: bool,
@@ -92,6 +93,7 @@ impl<'a> Model for Cursor<'a> {
       parens = p.parens.items;
       awaited = p.awaited;
       in_bodies = p.in_bodies;
+      in_word = p.in_word;
       due = p.due;
       operator = p.operator;
       dashed = p.dashed;

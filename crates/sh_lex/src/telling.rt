@@ -7,6 +7,7 @@ ghost use Rattle.sh_lex.specs.Quoting.{not_quote};
 ghost use Rattle.sh_lex.specs.Steps as steps;
 
 use crate::body::before_nul;
+use crate::brackets::{begins_symbol, has_symbol};
 use crate::bytes::{Class, is_digit};
 use crate::delimiter::walk;
 use crate::expansions::parameter;
@@ -49,10 +50,21 @@ fn dollar_out(text: &[u8]) -> usize
     }
 }
 
+// `[.` or `[=` in a bracket.
+fn is_bracket_out(in_word: bool, text: &[u8]) -> bool
+    ensures { result ≡ lem.is_bracket_out in_word (folded text.now) }
+{
+    if in_word {
+        begins_symbol(text)
+    } else {
+        has_symbol(Class::Plain, text)
+    }
+}
+
 // How many bytes in front the profile leaves out.
 #[tactic(auto, unfolding(crate::specs::Faults::left_out))]
-fn left_out(text: &[u8]) -> usize
-    ensures { result ≡ lem.left_out (folded text.now) }
+fn left_out(in_word: bool, text: &[u8]) -> usize
+    ensures { result ≡ lem.left_out in_word (folded text.now) }
 {
     let c = byte(text, 0);
     if c == b'`' || c == b'~' {
@@ -65,6 +77,8 @@ fn left_out(text: &[u8]) -> usize
         digits_out(text)
     } else if c == b'$' {
         dollar_out(text)
+    } else if c == b'[' {
+        if is_bracket_out(in_word, text) { 2 } else { 0 }
     } else {
         0
     }
@@ -208,16 +222,16 @@ impl<'a> Cursor<'a> {
     {
         match self.awaited.next() {
             None => fault(self.at, Why::Syntax),
-            Some((literal, _, _)) => self.body_fault(literal),
+            Some(_) => self.body_fault(),
         }
     }
 
-    // A literal body has a NUL, or a body isn't closed.
-    fn body_fault(&self, literal: bool) -> ScriptFault
-        ensures { result ≡ lem.body_fault literal self.now }
+    // No body stands here: it has a NUL, or isn't closed.
+    fn body_fault(&self) -> ScriptFault
+        ensures { result ≡ lem.body_fault self.now }
     {
         let n = before_nul(self.text);
-        if literal && n < self.text.len() {
+        if n < self.text.len() {
             fault(self.at + n, Why::Syntax)
         } else {
             self.unclosed()
@@ -266,7 +280,7 @@ impl<'a> Cursor<'a> {
         } else if breaks_off(self.text) {
             Ok(self.unclosed())
         } else {
-            out_fault(alloc, self.at, left_out(self.text), self.text)
+            out_fault(alloc, self.at, left_out(self.in_word, self.text), self.text)
         }
     }
 

@@ -107,6 +107,42 @@ fn goes_from_place_to_place(rt: HostRuntime) -> Result<(), Fail> {
     Ok(())
 }
 
+// A number goes in front of `<>`, and a NUL comes before a body that isn't closed.
+#[test]
+fn tells_a_fault_behind_what_goes_on(rt: HostRuntime) -> Result<(), Fail> {
+    let rows: [(&[u8], &[u8], usize, u8); 4] = [
+        (b"2<>f", b"ca", 1, b'N'),
+        (b"2\\\n<>f", b"ca", 3, b'N'),
+        (b"for 2<>f", b"cn", 4, b'S'),
+        (b"cat <<A\n\0", b"cwadaB", 8, b'S'),
+    ];
+    for (text, modes, at, why) in rows {
+        assert_eq!(rt; walk(rt.alloc(), text, modes)?, (at, why));
+    }
+    Ok(())
+}
+
+// `[.` and `[=`, where an unquoted `]` closes the bracket.
+#[test]
+fn leaves_out_symbols_in_brackets(rt: HostRuntime) -> Result<(), Fail> {
+    let rows: [(&[u8], &[u8], usize, u8); 10] = [
+        (b"echo [.a.]", b"cwa", 5, b'N'),
+        (b"echo a[=b]", b"cwaw", 6, b'N'),
+        (b"x=[.]", b"cv", 2, b'N'),
+        (b"echo [.\"]\"", b"cwawqq", 10, b'-'),
+        (b"echo [.a ]", b"cwawaw", 10, b'-'),
+        (b"echo [\\\n.$]", b"cwa", 5, b'N'),
+        (b"echo [.$x]", b"cwaww", 10, b'-'),
+        (b"${x:-[. ]}", b"cs", 5, b'N'),
+        (b"for [.a ]", b"cn", 4, b'S'),
+        (b"for [.a]", b"cn", 4, b'N'),
+    ];
+    for (text, modes, at, why) in rows {
+        assert_eq!(rt; walk(rt.alloc(), text, modes)?, (at, why));
+    }
+    Ok(())
+}
+
 // Levels: each opens one, up to the 64th.
 #[test]
 fn counts_levels(rt: HostRuntime) -> Result<(), Fail> {

@@ -1,4 +1,4 @@
-use Rattle.std.proofs.Common.{◌≡◌, length}
+use Rattle.std.proofs.Common.{length}
 use Rattle.sh_lex.proofs.Lines.{Searched}
 use Rattle.sh_lex.proofs.body.body.Given as goal
 

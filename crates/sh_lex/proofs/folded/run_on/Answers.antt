@@ -1,6 +1,6 @@
-use Rattle.std.proofs.Common.{◌≡◌, suc, ◌+◌, ap, ◌∙◌, arith}
+use Rattle.std.proofs.Common.{ap, ◌∙◌, arith}
 use Rattle.sh_lex.specs.Bytes.{class_is}
-use Rattle.sh_lex.specs.Folded.{folded, run, run_on}
+use Rattle.sh_lex.specs.Folded.{run}
 use Rattle.sh_lex.proofs.folded.run_on.Goals as goal
 
 pub returns : goal.returns

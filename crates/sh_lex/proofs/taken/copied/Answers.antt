@@ -1,4 +1,4 @@
-use Rattle.std.proofs.Common.{ℕ, Bool, sym, ap, drop, slice_index, ◌++◌, ◌∷◌, [], ◌∙◌}
+use Rattle.std.proofs.Common.{ℕ, Bool, sym, ap, drop, ◌++◌, ◌∷◌, [], ◌∙◌}
 use Rattle.std.specs.Prelude.{if◌then◌else◌, ◌==◌}
 use Rattle.sh_lex.specs.Bytes.{◌or◌, ◌also◌, is_tab}
 use Rattle.sh_lex.specs.HereDocuments.{lines}
