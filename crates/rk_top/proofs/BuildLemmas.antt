@@ -1,5 +1,5 @@
 -- What a build leaves, wherever it ends.
-use Rattle.std.proofs.Common.{◌≡◌, ℕ, ◌+◌, ◌++◌, ◌≤◌, List, [], length, Option, Some, None, IfSome, Err, refl, sym, ap, subst, ◌∙◌, inl, inr, append-nil, option_map, arith}
+use Rattle.std.proofs.Common.{◌≡◌, ℕ, ◌+◌, ◌++◌, ◌≤◌, List, [], length, Option, Some, None, IfSome, Err, refl, sym, ap, subst, ◌∙◌, ◌⊎◌, inl, inr, append-nil, option_map, arith}
 use Rattle.std.proofs.Math.Seq.{take-length}
 use Rattle.rk_base.specs.Text.{Text}
 use Rattle.rk_calls.specs.Keys.{KeyValue}
@@ -19,9 +19,9 @@ use Rattle.rk_runs.specs.Run.{Outcome as Run}
 use Rattle.rk_runs.specs.Spoken.{AreSpoken}
 use Rattle.rk_words.specs.Asked.{turns}
 use Rattle.rk_words.specs.declared.requests.Request.{Request}
-use Rattle.rk_top.specs.Outcomes.{outcome_of_stop, IfSpecial, IfDamaged, IfForged, EndsSo, EndsWith, HasStatus, Tallies, IsLeft, Leaves, FolderCounts, PartlyInstalled, Halts, Gains, Counts, Counted, ErrorsCounted, Ticked}
+use Rattle.rk_top.specs.Outcomes.{outcome_of_stop, IfSpecial, IfDamaged, IfForged, EndsSo, EndsWith, HasStatus, Tallies, IsLeft, Leaves, FolderCounts, PartlyInstalled, Halts, Gains, HaltsErrors, GainsErrors, Counts, Counted, ErrorsCounted, Ticked}
 use Rattle.rk_top.specs.Stages.{PreparesSo, IsPrepared, ReadsCounted, WritesCounted, MemoryRose, InstallsSo}
-use Rattle.rk_top.specs.Telling.{SinkState}
+use Rattle.rk_top.specs.Telling.{SinkState, IsPut, IsCut, PutsLine, PutsErrors}
 use Rattle.rk_top.specs.Texts.{Front, PutSo, BothCounted, MemoryCounted}
 use Rattle.rk_top.specs.Run.{fresh_run, IsForged}
 use Rattle.rk_top.specs.Fresh.{RunText, output_of, error_text_of}
@@ -68,6 +68,15 @@ prepare-gains first request text told old new before now stop.Spent p same = sam
 prepare-gains first request text told old new before now stop.ReadFault p same = same
 prepare-gains first request text told old new before now stop.WriteFault p same = absurd p
 prepare-gains first request text told old new before now stop.NoMemory p same = inl same
+
+pub prepare-errors : (first : KeyValue → Says) (request : Request) (told : Option Held) (old new : SinkState) (before now : ℕ) (e : Stop) → PreparesSo first request told before now (Err e) → new ≡ old → GainsErrors first request told old new (outcome_of_stop e)
+prepare-errors first request told old new before now (stop.Refused (refusal.Special path)) p same = same
+prepare-errors first request told old new before now (stop.Refused (refusal.Damaged file damage)) p same = same
+prepare-errors first request told old new before now (stop.Forged rec step) p same = same
+prepare-errors first request told old new before now stop.Spent p same = same
+prepare-errors first request told old new before now stop.ReadFault p same = same
+prepare-errors first request told old new before now stop.WriteFault p same = absurd p
+prepare-errors first request told old new before now stop.NoMemory p same = inl same
 
 pub prepare-ticked : (first : KeyValue → Says) (request : Request) (told : Option Held) (before now : ℕ) (e : Stop) → PreparesSo first request told before now (Err e) → Ticked request before now (outcome_of_stop e)
 prepare-ticked first request told before now (stop.Refused (refusal.Special path)) p = p.1
@@ -136,6 +145,22 @@ put-gains first request text told it old new stop.Spent is p = absurd p
 put-gains first request text told it old new stop.ReadFault is p = absurd p
 put-gains first request text told it old new stop.WriteFault is p = front-told first request text told it old new is p
 put-gains first request text told it old new stop.NoMemory is p = front-told first request text told it old new is p
+
+errors-told : (first : KeyValue → Says) (request : Request) (told : Option Held) (it : Text) (old new : SinkState) → IsTextOf first request error_text_of told it → PutsLine it old new → HaltsErrors first request told old new
+errors-told first request None it old new is put = inr tt
+errors-told first request (Some held) it old new is put = inr (record { plain = is.plain; rows = is.rows; old = is.old; kept = is.kept; so = record { it = it; is_text = is.so; put = put } })
+
+errors-cut : (first : KeyValue → Says) (request : Request) (told : Option Held) (it : Text) (old new : SinkState) → IsTextOf first request error_text_of told it → (new ≡ old) ⊎ IsCut it old new → HaltsErrors first request told old new
+errors-cut first request told it old new is (inl same) = inl same
+errors-cut first request told it old new is (inr cut) = errors-told first request told it old new is (inr cut)
+
+pub put-gains-errors : (first : KeyValue → Says) (request : Request) (told : Option Held) (it : Text) (old new : SinkState) (e : Stop) → IsTextOf first request error_text_of told it → PutsErrors {T = Unit {0}} it old new (Err e) → GainsErrors first request told old new (outcome_of_stop e)
+put-gains-errors first request told it old new (stop.Refused refusal) is p = absurd p
+put-gains-errors first request told it old new (stop.Forged rec step) is p = absurd p
+put-gains-errors first request told it old new stop.Spent is p = absurd p
+put-gains-errors first request told it old new stop.ReadFault is p = absurd p
+put-gains-errors first request told it old new stop.WriteFault is p = errors-cut first request told it old new is p
+put-gains-errors first request told it old new stop.NoMemory is p = errors-cut first request told it old new is p
 
 pub put-counted : (b n : Counts) (text : Text) (old new : Option Text) (e : Stop) → PutSo {T = Unit {0}} text old new (Err e) → BothCounted {T = Unit {0}} b.puts n.puts b.error_puts n.error_puts (Err e) → n.reads ≡ b.reads → n.writes ≡ b.writes → Counted b n (outcome_of_stop e)
 put-counted b n text old new (stop.Refused refusal) p c r w = absurd p
@@ -209,6 +234,14 @@ install-gains first request text told h n ops it old new stop.ReadFault is part 
 install-gains first request text told h n ops it old new stop.WriteFault is part all = front-told first request text told it old new is (Front-all it old new all)
 install-gains first request text told h n ops it old new stop.NoMemory is part all = front-told first request text told it old new is (Front-all it old new all)
 
+pub install-gains-errors : (first : KeyValue → Says) (request : Request) (told h n : Option Held) (ops : List Op) (it : Text) (old new : SinkState) (e : Stop) → IsTextOf first request error_text_of told it → InstallsSo {T = Unit {0}} ops h n (Err e) → IsPut it old new → GainsErrors first request told old new (outcome_of_stop e)
+install-gains-errors first request told h n ops it old new (stop.Refused refusal) is part put = absurd part
+install-gains-errors first request told h n ops it old new (stop.Forged rec step) is part put = absurd part
+install-gains-errors first request told h n ops it old new stop.Spent is part put = absurd part
+install-gains-errors first request told h n ops it old new stop.ReadFault is part put = absurd part
+install-gains-errors first request told h n ops it old new stop.WriteFault is part put = errors-told first request told it old new is (inl put)
+install-gains-errors first request told h n ops it old new stop.NoMemory is part put = errors-told first request told it old new is (inl put)
+
 pub install-counted : (b n : Counts) (h k : Option Held) (ops : List Op) (e : Stop) → InstallsSo {T = Unit {0}} ops h k (Err e) → WritesCounted {T = Unit {0}} b.writes n.writes (Err e) → n.reads ≡ b.reads → n.puts ≡ b.puts → n.error_puts ≡ b.error_puts → Counted b n (outcome_of_stop e)
 install-counted b n h k ops (stop.Refused refusal) part w r o x = absurd part
 install-counted b n h k ops (stop.Forged rec step) part w r o x = absurd part
@@ -238,7 +271,7 @@ install-ticked request h k ops before now stop.NoMemory part most = most
 ended : (first : KeyValue → Says) (request : Request) (held : Held) (before now : ℕ) (p : Prepared) (new : Option Held) → (is : IsPrepared first request held before now p) → new ≡ Some (after_all p.plan held) → AreSpoken first is.old → EndsSo first (fresh_run first request (with_rows (snapshot_of held) is.rows)) held new
 ended first request held before now p new is same spoken =
     subst (λ (r : Run World). EndsSo first r held new) (sym (is.run.ends spoken).1)
-    (record { spoken = is.run.spoken spoken; fits = is.run.fits spoken; installed = record { after = after_all p.plan held; told = same; is_after = is.leads }; next = is.next spoken })
+    (record { spoken = is.run.spoken spoken; fits = is.fits spoken; installed = record { after = after_all p.plan held; told = same; is_after = is.leads }; next = is.next spoken })
 
 pub end-leaves : (first : KeyValue → Says) (request : Request) (told new : Option Held) (before now : ℕ) (b n : FolderCounts) (p : Prepared) (status launched ran : ℕ) → IfSome told (λ held. IsPrepared first request held before now p) → new ≡ option_map (after_all p.plan) told → Leaves first request told new b n (out.Ended status launched ran)
 end-leaves first request None new before now b n p status launched ran is same = tt
@@ -272,6 +305,11 @@ pub end-gains : (first : KeyValue → Says) (request : Request) (text : RunText)
 end-gains first request text None it old new status launched ran is all = tt
 end-gains first request text (Some held) it old new status launched ran is all =
     record { plain = is.plain; rows = is.rows; old = is.old; kept = is.kept; so = λ spoken. all ∙ ap (λ (t : Text). with_bytes t old) (is.so spoken) }
+
+pub end-gains-errors : (first : KeyValue → Says) (request : Request) (told : Option Held) (it : Text) (old new : SinkState) (status launched ran : ℕ) → IsTextOf first request error_text_of told it → IsPut it old new → GainsErrors first request told old new (out.Ended status launched ran)
+end-gains-errors first request None it old new status launched ran is put = tt
+end-gains-errors first request (Some held) it old new status launched ran is put =
+    record { plain = is.plain; rows = is.rows; old = is.old; kept = is.kept; so = λ spoken. subst (λ (t : Text). IsPut t old new) (is.so spoken) put }
 
 -- What is said of the refusals.
 

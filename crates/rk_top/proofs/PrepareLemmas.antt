@@ -18,6 +18,9 @@ use Rattle.rk_words.specs.Asked.{turns}
 use Rattle.rk_words.specs.declared.requests.Request.{Request}
 use Rattle.rk_base.specs.Text.{Text}
 use Rattle.rk_top.specs.Explained.{explanation}
+use Rattle.std.specs.List.{AllByRecursion}
+use Rattle.tr_codec.specs.Fits.{Fits}
+use Rattle.tr_codec.specs.Sound.{IsSound}
 use Rattle.rk_top.specs.Run.{fresh_run, IsRun, Runs}
 use Rattle.rk_top.specs.Stages.{FindsSo, PreparesSo}
 use Rattle.rk_top.specs.Fresh.{AreInMemory, IsInMemory, held_after}
@@ -56,9 +59,9 @@ in-memory : (f : Finished) (after : Holding) → after ≡ held_after f.world f.
 in-memory f after left small = subst (λ (h : Holding). IsInMemory h.state.attrs × IsInMemory h.state.db) left small
 
 -- all went well
-pub is_prepared : (first : KeyValue → Says) (request : Request) (told : Option Held) (found : Found) (after : Holding) (before now : ℕ) (f : Finished) (ops : List Op) (text : Text) → TellsWhole told → FindsSo told (Ok found) → Runs first request (with_rows found.holding.entries found.attrs) found.old before now (Ok f) → now ≤ before + turns request → after ≡ held_after f.world f.table → IsBuilt after → IsInMemory after.state.attrs × IsInMemory after.state.db → ops ≡ planned found.holding after → AreAllowed ops found.holding after → LeadTo ops found.holding after → text ≡ f.world.err ++ explanation request f.ran (length f.table) → PreparesSo first request told before now (Ok (record { finished = f; plan = ops; error_text = text }))
-is_prepared first request None found after before now f ops text whole is_found runs most left built small is allowed leads is_text = (tt, most)
-is_prepared first request (Some held) found after before now f ops text whole is_found runs most left built small is allowed leads is_text =
+pub is_prepared : (first : KeyValue → Says) (request : Request) (told : Option Held) (found : Found) (after : Holding) (before now : ℕ) (f : Finished) (ops : List Op) (text : Text) → TellsWhole told → FindsSo told (Ok found) → Runs first request (with_rows found.holding.entries found.attrs) found.old before now (Ok f) → now ≤ before + turns request → after ≡ held_after f.world f.table → IsBuilt after → IsInMemory after.state.attrs × IsInMemory after.state.db → (AllByRecursion IsSound f.table → Fits f.table) → ops ≡ planned found.holding after → AreAllowed ops found.holding after → LeadTo ops found.holding after → text ≡ f.world.err ++ explanation request f.ran (length f.table) → PreparesSo first request told before now (Ok (record { finished = f; plan = ops; error_text = text }))
+is_prepared first request None found after before now f ops text whole is_found runs most left built small spelt is allowed leads is_text = (tt, most)
+is_prepared first request (Some held) found after before now f ops text whole is_found runs most left built small spelt is allowed leads is_text =
     let becomes : MayBecome held found.holding after = subst (λ h. MayBecome held h after) (sym is_found.1) (may_become-imported held whole is_found.0 after built) in
     let goes : IsAfter held (after_all ops held) (held_after f.world f.table) = subst (λ h. IsAfter held (after_all ops held) h) left (leads held becomes) in
     let stays : IsBuilt (held_after f.world f.table) = subst IsBuilt left built in (
@@ -72,7 +75,8 @@ is_prepared first request (Some held) found after before now f ops text whole is
         plan = is ∙ ap (λ h. planned h after) is_found.1 ∙ ap (planned (holding_of held)) left;
         allowed = allowed held becomes;
         leads = goes;
-        next = λ spoken. finds-next held (after_all ops held) f.world f.table whole is_found.0 goes stays.entries (runs.fits spoken) (in-memory f after left small);
+        fits = λ spoken. spelt (runs.sound spoken);
+        next = λ spoken. finds-next held (after_all ops held) f.world f.table whole is_found.0 goes stays.entries (spelt (runs.sound spoken)) (in-memory f after left small);
       },
       most,
     )

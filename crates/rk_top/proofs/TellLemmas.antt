@@ -9,8 +9,8 @@ use Rattle.rk_words.specs.Asked.{request_of}
 use Rattle.rk_words.specs.declared.requests.Request.{Request}
 use Rattle.rk_top.specs.Asks.{Asks}
 use Rattle.rk_top.proofs.AskLemmas.{asks}
-use Rattle.rk_top.specs.Fresh.{RunText, error_text_of}
-use Rattle.rk_top.specs.Outcomes.{IfEnded, Leaves, FolderCounts, Gains, GainsLine, ErrorsCounted, Counts, Counted, AfterLine, Faults, Ticked, IsNoFault, Settles}
+use Rattle.rk_top.specs.Fresh.{RunText}
+use Rattle.rk_top.specs.Outcomes.{IfEnded, Leaves, FolderCounts, Gains, GainsErrors, GainsLine, ErrorsCounted, Counts, Counted, AfterLine, Faults, Ticked, IsNoFault, Settles}
 use Rattle.rk_top.specs.Telling.{SinkState, IsNamed, IsTold, Put, PutsLine, Tells}
 use Rattle.rk_top.specs.declared.outcome.Outcome.{Outcome}
 use Rattle.rk_top.specs.declared.outcome.Outcome.TheVariants as out
@@ -49,6 +49,17 @@ unnamed-gains first request text told old new out.NoMemory named g = g
 pub told-gains : (first : KeyValue → Says) (request : Request) (text : RunText) (told : Option Held) (old new : Option Text) (outcome it : Outcome) → IsTold outcome it → Gains first request text told old new outcome → Gains first request text told old new it
 told-gains first request text told old new outcome it t g = as_told (Gains first request text told old new) outcome it t g (unnamed-gains first request text told old new outcome)
 
+unnamed-gains-errors : (first : KeyValue → Says) (request : Request) (told : Option Held) (old new : SinkState) (outcome : Outcome) → IsNamed outcome → GainsErrors first request told old new outcome → GainsErrors first request told old new out.NoMemory
+unnamed-gains-errors first request told old new (out.Special path) named g = inl g
+unnamed-gains-errors first request told old new (out.Damaged file damage) named g = inl g
+unnamed-gains-errors first request told old new (out.Forged rec step) named g = inl g
+unnamed-gains-errors first request told old new (out.Ended status launched ran) named g = absurd named
+unnamed-gains-errors first request told old new out.Usage named g = absurd named
+unnamed-gains-errors first request told old new out.Spent named g = absurd named
+unnamed-gains-errors first request told old new out.ReadFault named g = absurd named
+unnamed-gains-errors first request told old new out.WriteFault named g = absurd named
+unnamed-gains-errors first request told old new out.NoMemory named g = g
+
 unnamed-errors : (old new : SinkState) (outcome : Outcome) → IsNamed outcome → ErrorsCounted old new outcome → ErrorsCounted old new out.NoMemory
 unnamed-errors old new (out.Special path) named c = (c.0, omega arith)
 unnamed-errors old new (out.Damaged file damage) named c = (c.0, omega arith)
@@ -63,10 +74,10 @@ unnamed-errors old new out.NoMemory named c = c
 pub told-errors : (old new : SinkState) (outcome it : Outcome) → IsTold outcome it → ErrorsCounted old new outcome → ErrorsCounted old new it
 told-errors old new outcome it t c = as_told (ErrorsCounted old new) outcome it t c (unnamed-errors old new outcome)
 
-pub line-gains : (first : KeyValue → Says) (request : Request) (told : Option Held) (old mid new : SinkState) (outcome it : Outcome) → Gains first request error_text_of told old.so_far mid.so_far outcome → ErrorsCounted old mid outcome → Tells outcome it mid new → GainsLine first request told old new it
+pub line-gains : (first : KeyValue → Says) (request : Request) (told : Option Held) (old mid new : SinkState) (outcome it : Outcome) → GainsErrors first request told old mid outcome → ErrorsCounted old mid outcome → Tells outcome it mid new → GainsLine first request told old new it
 line-gains first request told old mid new outcome it g c t = record {
   worked = mid;
-  text = told-gains first request error_text_of told old.so_far mid.so_far outcome it t.0 g;
+  text = as_told (GainsErrors first request told old mid) outcome it t.0 g (unnamed-gains-errors first request told old mid outcome);
   counted = told-errors old mid outcome it t.0 c;
   line = t.1;
 }

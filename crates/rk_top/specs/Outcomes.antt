@@ -27,7 +27,7 @@ use Rattle.rk_words.specs.declared.requests.Request.{Request}
 use Rattle.rk_top.specs.Fresh.{RunText, error_text_of, held_after}
 use Rattle.rk_top.specs.Kept.{Keeping, Refuses}
 use Rattle.rk_top.specs.Run.{fresh_run, IsForged, ran_count}
-use Rattle.rk_top.specs.Telling.{SinkState, Put}
+use Rattle.rk_top.specs.Telling.{SinkState, IsPut, PutsLine, Put}
 use Rattle.rk_top.specs.Texts.{Front}
 use Rattle.rk_top.specs.declared.build.Ended.{Ended}
 use Rattle.rk_top.specs.declared.outcome.StateFile.{StateFile}
@@ -182,6 +182,24 @@ Gains first request text told old new out.WriteFault = Halts first request text 
 Gains first request text told old new out.NoMemory = Halts first request text told old new
 Gains first request text told old new other = new ≡ old
 
+-- over spoken records it is the fresh run's error text, of which all went out, or a front where the put failed or had no memory
+pub record HaltsErrorsIn (first : KeyValue → Says) (request : Request) (entries : Entries) (kept : List Record) (old new : SinkState) : Type 0 where
+  pub it : Text
+  pub is_text : AreSpoken first kept → it ≡ error_text_of request kept (fresh_run first request entries)
+  pub put : PutsLine it old new
+
+-- nothing was put, or such a text
+abbrev pub HaltsErrors : (KeyValue → Says) → Request → Option Held → SinkState → SinkState → Type 0
+HaltsErrors first request told old new =
+    (new ≡ old) ⊎ IfSome told (λ held. Keeping held (λ entries kept. HaltsErrorsIn first request entries kept old new))
+
+-- what the error text's sink gains before the outcome's line
+abbrev pub GainsErrors : (KeyValue → Says) → Request → Option Held → SinkState → SinkState → Outcome → Type 0
+GainsErrors first request told old new (out.Ended status launched ran) = IfSome told (λ held. Keeping held (λ entries kept. AreSpoken first kept → IsPut (error_text_of request kept (fresh_run first request entries)) old new))
+GainsErrors first request told old new out.WriteFault = HaltsErrors first request told old new
+GainsErrors first request told old new out.NoMemory = HaltsErrors first request told old new
+GainsErrors first request told old new other = new ≡ old
+
 -- the counts of the error text's sink before the outcome's line: faults rise only over a write fault, wants of memory only
 -- over want of memory
 abbrev pub ErrorsCounted : SinkState → SinkState → Outcome → Type 0
@@ -192,7 +210,7 @@ ErrorsCounted before now other = (now.faults ≡ before.faults) × (now.memory �
 -- the run's error text, and then the outcome's own line
 pub record GainsLine (first : KeyValue → Says) (request : Request) (told : Option Held) (old new : SinkState) (outcome : Outcome) : Type 0 where
   pub worked : SinkState
-  pub text : Gains first request error_text_of told old.so_far worked.so_far outcome
+  pub text : GainsErrors first request told old worked outcome
   pub counted : ErrorsCounted old worked outcome
   pub line : Put outcome worked new
 

@@ -11,7 +11,8 @@ use Rattle.rk_kernel.specs.Do.{answered}
 use Rattle.rk_runs.specs.Run.{Outcome, Done, Spent, game, fresh}
 use Rattle.rk_runs.specs.Spoken.{AreSpoken, IsWrongStep}
 use Rattle.rk_check.specs.Started.{started}
-use Rattle.tr_codec.specs.Fits.{Fits}
+use Rattle.tr_codec.specs.Sound.{IsSound}
+use Rattle.std.specs.List.{AllByRecursion}
 use Rattle.rk_words.specs.Asked.{turns}
 use Rattle.rk_words.specs.declared.requests.Request.{Request}
 use Rattle.rk_replay.specs.Ran.{ran_of, ran_total}
@@ -34,12 +35,12 @@ IsForged first table rec step = (rec < length table) × IsWrongStep first (rec_a
 abbrev pub ran_count : List Record → List Record → ℕ
 ran_count old table = length (ran_of old table)
 
--- What a run made over the records of an old table tells. Over spoken ones it is the fresh run, and leaves spoken ones that
--- have a spelling. Over any: which commands ran, and why; and the turns that these paid.
+-- What a run made over the records of an old table tells. Over spoken ones it is the fresh run, and leaves spoken ones, in which
+-- each answer fits its call. Over any: which commands ran, and why; and the turns that these paid.
 pub record IsRun (first : KeyValue → Says) (request : Request) (entries : Entries) (old : List Record) (before now : ℕ) (f : Finished) : Type 0 where
   pub ends : AreSpoken first old → (left : ℕ) × (fresh_run first request entries ≡ Done f.world f.status left f.table)
   pub spoken : AreSpoken first old → AreSpoken first f.table
-  pub fits : AreSpoken first old → Fits f.table
+  pub sound : AreSpoken first old → AllByRecursion IsSound f.table
   pub ran : f.ran ≡ ran_of old f.table
   pub ticked : now ≡ before + ran_total old f.table
 

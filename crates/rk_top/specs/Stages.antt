@@ -16,6 +16,7 @@ use Rattle.rk_install.specs.Planned.{planned}
 use Rattle.rk_install.specs.declared.holding.Holding.{Holding}
 use Rattle.rk_install.specs.declared.ops.Op.{Op}
 use Rattle.rk_install.specs.declared.installation.InstallErr.TheVariants as install
+use Rattle.tr_codec.specs.Fits.{Fits}
 use Rattle.tr_codec.specs.declared.rows.AttrRow.{AttrRow}
 use Rattle.tr_record.specs.declared.records.Record.{Record}
 use Rattle.rk_base.specs.Text.{Text}
@@ -84,7 +85,7 @@ MemoryRose before now (Err stop.NoMemory) = Rose before now
 MemoryRose before now other = now ≡ before
 
 -- The run on what the folder holds with its rows, over the records that it keeps, has ended so, and the plan leads to what
--- it leaves; over spoken records the next build finds just that.
+-- it leaves; over spoken records what it leaves has a spelling, and the next build finds just that.
 pub record IsPrepared (first : KeyValue → Says) (request : Request) (held : Held) (before now : ℕ) (p : Prepared) : Type 0 where
   pub plain : first_special held ≡ None
   pub rows : List (Text × AttrRow)
@@ -95,6 +96,7 @@ pub record IsPrepared (first : KeyValue → Says) (request : Request) (held : He
   pub plan : p.plan ≡ planned (holding_of held) (held_after p.finished.world p.finished.table)
   pub allowed : AllowsAll p.plan held
   pub leads : IsAfter held (after_all p.plan held) (held_after p.finished.world p.finished.table)
+  pub fits : AreSpoken first old → Fits p.finished.table
   pub next : AreSpoken first old → IsNext p.finished.world p.finished.table (after_all p.plan held)
 
 abbrev pub PreparesSo : (KeyValue → Says) → Request → Option Held → ℕ → ℕ → Result Prepared Stop → Type 0

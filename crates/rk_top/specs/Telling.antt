@@ -1,5 +1,5 @@
 -- What telling an outcome leaves.
-use Rattle.std.specs.Prelude.{◌≡◌, ◌≤◌, ◌⊎◌, ℕ, Option}
+use Rattle.std.specs.Prelude.{◌≡◌, ◌≤◌, ◌⊎◌, ℕ, Option, Result, Ok, Err}
 use Rattle.rk_base.specs.Text.{Text}
 use Rattle.rk_folder.specs.Counts.{Rose}
 use Rattle.rk_folder.specs.Sinks.{with_bytes}
@@ -7,6 +7,8 @@ use Rattle.rk_top.specs.Lines.{line_of}
 use Rattle.rk_top.specs.Texts.{Front}
 use Rattle.rk_top.specs.declared.outcome.Outcome.{Outcome}
 use Rattle.rk_top.specs.declared.outcome.Outcome.TheVariants as out
+use Rattle.rk_top.specs.declared.stop.Stop.{Stop}
+use Rattle.rk_top.specs.declared.stop.Stop.TheVariants as stop
 
 -- a sink at a moment: its bytes, where it tells them, how many puts were faults, and how many had no memory
 pub record SinkState : Type 0 where
@@ -29,6 +31,13 @@ pub record IsCut (text : Text) (old new : SinkState) : Type 0 where
 
 abbrev pub PutsLine : Text → SinkState → SinkState → Type 0
 PutsLine line old new = IsPut line old new ⊎ IsCut line old new
+
+-- What putting the run's error text leaves: all of it went out at Ok; else nothing was put, or the put failed or had no memory.
+abbrev pub PutsErrors : {T : Type 0} → Text → SinkState → SinkState → Result T Stop → Type 0
+PutsErrors text old new (Ok it) = IsPut text old new
+PutsErrors text old new (Err stop.WriteFault) = (new ≡ old) ⊎ IsCut text old new
+PutsErrors text old new (Err stop.NoMemory) = (new ≡ old) ⊎ IsCut text old new
+PutsErrors text old new (Err other) = ⊥
 
 -- the outcome's own line; over an end nothing is put
 abbrev pub Put : Outcome → SinkState → SinkState → Type 0

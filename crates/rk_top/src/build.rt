@@ -2,10 +2,10 @@
 ghost use Rattle.std.specs.Prelude.{◌≡◌, ◌<◌, Ok, length, IfOk, true};
 ghost use Rattle.rk_install.specs.Changes.{MayRun};
 ghost use Rattle.rk_words.specs.Asked.{turns};
-ghost use Rattle.rk_top.specs.Outcomes.{outcome_of, Leaves, HasStatus, Tallies, Gains, ErrorsCounted, Counted, Ticked};
+ghost use Rattle.rk_top.specs.Outcomes.{outcome_of, Leaves, HasStatus, Tallies, Gains, GainsErrors, ErrorsCounted, Counted, Ticked};
 ghost use Rattle.rk_top.specs.Run.{StartsSo};
 ghost use Rattle.rk_top.specs.Stages.{InstallsSo, WritesCounted, MemoryRose, Steadily};
-ghost use Rattle.rk_top.specs.Fresh.{output_of, error_text_of};
+ghost use Rattle.rk_top.specs.Fresh.{output_of};
 ghost use Rattle.rk_top.specs.Texts.{IsNoFault};
 
 use crate::prepare::{Prepared, prepare};
@@ -59,7 +59,7 @@ pub(crate) fn build<M: Maker, F: Folder, O: Sink, E: Sink, L: Ledger>(
     ensures status { IfOk result (λ e. HasStatus M.first request.now (F.told folder.old) e.status) }
     ensures tally { IfOk result (λ e. Tallies M.first request.now (F.told folder.old) (F.told folder.new) live.old live.new e.launched (length e.ran)) }
     ensures output { Gains M.first request.now output_of (F.told folder.old) (O.so_far out.old) (O.so_far out.new) (outcome_of result) }
-    ensures errors { Gains M.first request.now error_text_of (F.told folder.old) (E.so_far err.old) (E.so_far err.new) (outcome_of result) }
+    ensures errors { GainsErrors M.first request.now (F.told folder.old) (record { so_far = E.so_far err.old; faults = E.faults err.old; memory = E.memory_failures err.old }) (record { so_far = E.so_far err.new; faults = E.faults err.new; memory = E.memory_failures err.new }) (outcome_of result) }
     ensures error_counts { ErrorsCounted (record { so_far = E.so_far err.old; faults = E.faults err.old; memory = E.memory_failures err.old }) (record { so_far = E.so_far err.new; faults = E.faults err.new; memory = E.memory_failures err.new }) (outcome_of result) }
     ensures counts { Counted (record { reads = F.read_faults folder.old; writes = F.write_faults folder.old; puts = O.faults out.old; error_puts = E.faults err.old })
         (record { reads = F.read_faults folder.new; writes = F.write_faults folder.new; puts = O.faults out.new; error_puts = E.faults err.new }) (outcome_of result) }

@@ -3,7 +3,9 @@ ghost use Rattle.std.specs.Prelude.{◌≡◌, ◌<◌, ◌^◌, IfOk, OnOk, len
 ghost use Rattle.rk_tree.specs.Entries.{IsWholeSnapshot};
 ghost use Rattle.rk_install.specs.Attributes.{attrs_of};
 ghost use Rattle.rk_install.specs.Holdings.{IsBuilt};
-ghost use Rattle.tr_codec.specs.Spelling.{db_spelling};
+ghost use Rattle.std.specs.List.{AllByRecursion};
+ghost use Rattle.tr_codec.specs.Fits.{Fits};
+ghost use Rattle.tr_codec.specs.Sound.{IsSound};
 ghost use Rattle.rk_words.specs.Asked.{turns};
 ghost use Rattle.rk_top.specs.Run.{StartsSo};
 ghost use Rattle.rk_top.specs.Stages.{PreparesSo, ReadsCounted, Steadily};
@@ -44,20 +46,9 @@ fn attrs_bytes(alloc: Global, entries: &Snapshot) -> Result<Option<Bytes>, NoMem
         [] => Ok(None),
         [_, ..] => {
             let bytes = write_attrs(alloc, &attrs)?;
-            let _length = bytes.len();
             Ok(Some(bytes))
         }
     }
-}
-
-// The database of these records.
-fn db_bytes(alloc: Global, table: &Table) -> Result<Bytes, NoMemory>
-    ensures bytes { IfOk result (λ bytes. bytes ≡ db_spelling table.now) }
-    ensures memory { IfOk result (λ bytes. length bytes < 2 ^ 64) }
-{
-    let bytes = write_db(alloc, table)?;
-    let _length = bytes.len();
-    Ok(bytes)
 }
 
 // What the folder is to hold after the run.
@@ -65,10 +56,11 @@ fn held_after(alloc: Global, finished: &Finished) -> Result<Holding, NoMemory>
     ensures holding { IfOk result (λ holding. holding ≡ held_after finished.now.world finished.now.table) }
     ensures built { IfOk result IsBuilt }
     ensures memory { IfOk result (λ holding. IsInMemory holding.state.attrs × IsInMemory holding.state.db) }
+    ensures fits { OnOk result (AllByRecursion IsSound finished.now.table → Fits finished.now.table) }
 {
     let entries = finished.world.snapshot()?;
     let attrs = attrs_bytes(alloc, &entries)?;
-    let db = db_bytes(alloc, &finished.table)?;
+    let db = write_db(alloc, &finished.table)?;
     Ok(Holding {
         entries,
         rkr: true,

@@ -16,7 +16,7 @@ use rk_tree::Snapshot;
 use rk_words::Request;
 use std::alloc::Global;
 use std::sync::ledger::Ledger;
-use tr_codec::{Attrs, has_spelling};
+use tr_codec::Attrs;
 use tr_record::Table;
 
 /// A run that ended: the world that it left, the script's status, the records of its commands, and those of them that ran,
@@ -75,16 +75,12 @@ pub(crate) fn run<M: Maker, L: Ledger>(
     let key = script_key(alloc)?;
     let mut budget = budget(request);
     match build_with(alloc, maker, &mut world, &key, old, &mut budget, live) {
-        Ok(Built { status, table, ran }) => {
-            let _paid = budget.used();
-            has_spelling(&table);
-            Ok(Finished {
-                world,
-                status,
-                table,
-                ran,
-            })
-        }
+        Ok(Built { status, table, ran }) => Ok(Finished {
+            world,
+            status,
+            table,
+            ran,
+        }),
         Err(rk_replay::Stop::Forged { rec, step }) => Err(Stop::Forged { rec, step }),
         Err(rk_replay::Stop::Spent) => Err(Stop::Spent),
         Err(rk_replay::Stop::Stopped(_)) => Err(Stop::NoMemory),

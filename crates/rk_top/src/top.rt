@@ -7,7 +7,7 @@ ghost use Rattle.rk_folder.specs.Specials.{first_special};
 ghost use Rattle.rk_runs.specs.Run.{Spent};
 ghost use Rattle.rk_runs.specs.Spoken.{AreSpoken};
 ghost use Rattle.rk_top.specs.Asks.{Asks};
-ghost use Rattle.rk_top.specs.Outcomes.{outcome_of, outcome_of_stop, outcome_of_refusal, Leaves, HasStatus, Tallies, Gains, GainsLine, ErrorsCounted, Counted, Ticked, Started, Faults, IfEnded, IfSpecial, IfDamaged, IfForged, IsNoFault, NoneRose, Settles};
+ghost use Rattle.rk_top.specs.Outcomes.{outcome_of, outcome_of_stop, outcome_of_refusal, Leaves, HasStatus, Tallies, Gains, GainsErrors, GainsLine, ErrorsCounted, Counted, Ticked, Started, Faults, IfEnded, IfSpecial, IfDamaged, IfForged, IsNoFault, NoneRose, Settles};
 ghost use Rattle.rk_top.specs.Fresh.{output_of, error_text_of};
 ghost use Rattle.rk_top.specs.Kept.{state_in, IsDamaged, Keeping};
 ghost use Rattle.rk_top.specs.Run.{IsForged, fresh_run};
@@ -94,7 +94,7 @@ pub fn build_in<M: Maker, F: Folder, O: Sink, E: Sink, L: Ledger>(
 
     // What was put: the run's output and error text.
     ensures output { Gains M.first request.now output_of (F.told folder.old) (O.so_far out.old) (O.so_far out.new) result }
-    ensures errors { Gains M.first request.now error_text_of (F.told folder.old) (E.so_far err.old) (E.so_far err.new) result }
+    ensures errors { GainsErrors M.first request.now (F.told folder.old) (record { so_far = E.so_far err.old; faults = E.faults err.old; memory = E.memory_failures err.old }) (record { so_far = E.so_far err.new; faults = E.faults err.new; memory = E.memory_failures err.new }) result }
     ensures error_counts { ErrorsCounted (record { so_far = E.so_far err.old; faults = E.faults err.old; memory = E.memory_failures err.old }) (record { so_far = E.so_far err.new; faults = E.faults err.new; memory = E.memory_failures err.new }) result }
 
     // Each refusal only for its cause.
@@ -134,7 +134,7 @@ fn work<F: Folder, O: Sink, E: Sink, L: Ledger>(
     ensures tally { IfEnded result (λ status launched ran. Asks (map string_bytes words.now) (λ request. Tallies first_talk request (F.told folder.old) (F.told folder.new) live.old live.new launched ran)) }
     ensures live { Asks (map string_bytes words.now) (λ request. Ticked request live.old live.new result) }
     ensures output { Asks (map string_bytes words.now) (λ request. Gains first_talk request output_of (F.told folder.old) (O.so_far out.old) (O.so_far out.new) result) }
-    ensures errors { Asks (map string_bytes words.now) (λ request. Gains first_talk request error_text_of (F.told folder.old) (E.so_far err.old) (E.so_far err.new) result) }
+    ensures errors { Asks (map string_bytes words.now) (λ request. GainsErrors first_talk request (F.told folder.old) (record { so_far = E.so_far err.old; faults = E.faults err.old; memory = E.memory_failures err.old }) (record { so_far = E.so_far err.new; faults = E.faults err.new; memory = E.memory_failures err.new }) result) }
     ensures error_counts { ErrorsCounted (record { so_far = E.so_far err.old; faults = E.faults err.old; memory = E.memory_failures err.old }) (record { so_far = E.so_far err.new; faults = E.faults err.new; memory = E.memory_failures err.new }) result }
     ensures special { IfSpecial result (λ path. IfSome (F.told folder.old) (λ held. first_special held ≡ Some path)) }
     ensures damaged { IfDamaged result (λ file damage. IfSome (F.told folder.old) (λ held. (first_special held ≡ None) × IsDamaged (state_in held) file damage)) }

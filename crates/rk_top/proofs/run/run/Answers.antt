@@ -17,7 +17,7 @@ returns-in-Ok-clause-runs g c =
     record {
       ends = λ spoken. (left c.build_with.new.budget, fresh_run-is g.M.Maker.first c.args.request.now _ _ _ _ _ _ c.budget-budget.ensures.limit c.budget-budget.ensures.used c.in_ok-key.ensures (c.in_ok-tree.ensures.tree ∙ ap (λ (s : Entries). tree_of (with_rows s c.args.attrs.now)) c.in_ok-copy.ensures) c.in_ok-world.ensures (e.done spoken));
       spoken = e.spoken;
-      fits = λ spoken. c.has_spelling.ensures (sound g.M.Maker.first _ (λ key. talk-proper (g.M.Maker.first key) (g.met.M.Maker.command key)) (e.spoken spoken) (small _ _ _ _ _ _ e.paid c.budget-budget.ensures.used c.used-paid.ensures.used c.used-paid.ensures.within (e.limit ∙ c.budget-budget.ensures.limit) c.budget-budget.ensures.few));
+      sound = λ spoken. sound g.M.Maker.first _ (λ key. talk-proper (g.M.Maker.first key) (g.met.M.Maker.command key)) (e.spoken spoken) (small _ _ _ _ _ e.paid c.budget-budget.ensures.used e.within (e.limit ∙ c.budget-budget.ensures.limit) c.budget-budget.ensures.few);
       ran = e.ran;
       ticked = e.live;
     }
