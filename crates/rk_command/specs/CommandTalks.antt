@@ -8,13 +8,15 @@ use Rattle.rk_calls.specs.Keys.{KeyValue, key_of, shell}
 use Rattle.rk_calls.specs.Talk.{Says}
 use Rattle.rk_calls.specs.Views.{IsCommandTalk, talk-exits, talk-pay, talk-ask, talk-if}
 use Rattle.rk_calls.specs.Brought.{brought, joined}
-use Rattle.rk_command.specs.First.{shells, says_or, copy_or, file_or, grep_or, select_or, plain_or, utility_or, says_of, first_talk}
+use Rattle.rk_command.specs.First.{shells, says_or, copy_or, file_or, grep_or, select_or, plain_or, utility_or, builtin_or, says_of, first_talk}
 use Rattle.rk_calls.specs.Places.{absolute}
 use Rattle.rk_command.specs.Output.{with_output}
 use Rattle.rk_command.specs.Script.{LineValue, expanded, script_of}
 use Rattle.rk_command.specs.ShellTalk.{launches, redirected, redirects, runs_line, script_read, script_opened, runs_script}
 use Rattle.rk_calls.specs.Turns.{turns, pay_words}
 use Rattle.rk_command.specs.UnknownTalk.{is_unknown}
+use Rattle.sh_builtin.specs.Commands.{builtin_command}
+use Rattle.sh_builtin.specs.Laws.{talk-builtin_command}
 use Rattle.ut_args.specs.Usage.{talk-complains}
 use Rattle.ut_copy.specs.Utilities.{copy_utility, talk-copy_utility}
 use Rattle.ut_files.specs.Utilities.{file_utility, talk-file_utility}
@@ -91,10 +93,13 @@ talk-plain_or wd argv other is_talk = talk-says_or (plain_utility wd argv) _ (ta
 talk-utility_or : (wd : Text) (argv : List Text) (other : Says) → IsCommandTalk other → IsCommandTalk (utility_or wd argv other)
 talk-utility_or wd argv other is_talk = talk-says_or (text_utility wd argv) _ (talk-text_utility wd argv) (talk-plain_or wd argv other is_talk)
 
+talk-builtin_or : (wd : Text) (argv : List Text) (other : Says) → IsCommandTalk other → IsCommandTalk (builtin_or wd argv other)
+talk-builtin_or wd argv other is_talk = talk-says_or (builtin_command wd argv) _ (talk-builtin_command wd argv) (talk-utility_or wd argv other is_talk)
+
 talk-says_of : (wd : Text) (argv : List Text) → IsCommandTalk (says_of wd argv)
 talk-says_of wd [] = talk-is_unknown []
 talk-says_of wd (name ∷ words) =
-    talk-if (same_text name shell) _ _ (talk-shells wd words) (talk-utility_or wd (name ∷ words) (is_unknown name) (talk-is_unknown name))
+    talk-if (same_text name shell) _ _ (talk-shells wd words) (talk-builtin_or wd (name ∷ words) (is_unknown name) (talk-is_unknown name))
 
 pub talk-first_talk : (key : KeyValue) → IsCommandTalk (first_talk key)
 unfolding first_talk

@@ -5,6 +5,7 @@ use Rattle.rk_calls.specs.Keys.{KeyValue, shell}
 use Rattle.rk_calls.specs.Talk.{Says, pay}
 use Rattle.rk_command.specs.ShellTalk.{runs_script}
 use Rattle.rk_command.specs.UnknownTalk.{is_unknown}
+use Rattle.sh_builtin.specs.Commands.{builtin_command}
 use Rattle.ut_copy.specs.Utilities.{copy_utility}
 use Rattle.ut_files.specs.Utilities.{file_utility}
 use Rattle.ut_grep.specs.Starts.{grep_utility}
@@ -47,10 +48,14 @@ plain_or wd argv other = says_or (plain_utility wd argv) (select_or wd argv othe
 abbrev pub utility_or : Text → List Text → Says → Says
 utility_or wd argv other = says_or (text_utility wd argv) (plain_or wd argv other)
 
+-- the builtin of the first word, its utility, or else this
+abbrev pub builtin_or : Text → List Text → Says → Says
+builtin_or wd argv other = says_or (builtin_command wd argv) (utility_or wd argv other)
+
 -- by the first word
 abbrev pub says_of : Text → List Text → Says
 says_of wd [] = is_unknown []
-says_of wd (name ∷ words) = if same_text name shell then shells wd words else utility_or wd (name ∷ words) (is_unknown name)
+says_of wd (name ∷ words) = if same_text name shell then shells wd words else builtin_or wd (name ∷ words) (is_unknown name)
 
 -- it pays for its start
 unfoldable pub first_talk : KeyValue → Says

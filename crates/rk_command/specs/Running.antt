@@ -4,9 +4,10 @@ use Rattle.rk_calls.specs.declared.answer.Answer.{Answer}
 use Rattle.rk_calls.specs.declared.answer.Answer.TheVariants.{Go}
 use Rattle.rk_calls.specs.Talk.{Says, pay}
 use Rattle.rk_command.specs.declared.command.Running.{Running}
-use Rattle.rk_command.specs.declared.command.Running.TheVariants.{Complains, Shells, Texts, Plain, Selects, Greps, Files, Copies}
+use Rattle.rk_command.specs.declared.command.Running.TheVariants.{Complains, Shells, Builtins, Texts, Plain, Selects, Greps, Files, Copies}
 use Rattle.rk_command.specs.declared.command.Command.{Command}
 use Rattle.rk_command.specs.ShellStages.{shell_talk}
+use Rattle.sh_builtin.specs.Commands.{command_talk as builtin_talk}
 use Rattle.ut_args.specs.Usage.{complaint_talk}
 use Rattle.ut_copy.specs.Utilities.{copy_talk}
 use Rattle.ut_files.specs.Utilities.{file_talk}
@@ -18,6 +19,7 @@ use Rattle.ut_text.specs.Utilities.{text_talk}
 abbrev pub running_talk : Running → Answer → Says
 running_talk (Complains m) a = complaint_talk m a
 running_talk (Shells m) a = shell_talk m a
+running_talk (Builtins m) a = builtin_talk m a
 running_talk (Texts m) a = text_talk m a
 running_talk (Plain m) a = plain_talk m a
 running_talk (Selects m) a = select_talk m a

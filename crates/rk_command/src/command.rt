@@ -1,12 +1,13 @@
 // The command of a key.
 ghost use Rattle.std.specs.Prelude.{◌≡◌, IfOk};
-ghost use Rattle.rk_command.specs.First.{shells, says_of, copy_or, file_or, grep_or, select_or, plain_or, utility_or, first_talk};
+ghost use Rattle.rk_command.specs.First.{shells, says_of, copy_or, file_or, grep_or, select_or, plain_or, utility_or, builtin_or, first_talk};
 ghost use Rattle.rk_command.specs.Running.{running_talk, command_talk};
 ghost use Rattle.rk_command.specs.UnknownTalk.{is_unknown};
 
 use crate::shell::Shell;
 use rk_base::{Bytes, NoMemory, Path, WordList};
 use rk_calls::{Answer, Key, Machine, Turn};
+use sh_builtin::BuiltinCommand;
 use std::alloc::Global;
 use ut_args::Complaint;
 use ut_copy::CopyUtility;
@@ -20,6 +21,7 @@ use ut_text::TextUtility;
 enum Running {
     Complains(Complaint),
     Shells(Shell),
+    Builtins(BuiltinCommand),
     Texts(TextUtility),
     Plain(PlainUtility),
     Selects(SelectUtility),
@@ -28,8 +30,8 @@ enum Running {
     Copies(CopyUtility),
 }
 
-/// The command of a key, as a machine: the shell of a script for `sh FILE`, a utility by its name, and for any other
-/// key an unknown name.
+/// The command of a key, as a machine: the shell of a script for `sh FILE`, a builtin or a utility by its name, and for
+/// any other key an unknown name.
 #[derive(Drop)]
 pub struct Command {
     /// Whether it has paid for its start.
@@ -134,6 +136,17 @@ fn utility(alloc: Global, wd: &Path, argv: &WordList, name: &[u8]) -> Result<Run
     }
 }
 
+// A builtin, a utility, or an unknown name.
+fn builtin(alloc: Global, wd: &Path, argv: &WordList, name: &[u8]) -> Result<Running, NoMemory>
+    ensures { IfOk result (λ r. running_talk r Answer.Go ≡ builtin_or wd.now argv.now (is_unknown name.now)) }
+{
+    let found = BuiltinCommand::start(alloc, wd, argv)?;
+    match found {
+        Some(builtin) => Ok(Running::Builtins(builtin)),
+        None => utility(alloc, wd, argv, name),
+    }
+}
+
 fn machine_of(alloc: Global, wd: &Path, argv: &WordList) -> Result<Running, NoMemory>
     ensures { IfOk result (λ r. running_talk r Answer.Go ≡ says_of wd.now argv.now) }
 {
@@ -143,7 +156,7 @@ fn machine_of(alloc: Global, wd: &Path, argv: &WordList) -> Result<Running, NoMe
             if name.as_slice() == b"sh".as_slice() {
                 return shell(alloc, wd, words);
             }
-            utility(alloc, wd, argv, name.as_slice())
+            builtin(alloc, wd, argv, name.as_slice())
         }
     }
 }
@@ -171,6 +184,7 @@ impl Machine for Running {
         match self {
             Running::Complains(machine) => machine.resume(answer),
             Running::Shells(machine) => machine.resume(answer),
+            Running::Builtins(machine) => machine.resume(answer),
             Running::Texts(machine) => machine.resume(answer),
             Running::Plain(machine) => machine.resume(answer),
             Running::Selects(machine) => machine.resume(answer),

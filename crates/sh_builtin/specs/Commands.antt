@@ -1,12 +1,14 @@
 -- A builtin as a command by itself.
-use Rattle.std.specs.Prelude.{List, Some}
+use Rattle.std.specs.Prelude.{List, [], ◌∷◌, Option, Some, None, false, if◌then◌else◌}
 use Rattle.rk_base.specs.Text.{Text}
 use Rattle.rk_calls.specs.declared.answer.Answer.{Answer}
 use Rattle.rk_calls.specs.Talk.{Says, exits}
 use Rattle.sh_vars.specs.declared.env.Env.{Env}
+use Rattle.sh_vars.specs.Held.{nothing}
 use Rattle.sh_builtin.specs.declared.command.BuiltinCommand.{BuiltinCommand}
 use Rattle.sh_builtin.specs.Builtins.{does}
 use Rattle.sh_builtin.specs.Doing.{Doing, heard}
+use Rattle.sh_builtin.specs.Names.{is_builtin}
 use Rattle.sh_builtin.specs.Stages.{builtin_does}
 
 -- each descriptor is the command's own, and then it exits
@@ -20,3 +22,16 @@ says words env = alone (does words) env
 -- what the machine says: it hears the answer first
 abbrev pub command_talk : BuiltinCommand → Answer → Says
 command_talk c a = alone (builtin_does c.builtin a) (heard a c.env)
+
+-- A command that is no shell is launched without variables: it begins with none set, in its working directory.
+abbrev pub own_env : Text → Text → Env
+own_env wd name = record { vars = nothing; zero = name; wd = wd; status = 0; nounset = false; noglob = false; next = 10 }
+
+-- the builtin of this name, with these words
+abbrev pub named_command : Text → Text → List Text → Option Says
+named_command name wd argv = if is_builtin name then Some (says argv (own_env wd name)) else None
+
+-- the builtin of some words in a working directory; None where the first names none
+abbrev pub builtin_command : Text → List Text → Option Says
+builtin_command wd [] = None
+builtin_command wd (name ∷ words) = named_command name wd (name ∷ words)

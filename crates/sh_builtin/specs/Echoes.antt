@@ -1,19 +1,10 @@
 -- `echo` and `pwd` (XCU 4, `echo` and `pwd`).
 use Rattle.std.specs.Prelude.{List, [], ◌∷◌, ◌++◌, codes, if◌then◌else◌}
 use Rattle.rk_base.specs.Text.{Text, same_text}
+use Rattle.sh_operands.specs.Words.{joined}
 use Rattle.sh_builtin.specs.declared.name.Name.TheVariants.{Echo, Pwd}
 use Rattle.sh_builtin.specs.Doing.{Doing}
 use Rattle.sh_builtin.specs.Telling.{puts, tells, usage_line}
-
--- each word behind a blank
-abbrev pub behind : List Text → Text
-behind [] = []
-behind (word ∷ words) = 32 ∷ word ++ behind words
-
--- words with a blank between each two
-abbrev pub joined : List Text → Text
-joined [] = []
-joined (word ∷ words) = word ++ behind words
 
 -- a first `-n` drops the newline; a backslash is ordinary
 abbrev pub echoed : List Text → Text

@@ -1,5 +1,5 @@
 -- What holds of every builtin.
-use Rattle.std.proofs.Common.{ℕ, ◌+◌, ◌-◌, ◌≤◌, List, [], ◌∷◌, ◌++◌, codes, take, length, Bool, true, false, Option, Some, None, Result, Ok, Err, slice_get, arith}
+use Rattle.std.proofs.Common.{ℕ, ◌+◌, ◌-◌, ◌≤◌, List, [], ◌∷◌, ◌++◌, codes, take, length, Bool, true, false, Option, Some, None, Result, Ok, Err, slice_get, IfSome, if◌then◌else◌, arith}
 use Rattle.rk_base.specs.Canonical.{is_empty}
 use Rattle.rk_base.specs.Errno.{word}
 use Rattle.rk_base.specs.Text.{Text, same_text}
@@ -15,25 +15,26 @@ use Rattle.rk_calls.specs.Turns.{turns}
 use Rattle.rk_calls.specs.Views.{View, Alike, IsCommandTalk, alike-ask, alike-exits, alike-if}
 use Rattle.sh_vars.specs.declared.env.Env.{Env}
 use Rattle.sh_vars.specs.Held.{is_readonly}
-use Rattle.sh_builtin.specs.declared.format.Piece.{Piece}
+use Rattle.sh_operands.specs.declared.format.Piece.{Piece}
 use Rattle.sh_builtin.specs.declared.name.Name.{Name}
 use Rattle.sh_builtin.specs.declared.name.Name.TheVariants.{Cd, Read, Echo, Printf, Pwd, Test, Bracket, True, False, Unknown}
-use Rattle.sh_builtin.specs.declared.verdict.Verdict.{Verdict}
-use Rattle.sh_builtin.specs.declared.verdict.Verdict.TheVariants.{Holds, Asks, Misused}
+use Rattle.sh_operands.specs.declared.verdict.Verdict.{Verdict}
+use Rattle.sh_operands.specs.declared.verdict.Verdict.TheVariants.{Holds, Asks, Misused}
 use Rattle.sh_builtin.specs.Alike.{EndsAlike, IsAlike, lower, alike-ends, alike-choice, alike-write, alike-tells}
 use Rattle.sh_builtin.specs.Builtins.{named_does, does}
 use Rattle.sh_builtin.specs.Cds.{unless_readonly, with_value, pwd_name, moves, walked, walks, cds}
-use Rattle.sh_builtin.specs.Commands.{says}
+use Rattle.sh_builtin.specs.Commands.{says, own_env, builtin_command}
 use Rattle.sh_builtin.specs.Doing.{Slots, Ended, Doing, heard, ends, asks}
 use Rattle.sh_builtin.specs.Echoes.{echoed, echoes, pwds}
-use Rattle.sh_builtin.specs.Formats.{pieces}
-use Rattle.sh_builtin.specs.Names.{name_of, text_of}
-use Rattle.sh_builtin.specs.Primaries.{follows, holds}
-use Rattle.sh_builtin.specs.Prints.{bad_line, tells_bad, status_of as failed, prints_of, prints_pieces, prints}
+use Rattle.sh_operands.specs.Formats.{pieces}
+use Rattle.sh_builtin.specs.Names.{name_of, is_builtin, text_of}
+use Rattle.sh_operands.specs.Primaries.{follows}
+use Rattle.sh_builtin.specs.Prints.{bad_line, tells_bad, status_of as failed, prints_pieces, prints}
 use Rattle.sh_builtin.specs.ReadLaws.{alike-reads}
 use Rattle.sh_builtin.specs.Telling.{complains, tells, usage_line, written, puts}
-use Rattle.sh_builtin.specs.Tests.{status_of, inverted_if, judges, is_closing, tests, brackets}
-use Rattle.sh_builtin.specs.Verdicts.{decides}
+use Rattle.sh_builtin.specs.Tests.{holds, status_of, inverted_if, judges, is_closing, tests, brackets}
+use Rattle.sh_operands.specs.Printed.{prints_of}
+use Rattle.sh_operands.specs.Verdicts.{decides}
 
 alike-complains : (n : Name) (operand what : Text) (status : ℕ) → IsAlike (complains n operand what status)
 alike-complains n operand what status = alike-tells (error_line (text_of n) operand what) status
@@ -160,3 +161,16 @@ talk-says words env v p =
 
 abbrev pub EachIsCommandTalk : Type 0
 EachIsCommandTalk = (words : List Text) (env : Env) → IsCommandTalk (says words env)
+
+if_builtin : (b : Bool) (x : Says) → IsCommandTalk x → IfSome (if b then Some x else None) IsCommandTalk
+if_builtin true x h = h
+if_builtin false x h = tt
+
+-- The same of what it says where it is launched by its name.
+pub talk-builtin_command : (wd : Text) (argv : List Text) → IfSome (builtin_command wd argv) IsCommandTalk
+talk-builtin_command wd [] = tt
+talk-builtin_command wd (name ∷ words) =
+    if_builtin (is_builtin name) (says (name ∷ words) (own_env wd name)) (talk-says (name ∷ words) (own_env wd name))
+
+abbrev pub EachByNameIsCommandTalk : Type 0
+EachByNameIsCommandTalk = (wd : Text) (argv : List Text) → IfSome (builtin_command wd argv) IsCommandTalk

@@ -25,7 +25,8 @@ use Rattle.sh_builtin.specs.Doing.{Slots, Ended, Doing, heard, ends}
 use Rattle.sh_builtin.specs.Fields.{values}
 use Rattle.sh_builtin.specs.Lines.{line_of}
 use Rattle.sh_builtin.specs.Names.{text_of}
-use Rattle.sh_builtin.specs.Reads.{At, Job, first_value, assigns, ifs_of, takes, from_here, by_end, line_read, reads_line, reads_on, reads_lines, first_that, is_misnamed, unless_readonly, unless_misnamed, reads_named, reads_into, reads}
+use Rattle.sh_operands.specs.Words.{first_that, is_misnamed}
+use Rattle.sh_builtin.specs.Reads.{At, Job, first_value, assigns, ifs_of, takes, from_here, by_end, line_read, reads_line, reads_on, reads_lines, unless_readonly, unless_misnamed, reads_named, reads_into, reads}
 use Rattle.sh_builtin.specs.Telling.{complains, tells, usage_line}
 
 alike-complains : (n : Name) (operand what : Text) (status : ℕ) → IsAlike (complains n operand what status)

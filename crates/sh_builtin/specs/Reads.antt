@@ -2,7 +2,6 @@
 use Rattle.std.specs.Prelude.{ℕ, List, [], ◌∷◌, ◌++◌, codes, drop, Bool, true, false, not, Option, Some, None, Result, Ok, Err, if◌then◌else◌}
 use Rattle.rk_base.specs.Text.{Text, same_text}
 use Rattle.rk_base.specs.Errno.{word}
-use Rattle.rk_base.specs.Variables.{is_variable}
 use Rattle.rk_base.specs.declared.errno.Errno.{Errno}
 use Rattle.rk_calls.specs.declared.call.Call.TheVariants.{ReadLine}
 use Rattle.rk_calls.specs.Brought.{brought}
@@ -10,6 +9,7 @@ use Rattle.rk_calls.specs.Fix.{fix}
 use Rattle.rk_calls.specs.Talk.{Says}
 use Rattle.sh_vars.specs.declared.env.Env.{Env}
 use Rattle.sh_vars.specs.Held.{value_at, is_readonly}
+use Rattle.sh_operands.specs.Words.{first_that, is_misnamed}
 use Rattle.sh_builtin.specs.declared.name.Name.TheVariants as name
 use Rattle.sh_builtin.specs.declared.marks.Marked.{Marked}
 use Rattle.sh_builtin.specs.declared.line.End.{End}
@@ -72,13 +72,6 @@ reads_on = fix reads_line
 
 abbrev pub reads_lines : Bool → List Text → List Marked → Doing
 reads_lines = from_here reads_on
-
-abbrev pub first_that : (Text → Bool) → List Text → Option Text
-first_that p [] = None
-first_that p (x ∷ xs) = if p x then Some x else first_that p xs
-
-abbrev pub is_misnamed : Text → Bool
-is_misnamed x = not (is_variable x)
 
 abbrev pub unless_readonly : Option Text → Doing → Doing
 unless_readonly None go = go

@@ -10,11 +10,10 @@ use Rattle.sh_builtin.specs.declared.builtin.Builtin.{Builtin}
 use Rattle.sh_builtin.specs.Builtins.{does}
 use Rattle.sh_builtin.specs.Cds.{walked}
 use Rattle.sh_builtin.specs.Doing.{Slots, Ended, Doing, ends, after}
-use Rattle.sh_builtin.specs.Primaries.{holds}
 use Rattle.sh_builtin.specs.Prints.{tells_bad}
 use Rattle.sh_builtin.specs.Reads.{line_read, reads_on}
 use Rattle.sh_builtin.specs.Telling.{written}
-use Rattle.sh_builtin.specs.Tests.{status_of, inverted_if}
+use Rattle.sh_builtin.specs.Tests.{holds, status_of, inverted_if}
 
 -- by the answer
 abbrev pub stage_does : Stage → Answer → Doing

@@ -1,15 +1,24 @@
 -- `test` and `[` (XCU 4, `test`).
 use Rattle.std.specs.Prelude.{ℕ, ◌-◌, List, [], ◌∷◌, codes, Bool, true, false, not, Option, Some, None, if◌then◌else◌, take, length, slice_get}
 use Rattle.rk_base.specs.Text.{Text, same_text}
+use Rattle.rk_calls.specs.declared.answer.Answer.{Answer}
+use Rattle.rk_calls.specs.declared.answer.Answer.TheVariants as answer
 use Rattle.rk_calls.specs.declared.call.Call.TheVariants.{Stat}
 use Rattle.rk_calls.specs.Places.{absolute}
 use Rattle.sh_builtin.specs.declared.name.Name.TheVariants as name
-use Rattle.sh_builtin.specs.declared.verdict.Verdict.{Verdict}
-use Rattle.sh_builtin.specs.declared.verdict.Verdict.TheVariants.{Holds, Asks, Misused}
+use Rattle.sh_operands.specs.declared.primary.Primary.{Primary}
+use Rattle.sh_operands.specs.declared.verdict.Verdict.{Verdict}
+use Rattle.sh_operands.specs.declared.primary.Primary.{Primary}
+use Rattle.sh_operands.specs.declared.verdict.Verdict.TheVariants.{Holds, Asks, Misused}
 use Rattle.sh_builtin.specs.Doing.{Doing, ends, asks}
-use Rattle.sh_builtin.specs.Primaries.{follows, holds}
+use Rattle.sh_operands.specs.Primaries.{follows, holds_of}
 use Rattle.sh_builtin.specs.Telling.{complains}
-use Rattle.sh_builtin.specs.Verdicts.{decides}
+use Rattle.sh_operands.specs.Verdicts.{decides}
+
+-- of an answer to Stat; a refusal is false
+abbrev pub holds : Primary → Answer → Bool
+holds p (answer.Stat kind mode empty) = holds_of p kind mode empty
+holds p a = false
 
 -- 0 for true, 1 for false
 abbrev pub status_of : Bool → ℕ

@@ -1,41 +1,18 @@
 // `echo` and `pwd`.
-ghost use Rattle.std.specs.Prelude.{◌≡◌, ◌++◌, ◌∷◌, [], IfOk, OnOk};
+ghost use Rattle.std.specs.Prelude.{◌≡◌, ◌++◌, ◌∷◌, [], IfOk};
 ghost use Rattle.rk_calls.specs.Costly.{IsCostly};
 ghost use Rattle.sh_vars.specs.declared.env.Env.{Env};
-ghost use Rattle.sh_builtin.specs.Echoes.{behind, joined, echoed, echoes, pwds};
+ghost use Rattle.sh_operands.specs.Words.{joined};
+ghost use Rattle.sh_builtin.specs.Echoes.{echoed, echoes, pwds};
 ghost use Rattle.sh_builtin.specs.Stages.{IsDoneBy};
 
 use crate::name::Name;
 use crate::stage::Move;
 use crate::telling::{misuse, put};
 use rk_base::{Bytes, NoMemory};
+use sh_operands::joined;
 use sh_vars::Env;
 use std::alloc::Global;
-
-// Each word behind a blank.
-fn put_behind(words: &[Bytes], text: &mut Vec<u8>) -> Result<(), NoMemory>
-    ensures { OnOk result (text.new.items ≡ text.old.items ++ behind words.now) }
-{
-    'words: for word in words {
-        text.push(b' ')?;
-        text.extend_from_slice(word.as_slice())?;
-    }
-    Ok(())
-}
-
-// The words with a blank between each two.
-fn joined(alloc: Global, words: &[Bytes]) -> Result<Vec<u8>, NoMemory>
-    ensures { IfOk result (λ text. text.items ≡ joined words.now) }
-{
-    match words {
-        [] => Ok(Vec::new(alloc)),
-        [word, words @ ..] => {
-            let mut text = Vec::from_slice(alloc, word.as_slice())?;
-            put_behind(words, &mut text)?;
-            Ok(text)
-        }
-    }
-}
 
 fn line_of(alloc: Global, words: &[Bytes]) -> Result<Vec<u8>, NoMemory>
     ensures { IfOk result (λ text. text.items ≡ joined words.now ++ 10 ∷ []) }

@@ -5,25 +5,22 @@
 mod builtin;
 mod cd;
 mod command;
-mod convert;
 mod echo;
 mod fields;
-mod format;
 mod laws;
 mod line;
-mod made;
 mod marks;
 mod name;
-mod number;
-mod primary;
 mod printf;
 mod read;
 mod stage;
 mod telling;
 mod test;
-mod verdict;
 
 pub use builtin::Builtin;
 pub use command::BuiltinCommand;
-pub use laws::{builtins_keep_what_is_alike, builtins_say_what_commands_may};
+pub use laws::{
+    builtins_by_name_say_what_commands_may, builtins_keep_what_is_alike,
+    builtins_say_what_commands_may,
+};
 pub use name::is_builtin;

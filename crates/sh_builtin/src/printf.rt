@@ -1,86 +1,19 @@
 // `printf`.
-ghost use Rattle.std.specs.Prelude.{◌≡◌, ◌*◌, IfOk, OnOk, codes, drop};
+ghost use Rattle.std.specs.Prelude.{◌≡◌, IfOk, codes, drop};
 ghost use Rattle.rk_calls.specs.Costly.{IsCostly};
 ghost use Rattle.sh_vars.specs.declared.env.Env.{Env};
 ghost use Rattle.sh_builtin.specs.declared.name.Name.TheVariants.{Printf};
-ghost use Rattle.sh_builtin.specs.Made.{MadeValue, with_text};
-ghost use Rattle.sh_builtin.specs.Prints.{converts, pass, how_often, passes, taken, prints_of, bad_line, tells_bad, status_of, prints_made, prints_pieces, prints};
+ghost use Rattle.sh_builtin.specs.Prints.{bad_line, tells_bad, status_of, prints_made, prints_pieces, prints};
 ghost use Rattle.sh_builtin.specs.Stages.{IsDoneBy};
 ghost use Rattle.sh_builtin.specs.Telling.{complains};
 
-use crate::convert::converts;
-use crate::format::{Conversion, Format, Piece, pieces, taken, takes_operand};
-use crate::made::Made;
 use crate::name::Name;
 use crate::stage::{Move, Stage};
 use crate::telling::{complain, misuse, put};
 use rk_base::{Bytes, NoMemory, WordList};
 use rk_calls::{Call, Turn, error_line, turns};
+use sh_operands::{Format, Made, pieces, printed};
 use std::alloc::Global;
-
-// What stands behind so many operands.
-fn behind(n: usize, operands: &[Bytes]) -> &[Bytes]
-    ensures { result.now ≡ drop n operands.now }
-{
-    let at = if n < operands.len() {
-        n
-    } else {
-        operands.len()
-    };
-    operands.split_at(at).1
-}
-
-// The format once.
-fn pass(
-    alloc: Global,
-    pieces: &[Piece],
-    operands: &[Bytes],
-    made: &mut Made,
-) -> Result<(), NoMemory>
-    ensures { OnOk result (made.new ≡ pass pieces.now operands.now made.old) }
-{
-    let mut left = operands;
-    'pieces: for piece in pieces {
-        match *piece {
-            Piece::Literal(b) => {
-                made.put(&[b])?;
-            }
-            Piece::Converted(c) => {
-                if takes_operand(c) {
-                    converts(alloc, c, left.get(0), made)?;
-                    left = behind(1, left);
-                } else {
-                    converts(alloc, c, None, made)?;
-                }
-            }
-        }
-    }
-    Ok(())
-}
-
-// How often the format is used.
-fn how_often(n: usize, operands: usize) -> usize
-    ensures { result ≡ how_often n operands }
-{
-    if n == 0 {
-        return 1;
-    }
-    operands.div_ceil(n).max(1)
-}
-
-fn made_of(alloc: Global, pieces: &[Piece], operands: &[Bytes]) -> Result<Made, NoMemory>
-    ensures { IfOk result (λ made. made ≡ prints_of pieces.now operands.now) }
-{
-    let n = taken(pieces);
-    let mut made = Made::new(alloc);
-    let mut left = operands;
-    let times = how_often(n, operands.len());
-    'passes: for i in 0..times {
-        pass(alloc, pieces, left, &mut made)?;
-        left = behind(n, left);
-    }
-    Ok(made)
-}
 
 fn bad_line(alloc: Global, word: &[u8]) -> Result<Bytes, NoMemory>
     ensures { IfOk result (λ line. line ≡ bad_line word.now) }
@@ -148,7 +81,7 @@ fn print_pieces(
     match pieces {
         None => invalid(alloc, format),
         Some(pieces) => {
-            let made = made_of(alloc, pieces.as_slice(), operands)?;
+            let made = printed(alloc, pieces.as_slice(), operands)?;
             print_made(alloc, made)
         }
     }

@@ -5,9 +5,10 @@ ghost use Rattle.rk_calls.specs.Brought.{brought};
 ghost use Rattle.rk_calls.specs.Costly.{IsCostly};
 ghost use Rattle.sh_vars.specs.declared.env.Env.{Env};
 ghost use Rattle.sh_vars.specs.Held.{is_readonly};
+ghost use Rattle.sh_operands.specs.Words.{first_that, is_misnamed};
 ghost use Rattle.sh_builtin.specs.declared.name.Name.TheVariants.{Read as TheRead};
 ghost use Rattle.sh_builtin.specs.Lines.{line_of};
-ghost use Rattle.sh_builtin.specs.Reads.{first_value, assigns, ifs_of, takes, by_end, line_read, reads_on, reads_lines, first_that, is_misnamed, unless_misnamed, reads_named, reads_into, reads};
+ghost use Rattle.sh_builtin.specs.Reads.{first_value, assigns, ifs_of, takes, by_end, line_read, reads_on, reads_lines, unless_misnamed, reads_named, reads_into, reads};
 ghost use Rattle.sh_builtin.specs.Stages.{IsDoneBy};
 ghost use Rattle.sh_builtin.specs.Telling.{complains};
 
@@ -18,8 +19,9 @@ use crate::marks::Marks;
 use crate::name::Name;
 use crate::stage::{Move, Stage};
 use crate::telling::{complain, misuse, over};
-use rk_base::{Bytes, Errno, NoMemory, WordList, is_variable};
+use rk_base::{Bytes, Errno, NoMemory, WordList};
 use rk_calls::{Answer, Call, Turn, brought};
+use sh_operands::{copies, first_misnamed};
 use sh_vars::{Env, Vars};
 use std::alloc::Global;
 
@@ -147,23 +149,6 @@ pub(crate) fn line_read(
     }
 }
 
-fn is_misnamed(x: &[u8]) -> bool
-    ensures { result ≡ is_misnamed x.now }
-{
-    !is_variable(x)
-}
-
-fn first_misnamed(names: &[Bytes]) -> Option<&Bytes>
-    ensures { option_copied result ≡ first_that is_misnamed names.now }
-{
-    'names: for x in names {
-        if is_misnamed(x.as_slice()) {
-            return Some(x);
-        }
-    }
-    None
-}
-
 fn first_readonly<'a>(vars: &Vars, names: &'a [Bytes]) -> Option<&'a Bytes>
     ensures { option_copied result ≡ first_that (is_readonly vars.now) names.now }
 {
@@ -173,17 +158,6 @@ fn first_readonly<'a>(vars: &Vars, names: &'a [Bytes]) -> Option<&'a Bytes>
         }
     }
     None
-}
-
-fn copies(alloc: Global, words: &[Bytes]) -> Result<WordList, NoMemory>
-    ensures { IfOk result (λ copies. copies ≡ words.now) }
-{
-    let mut copies = WordList::new(Vec::new(alloc));
-    'words: for word in words {
-        let word = word.copy()?;
-        copies.push(word)?;
-    }
-    Ok(copies)
 }
 
 fn read_named(alloc: Global, raw: bool, names: &[Bytes], env: &Env) -> Result<Move, NoMemory>

@@ -1,9 +1,9 @@
 // Where a builtin stands.
 use crate::marks::Marks;
 use crate::name::Name;
-use crate::primary::Primary;
 use rk_base::{Bytes, WordList};
 use rk_calls::Turn;
+use sh_operands::Primary;
 
 /// What a builtin waits for, or does next.
 #[derive(Drop)]

@@ -4,18 +4,16 @@ ghost use Rattle.rk_calls.specs.Costly.{IsCostly};
 ghost use Rattle.sh_vars.specs.declared.env.Env.{Env};
 ghost use Rattle.sh_builtin.specs.declared.name.Name.TheVariants.{Test as TestName};
 ghost use Rattle.sh_builtin.specs.Doing.{ends};
-ghost use Rattle.sh_builtin.specs.Primaries.{holds};
 ghost use Rattle.sh_builtin.specs.Stages.{IsDoneBy};
 ghost use Rattle.sh_builtin.specs.Telling.{complains};
-ghost use Rattle.sh_builtin.specs.Tests.{status_of, inverted_if, judges, tests, is_closing, brackets};
+ghost use Rattle.sh_builtin.specs.Tests.{holds, status_of, inverted_if, judges, tests, is_closing, brackets};
 
 use crate::name::Name;
-use crate::primary::{Primary, follows, holds};
 use crate::stage::{Move, Stage};
 use crate::telling::{complain, over};
-use crate::verdict::{Verdict, decides};
 use rk_base::{Bytes, NoMemory};
 use rk_calls::{Answer, Call, Turn, absolute};
+use sh_operands::{Primary, Verdict, decides, follows, holds_of};
 use sh_vars::Env;
 use std::alloc::Global;
 
@@ -29,6 +27,25 @@ fn inverted_if(negated: bool, b: bool) -> bool
     ensures { result ≡ inverted_if negated b }
 {
     if negated { !b } else { b }
+}
+
+fn holds(primary: Primary, answer: Answer) -> bool
+    ensures { result ≡ holds primary answer }
+{
+    match answer {
+        Answer::Stat { kind, mode, empty } => holds_of(primary, kind, mode, empty),
+        Answer::Go => false,
+        Answer::Done => false,
+        Answer::Opened => false,
+        Answer::Piped => false,
+        Answer::Content(_) => false,
+        Answer::Names(_) => false,
+        Answer::Text(_) => false,
+        Answer::Place(_) => false,
+        Answer::Same(_) => false,
+        Answer::Joined(_) => false,
+        Answer::No(_) => false,
+    }
 }
 
 /// Once it is known what stands there.

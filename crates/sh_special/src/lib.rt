@@ -14,3 +14,6 @@ pub use declaration::{Declaration, DeclarationList};
 pub use options::Options;
 pub use order::Order;
 pub use ordering::order_of;
+
+#[cfg(test)]
+mod tests;

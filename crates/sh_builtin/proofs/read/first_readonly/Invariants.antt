@@ -1,6 +1,6 @@
 use Rattle.std.proofs.Common.{◌≡◌, drop}
 use Rattle.sh_vars.specs.Held.{is_readonly}
-use Rattle.sh_builtin.specs.Reads.{first_that}
+use Rattle.sh_operands.specs.Words.{first_that}
 use Rattle.sh_builtin.proofs.read.first_readonly.Given as goal
 
 abbrev pub invariant-names : goal.invariant-names

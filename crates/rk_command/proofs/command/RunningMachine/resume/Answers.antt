@@ -1,7 +1,7 @@
 use Rattle.std.proofs.Common.{◌≡◌, ℕ, IfOk, sym, subst}
 use Rattle.rk_calls.specs.Talk.{after}
 use Rattle.rk_command.specs.declared.command.Running.{Running}
-use Rattle.rk_command.specs.declared.command.Running.TheVariants.{Complains, Shells, Texts, Plain, Selects, Greps, Files, Copies}
+use Rattle.rk_command.specs.declared.command.Running.TheVariants.{Complains, Shells, Builtins, Texts, Plain, Selects, Greps, Files, Copies}
 use Rattle.rk_command.specs.Running.{running_talk}
 use Rattle.rk_command.proofs.command.RunningMachine.resume.Goals as goal
 
@@ -14,6 +14,11 @@ pub returns-in-Shells-clause-talk : goal.returns-in-Shells-clause-talk
 returns-in-Shells-clause-talk c =
     let P : Running → Type 0 = λ r. IfOk c.resume-in-Shells.result (λ t. (p : ℕ) → running_talk r c.args.answer p ≡ after t (running_talk (Shells c.resume-in-Shells.new.self)) p) in
     subst P (sym c.in-Shells.is) c.resume-in-Shells.ensures.talk
+
+pub returns-in-Builtins-clause-talk : goal.returns-in-Builtins-clause-talk
+returns-in-Builtins-clause-talk c =
+    let P : Running → Type 0 = λ r. IfOk c.resume-in-Builtins.result (λ t. (p : ℕ) → running_talk r c.args.answer p ≡ after t (running_talk (Builtins c.resume-in-Builtins.new.self)) p) in
+    subst P (sym c.in-Builtins.is) c.resume-in-Builtins.ensures.talk
 
 pub returns-in-Texts-clause-talk : goal.returns-in-Texts-clause-talk
 returns-in-Texts-clause-talk c =

@@ -1,0 +1,5 @@
+use Rattle.sh_builtin.specs.Laws.{talk-builtin_command}
+use Rattle.sh_builtin.proofs.laws.builtins_by_name_say_what_commands_may.Goals as goal
+
+pub returns : goal.returns
+returns c = talk-builtin_command
