@@ -1,7 +1,7 @@
 -- What a word says is alike, in any view, where what its bodies say and what comes after it are. As it is this gives its
 -- unfolding, cut that fewer turns only cut it, and properly that its calls are proper.
 use Rattle.std.proofs.Common.{◌≡◌, ℕ, ◌+◌, ◌-◌, ◌≤◌, List, [], ◌∷◌, ◌++◌, Bool, true, false, arith}
-use Rattle.std.specs.Prelude.{Option, Some, None, length, ◌&&◌, not}
+use Rattle.std.specs.Prelude.{Option, Some, None, codes, length, ◌&&◌, not}
 use Rattle.std.specs.Fmt.{decimal}
 use Rattle.rk_base.specs.Text.{Text}
 use Rattle.rk_base.specs.Sorted.{sorted}
@@ -36,7 +36,7 @@ use Rattle.sh_expand.specs.declared.mode.Mode.{Mode}
 use Rattle.sh_expand.specs.declared.mode.Mode.TheVariants as mode
 use Rattle.sh_expand.specs.declared.mode.Expanded.{Expanded}
 use Rattle.sh_expand.specs.declared.mode.Expanded.TheVariants as expanded
-use Rattle.sh_expand.specs.Expands.{Go_on, Body, Ended, Failed, With_text, counted, read_of, not_set, not_valid, readonly, is_quoted, literal_marks, unset, shown, got, measured, put_by, assigning, used, taken, substituted, expand, expand_part, expand_word, expand_text}
+use Rattle.sh_expand.specs.Expands.{Go_on, Body, Ended, Failed, With_text, counted, read_of, not_set, not_valid, readonly, is_quoted, literal_marks, unset, shown, got, unmeasured, measured, put_by, assigning, used, taken, substituted, expand, expand_part, expand_word, expand_text}
 use Rattle.sh_expand.specs.Fields.{With_fields, ifs, components, has_pattern, or_as_was, named, names, all_names}
 use Rattle.sh_expand.specs.Means.{With_expanded, all_bytes, pay_fields, splits, finished, expand_in}
 
@@ -73,9 +73,13 @@ module _ (v : View) where
   got-alike P cuts quoted parameter (Some words) ms k k' f f' hk hf e p le = hk (ms ++ shown (stay_apart cuts quoted parameter) quoted words e) e p le
   got-alike P cuts quoted parameter None ms k k' f f' hk hf e p le = unset-alike P e.nounset quoted parameter ms k k' f f' hk hf e p le
 
+  unmeasured-alike : (P : ℕ) (strict quoted : Bool) (parameter : Parameter) (ms : Marks) (k k' : Ended) (f f' : Failed) → SameEnded P k k' → SameFailed P f f' → Goes P (unmeasured strict quoted parameter ms k f) (unmeasured strict quoted parameter ms k' f')
+  unmeasured-alike P true quoted parameter ms k k' f f' hk hf e p le = hf (spelling parameter) not_set e p le
+  unmeasured-alike P false quoted parameter ms k k' f f' hk hf e p le = hk (ms ++ given quoted (codes "0")) e p le
+
   measured-alike : (P : ℕ) (quoted : Bool) (parameter : Parameter) (o : Option (List Text)) (ms : Marks) (k k' : Ended) (f f' : Failed) → SameEnded P k k' → SameFailed P f f' → Goes P (measured quoted parameter o ms k f) (measured quoted parameter o ms k' f')
   measured-alike P quoted parameter (Some words) ms k k' f f' hk hf e p le = hk (ms ++ given quoted (decimal (length (joined (separator e) words)))) e p le
-  measured-alike P quoted parameter None ms k k' f f' hk hf e p le = unset-alike P e.nounset quoted parameter ms k k' f f' hk hf e p le
+  measured-alike P quoted parameter None ms k k' f f' hk hf e p le = unmeasured-alike P e.nounset quoted parameter ms k k' f f' hk hf e p le
 
   put_by-alike : (P : ℕ) (kept quoted : Bool) (name text : Text) (ms : Marks) (k k' : Ended) (f f' : Failed) → SameEnded P k k' → SameFailed P f f' → Goes P (put_by kept quoted name text ms k f) (put_by kept quoted name text ms k' f')
   put_by-alike P true quoted name text ms k k' f f' hk hf e p le = hf name readonly e p le

@@ -79,10 +79,15 @@ abbrev pub got : Bool → Bool → Parameter → Option (List Text) → Marks �
 got splits quoted parameter (Some words) marks k fail e = k (marks ++ shown (stay_apart splits quoted parameter) quoted words e) e
 got splits quoted parameter None marks k fail e = unset e.nounset quoted parameter marks k fail e
 
+-- an unset parameter has no bytes, or under set -u it is a fault
+abbrev pub unmeasured : Bool → Bool → Parameter → Marks → Ended → Failed → Go_on
+unmeasured true quoted parameter marks k fail e = fail (spelling parameter) not_set e
+unmeasured false quoted parameter marks k fail e = k (marks ++ given quoted (codes "0")) e
+
 -- how many bytes the values have, joined
 abbrev pub measured : Bool → Parameter → Option (List Text) → Marks → Ended → Failed → Go_on
 measured quoted parameter (Some words) marks k fail e = k (marks ++ given quoted (decimal (length (joined (separator e) words)))) e
-measured quoted parameter None marks k fail e = unset e.nounset quoted parameter marks k fail e
+measured quoted parameter None marks k fail e = unmeasured e.nounset quoted parameter marks k fail e
 
 -- a variable takes a text, which stands there then; a readonly one is a fault
 abbrev pub put_by : Bool → Bool → Text → Text → Marks → Ended → Failed → Go_on

@@ -5,7 +5,7 @@ ghost use Rattle.sh_ast.specs.Parameters.{spelling};
 ghost use Rattle.sh_ast.specs.Words.{part, parts};
 ghost use Rattle.sh_vars.specs.declared.env.Env.{Env};
 ghost use Rattle.sh_parameter.specs.Values.{values, value, counts};
-ghost use Rattle.sh_expand.specs.Expands.{Body, Ended, Failed, is_quoted, literal_marks, unset, got, measured, assigning, taken, not_set, expand, expand_part, expand_word, expand_text};
+ghost use Rattle.sh_expand.specs.Expands.{Body, Ended, Failed, is_quoted, literal_marks, unset, got, unmeasured, measured, assigning, taken, not_set, expand, expand_part, expand_word, expand_text};
 ghost use Rattle.sh_expand.specs.Acting.{Does, word_of, parts_in, used_by, acted_size, size, size_part, size_word};
 
 use crate::acts::{Acted, Then, take};
@@ -106,6 +106,25 @@ fn put_values(
     }
 }
 
+// An unset parameter, whose bytes are counted.
+fn put_unmeasured(
+    alloc: Global,
+    env: &Env,
+    quoted: bool,
+    parameter: &Parameter,
+    marks: &mut Vec<Mark>,
+) -> Result<Acted, NoMemory>
+    ensures less { IfOk result (λ acted. acted_size acted < 1) }
+    ensures does { IfOk result (Does (λ body ms k fail e. unmeasured env.now.nounset quoted parameter.now ms k fail e) env.now marks.old.items marks.new.items) }
+{
+    if env.nounset {
+        let acted = fault(alloc, parameter, b"not set")?;
+        return Ok(acted);
+    }
+    put_given(quoted, b"0", marks)?;
+    Ok(Acted::Put)
+}
+
 // How many bytes the values have.
 fn put_length(
     alloc: Global,
@@ -119,7 +138,7 @@ fn put_length(
 {
     let words = values(alloc, env, parameter)?;
     match words {
-        None => put_unset(alloc, env, quoted, parameter, marks),
+        None => put_unmeasured(alloc, env, quoted, parameter, marks),
         Some(words) => {
             let text = joined(alloc, separator(env), words.as_slice())?;
             let digits = format!(in alloc; "{}", text.len() as u64)?;
