@@ -1,0 +1,13 @@
+pub mod State
+pub mod Flows
+pub mod Words
+pub mod Simple
+pub mod Compound
+pub mod Eval
+pub mod AlikeFlows
+pub mod AlikeWords
+pub mod AlikeSimple
+pub mod AlikeCompound
+pub mod Laws
+pub mod Starts
+pub mod StartLaws
