@@ -8,7 +8,7 @@ ghost use Rattle.rk_runs.specs.Run.{Spent};
 ghost use Rattle.rk_runs.specs.Spoken.{AreSpoken};
 ghost use Rattle.rk_top.specs.Asks.{Asks};
 ghost use Rattle.rk_top.specs.Outcomes.{outcome_of, outcome_of_stop, outcome_of_refusal, Leaves, HasStatus, Tallies, Gains, GainsErrors, GainsLine, ErrorsCounted, Counted, Ticked, Started, Faults, IfEnded, IfSpecial, IfDamaged, IfForged, IsNoFault, NoneRose, Settles};
-ghost use Rattle.rk_top.specs.Fresh.{output_of, error_text_of};
+ghost use Rattle.rk_top.specs.Fresh.{output_of};
 ghost use Rattle.rk_top.specs.Kept.{state_in, IsDamaged, Keeping};
 ghost use Rattle.rk_top.specs.Run.{IsForged, fresh_run};
 ghost use Rattle.rk_top.specs.Telling.{SinkState, Put};
