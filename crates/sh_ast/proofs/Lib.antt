@@ -1,2 +1,2 @@
-mod Folding
+pub mod Folding
 mod Places

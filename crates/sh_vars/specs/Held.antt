@@ -73,6 +73,11 @@ kept name held = with_variable name (record { value = value_at held name; export
 abbrev pub without : Text → Held → Held
 without name held = record held { variables = remove held.variables name }
 
+-- a variable is this from now on, or is unset without a flag
+abbrev pub with_entry : Text → Option Variable → Held → Held
+with_entry name None held = without name held
+with_entry name (Some variable) held = with_variable name variable held
+
 -- What is exported.
 
 abbrev pub with_value : Text → Option Text → Option Var

@@ -27,3 +27,23 @@ fn keeps_variables(rt: HostRuntime) -> Result<(), Fail> {
     assert_eq!(rt; vars.positional().len(), 0);
     Ok(())
 }
+
+#[test]
+fn puts_one_variable_back(rt: HostRuntime) -> Result<(), Fail> {
+    let mut vars = Vars::new(rt.alloc());
+    vars.set(b"kept", b"1")?;
+    let saved = vars.save()?;
+    vars.set(b"kept", b"2")?;
+    vars.export(b"kept")?;
+    vars.readonly(b"kept")?;
+    vars.set(b"other", b"3")?;
+    vars.set(b"late", b"4")?;
+    vars.put_back(b"kept", &saved)?;
+    assert_eq!(rt; vars.get(b"kept"), Some(b"1".as_slice()));
+    assert!(rt; !vars.is_readonly(b"kept"));
+    assert_eq!(rt; vars.exported()?.as_slice().len(), 0);
+    vars.put_back(b"late", &saved)?;
+    assert_eq!(rt; vars.get(b"late"), None);
+    assert_eq!(rt; vars.get(b"other"), Some(b"3".as_slice()));
+    Ok(())
+}

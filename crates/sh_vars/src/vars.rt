@@ -1,6 +1,6 @@
 // The variables of a shell, and its positional parameters.
 ghost use Rattle.std.specs.Prelude.{◌≡◌, IfOk, OnOk, OnErr, not, if◌then◌else◌, option_copied};
-ghost use Rattle.sh_vars.specs.Held.{nothing, value_at, is_readonly, assigned, given, kept, without, exported_of, with_variable, variable_at};
+ghost use Rattle.sh_vars.specs.Held.{nothing, value_at, is_readonly, assigned, given, kept, without, exported_of, with_variable, with_entry, variable_at};
 ghost use Rattle.sh_vars.specs.Answers.{AnswersSet};
 
 use crate::Variable;
@@ -135,6 +135,12 @@ impl Vars {
         Ok(())
     }
 
+    fn forget(&mut self, name: &[u8])
+        ensures { self.new ≡ without name.now self.old }
+    {
+        self.rows.take(name);
+    }
+
     /// Takes a variable away, with its flags. False, with nothing changed, exactly where it is readonly.
     pub fn unset(&mut self, name: &[u8]) -> bool
         ensures answer { result ≡ not (is_readonly self.old name.now) }
@@ -143,7 +149,7 @@ impl Vars {
         if self.is_readonly(name) {
             return false;
         }
-        self.rows.take(name);
+        self.forget(name);
         true
     }
 
@@ -214,6 +220,24 @@ impl Vars {
         let rows = self.rows.copy()?;
         let positional = self.positional.copy()?;
         Ok(Saved { rows, positional })
+    }
+
+    /// A variable is as it was when the copy was made, its flags too. After want of memory all is as it was.
+    pub fn put_back(&mut self, name: &[u8], saved: &Saved) -> Result<(), OutOfMemory>
+        ensures ok { OnOk result (self.new ≡ with_entry name.now (variable_at saved.now name.now) self.old) }
+        ensures err { OnErr result (self.new ≡ self.old) }
+    {
+        match saved.rows.get(name) {
+            None => {
+                self.forget(name);
+                Ok(())
+            }
+            Some(variable) => {
+                let variable = variable.clone()?;
+                self.put(name, variable)?;
+                Ok(())
+            }
+        }
     }
 
     /// All is as it was when the copy was made.
