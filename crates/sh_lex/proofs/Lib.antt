@@ -4,6 +4,7 @@ pub mod Runs
 pub mod Found
 pub mod Modes
 pub mod Sizes
+pub mod Tokenized
 pub mod Walking
 pub mod Lines
 pub mod Popping

@@ -130,7 +130,7 @@ number_is : (x y : Recognizer) → nat_eq (num x) (num y) ≡ true → x ≡ y
 number_is x y h = sym (is_at x) ∙ ap (λ n. at n all) (eqb-true (num x) (num y) h) ∙ is_at y
 
 -- tests over fronts
-abbrev all_of : {A : Type 0} → (A → Bool) → List A → Bool
+abbrev pub all_of : {A : Type 0} → (A → Bool) → List A → Bool
 all_of g [] = true
 all_of g (x ∷ xs) = both (g x) (all_of g xs)
 
@@ -143,16 +143,16 @@ both_true : (a b : Bool) → both a b ≡ true → (a ≡ true) × (b ≡ true)
 both_true true b h = (refl, h)
 both_true false b h = cc
 
-either_cases : (a b : Bool) → either a b ≡ true → (a ≡ true) ⊎ (b ≡ true)
+pub either_cases : (a b : Bool) → either a b ≡ true → (a ≡ true) ⊎ (b ≡ true)
 either_cases true b h = inl refl
 either_cases false b h = inr h
 
-all_at : {A : Type 0} (g : A → Bool) (xs : List A) (n : ℕ) (x : A) → all_of g xs ≡ true → nth_of n xs ≡ Some x → g x ≡ true
+pub all_at : {A : Type 0} (g : A → Bool) (xs : List A) (n : ℕ) (x : A) → all_of g xs ≡ true → nth_of n xs ≡ Some x → g x ≡ true
 all_at g [] n x h e = cc
 all_at g (y ∷ ys) zero x h e = let is : y ≡ x = cc in subst (λ y. g y ≡ true) is (both_true (g y) (all_of g ys) h).0
 all_at g (y ∷ ys) (suc n) x h e = all_at g ys n x (both_true (g y) (all_of g ys) h).1 e
 
-abbrev fronts : List Front
+abbrev pub fronts : List Front
 fronts = f.End ∷ f.Nul ∷ f.Tilde ∷ f.Break br.Blank ∷ f.Break br.Newline ∷ f.Break br.Semi ∷ f.Break br.And ∷ f.Break br.Bar ∷ f.Break br.Angle ∷ f.Break br.OpenParen ∷ f.Break br.CloseParen ∷ f.Quote qu.Backslash ∷ f.Quote qu.Single ∷ f.Quote qu.Double ∷ f.Quote qu.Backquote ∷ f.Quote qu.Dollar ∷ f.Plain pl.RightBrace ∷ f.Plain pl.CloseBrace ∷ f.Plain pl.Esac ∷ f.Plain pl.Closer ∷ f.Plain pl.Assignment ∷ f.Plain pl.Numbered ∷ f.Plain pl.Text ∷ []
 
 abbrev break_number : b.Break → ℕ
@@ -181,7 +181,7 @@ plain_number pl.Assignment = 20
 plain_number pl.Numbered = 21
 plain_number pl.Text = 22
 
-abbrev front_number : Front → ℕ
+abbrev pub front_number : Front → ℕ
 front_number f.End = 0
 front_number f.Nul = 1
 front_number f.Tilde = 2
@@ -215,7 +215,7 @@ plain_at pl.Assignment = refl
 plain_at pl.Numbered = refl
 plain_at pl.Text = refl
 
-front_at : (x : Front) → nth_of (front_number x) fronts ≡ Some x
+pub front_at : (x : Front) → nth_of (front_number x) fronts ≡ Some x
 front_at f.End = refl
 front_at f.Nul = refl
 front_at f.Tilde = refl
@@ -350,7 +350,7 @@ finds x y p j n h e = by (either_cases (nat_eq (num x) (num y)) (both (both (exp
         let t = both_true (expands x) (expands y) s.0 in
         dollars_like x y p (which x t.0) (which y t.1) j n s.1 e
 
-kind_of : (x : Recognizer) (p : Place) (j : Kind) (n : ℕ) → found x p ≡ Some (j, n) → member (number j) (kinds_by x) ≡ true
+pub kind_of : (x : Recognizer) (p : Place) (j : Kind) (n : ℕ) → found x p ≡ Some (j, n) → member (number j) (kinds_by x) ≡ true
 kind_of x p j n e = (subst (Of (kinds_by x)) e (of_recognized x (is_whole p) (is_closed p) p.words p.awaited p.text)).0
 
 from_both : (a b : Bool) → a ≡ true → b ≡ true → both a b ≡ true

@@ -130,7 +130,7 @@ measured_some m whole closed words awaited (c ∷ cs) j i e h =
     let w = (subst (Of (kinds_by x)) e (of_recognized x whole closed words awaited (c ∷ cs))).1 in
     extent_some (is_raw j) i (c ∷ cs) (wide_is (may_have_none j) i h w) (omega arith)
 
-has_byte : (m : Mode) (p : Place) (j : Kind) (n : ℕ) → look m p ≡ Some (j, n) → may_have_none j ≡ false → 1 ≤ n
+pub has_byte : (m : Mode) (p : Place) (j : Kind) (n : ℕ) → look m p ≡ Some (j, n) → may_have_none j ≡ false → 1 ≤ n
 unfolding look
 has_byte m p j n e h =
     let u = unmeasured p.text (found (recognizer m (front_at_place p)) p) j n e in

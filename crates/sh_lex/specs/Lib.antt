@@ -18,3 +18,4 @@ pub mod Effects
 pub mod Steps
 pub mod Faults
 pub mod Takes
+pub mod Tokenizing

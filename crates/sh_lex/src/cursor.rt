@@ -1,7 +1,8 @@
 // The cursor: which token stands where it is.
 ghost use Rattle.std.specs.Prelude.{◌≡◌, ◌≤◌, nat_lt, length, take as first_bytes, ◌+◌, Some, IfSome};
 ghost use Rattle.sh_lex.specs.Bytes.{◌also◌, not_so};
-ghost use Rattle.sh_lex.specs.Places.{begin, begin_at};
+ghost use Rattle.sh_lex.specs.Folded.{folded};
+ghost use Rattle.sh_lex.specs.Places.{begin, begin_at, is_none};
 ghost use Rattle.sh_rules.specs.LookAhead.{mode_of as mode_lem};
 ghost use Rattle.sh_lex.specs.Lexemes.{look as look_lem};
 ghost use Rattle.sh_lex.specs.Steps.{drops as drops_lem, next_drops as next_lem, opens_level as opens_lem};
@@ -9,6 +10,7 @@ ghost use Rattle.sh_lex.specs.Takes.{Takes};
 
 use crate::blanks::past_blanks;
 use crate::effect::{Effect, effect_of, opens_level, takes_body};
+use crate::folded::is_read_out;
 use crate::front::front_of;
 use crate::kinds::is_raw;
 use crate::lexeme::measured;
@@ -100,8 +102,15 @@ impl<'a> Cursor<'a> {
         }
     }
 
-    // The first bytes of what is left.
-    fn front_bytes(&self, n: usize) -> &'a [u8]
+    /// Nothing is left but joined lines.
+    pub(crate) fn is_read_out(&self) -> bool
+        ensures { result ≡ is_none (folded self.now.text) }
+    {
+        is_read_out(self.text)
+    }
+
+    /// The first bytes of what is left.
+    pub(crate) fn front_bytes(&self, n: usize) -> &'a [u8]
         requires { n ≤ length self.now.text }
         ensures { result.now ≡ first_bytes n self.now.text }
     {

@@ -1,5 +1,5 @@
 // Tokens of texts, one after another.
-use crate::{Cursor, Stop, Why};
+use crate::{Cursor, LexErr, Lexer, Stop, Why};
 use rk_base::{Bytes, NoMemory};
 use sh_rules::Mode;
 use std::alloc::Global;
@@ -195,6 +195,69 @@ fn reads_tokens(rt: HostRuntime) -> Result<(), Fail> {
     for (text, modes, bytes) in rows {
         let read = last(rt.alloc(), text, modes)?;
         assert_eq!(rt; read.as_slice(), bytes);
+    }
+    Ok(())
+}
+
+// What the lexer tells next from a byte on: where the token begins and its length, or the fault.
+fn next(alloc: Global, text: &[u8], at: usize) -> Result<(usize, usize, u8), NoMemory> {
+    let mut lexer = Lexer::new(alloc, text);
+    if at <= text.len() {
+        lexer.set_at(at);
+    }
+    match lexer.next() {
+        Ok(None) => Ok((lexer.at(), 0, b'-')),
+        Ok(Some(token)) => Ok((token.at, token.text.len(), b'-')),
+        Err(LexErr::Fault(fault)) => Ok((fault.at, 0, letter(&fault.why))),
+        Err(LexErr::NoMemory) => Err(NoMemory),
+    }
+}
+
+#[test]
+fn tells_the_next_token(rt: HostRuntime) -> Result<(), Fail> {
+    let rows: [(&[u8], usize, usize, usize, u8); 11] = [
+        (b" \\\n # c", 0, 7, 0, b'-'),
+        (b" # c\n", 0, 4, 1, b'-'),
+        (b"in", 0, 0, 2, b'-'),
+        (b"a b", 1, 2, 1, b'-'),
+        (b"a\\\nb;", 0, 0, 4, b'-'),
+        (b"2>&1", 0, 0, 3, b'-'),
+        (b"'a b'c", 0, 0, 5, b'-'),
+        (b"a `b`", 1, 2, 0, b'N'),
+        (b"a 'b", 1, 2, 0, b'U'),
+        (b"a\0", 1, 1, 0, b'S'),
+        (b"2<>x", 1, 1, 0, b'N'),
+    ];
+    for (text, at, begin, length, why) in rows {
+        assert_eq!(rt; next(rt.alloc(), text, at)?, (begin, length, why));
+    }
+    Ok(())
+}
+
+// Where the lexer stands when it was asked so many times.
+fn stands(alloc: Global, text: &[u8], times: usize) -> Result<usize, NoMemory> {
+    let mut lexer = Lexer::new(alloc, text);
+    for _ in 0..times {
+        if let Err(LexErr::NoMemory) = lexer.next() {
+            return Err(NoMemory);
+        }
+    }
+    Ok(lexer.at())
+}
+
+#[test]
+fn goes_from_token_to_token(rt: HostRuntime) -> Result<(), Fail> {
+    let rows: [(&[u8], usize, usize); 7] = [
+        (b"if a;then #", 0, 0),
+        (b"if a;then #", 1, 2),
+        (b"if a;then #", 2, 4),
+        (b"if a;then #", 3, 5),
+        (b"if a;then #", 4, 9),
+        (b"if a;then #", 5, 11),
+        (b"a ` b", 3, 1),
+    ];
+    for (text, times, at) in rows {
+        assert_eq!(rt; stands(rt.alloc(), text, times)?, at);
     }
     Ok(())
 }

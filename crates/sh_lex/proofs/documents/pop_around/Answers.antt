@@ -1,5 +1,5 @@
 use Rattle.sh_lex.proofs.Popping.{pops, lasts}
-use Rattle.sh_lex.proofs.moves.pop_around.Goals as goal
+use Rattle.sh_lex.proofs.documents.pop_around.Goals as goal
 
 pub returns : goal.returns
 returns c = record {

@@ -1,6 +1,6 @@
 use Rattle.std.proofs.Common.{◌∙◌}
 use Rattle.sh_lex.proofs.Popping.{pops, parens}
-use Rattle.sh_lex.proofs.moves.pop_paren.Goals as goal
+use Rattle.sh_lex.proofs.levels.pop_paren.Goals as goal
 
 pub returns : goal.returns
 returns c = record {

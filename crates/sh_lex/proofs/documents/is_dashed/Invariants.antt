@@ -1,7 +1,7 @@
 use Rattle.std.proofs.Common.{◌≡◌, length, false}
 use Rattle.sh_lex.specs.Folded.{folded}
 use Rattle.sh_lex.specs.Steps.{ends_with_dash}
-use Rattle.sh_lex.proofs.moves.is_dashed.Given as goal
+use Rattle.sh_lex.proofs.documents.is_dashed.Given as goal
 
 abbrev pub invariant-bytes : goal.invariant-bytes
 invariant-bytes l = ends_with_dash false (folded l.operator) ≡ ends_with_dash l.dashed (folded l.left)
