@@ -1,11 +1,12 @@
 -- A tree's value is that of its marks.
-use Rattle.std.proofs.Common.{◌≡◌, List, [], ◌∷◌, ◌++◌, refl, sym, ap, ◌∙◌}
+use Rattle.std.proofs.Common.{◌≡◌, List, [], ◌∷◌, ◌++◌, map, refl, sym, ap, ◌∙◌}
+use Rattle.std.proofs.lemmas.List.{map_push}
 use Rattle.sh_ast.specs.Commands.{commands_of}
 use Rattle.sh_rules.specs.Grammar.{Parse, Leaf, Node, Parses, no_parses, parse_and}
 use Rattle.sh_rules.specs.Rules.{Rule, Token}
-use Rattle.sh_grammar.specs.Marks.{Mark, node, leaf, flat, flat_all}
-use Rattle.sh_tree.specs.Values.{token, commands_in}
-use Rattle.sh_tree.specs.States.{State, start, top, with}
+use Rattle.sh_grammar.specs.Marks.{Mark, flat, flat_all}
+use Rattle.sh_tree.specs.Values.{commands_in}
+use Rattle.sh_tree.specs.States.{State, start, top}
 use Rattle.sh_tree.specs.Acts.{acted}
 use Rattle.sh_tree.specs.Folds.{built, built_all, marked, marked_all, script_of, script_marked}
 
@@ -32,3 +33,8 @@ script_by_marks qs = ap (λ s. commands_of (commands_in (top s))) (of_all_marks 
 pub marked_last : (ms : List Mark) (m : Mark) (s : State) → marked_all (ms ++ m ∷ []) s ≡ marked_all ms (marked m s)
 unfolding marked_all
 marked_last ms m s = marked_append ms (m ∷ []) s
+
+-- marks of the code, the last of them taken
+pub marked_pushed : {A : Type 0} (f : A → Mark) (ms ns : List A) (m : A) (s t : State) → ms ≡ ns ++ m ∷ [] → t ≡ marked (f m) s → marked_all (map f ns) t ≡ marked_all (map f ms) s
+marked_pushed f ms ns m s t e h =
+    ap (marked_all (map f ns)) h ∙ sym (ap (λ l. marked_all (map f l) s) e ∙ ap (λ l. marked_all l s) (map_push f ns m) ∙ marked_last (map f ns) (f m) s)

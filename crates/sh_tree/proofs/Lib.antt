@@ -1,1 +1,3 @@
 pub mod FoldLemmas
+pub mod BuilderLemmas
+pub mod MadeLemmas

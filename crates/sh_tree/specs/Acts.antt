@@ -15,7 +15,7 @@ use Rattle.sh_ast.specs.Commands as c
 use Rattle.sh_ast.specs.Commands.{CommandTree, CommandsTree, WordTree, RedirectTree, commands_of, words_of, bodies_of, assignments_of, redirects_of, branches_of, case_items_of}
 use Rattle.sh_rules.specs.Rules as r
 use Rattle.sh_rules.specs.Rules.{Rule}
-use Rattle.sh_tree.specs.Values.{Value, nothing, token, parts, word, words, redirects, pieces, commands, joined, compound, branches, items, text_in, parts_in, word_in, words_in, redirects_in, assignments_in, arguments_in, redirections_in, commands_in, connectors_in, pipelines_in, compound_in, branches_in, otherwise_in, items_in}
+use Rattle.sh_tree.specs.Values.{Value, nothing, parts, word, words, redirects, pieces, commands, joined, compound, branches, items, text_in, parts_in, word_in, words_in, redirects_in, assignments_in, arguments_in, redirections_in, commands_in, connectors_in, pipelines_in, compound_in, branches_in, otherwise_in, items_in}
 use Rattle.sh_tree.specs.States.{State, top, less, with, second, third, fourth, fifth, sixth, for_one, for_two, for_three, for_four, for_five, for_six, one_command, front, word_opened, word_closed, with_body, body_opened, body_closed, with_document, last, without_document}
 use Rattle.sh_tree.specs.Texts.{plain_parameter, braced_parameter, operand, operator, condition_of, substitute_of, removal_of, descriptor_of, numberless, operator_of}
 
@@ -103,16 +103,16 @@ pattern_braces s = for_two (parts (w.without Unquoted (operand (text_in (top s))
 -- a command substitution has the next number of its word
 abbrev pub command_substitution : State → State
 command_substitution s =
-    with_body (commands_of (commands_in (second s))) (for_three (parts (w.output_of Unquoted (length (front s.bodies)) ∷ [])) s)
+    with (parts (w.output_of Unquoted (length (front s.bodies)) ∷ [])) (with_body (commands_of (commands_in (second s))) (less (less (less s))))
 
 -- WORDS
 
 -- a word ends; it begins
 abbrev pub end_of_word : State → State
-end_of_word s = word_opened (no_parts s)
+end_of_word s = with (parts []) (word_opened (less s))
 
 abbrev pub word_begun : State → State
-word_begun s = word_closed (for_one (word (c.word_of (parts_of (parts_in (top s))) (bodies_of (front s.bodies)))) s)
+word_begun s = with (word (c.word_of (parts_of (parts_in (top s))) (bodies_of (front s.bodies)))) (word_closed (less s))
 
 abbrev pub no_words : State → State
 no_words s = with (words []) s
@@ -122,13 +122,13 @@ more_words s = for_two (words (word_in (top s) ∷ words_in (second s))) s
 
 -- bodies of here-documents (XCU 2.7.4)
 abbrev pub body_end : State → State
-body_end s = body_opened (no_parts s)
+body_end s = with (parts []) (body_opened (less s))
 
 abbrev pub body : State → State
-body s = with_document (c.word_of (parts_of (parts_in (second s))) (bodies_of (front s.bodies))) (body_closed (for_three nothing s))
+body s = with nothing (with_document (c.word_of (parts_of (parts_in (second s))) (bodies_of (front s.bodies))) (body_closed (less (less (less s)))))
 
 abbrev pub literal_body : State → State
-literal_body s = with_document (c.word_of (parts_of (literal Quoted (text_in (top s)) ∷ [])) c.no_bodies) (for_two nothing s)
+literal_body s = with nothing (with_document (c.word_of (parts_of (literal Quoted (text_in (top s)) ∷ [])) c.no_bodies) (less (less s)))
 
 -- SIMPLE COMMANDS (XCU 2.9.1) and redirections (XCU 2.7)
 
@@ -144,7 +144,7 @@ document (Some body) = body
 
 -- a here-document has the last body behind it that no operator behind it has
 abbrev pub here : State → State
-here s = without_document (for_two (redirects (redirect (descriptor_of (text_in (top s))) HereDocument (document (last (front s.documents))) ∷ [])) s)
+here s = with (redirects (redirect (descriptor_of (text_in (top s))) HereDocument (document (last (front s.documents))) ∷ [])) (without_document (less (less s)))
 
 abbrev pub no_redirects : State → State
 no_redirects s = with (redirects []) s

@@ -1,5 +1,5 @@
 -- What is built, from the end of a text to its beginning.
-use Rattle.std.specs.Prelude.{ℕ, zero, suc, ◌+◌, List, [], ◌∷◌, ◌++◌, length, Option, Some, None}
+use Rattle.std.specs.Prelude.{List, [], ◌∷◌, ◌++◌, Option, Some, None}
 use Rattle.sh_ast.specs.Commands.{CommandTree, CommandsTree, WordTree}
 use Rattle.sh_tree.specs.Values.{Value, nothing, commands}
 
@@ -23,13 +23,13 @@ tail [] = []
 tail (v ∷ vs) = vs
 
 -- the value in front; without it; and with another one
-abbrev pub top : State → Value
+unfoldable pub top : State → Value
 top s = head s.values
 
-abbrev pub less : State → State
+unfoldable pub less : State → State
 less s = record s { values = tail s.values }
 
-abbrev pub with : Value → State → State
+unfoldable pub with : Value → State → State
 with v s = record s { values = v ∷ s.values }
 
 -- the second value, and so on
@@ -71,15 +71,15 @@ abbrev pub one_command : CommandTree → Value
 one_command c = commands (c ∷ [])
 
 -- the list in front
-abbrev pub front : {A : Type 0} → List (List A) → List A
+unfoldable pub front : {A : Type 0} → List (List A) → List A
 front [] = []
 front (xs ∷ more) = xs
 
 -- a word ends here; and begins here
-abbrev pub word_opened : State → State
+unfoldable pub word_opened : State → State
 word_opened s = record s { bodies = [] ∷ s.bodies }
 
-abbrev pub word_closed : State → State
+unfoldable pub word_closed : State → State
 word_closed s = record s { bodies = tail s.bodies }
 
 -- the body of a substitution, by its number
@@ -87,14 +87,14 @@ abbrev pub added : {A : Type 0} → A → List (List A) → List (List A)
 added x [] = []
 added x (xs ∷ more) = (xs ++ x ∷ []) ∷ more
 
-abbrev pub with_body : CommandsTree → State → State
+unfoldable pub with_body : CommandsTree → State → State
 with_body body s = record s { bodies = added body s.bodies }
 
 -- a here-document's body that is expanded ends here; and begins here
-abbrev pub body_opened : State → State
+unfoldable pub body_opened : State → State
 body_opened s = record s { documents = [] ∷ s.documents; bodies = [] ∷ s.bodies }
 
-abbrev pub body_closed : State → State
+unfoldable pub body_closed : State → State
 body_closed s = record s { documents = tail s.documents; bodies = tail s.bodies }
 
 -- a body is met
@@ -102,7 +102,7 @@ abbrev pub put_first : {A : Type 0} → A → List (List A) → List (List A)
 put_first x [] = []
 put_first x (xs ∷ more) = (x ∷ xs) ∷ more
 
-abbrev pub with_document : WordTree → State → State
+unfoldable pub with_document : WordTree → State → State
 with_document body s = record s { documents = put_first body s.documents }
 
 -- the last of a list, and the list without it
@@ -120,5 +120,5 @@ abbrev pub last_taken : {A : Type 0} → List (List A) → List (List A)
 last_taken [] = []
 last_taken (xs ∷ more) = but_last xs ∷ more
 
-abbrev pub without_document : State → State
+unfoldable pub without_document : State → State
 without_document s = record s { documents = last_taken s.documents }

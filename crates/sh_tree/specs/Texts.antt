@@ -1,9 +1,8 @@
 -- What stands behind a dollar sign (XCU 2.5, 2.6.2), and what redirects (XCU 2.7), by the text of its token.
-use Rattle.std.specs.Prelude.{ℕ, zero, suc, ◌+◌, ◌-◌, ◌==◌, nat_lt, List, [], ◌∷◌, take, drop, length, slice_index, Bool, true, false, if◌then◌else◌}
+use Rattle.std.specs.Prelude.{ℕ, ◌-◌, ◌==◌, nat_lt, ◌&&◌, take, drop, length, slice_index, if◌then◌else◌}
 use Rattle.rk_base.specs.Text.{Text}
 use Rattle.sh_ast.specs.declared.parameter.Parameter.{Parameter}
 use Rattle.sh_ast.specs.declared.parameter.Parameter.TheVariants as p
-use Rattle.sh_ast.specs.declared.word.Quoting.{Quoting}
 use Rattle.sh_ast.specs.declared.word.Quoting.TheVariants.{Unquoted}
 use Rattle.sh_ast.specs.declared.word.Condition.{Condition}
 use Rattle.sh_ast.specs.declared.word.Condition.TheVariants as c
@@ -14,17 +13,16 @@ use Rattle.sh_ast.specs.declared.word.Removal.TheVariants as r
 use Rattle.sh_ast.specs.declared.command.RedirectOperator.{RedirectOperator}
 use Rattle.sh_ast.specs.declared.command.RedirectOperator.TheVariants as o
 use Rattle.sh_ast.specs.Words.{PartTree, value_of, length_of}
-use Rattle.sh_lex.specs.Bytes.{◌also◌, is_digit, is_letter, is_name}
-use Rattle.sh_lex.specs.Folded.{run}
-use Rattle.sh_lex.specs.Expansions as expansions
+use Rattle.std.specs.Char.{is_ascii_digit}
+use Rattle.sh_tree.specs.Names.{begins_name, parameter_length}
 
 -- the parameter that some bytes are
 unfoldable pub parameter_of : Text → Parameter
 parameter_of text =
     let c = slice_index text 0 in
-    if is_letter c then p.Variable text
-    else if (c == 48 also length text == 1) then p.Zero
-    else if is_digit c then p.Positional text
+    if begins_name c then p.Variable text
+    else if (c == 48 && length text == 1) then p.Zero
+    else if is_ascii_digit c then p.Positional text
     else if c == 64 then p.At
     else if c == 42 then p.Asterisk
     else if c == 35 then p.Count
@@ -37,7 +35,7 @@ plain_parameter text = value_of Unquoted (parameter_of (drop 1 text))
 -- ${x} and ${#x}, by what the braces hold
 abbrev pub in_braces : Text → PartTree
 in_braces text =
-    if (slice_index text 0 == 35 also nat_lt 1 (length text)) then length_of Unquoted (parameter_of (drop 1 text))
+    if (slice_index text 0 == 35 && nat_lt 1 (length text)) then length_of Unquoted (parameter_of (drop 1 text))
     else value_of Unquoted (parameter_of text)
 
 abbrev pub braced_parameter : Text → PartTree
@@ -45,10 +43,10 @@ braced_parameter text = in_braces (take (length text - 3) (drop 2 text))
 
 -- ${x:-, ${x% and their like: the parameter and the operator
 abbrev pub operand : Text → Parameter
-operand text = parameter_of (take (expansions.parameter (drop 2 text)) (drop 2 text))
+operand text = parameter_of (take (parameter_length (drop 2 text)) (drop 2 text))
 
 abbrev pub operator : Text → Text
-operator text = drop (expansions.parameter (drop 2 text)) (drop 2 text)
+operator text = drop (parameter_length (drop 2 text)) (drop 2 text)
 
 abbrev pub condition_of : Text → Condition
 condition_of text = if slice_index text 0 == 58 then c.UnsetOrNull else c.Unset
@@ -67,10 +65,10 @@ removal_of text =
 
 -- the descriptor of a redirection, and its operator without a number
 abbrev pub descriptor_of : Text → ℕ
-descriptor_of text = let c = slice_index text 0 in if is_digit c then c - 48 else if c == 60 then 0 else 1
+descriptor_of text = let c = slice_index text 0 in if is_ascii_digit c then c - 48 else if c == 60 then 0 else 1
 
 abbrev pub numberless : Text → Text
-numberless text = if is_digit (slice_index text 0) then drop 1 text else text
+numberless text = if is_ascii_digit (slice_index text 0) then drop 1 text else text
 
 abbrev pub operator_of : Text → RedirectOperator
 operator_of text =

@@ -1,5 +1,5 @@
 -- What tokens and parts of the syntax come to.
-use Rattle.std.specs.Prelude.{List, [], ◌∷◌}
+use Rattle.std.specs.Prelude.{List, []}
 use Rattle.rk_base.specs.Text.{Text}
 use Rattle.sh_ast.specs.declared.command.Connector.{Connector}
 use Rattle.sh_ast.specs.Words.{PartTree, parts_of}

@@ -1,2 +1,20 @@
-//! What a parse tree of the shell is as a script: definitions, and the law that it is so mark by mark.
+//! The syntax tree of a script, out of the marks that its reading leaves.
 #![tactic(auto)]
+
+mod act;
+mod builder;
+mod building;
+mod compounds;
+mod lists;
+mod parameters;
+mod parts;
+mod row;
+mod simple;
+mod taking;
+mod value;
+mod words;
+
+pub use building::build;
+
+#[cfg(test)]
+mod tests;

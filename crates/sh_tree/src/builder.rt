@@ -1,0 +1,167 @@
+// What is built, from the end of a text to its beginning.
+ghost use Rattle.std.specs.Prelude.{◌≡◌, IfOk, OnOk, map, length, option_map};
+ghost use Rattle.sh_ast.specs.Commands as c;
+ghost use Rattle.sh_tree.specs.Seen.{seen, state, bodies_seen};
+ghost use Rattle.sh_tree.specs.States as st;
+
+use crate::row::Row;
+use crate::value::Value;
+use rk_base::NoMemory;
+use sh_ast::{Command, CommandList, Word};
+use std::alloc::Global;
+use std::collections::VecDeque;
+use std::rc::Rc;
+
+/// The values of what was read, that of the first symbol on top; for each word that is being read, and the one around it,
+/// the bodies of its substitutions; for the text, and each body of a here-document around what is read, the
+/// here-documents' bodies that no operator has yet.
+#[derive(Drop)]
+pub struct Builder {
+    pub(crate) values: Vec<Value>,
+    pub(crate) bodies: Vec<Vec<Rc<CommandList>>>,
+    pub(crate) documents: Vec<VecDeque<Rc<Word>>>,
+}
+
+impl Builder {
+    #[tactic(auto, unfolding(crate::specs::Seen::state))]
+    pub fn new(alloc: Global) -> Result<Builder, NoMemory>
+        ensures { IfOk result (λ b. state b ≡ st.start) }
+    {
+        let mut documents = Vec::new(alloc);
+        documents.push(VecDeque::new(alloc))?;
+        Ok(Builder {
+            values: Vec::new(alloc),
+            bodies: Vec::new(alloc),
+            documents,
+        })
+    }
+
+    /// Takes the value on top.
+    #[tactic(auto, unfolding(crate::specs::Seen::state, crate::specs::Seen::seen, crate::specs::States::top, crate::specs::States::less))]
+    pub fn pop(&mut self) -> Value
+        ensures value { seen result ≡ st.top (state self.old) }
+        ensures left { state self.new ≡ st.less (state self.old) }
+        ensures bodies { (state self.new).bodies ≡ (state self.old).bodies }
+        ensures documents { (state self.new).documents ≡ (state self.old).documents }
+    {
+        match self.values.pop() {
+            Some(value) => value,
+            None => Value::Nothing,
+        }
+    }
+
+    /// Drops the value on top.
+    pub fn skip(&mut self)
+        ensures left { state self.new ≡ st.less (state self.old) }
+        ensures bodies { (state self.new).bodies ≡ (state self.old).bodies }
+        ensures documents { (state self.new).documents ≡ (state self.old).documents }
+    {
+        let _value = self.pop();
+    }
+
+    #[tactic(auto, unfolding(crate::specs::Seen::state, crate::specs::States::with))]
+    pub fn put(&mut self, value: Value) -> Result<(), NoMemory>
+        ensures { OnOk result (state self.new ≡ st.with (seen value) (state self.old)) }
+    {
+        self.values.push(value)?;
+        Ok(())
+    }
+
+    /// One command by itself.
+    #[tactic(auto, unfolding(crate::specs::Seen::seen))]
+    pub fn put_command(&mut self, alloc: Global, command: Command) -> Result<(), NoMemory>
+        ensures { OnOk result (state self.new ≡ st.with (st.one_command (c.command command)) (state self.old)) }
+    {
+        let mut commands = Row::new(alloc);
+        commands.add(command)?;
+        self.put(Value::Commands(commands))
+    }
+
+    /// A word ends here.
+    #[tactic(auto, unfolding(crate::specs::Seen::state, crate::specs::States::word_opened))]
+    pub fn open_word(&mut self, alloc: Global) -> Result<(), NoMemory>
+        ensures { OnOk result (state self.new ≡ st.word_opened (state self.old)) }
+    {
+        self.bodies.push(Vec::new(alloc))?;
+        Ok(())
+    }
+
+    /// A word begins here: the bodies of its substitutions.
+    #[tactic(auto, unfolding(crate::specs::Seen::state, crate::specs::States::front, crate::specs::States::word_closed))]
+    pub fn close_word(&mut self, alloc: Global) -> Vec<Rc<CommandList>>
+        ensures bodies { bodies_seen result.items ≡ st.front (state self.old).bodies }
+        ensures left { state self.new ≡ st.word_closed (state self.old) }
+    {
+        match self.bodies.pop() {
+            Some(bodies) => bodies,
+            None => Vec::new(alloc),
+        }
+    }
+
+    /// Adds the body of a substitution to its word, and answers its number there.
+    #[tactic(auto, unfolding(crate::specs::Seen::state, crate::specs::States::front, crate::specs::States::with_body), using(crate::proofs::BuilderLemmas::body_added))]
+    pub fn add_body(&mut self, body: Rc<CommandList>) -> Result<u64, NoMemory>
+        ensures number { IfOk result (λ n. n ≡ length (st.front (state self.old).bodies)) }
+        ensures body { OnOk result (state self.new ≡ st.with_body (c.commands body.value) (state self.old)) }
+    {
+        match self.bodies.pop() {
+            None => Ok(0),
+            Some(mut bodies) => {
+                let number = bodies.len() as u64;
+                bodies.push(body)?;
+                self.bodies.push(bodies)?;
+                Ok(number)
+            }
+        }
+    }
+
+    /// A here-document's body that is expanded ends here.
+    #[tactic(auto, unfolding(crate::specs::Seen::state, crate::specs::States::word_opened, crate::specs::States::body_opened))]
+    pub fn open_body(&mut self, alloc: Global) -> Result<(), NoMemory>
+        ensures { OnOk result (state self.new ≡ st.body_opened (state self.old)) }
+    {
+        self.documents.push(VecDeque::new(alloc))?;
+        self.open_word(alloc)
+    }
+
+    /// It begins here: the bodies of its substitutions.
+    #[tactic(auto, unfolding(crate::specs::Seen::state, crate::specs::States::front, crate::specs::States::word_closed, crate::specs::States::body_closed))]
+    pub fn close_body(&mut self, alloc: Global) -> Vec<Rc<CommandList>>
+        ensures bodies { bodies_seen result.items ≡ st.front (state self.old).bodies }
+        ensures left { state self.new ≡ st.body_closed (state self.old) }
+    {
+        let _documents = self.documents.pop();
+        self.close_word(alloc)
+    }
+
+    /// A here-document's body is met.
+    #[tactic(auto, unfolding(crate::specs::Seen::state, crate::specs::States::with_document))]
+    pub fn add_document(&mut self, body: Rc<Word>) -> Result<(), NoMemory>
+        ensures { OnOk result (state self.new ≡ st.with_document (c.word body.value) (state self.old)) }
+    {
+        match self.documents.pop() {
+            None => Ok(()),
+            Some(mut documents) => {
+                documents.push_front(body)?;
+                self.documents.push(documents)?;
+                Ok(())
+            }
+        }
+    }
+
+    /// Takes the last body that no operator has.
+    #[tactic(auto, unfolding(crate::specs::Seen::state, crate::specs::States::front, crate::specs::States::without_document), using(crate::proofs::BuilderLemmas::last_seen, crate::proofs::BuilderLemmas::but_last_seen))]
+    pub fn take_document(&mut self) -> Result<Option<Rc<Word>>, NoMemory>
+        ensures body { IfOk result (λ d. option_map (λ r. c.word r.value) d ≡ st.last (st.front (state self.old).documents)) }
+        ensures left { OnOk result (state self.new ≡ st.without_document (state self.old)) }
+    {
+        match self.documents.pop() {
+            None => Ok(None),
+            Some(mut documents) => {
+                let last = documents.pop_back();
+                self.documents.push(documents)?;
+                Ok(last)
+            }
+        }
+    }
+}

@@ -1,0 +1,39 @@
+// Scripts, out of marks.
+ghost use Rattle.std.specs.Prelude.{◌≡◌, IfOk, OnOk, map};
+ghost use Rattle.sh_ast.specs.Commands as c;
+ghost use Rattle.sh_grammar.specs.Marks.{mark_named};
+ghost use Rattle.sh_tree.specs.Seen.{state};
+ghost use Rattle.sh_tree.specs.Folds.{script_marked, marked};
+
+use crate::act::act;
+use crate::builder::Builder;
+use crate::taking::list_in;
+use crate::value::Value;
+use rk_base::NoMemory;
+use sh_ast::CommandList;
+use sh_grammar::Mark;
+use std::alloc::Global;
+use std::rc::Rc;
+
+/// The commands of a script, by the marks that its reading leaves.
+#[tactic(auto, unfolding(crate::specs::Folds::marked_all, crate::specs::Folds::script_marked), using(crate::proofs::FoldLemmas::marked_pushed))]
+pub fn build(alloc: Global, mut marks: Vec<Mark>) -> Result<Rc<CommandList>, NoMemory>
+    ensures { IfOk result (λ r. c.commands r.value ≡ script_marked (map mark_named marks.items)) }
+{
+    let mut b = Builder::new(alloc)?;
+    'marks: while let Some(mark) = marks.pop() {
+        add(&mut b, alloc, mark)?;
+    }
+    let list = list_in(alloc, b.pop())?;
+    Ok(list)
+}
+
+#[tactic(auto, unfolding(crate::specs::Seen::seen, crate::specs::Folds::marked))]
+fn add(b: &mut Builder, alloc: Global, mark: Mark) -> Result<(), NoMemory>
+    ensures { OnOk result (state b.new ≡ marked (mark_named mark) (state b.old)) }
+{
+    match mark {
+        Mark::Leaf(text) => b.put(Value::Text(text)),
+        Mark::Node(rule) => act(b, alloc, rule),
+    }
+}

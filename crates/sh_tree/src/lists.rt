@@ -1,0 +1,135 @@
+// Lists, AND-OR lists and pipelines (XCU 2.9.2, 2.9.3).
+ghost use Rattle.std.specs.Prelude.{◌≡◌, OnOk, map};
+ghost use Rattle.sh_ast.specs.Commands as c;
+ghost use Rattle.sh_tree.specs.States as st;
+ghost use Rattle.sh_tree.specs.States.{less};
+ghost use Rattle.sh_tree.specs.Seen.{state};
+ghost use Rattle.sh_tree.specs.Acts as act;
+
+use crate::builder::Builder;
+use crate::row::Row;
+use crate::taking::{commands_in, joined_in, list_of};
+use crate::value::Value;
+use rk_base::NoMemory;
+use sh_ast::{Command, Connector, Connectors};
+use std::alloc::Global;
+use std::rc::Rc;
+
+/// No commands.
+#[tactic(auto, unfolding(crate::specs::Seen::seen))]
+pub fn no_commands(b: &mut Builder, alloc: Global) -> Result<(), NoMemory>
+    ensures { OnOk result (state b.new ≡ act.no_commands (state b.old)) }
+{
+    b.put(Value::Commands(Row::new(alloc)))
+}
+
+/// Commands in front of commands.
+#[tactic(auto, unfolding(crate::specs::Seen::seen))]
+pub fn more_commands(b: &mut Builder, alloc: Global) -> Result<(), NoMemory>
+    ensures { OnOk result (state b.new ≡ act.more_commands (state b.old)) }
+{
+    let front = commands_in(alloc, b.pop());
+    let mut commands = commands_in(alloc, b.pop());
+    commands.add_all(front)?;
+    b.put(Value::Commands(commands))
+}
+
+/// The same behind a pipe and line breaks.
+pub fn piped(b: &mut Builder, alloc: Global) -> Result<(), NoMemory>
+    ensures { OnOk result (state b.new ≡ act.more_commands (less (less (state b.old)))) }
+{
+    b.skip();
+    b.skip();
+    more_commands(b, alloc)
+}
+
+fn pipeline(
+    b: &mut Builder,
+    alloc: Global,
+    negated: bool,
+    commands: Row<Command>,
+) -> Result<(), NoMemory>
+    ensures { OnOk result (state b.new ≡ st.with (act.pipeline negated (map c.command commands)) (state b.old)) }
+{
+    let list = list_of(alloc, commands)?;
+    b.put_command(alloc, Command::Pipeline(negated, list))
+}
+
+/// A pipeline behind `!`.
+pub fn negated(b: &mut Builder, alloc: Global) -> Result<(), NoMemory>
+    ensures { OnOk result (state b.new ≡ act.negated (state b.old)) }
+{
+    b.skip();
+    let front = commands_in(alloc, b.pop());
+    let mut commands = commands_in(alloc, b.pop());
+    commands.add_all(front)?;
+    pipeline(b, alloc, true, commands)
+}
+
+// Commands in front of commands, as a pipeline; where none stand behind them, themselves.
+#[tactic(auto, unfolding(crate::specs::Seen::seen), using(crate::proofs::MadeLemmas::piped_some))]
+fn piped_in_front(
+    b: &mut Builder,
+    alloc: Global,
+    front: Row<Command>,
+    mut commands: Row<Command>,
+) -> Result<(), NoMemory>
+    ensures { OnOk result (state b.new ≡ st.with (act.piped (map c.command front) (map c.command commands)) (state b.old)) }
+{
+    if commands.is_empty() {
+        return b.put(Value::Commands(front));
+    }
+    commands.add_all(front)?;
+    pipeline(b, alloc, false, commands)?;
+    Ok(())
+}
+
+/// A pipeline; a command alone is itself.
+pub fn plain(b: &mut Builder, alloc: Global) -> Result<(), NoMemory>
+    ensures { OnOk result (state b.new ≡ act.plain (state b.old)) }
+{
+    let front = commands_in(alloc, b.pop());
+    let commands = commands_in(alloc, b.pop());
+    piped_in_front(b, alloc, front, commands)
+}
+
+/// Nothing is joined.
+#[tactic(auto, unfolding(crate::specs::Seen::seen))]
+pub fn alone(b: &mut Builder, alloc: Global) -> Result<(), NoMemory>
+    ensures { OnOk result (state b.new ≡ act.alone (state b.old)) }
+{
+    b.put(Value::Joined(Row::new(alloc), Row::new(alloc)))
+}
+
+/// An operator and a pipeline in front of what follows.
+#[tactic(auto, unfolding(crate::specs::Seen::seen))]
+pub fn joined(b: &mut Builder, alloc: Global, connector: Connector) -> Result<(), NoMemory>
+    ensures { OnOk result (state b.new ≡ act.connected connector (state b.old)) }
+{
+    b.skip();
+    b.skip();
+    let front = commands_in(alloc, b.pop());
+    let (mut connectors, mut pipelines) = joined_in(alloc, b.pop());
+    connectors.add(connector)?;
+    pipelines.add_all(front)?;
+    b.put(Value::Joined(connectors, pipelines))
+}
+
+/// An AND-OR list; a pipeline alone is itself.
+#[tactic(auto, unfolding(crate::specs::Seen::seen))]
+pub fn and_or(b: &mut Builder, alloc: Global) -> Result<(), NoMemory>
+    ensures { OnOk result (state b.new ≡ act.and_or (state b.old)) }
+{
+    let front = commands_in(alloc, b.pop());
+    let (connectors, mut pipelines) = joined_in(alloc, b.pop());
+    if connectors.is_empty() {
+        return b.put(Value::Commands(front));
+    }
+    pipelines.add_all(front)?;
+    let pipelines = list_of(alloc, pipelines)?;
+    let connectors = Connectors {
+        items: connectors.into_items(),
+    };
+    let connectors = Rc::new(alloc, connectors)?;
+    b.put_command(alloc, Command::AndOr(pipelines, connectors))
+}

@@ -1,0 +1,170 @@
+// Values, taken for what they hold. One that holds something else counts as empty.
+ghost use Rattle.std.specs.Prelude.{◌≡◌, IfOk, map};
+ghost use Rattle.sh_ast.specs.Words as w;
+ghost use Rattle.sh_ast.specs.Commands as c;
+ghost use Rattle.sh_tree.specs.Values as v;
+ghost use Rattle.sh_tree.specs.Seen.{seen};
+
+use crate::row::Row;
+use crate::value::Value;
+use rk_base::{Bytes, NoMemory};
+use sh_ast::{
+    Assignment, Branch, CaseItem, Command, CommandList, Compound, Connector, Part, Parts, Redirect,
+    Word,
+};
+use std::alloc::Global;
+use std::rc::Rc;
+
+#[tactic(auto, unfolding(crate::specs::Seen::seen))]
+pub fn text_in(alloc: Global, value: Value) -> Result<Bytes, NoMemory>
+    ensures { IfOk result (λ t. t ≡ v.text_in (seen value)) }
+{
+    match value {
+        Value::Text(text) => Ok(text),
+        _ => Bytes::new(alloc, Vec::new(alloc)),
+    }
+}
+
+#[tactic(auto, unfolding(crate::specs::Seen::seen))]
+pub fn parts_in(alloc: Global, value: Value) -> Row<Part>
+    ensures { map w.part result ≡ v.parts_in (seen value) }
+{
+    match value {
+        Value::Parts(parts) => parts,
+        _ => Row::new(alloc),
+    }
+}
+
+/// A word, out of its parts and the bodies of its substitutions.
+pub fn word_of(
+    alloc: Global,
+    parts: Row<Part>,
+    bodies: Vec<Rc<CommandList>>,
+) -> Result<Rc<Word>, NoMemory>
+    ensures { IfOk result (λ r. c.word r.value ≡ c.word_of (w.parts_of (map w.part parts)) (c.bodies_of (map (λ r. c.commands r.value) bodies.items))) }
+{
+    let parts = Rc::new(
+        alloc,
+        Parts {
+            items: parts.into_items(),
+        },
+    )?;
+    let word = Rc::new(alloc, Word { parts, bodies })?;
+    Ok(word)
+}
+
+#[tactic(auto, unfolding(crate::specs::Seen::seen))]
+pub fn word_in(alloc: Global, value: Value) -> Result<Rc<Word>, NoMemory>
+    ensures { IfOk result (λ r. c.word r.value ≡ v.word_in (seen value)) }
+{
+    match value {
+        Value::Word(word) => Ok(word),
+        _ => word_of(alloc, Row::new(alloc), Vec::new(alloc)),
+    }
+}
+
+#[tactic(auto, unfolding(crate::specs::Seen::seen))]
+pub fn words_in(alloc: Global, value: Value) -> Row<Rc<Word>>
+    ensures { map (λ r. c.word r.value) result ≡ v.words_in (seen value) }
+{
+    match value {
+        Value::Words(words) => words,
+        _ => Row::new(alloc),
+    }
+}
+
+#[tactic(auto, unfolding(crate::specs::Seen::seen))]
+pub fn redirects_in(alloc: Global, value: Value) -> Row<Redirect>
+    ensures { map c.redirect result ≡ v.redirects_in (seen value) }
+{
+    match value {
+        Value::Redirects(redirects) => redirects,
+        _ => Row::new(alloc),
+    }
+}
+
+#[tactic(auto, unfolding(crate::specs::Seen::seen))]
+pub fn simple_in(alloc: Global, value: Value) -> (Row<Assignment>, Row<Rc<Word>>, Row<Redirect>)
+    ensures assignments { map c.assignment result.0 ≡ v.assignments_in (seen value) }
+    ensures words { map (λ r. c.word r.value) result.1 ≡ v.arguments_in (seen value) }
+    ensures redirects { map c.redirect result.2 ≡ v.redirections_in (seen value) }
+{
+    match value {
+        Value::Simple(assignments, words, redirects) => (assignments, words, redirects),
+        _ => (Row::new(alloc), Row::new(alloc), Row::new(alloc)),
+    }
+}
+
+#[tactic(auto, unfolding(crate::specs::Seen::seen))]
+pub fn commands_in(alloc: Global, value: Value) -> Row<Command>
+    ensures { map c.command result ≡ v.commands_in (seen value) }
+{
+    match value {
+        Value::Commands(commands) => commands,
+        _ => Row::new(alloc),
+    }
+}
+
+#[tactic(auto, unfolding(crate::specs::Seen::seen))]
+pub fn joined_in(alloc: Global, value: Value) -> (Row<Connector>, Row<Command>)
+    ensures connectors { result.0 ≡ v.connectors_in (seen value) }
+    ensures pipelines { map c.command result.1 ≡ v.pipelines_in (seen value) }
+{
+    match value {
+        Value::Joined(connectors, pipelines) => (connectors, pipelines),
+        _ => (Row::new(alloc), Row::new(alloc)),
+    }
+}
+
+/// The commands of a list.
+pub fn list_of(alloc: Global, commands: Row<Command>) -> Result<Rc<CommandList>, NoMemory>
+    ensures { IfOk result (λ r. c.commands r.value ≡ c.commands_of (map c.command commands)) }
+{
+    let list = Rc::new(
+        alloc,
+        CommandList {
+            items: commands.into_items(),
+        },
+    )?;
+    Ok(list)
+}
+
+pub fn list_in(alloc: Global, value: Value) -> Result<Rc<CommandList>, NoMemory>
+    ensures { IfOk result (λ r. c.commands r.value ≡ c.commands_of (v.commands_in (seen value))) }
+{
+    list_of(alloc, commands_in(alloc, value))
+}
+
+#[tactic(auto, unfolding(crate::specs::Seen::seen))]
+pub fn compound_in(alloc: Global, value: Value) -> Result<Compound, NoMemory>
+    ensures { IfOk result (λ x. c.compound x ≡ v.compound_in (seen value)) }
+{
+    match value {
+        Value::Compound(compound) => Ok(compound),
+        _ => {
+            let list = list_of(alloc, Row::new(alloc))?;
+            Ok(Compound::Group(list))
+        }
+    }
+}
+
+#[tactic(auto, unfolding(crate::specs::Seen::seen))]
+pub fn branches_in(alloc: Global, value: Value) -> (Row<Branch>, Row<Command>)
+    ensures branches { map c.branch result.0 ≡ v.branches_in (seen value) }
+    ensures otherwise { map c.command result.1 ≡ v.otherwise_in (seen value) }
+{
+    match value {
+        Value::Branches(branches, otherwise) => (branches, otherwise),
+        _ => (Row::new(alloc), Row::new(alloc)),
+    }
+}
+
+#[tactic(auto, unfolding(crate::specs::Seen::seen))]
+pub fn items_in(alloc: Global, value: Value) -> Row<CaseItem>
+    ensures { map c.case_item result ≡ v.items_in (seen value) }
+{
+    match value {
+        Value::Items(items) => items,
+        _ => Row::new(alloc),
+    }
+}
