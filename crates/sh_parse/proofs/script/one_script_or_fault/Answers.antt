@@ -1,0 +1,14 @@
+use Rattle.sh_parse.proofs.Whole.{some, one_script_there, one_fault_there, not_both_there}
+use Rattle.sh_parse.proofs.script.one_script_or_fault.Goals as goal
+
+pub returns-clause-some : goal.returns-clause-some
+returns-clause-some c = some
+
+pub returns-clause-one_script : goal.returns-clause-one_script
+returns-clause-one_script c = one_script_there
+
+pub returns-clause-one_fault : goal.returns-clause-one_fault
+returns-clause-one_fault c = one_fault_there
+
+pub returns-clause-not_both : goal.returns-clause-not_both
+returns-clause-not_both c = not_both_there

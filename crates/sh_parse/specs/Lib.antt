@@ -1,0 +1,5 @@
+pub mod Tokens
+pub mod Owing
+pub mod Turns
+pub mod Scripts
+pub mod Answering

@@ -1,0 +1,21 @@
+-- What looking for a token and taking one comes to.
+use Rattle.std.specs.Prelude.{◌≡◌, ℕ, List, Some, Result, Ok, Err, true, false}
+use Rattle.sh_rules.specs.declared.kind.Kind.{Kind}
+use Rattle.sh_rules.specs.LookAhead.{mode_of}
+use Rattle.sh_lex.specs.Places.{Place}
+use Rattle.sh_lex.specs.Lexemes.{look}
+use Rattle.sh_lex.specs.Effects.{effect_of}
+use Rattle.sh_lex.specs.Steps.{over, after, token_of}
+use Rattle.sh_parse.specs.declared.source.Stop.{Stop}
+use Rattle.sh_parse.specs.declared.source.Stop.TheVariants as stop
+
+-- a token of a kind and of so many bytes stands there, and is found by itself
+abbrev pub Stands_there : Kind → ℕ → Place → Type 0
+Stands_there kind length p = look (mode_of kind) p ≡ Some (kind, length)
+
+-- a token is taken, or it opens a level too many
+abbrev pub Took : Kind → ℕ → Place → Place → Result (List ℕ) Stop → Type 0
+Took kind length p q (Ok text) = (q ≡ after (effect_of kind) length p) × (over (token_of kind length p) p ≡ false) × (text ≡ (token_of kind length p).text)
+Took kind length p q (Err stop.Memory) = Unit {0}
+Took kind length p q (Err stop.Blocked) = ⊥
+Took kind length p q (Err stop.Deep) = (q ≡ p) × (over (token_of kind length p) p ≡ true)

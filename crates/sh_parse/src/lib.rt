@@ -1,0 +1,17 @@
+//! Scripts, read whole: a text is a script and has one tree, or it has one fault.
+#![tactic(auto)]
+
+mod reading;
+mod script;
+mod source;
+mod text;
+mod todo;
+
+pub use script::{LONGEST, ReadErr, Script, one_script_or_fault, read_script};
+
+#[cfg(test)]
+mod tests;
+#[cfg(test)]
+mod told;
+#[cfg(test)]
+mod trees;

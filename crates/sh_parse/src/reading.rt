@@ -1,0 +1,170 @@
+// Reading, turn by turn: a part of the syntax gives way to the symbols of the rule that the token there chooses, a token is
+// taken. Nothing calls itself, so no text overflows the stack.
+ghost use Rattle.std.specs.Prelude.{◌≡◌, ◌∷◌, ◌++◌, [], List, MatchOption, MatchResult, IfOk, IfSome, Some, map};
+ghost use Rattle.sh_rules.specs.Grammar.{Symbol as Symbol', Want, Do};
+ghost use Rattle.sh_rules.specs.Reading.{Blocked};
+ghost use Rattle.sh_rules.specs.declared.kind.Kind as kinds;
+ghost use Rattle.sh_rules.specs.Parts as parts;
+ghost use Rattle.sh_rules.specs.LookAhead.{mode as mode_lem};
+ghost use Rattle.sh_rules.specs.Rules.{spelling as spelling_lem};
+ghost use Rattle.sh_grammar.specs.Named.{part_named, rule_named, symbol_named};
+ghost use Rattle.sh_grammar.specs.Marks.{mark_named, node as node_mark, leaf as leaf_mark};
+ghost use Rattle.sh_lex.specs.Lexemes.{look as look_lem};
+ghost use Rattle.sh_parse.specs.Tokens.{Stands_there};
+ghost use Rattle.sh_parse.specs.Turns.{Ahead, Not_of, Halts_at, Turns, Is_read, Stops_by};
+
+use crate::source::{Source, Stop};
+use crate::todo::{Marks, Todo, push_all};
+use rk_base::Bytes;
+use sh_grammar::{Mark, Part, Rule, Symbol, choose, mode, same_kind, spelling};
+use sh_lex::mode_of;
+use sh_rules::Kind;
+use std::alloc::Global;
+
+// How many bytes the token has that was found, where it is of a kind.
+fn of_kind(kind: Kind, found: Option<(Kind, usize)>) -> Option<usize>
+    ensures { MatchOption result (Not_of kind found) (λ n. found ≡ Some (kind, n)) }
+{
+    match found {
+        Some((other, length)) => {
+            if same_kind(other, kind) {
+                Some(length)
+            } else {
+                None
+            }
+        }
+        None => None,
+    }
+}
+
+// How many bytes the token of a kind has that stands there, where one stands; `ahead` is what was found there before.
+#[tactic(auto, using(crate::proofs::Turning::looked))]
+fn length_of<S: Source>(s: &S, kind: Kind, ahead: Option<(Kind, usize)>) -> Option<usize>
+    requires { Ahead ahead (S.place s.now) }
+    ensures { MatchOption result (Halts_at (Want kind) (S.place s.now) Blocked) (λ n. Stands_there kind n (S.place s.now)) }
+{
+    match of_kind(kind, ahead) {
+        Some(length) => Some(length),
+        None => of_kind(kind, s.look(mode_of(kind))),
+    }
+}
+
+// A token's mark.
+fn put_leaf(marks: &mut Marks, text: Bytes) -> Result<(), Stop>
+    ensures { MatchResult result (λ _. marks.new ≡ marks.old ++ (leaf_mark text ∷ [])) (λ e. e ≡ Stop.Memory) }
+{
+    match marks.push(Mark::Leaf(text)) {
+        Err(_) => Err(Stop::Memory),
+        Ok(()) => Ok(()),
+    }
+}
+
+// A token is wanted.
+#[tactic(auto, using(crate::proofs::Turning::turn_not_taken, crate::proofs::Turning::turn_taken))]
+fn leaf<S: Source>(
+    alloc: Global,
+    s: &mut S,
+    kind: Kind,
+    ahead: Option<(Kind, usize)>,
+    marks: &mut Marks,
+) -> Result<(), Stop>
+    requires { Ahead ahead (S.place s.old) }
+    ensures { (rest : List (Symbol' kinds.Kind parts.Part)) → Turns (Want kind) rest rest marks.old marks.new (S.place s.old) (S.place s.new) result }
+{
+    match length_of(s, kind, ahead) {
+        None => Err(Stop::Blocked),
+        Some(length) => match s.take(alloc, kind, length) {
+            Err(stop) => Err(stop),
+            Ok(text) => put_leaf(marks, text),
+        },
+    }
+}
+
+// A rule's mark, and its symbols.
+fn expand(rule: Rule, todo: &mut Todo, marks: &mut Marks) -> Result<(), Stop>
+    ensures { MatchResult result (λ _. (marks.new ≡ marks.old ++ (node_mark (rule_named rule) ∷ [])) × (todo.new ≡ spelling_lem (rule_named rule) ++ todo.old)) (λ e. e ≡ Stop.Memory) }
+{
+    match marks.push(Mark::Node(rule)) {
+        Err(_) => Err(Stop::Memory),
+        Ok(()) => match push_all(todo, spelling(rule)) {
+            Err(_) => Err(Stop::Memory),
+            Ok(()) => Ok(()),
+        },
+    }
+}
+
+// The token with which a part may begin there.
+fn look_for<S: Source>(s: &S, part: Part) -> Option<(Kind, usize)>
+    ensures found { result ≡ look_lem (mode_lem (part_named part)) (S.place s.now) }
+    ensures by_itself { IfSome result (λ x. Stands_there x.0 x.1 (S.place s.now)) }
+{
+    s.look(mode(part))
+}
+
+// A part of the syntax is wanted: the token that chose its rule.
+#[tactic(auto, using(crate::proofs::Turning::none_halts, crate::proofs::Turning::unwanted_halts, crate::proofs::Turning::turn_chosen, crate::proofs::Turning::not_expanded))]
+fn node<S: Source>(
+    s: &S,
+    part: Part,
+    todo: &mut Todo,
+    marks: &mut Marks,
+) -> Result<(Kind, usize), Stop>
+    ensures turns { Turns (Do (part_named part)) todo.old todo.new marks.old marks.new (S.place s.now) (S.place s.now) result }
+    ensures found { IfOk result (λ x. Stands_there x.0 x.1 (S.place s.now)) }
+{
+    match look_for(s, part) {
+        None => Err(Stop::Blocked),
+        Some((kind, length)) => match choose(part, kind) {
+            None => Err(Stop::Blocked),
+            Some(rule) => match expand(rule, todo, marks) {
+                Err(stop) => Err(stop),
+                Ok(()) => Ok((kind, length)),
+            },
+        },
+    }
+}
+
+// One turn: what was found ahead of the next one.
+fn turn<S: Source>(
+    alloc: Global,
+    s: &mut S,
+    symbol: Symbol,
+    ahead: Option<(Kind, usize)>,
+    todo: &mut Todo,
+    marks: &mut Marks,
+) -> Result<Option<(Kind, usize)>, Stop>
+    requires { Ahead ahead (S.place s.old) }
+    ensures turns { Turns (symbol_named symbol) todo.old todo.new marks.old marks.new (S.place s.old) (S.place s.new) result }
+    ensures found { IfOk result (λ x. Ahead x (S.place s.new)) }
+{
+    match symbol {
+        Symbol::Want(kind) => match leaf(alloc, s, kind, ahead, marks) {
+            Err(stop) => Err(stop),
+            Ok(()) => Ok(None),
+        },
+        Symbol::Do(part) => match node(s, part, todo, marks) {
+            Err(stop) => Err(stop),
+            Ok(found) => Ok(Some(found)),
+        },
+    }
+}
+
+/// Reads a script from where the source stands to the end of the text: its marks. On an error the source stands where reading stopped.
+#[tactic(auto, using(crate::proofs::Owed::owed_first, crate::proofs::Turning::owes_on, crate::proofs::Turning::stops_there, crate::proofs::Turning::whole_read))]
+pub fn read_marks<S: Source>(alloc: Global, s: &mut S) -> Result<Vec<Mark>, Stop>
+    ensures { MatchResult result (λ marks. Is_read (S.place s.old) (S.place s.new) (map mark_named marks.items)) (λ e. Stops_by (S.place s.old) (S.place s.new) e) }
+{
+    let mut todo = match Todo::script(alloc) {
+        Err(_) => return Err(Stop::Memory),
+        Ok(todo) => todo,
+    };
+    let mut marks = Marks::new(alloc);
+    let mut ahead = None;
+    'turns: while let Some(symbol) = todo.pop() {
+        match turn(alloc, s, symbol, ahead, &mut todo, &mut marks) {
+            Err(stop) => return Err(stop),
+            Ok(found) => ahead = found,
+        }
+    }
+    Ok(marks.into_items())
+}

@@ -1,0 +1,101 @@
+// Scripts.
+ghost use Rattle.std.specs.Prelude.{◌≡◌, ◌≤◌, ◌⊎◌, List, ℕ, length, IfOk, IfErr};
+ghost use Rattle.sh_ast.specs.Commands as c;
+ghost use Rattle.sh_lex.specs.declared.fault.ScriptFault as faults;
+ghost use Rattle.sh_lex.specs.Faults.{told};
+ghost use Rattle.sh_parse.specs.Scripts.{IsScript, IsFaulty, longest};
+ghost use Rattle.sh_parse.specs.Answering.{Is_answer, IsFault_told, Tells, Is_only_script, Is_only_fault};
+
+use crate::reading::read_marks;
+use crate::source::Stop;
+use rk_base::NoMemory;
+use sh_ast::CommandList;
+use sh_lex::{Cursor, ScriptFault, Why};
+use sh_tree::build;
+use std::alloc::Global;
+use std::rc::Rc;
+
+/// The most bytes that a script may have.
+pub const LONGEST: usize = 1_048_576;
+
+/// A script: its commands.
+#[derive(Drop)]
+pub struct Script {
+    pub commands: Rc<CommandList>,
+}
+
+/// Why no script was read.
+#[derive(Drop)]
+pub enum ReadErr {
+    /// The text is none.
+    Fault(ScriptFault),
+    /// There was no memory.
+    NoMemory,
+}
+
+// The fault where the cursor stands.
+fn fault(alloc: Global, cursor: &Cursor, deep: bool) -> ReadErr
+    ensures { Tells (told deep cursor.now) result }
+{
+    match cursor.fault(alloc, deep) {
+        Ok(fault) => ReadErr::Fault(fault),
+        Err(_) => ReadErr::NoMemory,
+    }
+}
+
+// Reads a text that isn't too long.
+#[tactic(auto, using(crate::proofs::Whole::script_answer, crate::proofs::Whole::blocked_answer, crate::proofs::Whole::deep_answer))]
+fn read(alloc: Global, text: &[u8]) -> Result<Script, ReadErr>
+    requires { length text.now ≤ longest }
+    ensures { Is_answer text.now result }
+{
+    let mut cursor = Cursor::new(alloc, text);
+    match read_marks(alloc, &mut cursor) {
+        Err(stop) => match stop {
+            Stop::Memory => Err(ReadErr::NoMemory),
+            Stop::Blocked => Err(fault(alloc, &cursor, false)),
+            Stop::Deep => Err(fault(alloc, &cursor, true)),
+        },
+        Ok(marks) => match build(alloc, marks) {
+            Err(_) => Err(ReadErr::NoMemory),
+            Ok(commands) => Ok(Script { commands }),
+        },
+    }
+}
+
+fn answer(alloc: Global, text: &[u8]) -> Result<Script, ReadErr>
+    ensures { Is_answer text.now result }
+{
+    if text.len() > LONGEST {
+        Err(ReadErr::Fault(ScriptFault {
+            at: LONGEST,
+            why: Why::Long,
+        }))
+    } else {
+        read(alloc, text)
+    }
+}
+
+/// Reads a text as a script (XCU 2.2 to 2.10). A fault tells the first place, in bytes, at which no script goes on with what
+/// stands there; want of memory is told as such.
+#[tactic(auto, using(crate::proofs::Whole::the_only_script, crate::proofs::Whole::the_only_fault))]
+pub fn read_script(alloc: Global, text: &[u8]) -> Result<Script, ReadErr>
+    // What is read is the script that the text is.
+    ensures script { IfOk result (λ s. IsScript text.now (c.commands s.commands.value)) }
+    // What is told is the text's fault, unless memory ran out.
+    ensures fault { IfErr result (λ e. IsFault_told text.now e) }
+    // A text that is a script is read as it, unless memory runs out.
+    ensures only_script { (s : c.CommandsTree) → IsScript text.now s → Is_only_script s result }
+    // The fault of a faulty text is told, unless memory runs out.
+    ensures only_fault { (f : faults.ScriptFault) → IsFaulty text.now f → Is_only_fault f result }
+{
+    answer(alloc, text)
+}
+
+/// A text is one script, or it has one fault.
+pub fn one_script_or_fault()
+    ensures some { (text : List ℕ) → ((s : c.CommandsTree) × IsScript text s) ⊎ ((f : faults.ScriptFault) × IsFaulty text f) }
+    ensures one_script { (text : List ℕ) (s t : c.CommandsTree) → IsScript text s → IsScript text t → s ≡ t }
+    ensures one_fault { (text : List ℕ) (f g : faults.ScriptFault) → IsFaulty text f → IsFaulty text g → f ≡ g }
+    ensures not_both { (text : List ℕ) (s : c.CommandsTree) (f : faults.ScriptFault) → IsScript text s → IsFaulty text f → ⊥ }
+{}

@@ -1,0 +1,106 @@
+// Symbols that are still to be read, and the marks of those that were.
+ghost use Rattle.std.specs.Prelude.{◌≡◌, ◌∷◌, ◌++◌, [], OnOk, IfOk, MatchOption, map};
+ghost use Rattle.sh_rules.specs.Rules.{script};
+ghost use Rattle.sh_grammar.specs.Named.{symbol_named};
+ghost use Rattle.sh_grammar.specs.Marks.{mark_named};
+
+use rk_base::NoMemory;
+use sh_grammar::{Mark, Part, Symbol};
+use sh_rules::Kind;
+use std::alloc::Global;
+use std::marker::Model;
+
+/// Symbols, the next one on top.
+#[derive(Drop)]
+pub struct Todo {
+    items: Vec<Symbol>,
+}
+
+impl Model for Todo {
+    ghost use Rattle.std.specs.Prelude.{List, map, reverse};
+    ghost use Rattle.sh_rules.specs.Grammar.{Symbol};
+    ghost use Rattle.sh_rules.specs.declared.kind.Kind.{Kind};
+    ghost use Rattle.sh_rules.specs.Parts.{Part};
+    ghost use Rattle.sh_grammar.specs.Named.{symbol_named};
+
+    ghost Value = { List (Symbol Kind Part) };
+
+    ghost view = { λ t. reverse (map symbol_named t.items.items) };
+}
+
+impl Todo {
+    /// A script: commands, and the end of the text.
+    pub fn script(alloc: Global) -> Result<Todo, NoMemory>
+        ensures { IfOk result (λ t. t ≡ script) }
+    {
+        let mut items = Vec::new(alloc);
+        items.push(Symbol::Want(Kind::End))?;
+        items.push(Symbol::Do(Part::OptList))?;
+        Ok(Todo { items })
+    }
+
+    pub fn pop(&mut self) -> Option<Symbol>
+        ensures { MatchOption result ((self.old ≡ []) × (self.new ≡ [])) (λ s. self.old ≡ symbol_named s ∷ self.new) }
+    {
+        self.items.pop()
+    }
+
+    pub fn push(&mut self, symbol: Symbol) -> Result<(), NoMemory>
+        ensures { OnOk result (self.new ≡ symbol_named symbol ∷ self.old) }
+    {
+        self.items.push(symbol)?;
+        Ok(())
+    }
+}
+
+/// Puts symbols on top, the first of them uppermost. It calls itself once for each of a rule's symbols.
+pub fn push_all(todo: &mut Todo, symbols: &[Symbol]) -> Result<(), NoMemory>
+    ensures { OnOk result (todo.new ≡ map symbol_named symbols.now ++ todo.old) }
+{
+    match symbols.split_first() {
+        None => Ok(()),
+        Some((first, rest)) => {
+            push_all(todo, rest)?;
+            todo.push(*first)
+        }
+    }
+}
+
+/// Marks, in the order of the text.
+#[derive(Drop)]
+pub struct Marks {
+    items: Vec<Mark>,
+}
+
+impl Model for Marks {
+    ghost use Rattle.std.specs.Prelude.{List, map};
+    ghost use Rattle.sh_grammar.specs.Marks.{Mark, mark_named};
+
+    ghost Value = { List Mark };
+
+    ghost view = { λ m. map mark_named m.items.items };
+}
+
+impl Marks {
+    pub fn new(alloc: Global) -> Marks
+        ensures { result ≡ [] }
+    {
+        Marks {
+            items: Vec::new(alloc),
+        }
+    }
+
+    pub fn push(&mut self, mark: Mark) -> Result<(), NoMemory>
+        ensures { OnOk result (self.new ≡ self.old ++ (mark_named mark ∷ [])) }
+    {
+        self.items.push(mark)?;
+        Ok(())
+    }
+
+    pub fn into_items(self) -> Vec<Mark>
+        ensures { map mark_named result.items ≡ self }
+    {
+        let Marks { items } = self;
+        items
+    }
+}
