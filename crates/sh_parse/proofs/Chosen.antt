@@ -6,16 +6,16 @@ use Rattle.sh_rules.specs.Parts.{Part}
 use Rattle.sh_rules.specs.Rules.{Rule, part_of}
 use Rattle.sh_rules.specs.LookAhead.{number, member, Entry, entries, otherwise, or_in, among, choose}
 
-Rules_of : Part → List Entry → Type 0
-Rules_of n [] = Unit {0}
-Rules_of n (e ∷ es) = (part_of e.rule ≡ n) × Rules_of n es
+RulesOf : Part → List Entry → Type 0
+RulesOf n [] = Unit {0}
+RulesOf n (e ∷ es) = (part_of e.rule ≡ n) × RulesOf n es
 
-Rule_of : Part → Option Rule → Type 0
-Rule_of n None = Unit {0}
-Rule_of n (Some r) = part_of r ≡ n
+RuleOf : Part → Option Rule → Type 0
+RuleOf n None = Unit {0}
+RuleOf n (Some r) = part_of r ≡ n
 
-rules_of : (n : Part) → Rules_of n (entries n)
-unfolding Rules_of
+rules_of : (n : Part) → RulesOf n (entries n)
+unfolding RulesOf
 rules_of p.opt_list = (refl, (refl, (refl, tt)))
 rules_of p.list = (refl, (refl, tt))
 rules_of p.list_rest = (refl, (refl, (refl, tt)))
@@ -51,8 +51,8 @@ rules_of p.brace_start = (refl, (refl, (refl, tt)))
 rules_of p.brace_parts = (refl, (refl, (refl, tt)))
 rules_of p.quoted_brace_parts = (refl, (refl, (refl, (refl, (refl, (refl, tt))))))
 
-rule_of : (n : Part) → Rule_of n (otherwise n)
-unfolding Rule_of
+rule_of : (n : Part) → RuleOf n (otherwise n)
+unfolding RuleOf
 rule_of p.opt_list = refl
 rule_of p.list = tt
 rule_of p.list_rest = refl
@@ -95,8 +95,8 @@ one_of : (n : Part) (b : Bool) (q : Rule) (rest : Option Rule) (r : Rule) → pa
 one_of n true q rest r e more h = ap part_of (sym (some_rule q r h)) ∙ e
 one_of n false q rest r e more h = more h
 
-among_part : (n : Part) (m : ℕ) (es : List Entry) (other : Option Rule) (r : Rule) → Rules_of n es → Rule_of n other → among m es other ≡ Some r → part_of r ≡ n
-unfolding Rules_of Rule_of
+among_part : (n : Part) (m : ℕ) (es : List Entry) (other : Option Rule) (r : Rule) → RulesOf n es → RuleOf n other → among m es other ≡ Some r → part_of r ≡ n
+unfolding RulesOf RuleOf
 among_part n m [] None r a o h = cc
 among_part n m [] (Some q) r a o h = ap part_of (sym (some_rule q r h)) ∙ o
 among_part n m (e ∷ es) other r a o h = one_of n (member m e.kinds) e.rule (among m es other) r a.0 (among_part n m es other r a.1 o) h

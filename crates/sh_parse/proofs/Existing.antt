@@ -18,7 +18,7 @@ use Rattle.sh_lex.specs.Effects.{effect_of}
 use Rattle.sh_lex.specs.Steps.{lex, over, after, token_of}
 use Rattle.sh_lex.proofs.Sizes.{may_be_empty, Shrinks}
 use Rattle.sh_parse.specs.Owing.{Owes, turns_left}
-use Rattle.sh_parse.specs.Turns.{rd, Not_of, Halts_at, Keeps, Is_read, Is_stuck}
+use Rattle.sh_parse.specs.Turns.{text_reader, NotOf, HaltsAt, Keeps, IsRead, IsStuck}
 use Rattle.sh_parse.proofs.Owed.{owed_first}
 use Rattle.sh_parse.proofs.Fewer.{chosen_fewer}
 use Rattle.sh_parse.proofs.Chosen.{chosen_part}
@@ -28,8 +28,8 @@ use Rattle.sh_parse.proofs.Turning.{lexed_there, keeps_taken, fewer_taken, halts
 abbrev pub Shortens : Type 0
 Shortens = (m : Mode) (p : Place) (t : Token) (q : Place) → lex m p ≡ Some (t, q) → Shrinks (may_be_empty t.kind) (size p) (size q)
 
-unfoldable pub Comes_to_an_end : Place → Type 0
-Comes_to_an_end start = ((q : Place) × (marks : List Mark) × Is_read start q marks) ⊎ ((m : Place) × (h : Halt Token) × Is_stuck start m h)
+unfoldable pub ComesToAnEnd : Place → Type 0
+ComesToAnEnd start = ((q : Place) × (marks : List Mark) × IsRead start q marks) ⊎ ((m : Place) × (h : Halt Token) × IsStuck start m h)
 
 same_or_not : (a b : Kind) → (a ≡ b) ⊎ (a ≡ b → ⊥)
 same_or_not a b = by (nat_eq (number a) (number b)) refl
@@ -46,16 +46,16 @@ no_fuel n h = omega (arith, h)
 
 -- it ends from each smaller place
 Again : ℕ → Place → Type 0
-Again fuel start = (todo : List (Symbol Kind Part)) (marks : List Mark) (p : Place) → turns_left (size p) todo < fuel → Owes rd start todo marks p → Comes_to_an_end start
+Again fuel start = (todo : List (Symbol Kind Part)) (marks : List Mark) (p : Place) → turns_left (size p) todo < fuel → Owes text_reader start todo marks p → ComesToAnEnd start
 
-by_token : Shortens → (fuel : ℕ) (start : Place) (k : Kind) (ss : List (Symbol Kind Part)) (marks : List Mark) (p : Place) → Again fuel start → turns_left (size p) (Want k ∷ ss) < suc fuel → Owes rd start (Want k ∷ ss) marks p → Comes_to_an_end start
-unfolding Comes_to_an_end Keeps Again
+by_token : Shortens → (fuel : ℕ) (start : Place) (k : Kind) (ss : List (Symbol Kind Part)) (marks : List Mark) (p : Place) → Again fuel start → turns_left (size p) (Want k ∷ ss) < suc fuel → Owes text_reader start (Want k ∷ ss) marks p → ComesToAnEnd start
+unfolding ComesToAnEnd Keeps Again
 by_token short fuel start k ss marks p again lt w = looking (look (mode_of k) p) refl
   where
-    stuck : (h : Halt Token) → Halts_at (Want k) p h → Comes_to_an_end start
+    stuck : (h : Halt Token) → HaltsAt (Want k) p h → ComesToAnEnd start
     stuck h a = inr (p, h, whole_stuck start (Want k) ss marks p p h w refl a)
 
-    take : (n : ℕ) → look (mode_of k) p ≡ Some (k, n) → (o : Bool) → over (token_of k n p) p ≡ o → Comes_to_an_end start
+    take : (n : ℕ) → look (mode_of k) p ≡ Some (k, n) → (o : Bool) → over (token_of k n p) p ≡ o → ComesToAnEnd start
     take n e true o = stuck (Over (token_of k n p)) (halts_deep k n p e o)
     take n e false o =
         let q = after (effect_of k) n p in
@@ -64,22 +64,22 @@ by_token short fuel start k ss marks p again lt w = looking (look (mode_of k) p)
         (less_fuel (turns_left (size q) ss) (turns_left (size p) (Want k ∷ ss)) fuel (fewer_taken k ss p q s) lt)
         (keeps_taken k n ss marks p e o start w)
 
-    found : (x : Kind × ℕ) → look (mode_of k) p ≡ Some x → (x.0 ≡ k) ⊎ (x.0 ≡ k → ⊥) → Comes_to_an_end start
+    found : (x : Kind × ℕ) → look (mode_of k) p ≡ Some x → (x.0 ≡ k) ⊎ (x.0 ≡ k → ⊥) → ComesToAnEnd start
     found x e (inl s) = let e' : look (mode_of k) p ≡ Some (k, x.1) = e ∙ ap (λ j. Some (j, x.1)) s in take x.1 e' (over (token_of k x.1 p) p) refl
-    found x e (inr s) = stuck Blocked (halts_want k p (subst (Not_of k) (sym e) s))
+    found x e (inr s) = stuck Blocked (halts_want k p (subst (NotOf k) (sym e) s))
 
-    looking : (o : Look) → look (mode_of k) p ≡ o → Comes_to_an_end start
-    looking None e = stuck Blocked (halts_want k p (subst (Not_of k) (sym e) tt))
+    looking : (o : Look) → look (mode_of k) p ≡ o → ComesToAnEnd start
+    looking None e = stuck Blocked (halts_want k p (subst (NotOf k) (sym e) tt))
     looking (Some x) e = found x e (same_or_not x.0 k)
 
-by_part : (fuel : ℕ) (start : Place) (n : Part) (ss : List (Symbol Kind Part)) (marks : List Mark) (p : Place) → Again fuel start → turns_left (size p) (Do n ∷ ss) < suc fuel → Owes rd start (Do n ∷ ss) marks p → Comes_to_an_end start
-unfolding Comes_to_an_end Keeps Again
+by_part : (fuel : ℕ) (start : Place) (n : Part) (ss : List (Symbol Kind Part)) (marks : List Mark) (p : Place) → Again fuel start → turns_left (size p) (Do n ∷ ss) < suc fuel → Owes text_reader start (Do n ∷ ss) marks p → ComesToAnEnd start
+unfolding ComesToAnEnd Keeps Again
 by_part fuel start n ss marks p again lt w = looking (look (mode n) p) refl
   where
-    stuck : Halts_at (Do n) p Blocked → Comes_to_an_end start
+    stuck : HaltsAt (Do n) p Blocked → ComesToAnEnd start
     stuck a = inr (p, Blocked, whole_stuck start (Do n) ss marks p p Blocked w refl a)
 
-    chosen : (x : Kind × ℕ) → look (mode n) p ≡ Some x → (o : Option Rule) → choose n x.0 ≡ o → Comes_to_an_end start
+    chosen : (x : Kind × ℕ) → look (mode n) p ≡ Some x → (o : Option Rule) → choose n x.0 ≡ o → ComesToAnEnd start
     chosen x e None c = stuck (halts_unwanted n x.0 x.1 p (sym e) (sym c))
     chosen x e (Some r) c =
         let is = chosen_part n x.0 r (sym c) in
@@ -88,16 +88,16 @@ by_part fuel start n ss marks p again lt w = looking (look (mode n) p) refl
         (less_fuel (turns_left (size p) (spelling r ++ ss)) (turns_left (size p) (Do n ∷ ss)) fuel f lt)
         (keeps_chosen r x.0 x.1 ss marks p n is e c start w)
 
-    looking : (o : Look) → look (mode n) p ≡ o → Comes_to_an_end start
+    looking : (o : Look) → look (mode n) p ≡ o → ComesToAnEnd start
     looking None e = stuck (halts_none n p (sym e))
     looking (Some x) e = chosen x e (choose n x.0) refl
 
-goes_on : Shortens → (fuel : ℕ) (start : Place) (todo : List (Symbol Kind Part)) (marks : List Mark) (p : Place) → turns_left (size p) todo < fuel → Owes rd start todo marks p → Comes_to_an_end start
-unfolding Comes_to_an_end Again
+goes_on : Shortens → (fuel : ℕ) (start : Place) (todo : List (Symbol Kind Part)) (marks : List Mark) (p : Place) → turns_left (size p) todo < fuel → Owes text_reader start todo marks p → ComesToAnEnd start
+unfolding ComesToAnEnd Again
 goes_on short zero start todo marks p lt w = absurd (no_fuel (turns_left (size p) todo) lt)
 goes_on short (suc fuel) start [] marks p lt w = inl (p, marks, whole_read start marks p w)
 goes_on short (suc fuel) start (Want k ∷ ss) marks p lt w = by_token short fuel start k ss marks p (λ todo marks q. goes_on short fuel start todo marks q) lt w
 goes_on short (suc fuel) start (Do n ∷ ss) marks p lt w = by_part fuel start n ss marks p (λ todo marks q. goes_on short fuel start todo marks q) lt w
 
-pub each_ends : Shortens → (start : Place) → Comes_to_an_end start
-each_ends short start = goes_on short (suc (turns_left (size start) script)) start script [] start (omega arith) (owed_first rd start)
+pub each_ends : Shortens → (start : Place) → ComesToAnEnd start
+each_ends short start = goes_on short (suc (turns_left (size start) script)) start script [] start (omega arith) (owed_first text_reader start)

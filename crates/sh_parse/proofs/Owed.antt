@@ -22,16 +22,16 @@ module _ {P : Type 0} (l : Reader Kind Part Rule Token Mode P) where
       let a = reads_apart ss rest xs h.0 q h.2 in
       (parse_and x a.0, a.1, a.2, (h.0, h.1, a.3), a.4, ap (λ ms. flat x ++ ms) a.5 ∙ sym (append_assoc (flat x) (flat_all a.0) (flat_all a.1)))
 
-  Stuck_apart : List (Symbol Kind Part) → List (Symbol Kind Part) → P → P → Halt Token → Type 0
-  Stuck_apart ss rest p m h = ((y : Stops Rule Token) × StuckAll shell l y ss p m h) ⊎ ((cs : Parses Rule Token) × (c : P) × (y : Stops Rule Token) × ReadsAll shell l cs ss p c × StuckAll shell l y rest c m h)
+  StuckApart : List (Symbol Kind Part) → List (Symbol Kind Part) → P → P → Halt Token → Type 0
+  StuckApart ss rest p m h = ((y : Stops Rule Token) × StuckAll shell l y ss p m h) ⊎ ((cs : Parses Rule Token) × (c : P) × (y : Stops Rule Token) × ReadsAll shell l cs ss p c × StuckAll shell l y rest c m h)
 
-  stuck_apart : (ss rest : List (Symbol Kind Part)) (x : Stops Rule Token) (p m : P) (h : Halt Token) → StuckAll shell l x (ss ++ rest) p m h → Stuck_apart ss rest p m h
-  unfolding Stuck_apart
+  stuck_apart : (ss rest : List (Symbol Kind Part)) (x : Stops Rule Token) (p m : P) (h : Halt Token) → StuckAll shell l x (ss ++ rest) p m h → StuckApart ss rest p m h
+  unfolding StuckApart
   stuck_apart [] rest x p m h k = inr (no_parses, p, x, refl, k)
   stuck_apart (s ∷ ss) rest (In_first x) p m h k = inl (In_first x, k)
   stuck_apart (s ∷ ss) rest (After q x) p m h k = later (stuck_apart ss rest x k.0 m h k.2)
     where
-      later : Stuck_apart ss rest k.0 m h → Stuck_apart (s ∷ ss) rest p m h
+      later : StuckApart ss rest k.0 m h → StuckApart (s ∷ ss) rest p m h
       later (inl a) = inl (After q a.0, (k.0, k.1, a.1))
       later (inr a) = inr (parse_and q a.0, a.1, a.2, (k.0, k.1, a.3), a.4)
 
@@ -48,7 +48,7 @@ module _ {P : Type 0} (l : Reader Kind Part Rule Token Mode P) where
       )
 
   pub owed_chosen : (start : P) (n : Part) (r : Rule) (ss : List (Symbol Kind Part)) (marks : List Mark) (p : P) → Owes l start (Do n ∷ ss) marks p → Chooses shell l p r → part_of r ≡ n → Owes l start (spelling r ++ ss) (marks ++ (node r ∷ [])) p
-  unfolding Owes Apart Stuck_apart
+  unfolding Owes Apart StuckApart
   owed_chosen start n r ss marks p o c e =
       let is : Do n ≡ Do (part_of r) = ap Do (sym e) in (
         (λ xs q h.
@@ -58,7 +58,7 @@ module _ {P : Type 0} (l : Reader Kind Part Rule Token Mode P) where
         (λ x m h k. stuck (stuck_apart (spelling r) ss x p m h k)),
       )
     where
-      stuck : {m : P} {h : Halt Token} → Stuck_apart (spelling r) ss p m h → (y : Stops Rule Token) × StuckAll shell l y script start m h
+      stuck : {m : P} {h : Halt Token} → StuckApart (spelling r) ss p m h → (y : Stops Rule Token) × StuckAll shell l y script start m h
       stuck {m = m} {h = h} (inl a) = o.1 (In_first (Within r a.0)) m h (ap Do (sym e), c, a.1)
       stuck {m = m} {h = h} (inr a) = o.1 (After (Node r a.0) a.2) m h (a.1, (ap Do (sym e), c, a.3), a.4)
 

@@ -14,12 +14,12 @@ use Rattle.sh_lex.specs.declared.taken.Taken.{Taken}
 use Rattle.sh_lex.specs.declared.cursor.Stop.TheVariants as lex_stop_is
 use Rattle.sh_lex.proofs.Modes.{found_by_itself}
 use Rattle.sh_lex.proofs.Sizes.{may_be_empty, Shrinks, shorter}
-use Rattle.sh_parse.specs.Tokens.{Stands_there, Took}
+use Rattle.sh_parse.specs.Tokens.{StandsThere, Took}
 use Rattle.sh_parse.specs.declared.source.Stop.TheVariants as stop
 use Rattle.sh_parse.proofs.Turning.{lexed_there}
 
 -- what stands there in a mode stands there by itself
-pub found_there : (m : Mode) (p : Place) (r : Look) → r ≡ look m p → IfSome r (λ x. Stands_there x.0 x.1 p)
+pub found_there : (m : Mode) (p : Place) (r : Look) → r ≡ look m p → IfSome r (λ x. StandsThere x.0 x.1 p)
 found_there m p None e = tt
 found_there m p (Some x) e = found_by_itself m p x.0 x.1 (sym e)
 
@@ -28,7 +28,7 @@ pub took_text : (kind : Kind) (n : ℕ) (p q : Place) (taken : Taken) (text : Li
 unfolding Takes
 took_text kind n p q taken text h e = (h.0, h.1, e ∙ h.2)
 
-pub took_shrinks : (kind : Kind) (n : ℕ) (p q : Place) (taken : Taken) → Stands_there kind n p → Takes kind n p q (Ok taken) → Shrinks (may_be_empty kind) (size p) (size q)
+pub took_shrinks : (kind : Kind) (n : ℕ) (p q : Place) (taken : Taken) → StandsThere kind n p → Takes kind n p q (Ok taken) → Shrinks (may_be_empty kind) (size p) (size q)
 unfolding Takes
 took_shrinks kind n p q taken s h =
     subst (λ q. Shrinks (may_be_empty kind) (size p) (size q)) (sym h.0)

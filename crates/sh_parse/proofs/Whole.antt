@@ -25,7 +25,7 @@ use Rattle.sh_lex.specs.declared.fault.Why.TheVariants.{Long}
 use Rattle.sh_lex.specs.Faults.{fault, told, fault_of}
 use Rattle.sh_lex.proofs.Modes.{modes_agree}
 use Rattle.sh_lex.proofs.Sizes.{shorter}
-use Rattle.sh_parse.specs.Turns.{rd, Is_read, Is_stuck, Stops_by}
+use Rattle.sh_parse.specs.Turns.{text_reader, IsRead, IsStuck, StopsBy}
 use Rattle.sh_parse.specs.declared.source.Stop.{Stop}
 use Rattle.sh_parse.specs.declared.source.Stop.TheVariants as stop
 use Rattle.sh_tree.proofs.FoldLemmas.{script_by_marks}
@@ -35,49 +35,49 @@ use Rattle.sh_ast.specs.Commands as c
 use Rattle.sh_parse.specs.declared.script.Script.{Script}
 use Rattle.sh_parse.specs.declared.script.ReadErr.{ReadErr}
 use Rattle.sh_parse.specs.declared.script.ReadErr.TheVariants as e
-use Rattle.sh_parse.specs.Answering.{Tells, Is_answer, Is_only_script, Is_only_fault}
-use Rattle.sh_parse.specs.Scripts.{longest, Spells, Stops_at, IsScript, IsFaulty}
-use Rattle.sh_parse.proofs.Existing.{Shortens, Comes_to_an_end, each_ends}
+use Rattle.sh_parse.specs.Answering.{Tells, IsAnswer, IsOnlyScript, IsOnlyFault}
+use Rattle.sh_parse.specs.Scripts.{longest, Spells, StopsAt, IsScript, IsFaulty}
+use Rattle.sh_parse.proofs.Existing.{Shortens, ComesToAnEnd, each_ends}
 
 -- All that is asked of the lexer.
 abbrev pub Agrees : Type 0
-Agrees = ModesAgree shell rd sets
+Agrees = ModesAgree shell text_reader sets
 
-ok : Checked Kind Part Rule Token Mode Place shell rd sets
+ok : Checked Kind Part Rule Token Mode Place shell text_reader sets
 ok = checked Place lex over
 
-consistent : (agree : ModesAgree shell rd sets) → Consistent Kind Part Rule Token Mode Place shell rd sets ok agree script
+consistent : (agree : ModesAgree shell text_reader sets) → Consistent Kind Part Rule Token Mode Place shell text_reader sets ok agree script
 consistent agree = ((λ j h. by_end j h), (λ h. h.0), tt)
   where
     by_end : (j : Kind) → FirstAll sets (Want k.End ∷ []) j → sets.follow p.opt_list j ≡ true
     by_end j (inl e) = subst (λ j. sets.follow p.opt_list j ≡ true) e refl
     by_end j (inr h) = absurd h.0
 
-pub spells : Agrees → (qs : Parses Rule Token) (a b : Place) → ReadsAll shell rd qs script a b → Spells qs a b
+pub spells : Agrees → (qs : Parses Rule Token) (a b : Place) → ReadsAll shell text_reader qs script a b → Spells qs a b
 unfolding Spells
-spells agree qs a b h = sound_all Kind Part Rule Token Mode Place shell rd sets ok agree qs script a b h
+spells agree qs a b h = sound_all Kind Part Rule Token Mode Place shell text_reader sets ok agree qs script a b h
 
-pub stuck_stops : Agrees → (a m : Place) (h : Halt Token) → Is_stuck a m h → Stops_at a m h
-unfolding Is_stuck Stops_at
+pub stuck_stops : Agrees → (a m : Place) (h : Halt Token) → IsStuck a m h → StopsAt a m h
+unfolding IsStuck StopsAt
 stuck_stops agree a m h x =
-    stops_all Kind Part Rule Token Mode Place shell rd sets ok agree productive script a [] x.0 script [] a m h x.1
-    (subst (λ α. Inv Kind Part Rule Token Mode Place shell rd sets ok agree script a [] α a) (sym (append-nil script))
-    (begun Kind Part Rule Token Mode Place shell rd sets ok agree productive script a (consistent agree)))
+    stops_all Kind Part Rule Token Mode Place shell text_reader sets ok agree productive script a [] x.0 script [] a m h x.1
+    (subst (λ α. Inv Kind Part Rule Token Mode Place shell text_reader sets ok agree script a [] α a) (sym (append-nil script))
+    (begun Kind Part Rule Token Mode Place shell text_reader sets ok agree productive script a (consistent agree)))
 
-pub one_stop : Agrees → (a m n : Place) (h i : Halt Token) → Stops_at a m h → Stops_at a n i → (m ≡ n) × (h ≡ i)
-unfolding Stops_at
-one_stop agree a m n h i x y = stops_once Kind Part Rule Token Mode Place shell rd sets ok agree productive script a m n h i (consistent agree) x y
+pub one_stop : Agrees → (a m n : Place) (h i : Halt Token) → StopsAt a m h → StopsAt a n i → (m ≡ n) × (h ≡ i)
+unfolding StopsAt
+one_stop agree a m n h i x y = stops_once Kind Part Rule Token Mode Place shell text_reader sets ok agree productive script a m n h i (consistent agree) x y
 
-pub no_both : Agrees → (qs : Parses Rule Token) (a b m : Place) (h : Halt Token) → Spells qs a b → Stops_at a m h → ⊥
-unfolding Stops_at Spells
-no_both agree qs a b m h s x = whole_stops_not Kind Part Rule Token Mode Place shell rd sets ok agree productive script a (leaves_all qs) b m h (consistent agree) s.1 (qs, s.0, refl) x
+pub no_both : Agrees → (qs : Parses Rule Token) (a b m : Place) (h : Halt Token) → Spells qs a b → StopsAt a m h → ⊥
+unfolding StopsAt Spells
+no_both agree qs a b m h s x = whole_stops_not Kind Part Rule Token Mode Place shell text_reader sets ok agree productive script a (leaves_all qs) b m h (consistent agree) s.1 (qs, s.0, refl) x
 
-reads : Agrees → (qs : Parses Rule Token) (a b : Place) → Spells qs a b → ReadsAll shell rd qs script a b
+reads : Agrees → (qs : Parses Rule Token) (a b : Place) → Spells qs a b → ReadsAll shell text_reader qs script a b
 unfolding Spells
-reads agree qs a b h = reads_all Kind Part Rule Token Mode Place shell rd sets ok agree qs script no_parses [] a b b h.0 tt (consistent agree) h.1 refl
+reads agree qs a b h = reads_all Kind Part Rule Token Mode Place shell text_reader sets ok agree qs script no_parses [] a b b h.0 tt (consistent agree) h.1 refl
 
 one_tree : Agrees → (qs xs : Parses Rule Token) (a b c : Place) → Spells qs a b → Spells xs a c → qs ≡ xs
-one_tree agree qs xs a b c h k = (once_all Kind Part Rule Token Mode Place shell rd sets ok agree qs xs script a b c (reads agree qs a b h) (reads agree xs a c k)).0
+one_tree agree qs xs a b c h k = (once_all Kind Part Rule Token Mode Place shell text_reader sets ok agree qs xs script a b c (reads agree qs a b h) (reads agree xs a c k)).0
 
 not_both_lengths : (n m : ℕ) → n ≤ m → m < n → ⊥
 not_both_lengths n m a b = omega (arith, a, b)
@@ -104,11 +104,11 @@ not_both agree text s f x (inl y) = not_both_lengths (length text) longest x.0 y
 not_both agree text s f x (inr y) = no_both agree x.1.0 (begin text) x.1.1 y.1.0 y.1.1 x.1.2 y.1.2
 
 -- what was read, by its marks
-pub script_read : Agrees → (text : List ℕ) (q : Place) (marks : List Mark) (s : CommandsTree) → length text ≤ longest → Is_read (begin text) q marks → s ≡ script_marked marks → IsScript text s
-unfolding IsScript Is_read
+pub script_read : Agrees → (text : List ℕ) (q : Place) (marks : List Mark) (s : CommandsTree) → length text ≤ longest → IsRead (begin text) q marks → s ≡ script_marked marks → IsScript text s
+unfolding IsScript IsRead
 script_read agree text q marks s l r e = (l, (r.0, q, spells agree r.0 (begin text) q r.1, sym (script_by_marks r.0) ∙ ap script_marked r.2 ∙ sym e))
 
-pub fault_read : Agrees → (text : List ℕ) (m : Place) (h : Halt Token) (f : ScriptFault) → length text ≤ longest → Is_stuck (begin text) m h → f ≡ fault_of m h → IsFaulty text f
+pub fault_read : Agrees → (text : List ℕ) (m : Place) (h : Halt Token) (f : ScriptFault) → length text ≤ longest → IsStuck (begin text) m h → f ≡ fault_of m h → IsFaulty text f
 unfolding IsFaulty
 fault_read agree text m h f l s e = inr (l, (m, h, stuck_stops agree (begin text) m h s, e))
 
@@ -118,10 +118,10 @@ too_long text l = inl (l, refl)
 
 -- EACH TEXT IS A SCRIPT OR FAULTY
 pub some_answer : Agrees → Shortens → (text : List ℕ) → ((s : CommandsTree) × IsScript text s) ⊎ ((f : ScriptFault) × IsFaulty text f)
-unfolding Comes_to_an_end
+unfolding ComesToAnEnd
 some_answer agree short text = by_length (cases_lt longest (length text))
   where
-    by_end : length text ≤ longest → ((q : Place) × (marks : List Mark) × Is_read (begin text) q marks) ⊎ ((m : Place) × (h : Halt Token) × Is_stuck (begin text) m h) → ((s : CommandsTree) × IsScript text s) ⊎ ((f : ScriptFault) × IsFaulty text f)
+    by_end : length text ≤ longest → ((q : Place) × (marks : List Mark) × IsRead (begin text) q marks) ⊎ ((m : Place) × (h : Halt Token) × IsStuck (begin text) m h) → ((s : CommandsTree) × IsScript text s) ⊎ ((f : ScriptFault) × IsFaulty text f)
     by_end l (inl x) = inl (script_marked x.1, script_read agree text x.0 x.1 (script_marked x.1) l x.2 refl)
     by_end l (inr x) = inr (fault_of x.0 x.1, fault_read agree text x.0 x.1 (fault_of x.0 x.1) l x.2 refl)
 
@@ -130,38 +130,38 @@ some_answer agree short text = by_length (cases_lt longest (length text))
     by_length (inl l) = inr (fault longest Long, too_long text l)
 
 -- by what was answered
-pub only_script : Agrees → (text : List ℕ) (s : CommandsTree) (r : Result Script ReadErr) → IsScript text s → Is_answer text r → Is_only_script s r
+pub only_script : Agrees → (text : List ℕ) (s : CommandsTree) (r : Result Script ReadErr) → IsScript text s → IsAnswer text r → IsOnlyScript s r
 only_script agree text s (Ok x) h a = one_script agree text (c.commands x.commands.value) s a h
 only_script agree text s (Err (e.Fault f)) h a = not_both agree text s f h a
 only_script agree text s (Err e.NoMemory) h a = tt
 
-pub only_fault : Agrees → (text : List ℕ) (f : ScriptFault) (r : Result Script ReadErr) → IsFaulty text f → Is_answer text r → Is_only_fault f r
+pub only_fault : Agrees → (text : List ℕ) (f : ScriptFault) (r : Result Script ReadErr) → IsFaulty text f → IsAnswer text r → IsOnlyFault f r
 only_fault agree text f (Ok x) h a = not_both agree text (c.commands x.commands.value) f a h
 only_fault agree text f (Err (e.Fault g)) h a = one_fault agree text g f a h
 only_fault agree text f (Err e.NoMemory) h a = tt
 
-pub told_fault : Agrees → (text : List ℕ) (m : Place) (h : Halt Token) (r : ReadErr) → length text ≤ longest → Is_stuck (begin text) m h → Tells (fault_of m h) r → Is_answer text (Err r)
+pub told_fault : Agrees → (text : List ℕ) (m : Place) (h : Halt Token) (r : ReadErr) → length text ≤ longest → IsStuck (begin text) m h → Tells (fault_of m h) r → IsAnswer text (Err r)
 told_fault agree text m h (e.Fault f) l s t = fault_read agree text m h f l s t
 told_fault agree text m h e.NoMemory l s t = tt
 
 -- THE LEXER AGREES, so nothing is left to ask
-pub script_answer : (text : List ℕ) (a q : Place) (marks : List Mark) (s : CommandsTree) → a ≡ begin text → length text ≤ longest → Is_read a q marks → s ≡ script_marked marks → IsScript text s
-script_answer text a q marks s b l r e = script_read modes_agree text q marks s l (subst (λ a. Is_read a q marks) b r) e
+pub script_answer : (text : List ℕ) (a q : Place) (marks : List Mark) (s : CommandsTree) → a ≡ begin text → length text ≤ longest → IsRead a q marks → s ≡ script_marked marks → IsScript text s
+script_answer text a q marks s b l r e = script_read modes_agree text q marks s l (subst (λ a. IsRead a q marks) b r) e
 
-pub blocked_answer : (text : List ℕ) (a m : Place) (s : Stop) (r : ReadErr) → a ≡ begin text → length text ≤ longest → Stops_by a m s → s ≡ stop.Blocked → Tells (told false m) r → Is_answer text (Err r)
+pub blocked_answer : (text : List ℕ) (a m : Place) (s : Stop) (r : ReadErr) → a ≡ begin text → length text ≤ longest → StopsBy a m s → s ≡ stop.Blocked → Tells (told false m) r → IsAnswer text (Err r)
 blocked_answer text a m s r b l h e t =
-    let k : Is_stuck a m Blocked = subst (λ s. Stops_by a m s) e h in
-    told_fault modes_agree text m Blocked r l (subst (λ a. Is_stuck a m Blocked) b k) t
+    let k : IsStuck a m Blocked = subst (λ s. StopsBy a m s) e h in
+    told_fault modes_agree text m Blocked r l (subst (λ a. IsStuck a m Blocked) b k) t
 
-pub deep_answer : (text : List ℕ) (a m : Place) (s : Stop) (r : ReadErr) → a ≡ begin text → length text ≤ longest → Stops_by a m s → s ≡ stop.Deep → Tells (told true m) r → Is_answer text (Err r)
+pub deep_answer : (text : List ℕ) (a m : Place) (s : Stop) (r : ReadErr) → a ≡ begin text → length text ≤ longest → StopsBy a m s → s ≡ stop.Deep → Tells (told true m) r → IsAnswer text (Err r)
 deep_answer text a m s r b l h e t =
-    let k : (x : Token) × Is_stuck a m (Over x) = subst (λ s. Stops_by a m s) e h in
-    told_fault modes_agree text m (Over k.0) r l (subst (λ a. Is_stuck a m (Over k.0)) b k.1) t
+    let k : (x : Token) × IsStuck a m (Over x) = subst (λ s. StopsBy a m s) e h in
+    told_fault modes_agree text m (Over k.0) r l (subst (λ a. IsStuck a m (Over k.0)) b k.1) t
 
-pub the_only_script : (text : List ℕ) (s : CommandsTree) (r : Result Script ReadErr) → IsScript text s → Is_answer text r → Is_only_script s r
+pub the_only_script : (text : List ℕ) (s : CommandsTree) (r : Result Script ReadErr) → IsScript text s → IsAnswer text r → IsOnlyScript s r
 the_only_script text s r h a = only_script modes_agree text s r h a
 
-pub the_only_fault : (text : List ℕ) (f : ScriptFault) (r : Result Script ReadErr) → IsFaulty text f → Is_answer text r → Is_only_fault f r
+pub the_only_fault : (text : List ℕ) (f : ScriptFault) (r : Result Script ReadErr) → IsFaulty text f → IsAnswer text r → IsOnlyFault f r
 the_only_fault text f r h a = only_fault modes_agree text f r h a
 
 pub some : (text : List ℕ) → ((s : CommandsTree) × IsScript text s) ⊎ ((f : ScriptFault) × IsFaulty text f)

@@ -9,7 +9,7 @@ use Rattle.sh_lex.specs.Places.{Place, begin}
 use Rattle.sh_lex.specs.declared.fault.Why.TheVariants.{Long}
 use Rattle.sh_lex.specs.declared.fault.ScriptFault.{ScriptFault}
 use Rattle.sh_lex.specs.Faults.{fault, fault_of}
-use Rattle.sh_parse.specs.Turns.{rd}
+use Rattle.sh_parse.specs.Turns.{text_reader}
 
 -- the most bytes that a script may have
 abbrev pub longest : ℕ
@@ -17,12 +17,12 @@ longest = 1048576
 
 -- From a place to another one the text spells the parse tree of a script.
 unfoldable pub Spells : Parses Rule Token → Place → Place → Type 0
-Spells qs p q = AreParses shell qs script × Spelled shell rd (leaves_all qs) p q
+Spells qs p q = AreParses shell qs script × Spelled shell text_reader (leaves_all qs) p q
 
 -- From a place on the text stops being a script at another one: what stands before begins one, and there no token goes on, or
 -- one does that opens a level too many.
-unfoldable pub Stops_at : Place → Place → Halt Token → Type 0
-Stops_at p m h = IsStop shell rd script p m h
+unfoldable pub StopsAt : Place → Place → Halt Token → Type 0
+StopsAt p m h = IsStop shell text_reader script p m h
 
 -- THE TEXT IS A SCRIPT: it isn't too long, and it spells a parse tree whose value is the script.
 unfoldable pub IsScript : List ℕ → CommandsTree → Type 0
@@ -32,4 +32,4 @@ IsScript text commands = (length text ≤ longest) × ((qs : Parses Rule Token) 
 unfoldable pub IsFaulty : List ℕ → ScriptFault → Type 0
 IsFaulty text f =
     ((longest < length text) × (f ≡ fault longest Long)) ⊎
-    ((length text ≤ longest) × ((p : Place) × (h : Halt Token) × Stops_at (begin text) p h × (f ≡ fault_of p h)))
+    ((length text ≤ longest) × ((p : Place) × (h : Halt Token) × StopsAt (begin text) p h × (f ≡ fault_of p h)))

@@ -10,8 +10,8 @@ use Rattle.sh_parse.specs.declared.source.Stop.{Stop}
 use Rattle.sh_parse.specs.declared.source.Stop.TheVariants as stop
 
 -- a token of a kind and of so many bytes stands there, and is found by itself
-abbrev pub Stands_there : Kind → ℕ → Place → Type 0
-Stands_there kind length p = look (mode_of kind) p ≡ Some (kind, length)
+abbrev pub StandsThere : Kind → ℕ → Place → Type 0
+StandsThere kind length p = look (mode_of kind) p ≡ Some (kind, length)
 
 -- a token is taken, or it opens a level too many
 abbrev pub Took : Kind → ℕ → Place → Place → Result (List ℕ) Stop → Type 0

@@ -10,32 +10,32 @@ use Rattle.sh_rules.specs.LookAhead.{reader}
 use Rattle.sh_grammar.specs.Marks.{Mark, flat_all}
 use Rattle.sh_lex.specs.Places.{Place, size}
 use Rattle.sh_lex.specs.Steps.{lex, over}
-use Rattle.sh_parse.specs.Tokens.{Stands_there}
+use Rattle.sh_parse.specs.Tokens.{StandsThere}
 use Rattle.sh_parse.specs.Owing.{Owes, turns_left}
 use Rattle.sh_parse.specs.declared.source.Stop.{Stop}
 use Rattle.sh_parse.specs.declared.source.Stop.TheVariants as stop
 
 -- the shell, read from texts
-abbrev pub rd : Reader Kind Part Rule Token Mode Place
-rd = reader lex over
+abbrev pub text_reader : Reader Kind Part Rule Token Mode Place
+text_reader = reader lex over
 
 -- what was found before stands there
 abbrev pub Ahead : Option (Kind × ℕ) → Place → Type 0
 Ahead None p = Unit {0}
-Ahead (Some x) p = Stands_there x.0 x.1 p
+Ahead (Some x) p = StandsThere x.0 x.1 p
 
 -- no token is found, or one of another kind
-abbrev pub Not_of : Kind → Option (Kind × ℕ) → Type 0
-Not_of kind None = Unit {0}
-Not_of kind (Some x) = x.0 ≡ kind → ⊥
+abbrev pub NotOf : Kind → Option (Kind × ℕ) → Type 0
+NotOf kind None = Unit {0}
+NotOf kind (Some x) = x.0 ≡ kind → ⊥
 
 -- reading of a symbol halts there
-unfoldable pub Halts_at : Symbol Kind Part → Place → Halt Token → Type 0
-Halts_at s p h = Halts shell rd s p h
+unfoldable pub HaltsAt : Symbol Kind Part → Place → Halt Token → Type 0
+HaltsAt s p h = Halts shell text_reader s p h
 
 -- what was owed is owed
 unfoldable pub Keeps : List (Symbol Kind Part) → List Mark → Place → List (Symbol Kind Part) → List Mark → Place → Type 0
-Keeps todo marks p todo' marks' p' = (start : Place) → Owes rd start todo marks p → Owes rd start todo' marks' p'
+Keeps todo marks p todo' marks' p' = (start : Place) → Owes text_reader start todo marks p → Owes text_reader start todo' marks' p'
 
 abbrev pub Fewer : List (Symbol Kind Part) → Place → List (Symbol Kind Part) → Place → Type 0
 Fewer todo p todo' p' = turns_left (size p') todo' < turns_left (size p) todo
@@ -43,8 +43,8 @@ Fewer todo p todo' p' = turns_left (size p') todo' < turns_left (size p) todo
 -- reading halts at a symbol
 abbrev pub Halted : Symbol Kind Part → Place → Place → Stop → Type 0
 Halted s p q stop.Memory = Unit {0}
-Halted s p q stop.Blocked = (q ≡ p) × Halts_at s p Blocked
-Halted s p q stop.Deep = (q ≡ p) × ((t : Token) × Halts_at s p (Over t))
+Halted s p q stop.Blocked = (q ≡ p) × HaltsAt s p Blocked
+Halted s p q stop.Deep = (q ≡ p) × ((t : Token) × HaltsAt s p (Over t))
 
 -- ONE TURN: reading goes on from what is left, of which there is less; or it halts at the first symbol
 abbrev pub Turns : {X : Type 0} → Symbol Kind Part → List (Symbol Kind Part) → List (Symbol Kind Part) → List Mark → List Mark → Place → Place → Result X Stop → Type 0
@@ -52,13 +52,13 @@ Turns s ss todo marks marks' p q (Ok x) = Keeps (s ∷ ss) marks p todo marks' q
 Turns s ss todo marks marks' p q (Err e) = Halted s p q e
 
 -- THE WHOLE: the marks are those of the tree that is read, or it stops
-unfoldable pub Is_read : Place → Place → List Mark → Type 0
-Is_read start q marks = (qs : Parses Rule Token) × ReadsAll shell rd qs script start q × (flat_all qs ≡ marks)
+unfoldable pub IsRead : Place → Place → List Mark → Type 0
+IsRead start q marks = (qs : Parses Rule Token) × ReadsAll shell text_reader qs script start q × (flat_all qs ≡ marks)
 
-unfoldable pub Is_stuck : Place → Place → Halt Token → Type 0
-Is_stuck start q h = (y : Stops Rule Token) × StuckAll shell rd y script start q h
+unfoldable pub IsStuck : Place → Place → Halt Token → Type 0
+IsStuck start q h = (y : Stops Rule Token) × StuckAll shell text_reader y script start q h
 
-abbrev pub Stops_by : Place → Place → Stop → Type 0
-Stops_by start q stop.Memory = Unit {0}
-Stops_by start q stop.Blocked = Is_stuck start q Blocked
-Stops_by start q stop.Deep = (t : Token) × Is_stuck start q (Over t)
+abbrev pub StopsBy : Place → Place → Stop → Type 0
+StopsBy start q stop.Memory = Unit {0}
+StopsBy start q stop.Blocked = IsStuck start q Blocked
+StopsBy start q stop.Deep = (t : Token) × IsStuck start q (Over t)

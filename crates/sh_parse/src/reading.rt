@@ -10,8 +10,8 @@ ghost use Rattle.sh_rules.specs.Rules.{spelling as spelling_lem};
 ghost use Rattle.sh_grammar.specs.Named.{part_named, rule_named, symbol_named};
 ghost use Rattle.sh_grammar.specs.Marks.{mark_named, node as node_mark, leaf as leaf_mark};
 ghost use Rattle.sh_lex.specs.Lexemes.{look as look_lem};
-ghost use Rattle.sh_parse.specs.Tokens.{Stands_there};
-ghost use Rattle.sh_parse.specs.Turns.{Ahead, Not_of, Halts_at, Turns, Is_read, Stops_by};
+ghost use Rattle.sh_parse.specs.Tokens.{StandsThere};
+ghost use Rattle.sh_parse.specs.Turns.{Ahead, NotOf, HaltsAt, Turns, IsRead, StopsBy};
 
 use crate::source::{Source, Stop};
 use crate::todo::{Marks, Todo, push_all};
@@ -23,7 +23,7 @@ use std::alloc::Global;
 
 // How many bytes the token has that was found, where it is of a kind.
 fn of_kind(kind: Kind, found: Option<(Kind, usize)>) -> Option<usize>
-    ensures { MatchOption result (Not_of kind found) (λ n. found ≡ Some (kind, n)) }
+    ensures { MatchOption result (NotOf kind found) (λ n. found ≡ Some (kind, n)) }
 {
     match found {
         Some((other, length)) => {
@@ -41,7 +41,7 @@ fn of_kind(kind: Kind, found: Option<(Kind, usize)>) -> Option<usize>
 #[tactic(auto, using(crate::proofs::Turning::looked))]
 fn length_of<S: Source>(s: &S, kind: Kind, ahead: Option<(Kind, usize)>) -> Option<usize>
     requires { Ahead ahead (S.place s.now) }
-    ensures { MatchOption result (Halts_at (Want kind) (S.place s.now) Blocked) (λ n. Stands_there kind n (S.place s.now)) }
+    ensures { MatchOption result (HaltsAt (Want kind) (S.place s.now) Blocked) (λ n. StandsThere kind n (S.place s.now)) }
 {
     match of_kind(kind, ahead) {
         Some(length) => Some(length),
@@ -96,7 +96,7 @@ fn expand(rule: Rule, todo: &mut Todo, marks: &mut Marks) -> Result<(), Stop>
 // The token with which a part may begin there.
 fn look_for<S: Source>(s: &S, part: Part) -> Option<(Kind, usize)>
     ensures found { result ≡ look_lem (mode_lem (part_named part)) (S.place s.now) }
-    ensures by_itself { IfSome result (λ x. Stands_there x.0 x.1 (S.place s.now)) }
+    ensures by_itself { IfSome result (λ x. StandsThere x.0 x.1 (S.place s.now)) }
 {
     s.look(mode(part))
 }
@@ -110,7 +110,7 @@ fn node<S: Source>(
     marks: &mut Marks,
 ) -> Result<(Kind, usize), Stop>
     ensures turns { Turns (Do (part_named part)) todo.old todo.new marks.old marks.new (S.place s.now) (S.place s.now) result }
-    ensures found { IfOk result (λ x. Stands_there x.0 x.1 (S.place s.now)) }
+    ensures found { IfOk result (λ x. StandsThere x.0 x.1 (S.place s.now)) }
 {
     match look_for(s, part) {
         None => Err(Stop::Blocked),
@@ -152,7 +152,7 @@ fn turn<S: Source>(
 /// Reads a script from where the source stands to the end of the text: its marks. On an error the source stands where reading stopped.
 #[tactic(auto, using(crate::proofs::Owed::owed_first, crate::proofs::Turning::owes_on, crate::proofs::Turning::stops_there, crate::proofs::Turning::whole_read))]
 pub fn read_marks<S: Source>(alloc: Global, s: &mut S) -> Result<Vec<Mark>, Stop>
-    ensures { MatchResult result (λ marks. Is_read (S.place s.old) (S.place s.new) (map mark_named marks.items)) (λ e. Stops_by (S.place s.old) (S.place s.new) e) }
+    ensures { MatchResult result (λ marks. IsRead (S.place s.old) (S.place s.new) (map mark_named marks.items)) (λ e. StopsBy (S.place s.old) (S.place s.new) e) }
 {
     let mut todo = match Todo::script(alloc) {
         Err(_) => return Err(Stop::Memory),

@@ -4,7 +4,7 @@ ghost use Rattle.sh_ast.specs.Commands as c;
 ghost use Rattle.sh_lex.specs.declared.fault.ScriptFault as faults;
 ghost use Rattle.sh_lex.specs.Faults.{told};
 ghost use Rattle.sh_parse.specs.Scripts.{IsScript, IsFaulty, longest};
-ghost use Rattle.sh_parse.specs.Answering.{Is_answer, IsFault_told, Tells, Is_only_script, Is_only_fault};
+ghost use Rattle.sh_parse.specs.Answering.{IsAnswer, IsFaultTold, Tells, IsOnlyScript, IsOnlyFault};
 
 use crate::reading::read_marks;
 use crate::source::Stop;
@@ -47,7 +47,7 @@ fn fault(alloc: Global, cursor: &Cursor, deep: bool) -> ReadErr
 #[tactic(auto, using(crate::proofs::Whole::script_answer, crate::proofs::Whole::blocked_answer, crate::proofs::Whole::deep_answer))]
 fn read(alloc: Global, text: &[u8]) -> Result<Script, ReadErr>
     requires { length text.now ≤ longest }
-    ensures { Is_answer text.now result }
+    ensures { IsAnswer text.now result }
 {
     let mut cursor = Cursor::new(alloc, text);
     match read_marks(alloc, &mut cursor) {
@@ -64,7 +64,7 @@ fn read(alloc: Global, text: &[u8]) -> Result<Script, ReadErr>
 }
 
 fn answer(alloc: Global, text: &[u8]) -> Result<Script, ReadErr>
-    ensures { Is_answer text.now result }
+    ensures { IsAnswer text.now result }
 {
     if text.len() > LONGEST {
         Err(ReadErr::Fault(ScriptFault {
@@ -83,11 +83,11 @@ pub fn read_script(alloc: Global, text: &[u8]) -> Result<Script, ReadErr>
     // What is read is the script that the text is.
     ensures script { IfOk result (λ s. IsScript text.now (c.commands s.commands.value)) }
     // What is told is the text's fault, unless memory ran out.
-    ensures fault { IfErr result (λ e. IsFault_told text.now e) }
+    ensures fault { IfErr result (λ e. IsFaultTold text.now e) }
     // A text that is a script is read as it, unless memory runs out.
-    ensures only_script { (s : c.CommandsTree) → IsScript text.now s → Is_only_script s result }
+    ensures only_script { (s : c.CommandsTree) → IsScript text.now s → IsOnlyScript s result }
     // The fault of a faulty text is told, unless memory runs out.
-    ensures only_fault { (f : faults.ScriptFault) → IsFaulty text.now f → Is_only_fault f result }
+    ensures only_fault { (f : faults.ScriptFault) → IsFaulty text.now f → IsOnlyFault f result }
 {
     answer(alloc, text)
 }

@@ -3,7 +3,7 @@ ghost use Rattle.std.specs.Prelude.{◌≡◌, IfSome, OnOk};
 ghost use Rattle.sh_lex.specs.Places.{Place, size};
 ghost use Rattle.sh_lex.specs.Lexemes.{look as look_lem};
 ghost use Rattle.sh_lex.proofs.Sizes.{may_be_empty, Shrinks};
-ghost use Rattle.sh_parse.specs.Tokens.{Stands_there, Took};
+ghost use Rattle.sh_parse.specs.Tokens.{StandsThere, Took};
 
 use rk_base::Bytes;
 use sh_rules::{Kind, Mode};
@@ -24,11 +24,11 @@ pub trait Source {
     /// The kind of the token that stands there in a mode, and how many bytes of the text it has.
     fn look(&self, mode: Mode) -> Option<(Kind, usize)>
         ensures found { result ≡ look_lem mode (place self.now) }
-        ensures by_itself { IfSome result (λ x. Stands_there x.0 x.1 (place self.now)) };
+        ensures by_itself { IfSome result (λ x. StandsThere x.0 x.1 (place self.now)) };
 
     /// Takes the token of a kind that stands there: its bytes, as they are read.
     fn take(&mut self, alloc: Global, kind: Kind, length: usize) -> Result<Bytes, Stop>
-        requires { Stands_there kind length (place self.old) }
+        requires { StandsThere kind length (place self.old) }
         ensures took { Took kind length (place self.old) (place self.new) result }
         ensures shrinks { OnOk result (Shrinks (may_be_empty kind) (size (place self.old)) (size (place self.new))) };
 }

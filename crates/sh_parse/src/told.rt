@@ -38,6 +38,15 @@ fn put(out: &mut Vec<u8>, text: &[u8]) -> Result<(), NoMemory> {
     Ok(())
 }
 
+// A number of one digit.
+fn digit(number: u64) -> u8 {
+    if number < 10 {
+        b'0' + number as u8
+    } else {
+        b'_'
+    }
+}
+
 fn put_parameter(out: &mut Vec<u8>, parameter: &Parameter) -> Result<(), NoMemory> {
     put(out, parameter.spelling())
 }
@@ -120,11 +129,7 @@ fn put_part(out: &mut Vec<u8>, part: &Part) -> Result<(), NoMemory> {
         Part::Command(quoting, number) => {
             put(out, mark(*quoting))?;
             put(out, b"$(")?;
-            out.push(if *number < 10 {
-                b'0' + *number as u8
-            } else {
-                b'_'
-            })?;
+            out.push(digit(*number))?;
             put(out, b")")?;
             put(out, mark(*quoting))
         }
@@ -173,11 +178,7 @@ fn operator_of(operator: RedirectOperator) -> &'static [u8] {
 #[cycle(commands)]
 fn put_redirect(out: &mut Vec<u8>, redirect: &Redirect) -> Result<(), NoMemory> {
     put(out, b" ")?;
-    out.push(if redirect.descriptor < 10 {
-        b'0' + redirect.descriptor
-    } else {
-        b'_'
-    })?;
+    out.push(digit(u64::from(redirect.descriptor)))?;
     put(out, operator_of(redirect.operator))?;
     put_word(out, &redirect.operand)
 }
