@@ -11,3 +11,15 @@ pub mod AlikeCompound
 pub mod Laws
 pub mod Starts
 pub mod StartLaws
+pub mod Reads
+pub mod Run
+pub mod Views
+pub mod Stack
+pub mod Trees
+pub mod Leaving
+pub mod Making
+pub mod Launching
+pub mod Machine
+pub mod Readings
+pub mod Begins
+pub mod Starting

@@ -1,5 +1,5 @@
 -- The pass over how a shell begins: fewer turns only cut what the shell of a key says, and its calls are proper.
-use Rattle.std.proofs.Common.{ℕ, suc, ◌-◌, ◌<◌, List, [], ◌∷◌, false, Result, Ok, Err, codes, arith}
+use Rattle.std.proofs.Common.{ℕ, suc, ◌<◌, List, [], ◌∷◌, false, Result, Ok, Err, codes, arith}
 use Rattle.rk_base.specs.Text.{Text, same_text}
 use Rattle.rk_base.specs.Errno.{word}
 use Rattle.rk_base.specs.declared.errno.Errno.{Errno}

@@ -19,6 +19,8 @@ use Rattle.sh_vars.specs.Held.{Held, nothing, assigned, given}
 use Rattle.sh_redirect.specs.Descriptors.{own}
 use Rattle.sh_special.specs.Lines.{usage_line}
 use Rattle.sh_eval.specs.declared.flow.Flow.TheVariants.{Exits}
+use Rattle.sh_eval.specs.declared.starting.Leads.{Leads}
+use Rattle.sh_eval.specs.declared.starting.Leads.TheVariants.{Operand, End, Letters}
 use Rattle.sh_eval.specs.State.{Shell}
 use Rattle.sh_eval.specs.Flows.{Next, Go_on, asks, tells, sh, ends, outermost}
 use Rattle.sh_eval.specs.Simple.{Meaning, Reads}
@@ -46,20 +48,25 @@ abbrev pub other_letter : Text → Option ℕ
 other_letter [] = None
 other_letter (b ∷ bs) = if b == 99 then other_letter bs else Some b
 
-abbrev pub by_letters : Option ℕ → Start → Start
-by_letters None start = start
-by_letters (Some b) start = Misused (error_line sh (45 ∷ b ∷ []) (codes "usage"))
+-- what a word before the operands is: one of them, `--`, or letters of options, with the first that is no `c`
+abbrev pub letters_of : Text → Leads
+letters_of ls = if same_text ls (codes "-") then End else Letters (other_letter ls)
+
+abbrev pub lead_of : Text → Leads
+lead_of [] = Operand
+lead_of (b ∷ []) = Operand
+lead_of (b ∷ l ∷ ls) = if b == 45 then letters_of (l ∷ ls) else Operand
 
 -- `--` ends options, and `-` alone is an operand
-abbrev pub by_word : Text → Bool → List Text → List Text → Start → Start
-by_word [] c words rest start = with_operands c words
-by_word (b ∷ []) c words rest start = with_operands c words
-by_word (b ∷ l ∷ ls) c words rest start =
-    if b == 45 then (if same_text (l ∷ ls) (codes "-") then with_operands c rest else by_letters (other_letter (l ∷ ls)) start) else with_operands c words
+abbrev pub led : Leads → Bool → List Text → List Text → Start → Start
+led Operand c words rest start = with_operands c words
+led End c words rest start = with_operands c rest
+led (Letters None) c words rest start = start
+led (Letters (Some b)) c words rest start = Misused (error_line sh (45 ∷ b ∷ []) (codes "usage"))
 
 abbrev pub options : Bool → List Text → Start
 options c [] = with_operands c []
-options c (w ∷ ws) = by_word w c (w ∷ ws) ws (options true ws)
+options c (w ∷ ws) = led (lead_of w) c (w ∷ ws) ws (options true ws)
 
 -- Its state.
 

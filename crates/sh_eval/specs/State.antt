@@ -1,11 +1,10 @@
 -- The state of a shell that evaluates commands (XCU 2.12), without where it lies in memory.
-use Rattle.std.specs.Prelude.{ℕ, ◌-◌, ◌==◌, not, Bool, List, [], ◌∷◌, Option, Some, None, if◌then◌else◌}
+use Rattle.std.specs.Prelude.{ℕ, ◌==◌, not, Bool, List, [], ◌∷◌, Option, Some, None, if◌then◌else◌}
 use Rattle.rk_base.specs.Text.{Text, same_text}
 use Rattle.rk_calls.specs.declared.answer.Answer.{Answer}
 use Rattle.sh_ast.specs.Commands.{CompoundTree, RedirectsTree}
 use Rattle.sh_vars.specs.declared.env.Env.{Env}
-use Rattle.sh_vars.specs.declared.variable.Variable.{Variable}
-use Rattle.sh_vars.specs.Held.{Held, variable_at, with_variable, without, assigned, given}
+use Rattle.sh_vars.specs.Held.{Held, variable_at, with_entry, assigned, given}
 use Rattle.sh_expand.specs.Expands.{counted}
 use Rattle.sh_redirect.specs.declared.descriptors.Descriptors.{Descriptors}
 use Rattle.sh_redirect.specs.Descriptors.{set_slot}
@@ -70,11 +69,6 @@ function_named name (row ∷ rows) = if same_text row.0 name then Some row.1 els
 -- a value is assigned, and exported for the time of a command
 abbrev pub set_variable : Bool → Text → Text → Held → Held
 set_variable exported name value held = if exported then given name (assigned name value held) else assigned name value held
-
--- a variable is as it was, its flags too
-abbrev pub with_entry : Text → Option Variable → Held → Held
-with_entry name None held = without name held
-with_entry name (Some v) held = with_variable name v held
 
 -- those of these names are as they were before
 abbrev pub put_back_variables : List Text → Held → Held → Held

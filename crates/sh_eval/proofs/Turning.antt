@@ -1,0 +1,30 @@
+-- The machine's turns.
+use Rattle.std.proofs.Common.{◌≡◌, ℕ, refl, ap, ◌∙◌, zero, suc, arith}
+use Rattle.rk_calls.specs.Costly.{IsCostly}
+use Rattle.rk_calls.specs.Talk.{pay, after}
+use Rattle.rk_calls.specs.Views.{pay-nothing}
+use Rattle.rk_calls.specs.declared.answer.Answer.TheVariants.{Go}
+use Rattle.rk_calls.specs.declared.turn.Turn.{Turn}
+use Rattle.rk_calls.specs.declared.turn.Turn.TheVariants.{Ask, More, Exit}
+use Rattle.sh_eval.specs.declared.machine.Evaluator.{Evaluator}
+use Rattle.sh_eval.specs.Machine.{IsFree, steps_on, evaluator_says}
+use Rattle.sh_eval.specs.Stack.{IsStep, context, stepped}
+use Rattle.sh_eval.specs.Views.{shell_of}
+
+pub stepped_after : (t : Turn) (x : Evaluator) (p : ℕ) → stepped t x.control (context x.stack.items) (shell_of x.state) p ≡ after t (evaluator_says x) p
+stepped_after (Ask call c) x p = refl
+stepped_after (More c) x p = refl
+stepped_after (Exit status c) x p = refl
+
+-- what was said before a turn without cost is said after it
+pub after_free : (t : Turn) (x : Evaluator) (p : ℕ) → IsFree t → after t (evaluator_says x) p ≡ steps_on x Go p
+after_free (Ask call c) x p h = absurd h
+after_free (More c) x p h = ap (λ (c : ℕ). pay c (evaluator_says x Go) p) h ∙ pay-nothing (evaluator_says x Go) p
+after_free (Exit status c) x p h = absurd h
+
+-- a turn that isn't free costs something
+pub costly_step : (t : Turn) → IsStep t → (IsFree t → ⊥) → IsCostly t
+costly_step (Ask call c) h free = h
+costly_step (More zero) h free = absurd (free refl)
+costly_step (More (suc c)) h free = omega arith
+costly_step (Exit status c) h free = tt

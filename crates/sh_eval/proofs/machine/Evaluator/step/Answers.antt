@@ -1,0 +1,13 @@
+use Rattle.std.proofs.Common.{sym, ap, ◌∙◌}
+use Rattle.sh_eval.specs.declared.control.Control.{Control}
+use Rattle.sh_eval.specs.Stack.{context, resumed, stepped}
+use Rattle.sh_eval.specs.Views.{shell_of}
+use Rattle.sh_eval.proofs.Turning.{stepped_after}
+use Rattle.sh_eval.proofs.machine.Evaluator.step.Goals as goal
+
+pub returns-clause-talk : goal.returns-clause-talk
+returns-clause-talk c =
+    λ p. ap (λ (ctl : Control). resumed ctl (context c.args.self.now.stack.items) c.args.answer (shell_of c.args.self.now.state) p) (sym c.take-control.ensures)
+    ∙ c.in_ok-turn.ensures.talk p
+    ∙ ap (λ (ctl : Control). stepped c.in_ok-turn.field-0.turn ctl (context c.act.new.stack.items) (shell_of c.act.new.state) p) (sym c.put.ensures)
+    ∙ stepped_after c.in_ok-turn.field-0.turn (record { alloc = c.args.self.now.alloc; state = c.act.new.state; stack = c.act.new.stack; control = c.put.new.control }) p

@@ -1,0 +1,25 @@
+use Rattle.std.proofs.Common.{ap, ◌∙◌}
+use Rattle.sh_eval.specs.declared.control.Frame.{Frame}
+use Rattle.sh_eval.specs.Flows.{Next}
+use Rattle.sh_eval.specs.Stack.{context, above}
+use Rattle.sh_eval.specs.Views.{shell_of}
+use Rattle.sh_eval.proofs.machine.act_leave.Goals as goal
+
+pub returns-in-None-clause-talk : goal.returns-in-None-clause-talk
+returns-in-None-clause-talk c =
+    let e = shell_of c.args.state.now in
+    λ p. ap (λ (k : Next). k c.args.flow e p) c.in-None.ensures
+
+pub returns-in_ok-control-in-Some-Around-clause-talk : goal.returns-in_ok-control-in-Some-Around-clause-talk
+returns-in_ok-control-in-Some-Around-clause-talk c =
+    let e = shell_of c.args.state.now in
+    λ p. ap (λ (k : Next). k c.args.flow e p) c.in-Some-Around.ensures
+    ∙ ap (λ (f : Frame). above f (context c.pop.new.stack.items) c.args.flow e p) c.in-Some-Around.field-0-is
+    ∙ c.in_ok-control-in-Some-Around.ensures p ∙ c.free.ensures.talk (context c.leave_around.new.stack.items) (shell_of c.leave_around.new.state) p
+
+pub returns-in_ok-control-in-Some-Undo-clause-talk : goal.returns-in_ok-control-in-Some-Undo-clause-talk
+returns-in_ok-control-in-Some-Undo-clause-talk c =
+    let e = shell_of c.args.state.now in
+    λ p. ap (λ (k : Next). k c.args.flow e p) c.in-Some-Undo.ensures
+    ∙ ap (λ (f : Frame). above f (context c.pop.new.stack.items) c.args.flow e p) c.in-Some-Undo.field-0-is
+    ∙ c.in_ok-control-in-Some-Undo.ensures (context c.pop.new.stack.items) p ∙ c.free-in-Some-Undo.ensures.talk (context c.pop.new.stack.items) (shell_of c.leave_undo.new.state) p

@@ -1,0 +1,18 @@
+use Rattle.std.proofs.Common.{refl, ap, sym, ◌∙◌}
+use Rattle.sh_ast.specs.Commands as tree
+use Rattle.sh_eval.specs.Reads.{reads}
+use Rattle.sh_eval.specs.Readings.{reading_of}
+use Rattle.sh_eval.specs.Views.{shell_of}
+use Rattle.sh_eval.proofs.Calling.{text_run, text_faulty, told_words}
+use Rattle.sh_eval.proofs.reading.act_text.Goals as goal
+
+pub returns-in-Script-clause-talk : goal.returns-in-Script-clause-talk
+returns-in-Script-clause-talk c =
+    λ k p. text_run (reads c.args.text.now) (tree.commands c.in-Script.commands.value) c.args.name.now c.args.text.now c.args.place k (shell_of c.args.state.now) p (ap reading_of (sym c.in-Script.is) ∙ c.in_ok-read.ensures ∙ ap reads c.as_slice.ensures) refl ∙ c.free.ensures.talk k (shell_of c.args.state.now) p
+
+pub returns-in_ok-acted-in-Fault-clause-talk : goal.returns-in_ok-acted-in-Fault-clause-talk
+returns-in_ok-acted-in-Fault-clause-talk c =
+    let e = shell_of c.args.state.now in
+    λ k p. text_faulty (reads c.args.text.now) c.in-Fault.words c.args.name.now c.args.text.now c.args.place k e p (ap reading_of (sym c.in-Fault.is) ∙ c.in_ok-read.ensures ∙ ap reads c.as_slice.ensures) refl
+    ∙ told_words c.args.name.now c.as_slice-operand.result.now c.in-Fault.words c.as_slice-what.result.now k e p c.as_slice-operand.ensures c.as_slice-what.ensures
+    ∙ c.in_ok-acted-in-Fault.ensures.talk k p

@@ -1,0 +1,183 @@
+// What the shell of a key does before its script is evaluated (XCU `sh`).
+ghost use Rattle.std.specs.Prelude.{◌≡◌, Bool, IfOk};
+ghost use Rattle.rk_calls.specs.Brought.{brought};
+ghost use Rattle.rk_calls.specs.declared.answer.Answer.TheVariants as answer;
+ghost use Rattle.sh_eval.specs.Begins.{begins};
+ghost use Rattle.sh_eval.specs.Flows.{Next, outermost};
+ghost use Rattle.sh_eval.specs.Run.{run};
+ghost use Rattle.sh_eval.specs.Stack.{Steps, IsStep};
+ghost use Rattle.sh_eval.specs.Starts.{fails, is_directory, has_x, looked, runs_script, runs_command, script_opened, script_read};
+ghost use Rattle.sh_eval.specs.Views.{shell_of};
+
+use crate::control::{Acted, Begin, Control, Wordy};
+use crate::flow::{Flow, Place};
+use crate::state::State;
+use crate::steps::{free, refuse, tell};
+use rk_base::{Bytes, Kind, NoMemory};
+use rk_calls::{Answer, Call, How, Turn, absolute, brought};
+use std::alloc::Global;
+
+/// The place of a whole script.
+pub(crate) fn outermost() -> Place
+    ensures { result ≡ outermost }
+{
+    Place {
+        loops: 0,
+        returns: false,
+        ignores: false,
+    }
+}
+
+// A script that can't be read.
+fn fail(
+    alloc: Global,
+    file: &Bytes,
+    what: &[u8],
+    status: u8,
+    state: &mut State,
+) -> Result<Acted, NoMemory>
+    ensures talk { IfOk result (λ t. (k : Next) → Steps (fails file.now what.now status k (shell_of state.old)) k (shell_of state.new) t) }
+    ensures costly { IfOk result (λ t. IsStep t.turn) }
+{
+    let acted = refuse(alloc, file.as_slice(), what, Flow::Exits, status, state)?;
+    Ok(acted)
+}
+
+fn open(alloc: Global, file: Bytes, state: &State) -> Result<Acted, NoMemory>
+    ensures talk { IfOk result (λ t. (k : Next) → Steps (runs_script run file k (shell_of state.now)) k (shell_of state.now) t) }
+    ensures costly { IfOk result (λ t. IsStep t.turn) }
+{
+    let path = absolute(alloc, &state.env.wd, file.as_slice())?;
+    Ok(Acted {
+        turn: Turn::Ask(Call::Open(path, How::Read), 1),
+        control: Control::Begins(Begin::Opened(file, state.env.next)),
+    })
+}
+
+fn look(alloc: Global, file: Bytes, state: &State) -> Result<Acted, NoMemory>
+    ensures talk { IfOk result (λ t. (k : Next) → Steps (runs_command run file k (shell_of state.now)) k (shell_of state.now) t) }
+    ensures costly { IfOk result (λ t. IsStep t.turn) }
+{
+    let path = absolute(alloc, &state.env.wd, file.as_slice())?;
+    Ok(Acted {
+        turn: Turn::Ask(Call::Stat(path, true), 1),
+        control: Control::Begins(Begin::Looked(file)),
+    })
+}
+
+fn is_directory(kind: Kind) -> bool
+    ensures { result ≡ is_directory kind }
+{
+    match kind {
+        Kind::File => false,
+        Kind::Dir => true,
+        Kind::Link => false,
+    }
+}
+
+// Whether the owner may run it.
+fn has_x(mode: u16) -> bool
+    ensures { result ≡ has_x mode }
+{
+    mode / 64 % 2 == 1
+}
+
+// What was looked up is opened, or refused.
+fn found(
+    alloc: Global,
+    file: Bytes,
+    kind: Kind,
+    mode: u16,
+    state: &mut State,
+) -> Result<Acted, NoMemory>
+    ensures talk { IfOk result (λ t. (empty : Bool) (k : Next) → Steps (looked run file k (answer.Stat kind mode empty) (shell_of state.old)) k (shell_of state.new) t) }
+    ensures costly { IfOk result (λ t. IsStep t.turn) }
+{
+    if is_directory(kind) {
+        let acted = fail(alloc, &file, b"is a directory", 126, state)?;
+        return Ok(acted);
+    }
+    if has_x(mode) {
+        let acted = open(alloc, file, state)?;
+        return Ok(acted);
+    }
+    let acted = fail(alloc, &file, b"denied", 126, state)?;
+    Ok(acted)
+}
+
+fn looked(alloc: Global, file: Bytes, answer: Answer, state: &mut State) -> Result<Acted, NoMemory>
+    ensures talk { IfOk result (λ t. (k : Next) → Steps (looked run file k answer (shell_of state.old)) k (shell_of state.new) t) }
+    ensures costly { IfOk result (λ t. IsStep t.turn) }
+{
+    match answer {
+        Answer::No(errno) => fail(alloc, &file, errno.word().as_bytes(), 127, state),
+        Answer::Stat { kind, mode, .. } => found(alloc, file, kind, mode, state),
+        Answer::Go => open(alloc, file, state),
+        Answer::Done => open(alloc, file, state),
+        Answer::Opened => open(alloc, file, state),
+        Answer::Piped => open(alloc, file, state),
+        Answer::Content(_) => open(alloc, file, state),
+        Answer::Names(_) => open(alloc, file, state),
+        Answer::Text(_) => open(alloc, file, state),
+        Answer::Place(_) => open(alloc, file, state),
+        Answer::Same(_) => open(alloc, file, state),
+        Answer::Joined(_) => open(alloc, file, state),
+    }
+}
+
+fn opened(
+    alloc: Global,
+    file: Bytes,
+    n: u64,
+    answer: Answer,
+    state: &mut State,
+) -> Result<Acted, NoMemory>
+    ensures talk { IfOk result (λ t. (k : Next) → Steps (script_opened run file n k (brought answer) (shell_of state.old)) k (shell_of state.new) t) }
+    ensures costly { IfOk result (λ t. IsStep t.turn) }
+{
+    let it = brought(alloc, answer)?;
+    match it {
+        Ok(_) => Ok(Acted {
+            turn: Turn::Ask(Call::Read(n), 1),
+            control: Control::Begins(Begin::Read(file)),
+        }),
+        Err(errno) => {
+            let acted = fail(alloc, &file, errno.word().as_bytes(), 127, state)?;
+            Ok(acted)
+        }
+    }
+}
+
+fn read(alloc: Global, file: Bytes, answer: Answer, state: &mut State) -> Result<Acted, NoMemory>
+    ensures talk { IfOk result (λ t. (k : Next) → Steps (script_read run file k (brought answer) (shell_of state.old)) k (shell_of state.new) t) }
+    ensures costly { IfOk result (λ t. IsStep t.turn) }
+{
+    let it = brought(alloc, answer)?;
+    match it {
+        Ok(text) => Ok(free(Control::Wordy(Wordy::Text(outermost(), file, text)))),
+        Err(errno) => {
+            let acted = fail(alloc, &file, errno.word().as_bytes(), 127, state)?;
+            Ok(acted)
+        }
+    }
+}
+
+/// One step before the script is evaluated, with the answer that was heard.
+pub(crate) fn act_begin(
+    alloc: Global,
+    begin: Begin,
+    answer: Answer,
+    state: &mut State,
+) -> Result<Acted, NoMemory>
+    ensures talk { IfOk result (λ t. (k : Next) → Steps (begins begin k answer (shell_of state.old)) k (shell_of state.new) t) }
+    ensures costly { IfOk result (λ t. IsStep t.turn) }
+{
+    match begin {
+        Begin::Misused(line) => Ok(tell(line, Flow::Exits, 2, state)),
+        Begin::Script(file) => open(alloc, file, state),
+        Begin::Command(file) => look(alloc, file, state),
+        Begin::Looked(file) => looked(alloc, file, answer, state),
+        Begin::Opened(file, n) => opened(alloc, file, n, answer, state),
+        Begin::Read(file) => read(alloc, file, answer, state),
+    }
+}

@@ -1,0 +1,342 @@
+// The machine that evaluates commands.
+ghost use Rattle.std.specs.Prelude.{◌≡◌, ◌↔◌, ℕ, IsTrue, IfOk, OnOk};
+ghost use Rattle.sh_eval.specs.Eval.{over};
+ghost use Rattle.sh_eval.specs.Machine.{IsFree, gives, steps_on, evaluator_says};
+ghost use Rattle.sh_eval.specs.Stack.{Steps, IsStep, context, insiding, wordily, waiting, resumed};
+ghost use Rattle.sh_eval.specs.State.{heard};
+ghost use Rattle.sh_eval.specs.Views.{shell_of};
+ghost use Rattle.rk_calls.specs.Costly.{IsCostly};
+ghost use Rattle.rk_calls.specs.Talk.{after};
+
+use crate::assigning::next_assign;
+use crate::begins::act_begin;
+use crate::commands::{act_compound as act_redirected, act_one, act_run, act_whole};
+use crate::compounds::{
+    act_case_at, act_compound, act_each, act_gives, act_if, act_round, act_stage, act_stages,
+};
+use crate::control::{Acted, Control, Frame, Inside, Wait, Wordy};
+use crate::expanding::act_expand;
+use crate::flow::Flow;
+use crate::launching::{go_on as go_on_builtin, go_on_without};
+use crate::leaving::{leave_around, leave_undo};
+use crate::making::{go_on as go_on_redirect, next_redirect};
+use crate::reading::{act_text, opened, read};
+use crate::stack::pop;
+use crate::state::State;
+use crate::steps::{end, free, refuse};
+use crate::words::{deliver, next_word};
+use rk_base::NoMemory;
+use rk_calls::{Answer, Turn, joined};
+use std::alloc::Global;
+use std::mem;
+
+/// A shell that evaluates a script: its state, what comes next, and the control stack of what is left to do.
+#[derive(Drop)]
+pub struct Evaluator {
+    alloc: Global,
+    state: State,
+    stack: Vec<Frame>,
+    control: Control,
+}
+
+fn act_inside(
+    alloc: Global,
+    inside: Inside,
+    stack: &mut Vec<Frame>,
+    state: &mut State,
+) -> Result<Acted, NoMemory>
+    ensures talk { IfOk result (Steps (insiding inside (context stack.old.items) (shell_of state.old)) (context stack.new.items) (shell_of state.new)) }
+    ensures costly { IfOk result (λ t. IsStep t.turn) }
+{
+    match inside {
+        Inside::Compound(place, body) => {
+            let control = act_compound(alloc, place, &body, stack, state)?;
+            Ok(free(control))
+        }
+        Inside::Called(place, callee) => {
+            let acted = act_redirected(place, &callee.body, &callee.redirects, state)?;
+            Ok(acted)
+        }
+        Inside::If(place, branches, at, otherwise) => {
+            let control = act_if(place, branches, at, otherwise, stack)?;
+            Ok(free(control))
+        }
+        Inside::Round(place, last, left) => {
+            let acted = act_round(place, last, left, stack)?;
+            Ok(acted)
+        }
+        Inside::Each(place, each) => { Ok(act_each(place, each)) }
+        Inside::Gives(place, each) => {
+            let acted = act_gives(alloc, place, each, stack, state)?;
+            Ok(acted)
+        }
+        Inside::Case(place, casing) => {
+            let acted = act_case_at(alloc, place, casing, state)?;
+            Ok(acted)
+        }
+        Inside::Stages(place, list, at, input) => {
+            let acted = act_stages(alloc, place, list, at, input, stack, state)?;
+            Ok(acted)
+        }
+    }
+}
+
+fn act_wordy(
+    alloc: Global,
+    wordy: Wordy,
+    answer: Answer,
+    stack: &mut Vec<Frame>,
+    state: &mut State,
+) -> Result<Acted, NoMemory>
+    ensures talk { IfOk result (Steps (wordily wordy (context stack.old.items) answer (shell_of state.old)) (context stack.new.items) (shell_of state.new)) }
+    ensures costly { IfOk result (λ t. IsStep t.turn) }
+{
+    match wordy {
+        Wordy::Words(place, left) => {
+            let control = next_word(alloc, place, left, state)?;
+            Ok(free(control))
+        }
+        Wordy::Expand(wording) => {
+            let acted = act_expand(alloc, wording, answer, stack, state)?;
+            Ok(acted)
+        }
+        Wordy::Deliver(place, aim, expanded) => {
+            let acted = deliver(alloc, place, aim, expanded, state)?;
+            Ok(acted)
+        }
+        Wordy::Make(place, left) => {
+            let control = next_redirect(alloc, place, left, stack, state)?;
+            Ok(free(control))
+        }
+        Wordy::Assign(place, left) => {
+            let acted = next_assign(alloc, place, left, stack, state)?;
+            Ok(acted)
+        }
+        Wordy::Text(place, name, text) => {
+            let acted = act_text(alloc, place, &name, &text, state)?;
+            Ok(acted)
+        }
+    }
+}
+
+fn act_wait(
+    alloc: Global,
+    wait: Wait,
+    answer: Answer,
+    stack: &mut Vec<Frame>,
+    state: &mut State,
+) -> Result<Acted, NoMemory>
+    ensures talk { IfOk result (Steps (waiting wait (context stack.old.items) answer (shell_of state.old)) (context stack.new.items) (shell_of state.new)) }
+    ensures costly { IfOk result (λ t. IsStep t.turn) }
+{
+    match wait {
+        Wait::Told(flow, status) => Ok(end(flow, status, state)),
+        Wait::Launched(flow) => Ok(end(flow, joined(answer), state)),
+        Wait::Stage(place, list, at, input, read_end) => {
+            let control = act_stage(alloc, place, list, at, input, read_end, stack, state)?;
+            Ok(free(control))
+        }
+        Wait::Opened(place, file, n) => {
+            let acted = opened(alloc, place, file, n, answer, state)?;
+            Ok(acted)
+        }
+        Wait::Read(place, file) => {
+            let acted = read(alloc, place, file, answer, stack, state)?;
+            Ok(acted)
+        }
+        Wait::Redirects(place, left, redirecting) => {
+            let acted = go_on_redirect(place, left, redirecting, answer, stack, state)?;
+            Ok(acted)
+        }
+        Wait::Fails(parameter, message) => {
+            let acted = refuse(
+                alloc,
+                parameter.as_slice(),
+                message.as_slice(),
+                Flow::Exits,
+                1,
+                state,
+            )?;
+            Ok(acted)
+        }
+        Wait::Builtin(builtin) => {
+            let acted = go_on_builtin(builtin, answer, state)?;
+            Ok(acted)
+        }
+        Wait::Lacks(builtin) => {
+            let acted = go_on_without(builtin, state)?;
+            Ok(acted)
+        }
+    }
+}
+
+// After a command; with nothing left to do the shell exits with its last status.
+fn act_leave(flow: Flow, stack: &mut Vec<Frame>, state: &mut State) -> Result<Acted, NoMemory>
+    ensures talk { IfOk result (Steps ((context stack.old.items) flow (shell_of state.old)) (context stack.new.items) (shell_of state.new)) }
+    ensures costly { IfOk result (λ t. IsStep t.turn) }
+{
+    match pop(stack) {
+        None => Ok(Acted {
+            turn: Turn::Exit(state.env.status, 0),
+            control: Control::Leave(flow),
+        }),
+        Some(Frame::Around(frame)) => {
+            let control = leave_around(frame, flow, stack, state)?;
+            Ok(free(control))
+        }
+        Some(Frame::Undo(frame)) => {
+            let control = leave_undo(frame, flow, state)?;
+            Ok(free(control))
+        }
+    }
+}
+
+// One step, with the answer that was heard.
+fn act(
+    alloc: Global,
+    control: Control,
+    answer: Answer,
+    stack: &mut Vec<Frame>,
+    state: &mut State,
+) -> Result<Acted, NoMemory>
+    ensures talk { IfOk result (Steps (resumed control (context stack.old.items) answer (shell_of state.old)) (context stack.new.items) (shell_of state.new)) }
+    ensures costly { IfOk result (λ t. IsStep t.turn) }
+{
+    match control {
+        Control::Begins(begin) => {
+            let acted = act_begin(alloc, begin, answer, state)?;
+            Ok(acted)
+        }
+        Control::Run(place, list, at) => {
+            let acted = act_run(alloc, place, list, at, stack, state)?;
+            Ok(acted)
+        }
+        Control::Whole(place, list) => {
+            let acted = act_whole(alloc, place, list, stack, state)?;
+            Ok(acted)
+        }
+        Control::One(place, list, at) => {
+            let acted = act_one(alloc, place, &list, at, stack, state)?;
+            Ok(acted)
+        }
+        Control::Inside(inside) => {
+            let acted = act_inside(alloc, inside, stack, state)?;
+            Ok(acted)
+        }
+        Control::Wordy(wordy) => {
+            let acted = act_wordy(alloc, wordy, answer, stack, state)?;
+            Ok(acted)
+        }
+        Control::Waits(wait) => {
+            let acted = act_wait(alloc, wait, answer, stack, state)?;
+            Ok(acted)
+        }
+        Control::Leave(flow) => {
+            let acted = act_leave(flow, stack, state)?;
+            Ok(acted)
+        }
+    }
+}
+
+fn gives(answer: &Answer) -> u64
+    ensures { result ≡ gives answer.now }
+{
+    match answer {
+        Answer::Opened => 1,
+        Answer::Piped => 2,
+        Answer::Go => 0,
+        Answer::Done => 0,
+        Answer::Content(_) => 0,
+        Answer::Stat { .. } => 0,
+        Answer::Names(_) => 0,
+        Answer::Text(_) => 0,
+        Answer::Place(_) => 0,
+        Answer::Same(_) => 0,
+        Answer::Joined(_) => 0,
+        Answer::No(_) => 0,
+    }
+}
+
+// Counts the local numbers that an answer gives. No memory holds more than there are numbers.
+fn hear(answer: &Answer, state: &mut State) -> Result<(), NoMemory>
+    ensures { OnOk result (shell_of state.new ≡ heard answer.now (shell_of state.old)) }
+{
+    match state.env.next.checked_add(gives(answer)) {
+        Some(next) => {
+            state.env.next = next;
+            Ok(())
+        }
+        None => Err(NoMemory),
+    }
+}
+
+fn is_free(turn: &Turn) -> bool
+    ensures { IsTrue result ↔ IsFree turn.now }
+{
+    match turn {
+        Turn::More(cost) => *cost == 0,
+        Turn::Ask(_, _) => false,
+        Turn::Exit(_, _) => false,
+    }
+}
+
+// What comes next is taken, and something else stands there until it is put back.
+fn take(control: &mut Control) -> Control
+    ensures { result ≡ control.old }
+{
+    mem::replace(control, Control::Leave(Flow::Exits))
+}
+
+fn put(control: &mut Control, next: Control)
+    ensures { control.new ≡ next }
+{
+    drop(mem::replace(control, next));
+}
+
+impl Evaluator {
+    /// A shell in a state that goes on so, with nothing else left to do.
+    pub(crate) fn start(alloc: Global, state: State, control: Control) -> Evaluator
+        ensures { evaluator_says result Answer.Go ≡ resumed control over Answer.Go (shell_of state) }
+    {
+        Evaluator {
+            alloc,
+            state,
+            stack: Vec::new(alloc),
+            control,
+        }
+    }
+
+    fn step(&mut self, answer: Answer) -> Result<Turn, NoMemory>
+        ensures talk { IfOk result (λ t. (p : ℕ) → steps_on self.old answer p ≡ after t (evaluator_says self.new) p) }
+        ensures costly { IfOk result IsStep }
+    {
+        let control = take(&mut self.control);
+        let Acted { turn, control } = act(
+            self.alloc,
+            control,
+            answer,
+            &mut self.stack,
+            &mut self.state,
+        )?;
+        put(&mut self.control, control);
+        Ok(turn)
+    }
+
+    /// Its next turn.
+    pub fn resume(&mut self, answer: Answer) -> Result<Turn, NoMemory>
+        ensures costly { IfOk result IsCostly }
+        ensures talk { IfOk result (λ t. (p : ℕ) → evaluator_says self.old answer p ≡ after t (evaluator_says self.new) p) }
+    {
+        hear(&answer, &mut self.state)?;
+        let mut turn = self.step(answer)?;
+        let mut left: u64 = u64::MAX;
+        'free: while is_free(&turn) {
+            if left == 0 {
+                return Err(NoMemory);
+            }
+            left -= 1;
+            turn = self.step(Answer::Go)?;
+        }
+        Ok(turn)
+    }
+}

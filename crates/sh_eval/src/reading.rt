@@ -1,0 +1,109 @@
+// Texts that are read at run time.
+ghost use Rattle.std.specs.Prelude.{IfOk};
+ghost use Rattle.rk_calls.specs.Brought.{brought};
+ghost use Rattle.sh_eval.specs.Flows.{Next};
+ghost use Rattle.sh_eval.specs.Run.{run};
+ghost use Rattle.sh_eval.specs.Simple.{Reads, dot_opened, dot_read};
+ghost use Rattle.sh_eval.specs.Stack.{Steps, IsStep, context};
+ghost use Rattle.sh_eval.specs.Views.{shell_of};
+
+use crate::control::{Acted, Control, Frame, Undo, Wait, Wordy};
+use crate::flow::{Flow, Place};
+use crate::reader::{Read, read_text};
+use crate::stack::put_undo;
+use crate::state::State;
+use crate::steps::{free, refuse};
+use rk_base::{Bytes, NoMemory};
+use rk_calls::{Answer, Call, Turn, brought};
+use std::alloc::Global;
+
+/// A text is evaluated; a fault of syntax ends the shell with status 2.
+pub(crate) fn act_text(
+    alloc: Global,
+    place: Place,
+    name: &Bytes,
+    text: &Bytes,
+    state: &mut State,
+) -> Result<Acted, NoMemory>
+    ensures talk { IfOk result (λ t. (k : Next) → Steps (run (Reads name.now text.now) place (shell_of state.old) k) k (shell_of state.new) t) }
+    ensures costly { IfOk result (λ t. IsStep t.turn) }
+{
+    let read = read_text(alloc, text.as_slice())?;
+    match read {
+        Read::Script(commands) => Ok(free(Control::Whole(place, commands))),
+        Read::Fault(words) => {
+            let operand = name.as_slice();
+            let what = words.as_slice();
+            let acted = refuse(alloc, operand, what, Flow::Exits, 2, state)?;
+            Ok(acted)
+        }
+    }
+}
+
+/// Once a dot script was opened, whose number is n, or refused.
+pub(crate) fn opened(
+    alloc: Global,
+    place: Place,
+    file: Bytes,
+    n: u64,
+    answer: Answer,
+    state: &mut State,
+) -> Result<Acted, NoMemory>
+    ensures talk { IfOk result (λ t. (k : Next) → Steps (dot_opened run file n place k (brought answer) (shell_of state.old)) k (shell_of state.new) t) }
+    ensures costly { IfOk result (λ t. IsStep t.turn) }
+{
+    let it = brought(alloc, answer)?;
+    match it {
+        Ok(_) => Ok(Acted {
+            turn: Turn::Ask(Call::Read(n), 1),
+            control: Control::Waits(Wait::Read(place, file)),
+        }),
+        Err(errno) => {
+            let acted = refuse(
+                alloc,
+                file.as_slice(),
+                errno.word().as_bytes(),
+                Flow::Exits,
+                1,
+                state,
+            )?;
+            Ok(acted)
+        }
+    }
+}
+
+/// Once a dot script was read, or refused.
+pub(crate) fn read(
+    alloc: Global,
+    place: Place,
+    file: Bytes,
+    answer: Answer,
+    stack: &mut Vec<Frame>,
+    state: &mut State,
+) -> Result<Acted, NoMemory>
+    ensures talk { IfOk result (Steps (dot_read run file place (context stack.old.items) (brought answer) (shell_of state.old)) (context stack.new.items) (shell_of state.new)) }
+    ensures costly { IfOk result (λ t. IsStep t.turn) }
+{
+    let it = brought(alloc, answer)?;
+    match it {
+        Ok(text) => {
+            put_undo(stack, Undo::Script)?;
+            let inside = Place {
+                returns: true,
+                ..place
+            };
+            Ok(free(Control::Wordy(Wordy::Text(inside, file, text))))
+        }
+        Err(errno) => {
+            let acted = refuse(
+                alloc,
+                file.as_slice(),
+                errno.word().as_bytes(),
+                Flow::Exits,
+                1,
+                state,
+            )?;
+            Ok(acted)
+        }
+    }
+}

@@ -1,0 +1,29 @@
+// The control stack.
+ghost use Rattle.std.specs.Prelude.{◌≡◌, OnOk};
+ghost use Rattle.sh_eval.specs.Stack.{context, surrounded, undone, Popped};
+
+use crate::control::{Around, Frame, Undo};
+use rk_base::NoMemory;
+
+#[tactic(auto, using(crate::proofs::Stacks::context_push))]
+pub(crate) fn put_around(stack: &mut Vec<Frame>, frame: Around) -> Result<(), NoMemory>
+    ensures { OnOk result (context stack.new.items ≡ surrounded frame (context stack.old.items)) }
+{
+    stack.push(Frame::Around(frame))?;
+    Ok(())
+}
+
+#[tactic(auto, using(crate::proofs::Stacks::context_push))]
+pub(crate) fn put_undo(stack: &mut Vec<Frame>, frame: Undo) -> Result<(), NoMemory>
+    ensures { OnOk result (context stack.new.items ≡ undone frame (context stack.old.items)) }
+{
+    stack.push(Frame::Undo(frame))?;
+    Ok(())
+}
+
+#[tactic(auto, using(crate::proofs::Stacks::context_push))]
+pub(crate) fn pop(stack: &mut Vec<Frame>) -> Option<Frame>
+    ensures { Popped (context stack.old.items) (context stack.new.items) result }
+{
+    stack.pop()
+}
