@@ -1,23 +1,18 @@
 -- What the command of a key says.
 use Rattle.std.specs.Prelude.{List, [], ◌∷◌, if◌then◌else◌, Option, Some, None}
-use Rattle.rk_base.specs.Text.{Text, same_text}
-use Rattle.rk_calls.specs.Keys.{KeyValue, shell}
+use Rattle.rk_base.specs.Text.{Text}
+use Rattle.rk_calls.specs.Keys.{KeyValue, takes_variables}
 use Rattle.rk_calls.specs.Talk.{Says, pay}
-use Rattle.rk_command.specs.ShellTalk.{runs_script}
 use Rattle.rk_command.specs.UnknownTalk.{is_unknown}
 use Rattle.sh_builtin.specs.Commands.{builtin_command}
+use Rattle.sh_eval.specs.Reads.{reads}
+use Rattle.sh_eval.specs.Starts.{shell_says}
 use Rattle.ut_copy.specs.Utilities.{copy_utility}
 use Rattle.ut_files.specs.Utilities.{file_utility}
 use Rattle.ut_grep.specs.Starts.{grep_utility}
 use Rattle.ut_plain.specs.Starts.{plain_utility}
 use Rattle.ut_select.specs.Starts.{select_utility}
 use Rattle.ut_text.specs.Starts.{text_utility}
-
--- `sh` runs the script that its one word names; with other words it is unknown
-abbrev pub shells : Text → List Text → Says
-shells wd [] = is_unknown shell
-shells wd (file ∷ []) = runs_script wd file
-shells wd (file ∷ word ∷ words) = is_unknown shell
 
 -- what a utility says, or else this
 abbrev pub says_or : Option Says → Says → Says
@@ -53,10 +48,14 @@ abbrev pub builtin_or : Text → List Text → Says → Says
 builtin_or wd argv other = says_or (builtin_command wd argv) (utility_or wd argv other)
 
 -- by the first word
-abbrev pub says_of : Text → List Text → Says
-says_of wd [] = is_unknown []
-says_of wd (name ∷ words) = if same_text name shell then shells wd words else builtin_or wd (name ∷ words) (is_unknown name)
+abbrev pub named_of : Text → List Text → Says
+named_of wd [] = is_unknown []
+named_of wd (name ∷ words) = builtin_or wd (name ∷ words) (is_unknown name)
+
+-- a shell where the first word is `sh` or has a slash
+abbrev pub says_of : KeyValue → Says
+says_of key = if takes_variables key.argv then shell_says reads key else named_of key.wd key.argv
 
 -- it pays for its start
 unfoldable pub first_talk : KeyValue → Says
-first_talk key = pay 1 (says_of key.wd key.argv)
+first_talk key = pay 1 (says_of key)

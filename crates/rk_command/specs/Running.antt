@@ -6,8 +6,8 @@ use Rattle.rk_calls.specs.Talk.{Says, pay}
 use Rattle.rk_command.specs.declared.command.Running.{Running}
 use Rattle.rk_command.specs.declared.command.Running.TheVariants.{Complains, Shells, Builtins, Texts, Plain, Selects, Greps, Files, Copies}
 use Rattle.rk_command.specs.declared.command.Command.{Command}
-use Rattle.rk_command.specs.ShellStages.{shell_talk}
 use Rattle.sh_builtin.specs.Commands.{command_talk as builtin_talk}
+use Rattle.sh_eval.specs.Starting.{shell_talk}
 use Rattle.ut_args.specs.Usage.{complaint_talk}
 use Rattle.ut_copy.specs.Utilities.{copy_talk}
 use Rattle.ut_files.specs.Utilities.{file_talk}

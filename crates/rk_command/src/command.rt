@@ -1,13 +1,16 @@
 // The command of a key.
 ghost use Rattle.std.specs.Prelude.{◌≡◌, IfOk};
-ghost use Rattle.rk_command.specs.First.{shells, says_of, copy_or, file_or, grep_or, select_or, plain_or, utility_or, builtin_or, first_talk};
+ghost use Rattle.std.specs.List.{list_any};
+ghost use Rattle.rk_base.specs.Text.{is_slash};
+ghost use Rattle.rk_calls.specs.Keys.{takes_variables};
+ghost use Rattle.rk_command.specs.First.{says_of, named_of, copy_or, file_or, grep_or, select_or, plain_or, utility_or, builtin_or, first_talk};
 ghost use Rattle.rk_command.specs.Running.{running_talk, command_talk};
 ghost use Rattle.rk_command.specs.UnknownTalk.{is_unknown};
 
-use crate::shell::Shell;
 use rk_base::{Bytes, NoMemory, Path, WordList};
 use rk_calls::{Answer, Key, Machine, Turn};
 use sh_builtin::BuiltinCommand;
+use sh_eval::Shell;
 use std::alloc::Global;
 use ut_args::Complaint;
 use ut_copy::CopyUtility;
@@ -30,8 +33,8 @@ enum Running {
     Copies(CopyUtility),
 }
 
-/// The command of a key, as a machine: the shell of a script for `sh FILE`, a builtin or a utility by its name, and for
-/// any other key an unknown name.
+/// The command of a key, as a machine (XCU 2.9.1): a shell where the first word is `sh` or has a slash, else the builtin or
+/// the utility of that name, else an unknown name.
 #[derive(Drop)]
 pub struct Command {
     /// Whether it has paid for its start.
@@ -45,19 +48,6 @@ fn unknown(alloc: Global, name: &[u8]) -> Result<Running, NoMemory>
 {
     let complaint = Complaint::of_operand(alloc, b"sh", name, b"not found", 127)?;
     Ok(Running::Complains(complaint))
-}
-
-fn shell(alloc: Global, wd: &Path, words: &[Bytes]) -> Result<Running, NoMemory>
-    ensures { IfOk result (λ r. running_talk r Answer.Go ≡ shells wd.now words.now) }
-{
-    match words {
-        [] => unknown(alloc, b"sh"),
-        [file] => {
-            let shell = Shell::new(alloc, wd, file)?;
-            Ok(Running::Shells(shell))
-        }
-        [_, _, ..] => unknown(alloc, b"sh"),
-    }
 }
 
 // A utility that copies or moves, or an unknown name.
@@ -147,18 +137,40 @@ fn builtin(alloc: Global, wd: &Path, argv: &WordList, name: &[u8]) -> Result<Run
     }
 }
 
-fn machine_of(alloc: Global, wd: &Path, argv: &WordList) -> Result<Running, NoMemory>
-    ensures { IfOk result (λ r. running_talk r Answer.Go ≡ says_of wd.now argv.now) }
+// The builtin or the utility of a first word, or an unknown name.
+fn named(alloc: Global, wd: &Path, argv: &WordList) -> Result<Running, NoMemory>
+    ensures { IfOk result (λ r. running_talk r Answer.Go ≡ named_of wd.now argv.now) }
 {
     match argv.as_slice() {
         [] => unknown(alloc, b""),
-        [name, words @ ..] => {
-            if name.as_slice() == b"sh".as_slice() {
-                return shell(alloc, wd, words);
-            }
-            builtin(alloc, wd, argv, name.as_slice())
-        }
+        [name, ..] => builtin(alloc, wd, argv, name.as_slice()),
     }
+}
+
+// Whether the first word is `sh` or has a slash.
+fn is_shell(argv: &[Bytes]) -> bool
+    ensures { result ≡ takes_variables argv.now }
+{
+    match argv {
+        [] => false,
+        [word, ..] => word.as_slice() == b"sh".as_slice() || has_slash(word.as_slice()),
+    }
+}
+
+fn has_slash(word: &[u8]) -> bool
+    ensures { result ≡ list_any is_slash word.now }
+{
+    word.iter().any(|b| *b == b'/')
+}
+
+fn machine_of(alloc: Global, key: &Key) -> Result<Running, NoMemory>
+    ensures { IfOk result (λ r. running_talk r Answer.Go ≡ says_of key.now) }
+{
+    if is_shell(key.argv().as_slice()) {
+        let shell = Shell::start(alloc, key)?;
+        return Ok(Running::Shells(shell));
+    }
+    named(alloc, key.wd(), key.argv())
 }
 
 impl Command {
@@ -167,7 +179,7 @@ impl Command {
     pub fn start(alloc: Global, key: &Key) -> Result<Command, NoMemory>
         ensures { IfOk result (λ c. command_talk c Answer.Go ≡ first_talk key.now) }
     {
-        let running = machine_of(alloc, key.wd(), key.argv())?;
+        let running = machine_of(alloc, key)?;
         Ok(Command {
             paid: false,
             running,

@@ -147,11 +147,11 @@ fn ends_with_the_status_of_the_script(rt: HostRuntime) -> Result<(), Fail> {
     let alloc = rt.alloc();
     let mut empty = MemFolder::new(alloc)?;
     assert!(rt; fails_with(alloc, &mut empty, 127, b"sh: Rikerfile: no such file\n")?);
-    let mut beyond = folder_of(alloc, b"echo x\n")?;
+    let mut faulty = folder_of(alloc, b"echo (\n")?;
     assert!(rt;
         fails_with(
             alloc,
-            &mut beyond,
+            &mut faulty,
             2,
             b"sh: Rikerfile: line 1: syntax error\n"
         )?

@@ -1,5 +1,0 @@
-pub mod Expanding
-pub mod LineLemmas
-pub mod PartLemmas
-pub mod ScriptLemmas
-pub mod Spelling
