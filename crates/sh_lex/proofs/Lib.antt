@@ -1,5 +1,6 @@
 pub mod Folding
 pub mod Symbols
+pub mod Unclosed
 pub mod Runs
 pub mod Found
 pub mod Modes

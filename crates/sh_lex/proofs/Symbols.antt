@@ -45,7 +45,7 @@ pub record Sought (k : Class) (all left : List ℕ) (count : ℕ) : Type 0 where
 pub sought_begins : (k : Class) (all : List ℕ) → Sought k all all 0
 sought_begins k all = record { same = refl; counts = omega arith }
 
-one_less : (k : Class) (xs : List ℕ) → bare k xs ≡ true → length xs ≡ suc (length (drop 1 xs))
+pub one_less : (k : Class) (xs : List ℕ) → bare k xs ≡ true → length xs ≡ suc (length (drop 1 xs))
 one_less k [] h = absurd (no_bare k h)
 one_less k (c ∷ cs) h = refl
 

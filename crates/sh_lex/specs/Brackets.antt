@@ -1,8 +1,11 @@
 -- What the profile leaves out of a bracket: a collating symbol, which begins with `[.`, and an equivalence class, with `[=` (XBD 9.3.5).
-use Rattle.std.specs.Prelude.{ℕ, suc, ◌==◌, List, [], ◌∷◌, drop, slice_index, Bool, false, if◌then◌else◌, None}
+use Rattle.std.specs.Prelude.{◌≡◌, ℕ, suc, ◌<◌, ◌==◌, List, [], ◌∷◌, drop, length, slice_index, Bool, false, if◌then◌else◌, Option, Some, None}
 use Rattle.sh_rules.specs.declared.kind.Kind.{Kind}
+use Rattle.sh_rules.specs.declared.kind.Kind.TheVariants as k
+use Rattle.sh_lex.specs.declared.bytes.Class.{Class}
+use Rattle.sh_lex.specs.declared.bytes.Class.TheVariants as cl
 use Rattle.sh_lex.specs.Bytes.{◌or◌, ◌also◌}
-use Rattle.sh_lex.specs.Folded.{one_if}
+use Rattle.sh_lex.specs.Folded.{folded, one_if}
 use Rattle.sh_lex.specs.Expansions.{is_dollar}
 use Rattle.sh_lex.specs.Tokens.{Look, token}
 
@@ -27,3 +30,24 @@ text_run f (c ∷ cs) = if has_symbol f (c ∷ cs) then 0 else one_if (f c) (tex
 -- a text of a kind, of bytes of a class, the first of them in any case
 abbrev pub text_look : (ℕ → Bool) → Kind → List ℕ → Look
 text_look f kind text = if has_symbol f text then None else token kind (suc (text_run f (drop 1 text)))
+
+-- one stands somewhere in a text
+abbrev pub holds_symbol : List ℕ → Bool
+holds_symbol [] = false
+holds_symbol (c ∷ cs) = begins_symbol (c ∷ cs) or holds_symbol cs
+
+-- the class of the bytes of a text that may have a bracket, by its kind
+abbrev pub text_class : Kind → Option Class
+text_class k.CommandText = Some cl.Plain
+text_class k.PrefixText = Some cl.Plain
+text_class k.WordText = Some cl.Plain
+text_class k.PatternText = Some cl.Plain
+text_class k.ValueText = Some cl.Plain
+text_class k.Text = Some cl.Plain
+text_class k.BraceStartText = Some cl.BraceText
+text_class k.BraceText = Some cl.BraceText
+text_class other = None
+
+-- where more bytes of a text are left than so many, no `]` closes a bracket there
+pub record IsUnclosed (f : ℕ → Bool) (down_to : ℕ) (text : List ℕ) : Type 0 where
+  pub none_closed : (n : ℕ) → down_to < length (drop n text) → closes_bracket f (folded (drop n text)) ≡ false

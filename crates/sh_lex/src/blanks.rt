@@ -1,5 +1,5 @@
 // What is passed over in front of a token.
-ghost use Rattle.std.specs.Prelude.{◌≡◌, ◌+◌, false, length, drop};
+ghost use Rattle.std.specs.Prelude.{◌≡◌, ◌≤◌, ◌+◌, false, length, drop};
 ghost use Rattle.sh_lex.specs.Blanks.{joins as joins_lem, blanks as blanks_lem, is_join as join_lem, pick as pick_lem, skip_of as skip_lem};
 
 use crate::bytes::is_blank;
@@ -88,4 +88,20 @@ pub fn past_joins(text: &[u8]) -> &[u8]
         rest = rest.split_at(2).1;
     }
     rest
+}
+
+/// How many bytes of a text are blanks, joined lines and a comment in front.
+pub(crate) fn blanks(text: &[u8]) -> usize
+    ensures count { result ≡ blanks_lem false text.now }
+    ensures within { result ≤ length text.now }
+{
+    text.len() - past_blanks(text).len()
+}
+
+/// How many bytes of a text are joined lines in front.
+pub(crate) fn joins(text: &[u8]) -> usize
+    ensures count { result ≡ joins_lem text.now }
+    ensures within { result ≤ length text.now }
+{
+    text.len() - past_joins(text).len()
 }

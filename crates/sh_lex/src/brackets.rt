@@ -7,7 +7,8 @@ ghost use Rattle.sh_lex.specs.Folded.{folded};
 
 use crate::bytes::{Class, is_in};
 use crate::expansions::is_dollar;
-use crate::folded::{byte, first, rest, run};
+use crate::folded::{byte, first, rest, run, run_on};
+use crate::unread::Unread;
 use sh_rules::Kind;
 
 /// A text begins with the first two bytes of a collating symbol or an equivalence class.
@@ -79,8 +80,8 @@ fn text_run_on(class: Class, text: &[u8]) -> usize
     text_run(class, behind) + 1
 }
 
-/// The text of a kind that stands in front, of bytes of a class, the first of them in any case.
-pub(crate) fn text_look(class: Class, kind: Kind, text: &[u8]) -> Option<(Kind, usize)>
+// The text of a kind, where a `]` is to be looked for behind a `[.` or `[=`.
+fn text_look_by_search(class: Class, kind: Kind, text: &[u8]) -> Option<(Kind, usize)>
     ensures { result ≡ lem.text_look (class_is class) kind (folded text.now) }
 {
     if has_symbol(class, text) {
@@ -88,4 +89,46 @@ pub(crate) fn text_look(class: Class, kind: Kind, text: &[u8]) -> Option<(Kind, 
     } else {
         Some((kind, text_run_on(class, text)))
     }
+}
+
+/// The text of a kind that stands in front, of bytes of a class, the first of them in any case.
+pub(crate) fn text_look(class: Class, kind: Kind, text: &Unread) -> Option<(Kind, usize)>
+    ensures { result ≡ lem.text_look (class_is class) kind (folded text.now) }
+{
+    let bytes = text.bytes();
+    if text.is_unclosed(class) && is_unquoted(class, bytes) {
+        Some((kind, run_on(class, bytes)))
+    } else {
+        text_look_by_search(class, kind, bytes)
+    }
+}
+
+/// How many bytes of a text stand behind the unquoted ones in front, if no `]` is among these; else how many it has.
+pub(crate) fn unclosed_down_to(class: Class, text: &[u8]) -> usize
+    ensures { lem.IsUnclosed (class_is class) result text.now }
+{
+    let mut left = text;
+    'bytes: loop {
+        if !is_unquoted(class, left) {
+            return left.len();
+        }
+        if first(left) == b']' {
+            return text.len();
+        }
+        left = rest(left);
+    }
+}
+
+/// `[.` or `[=` stands in a text.
+pub(crate) fn holds_symbol(text: &[u8]) -> bool
+    ensures { result ≡ lem.holds_symbol (folded text.now) }
+{
+    let mut left = text;
+    for at in 0..text.len() {
+        if begins_symbol(left) {
+            return true;
+        }
+        left = rest(left);
+    }
+    false
 }

@@ -4,7 +4,7 @@ ghost use Rattle.sh_lex.specs.Bytes.{class_is, within};
 ghost use Rattle.sh_lex.specs.Bytes as class;
 
 /// A class of bytes that stand for themselves.
-#[derive(Clone, Copy)]
+#[derive(Clone, Copy, PartialEq, Eq)]
 pub enum Class {
     /// In a word: no blank, newline or operator, and nothing that quotes or begins an expansion.
     Plain,

@@ -10,6 +10,7 @@ use crate::folded::{byte, run, run_on, skip};
 use crate::operators::{numbered, redirect};
 use crate::place::Words;
 use crate::reserved::{is_word, opener};
+use crate::unread::Unread;
 use sh_rules::Kind;
 
 type Look = Option<(Kind, usize)>;
@@ -86,7 +87,7 @@ fn function_name(text: &[u8]) -> Look
     }
 }
 
-pub(crate) fn text_of(kind: Kind, text: &[u8]) -> Look
+pub(crate) fn text_of(kind: Kind, text: &Unread) -> Look
     ensures { result ≡ lem.text_of kind (folded text.now) }
 {
     text_look(Class::Plain, kind, text)
@@ -101,32 +102,39 @@ fn long_number(text: &[u8]) -> bool
     n > 1 && (d == b'<' || d == b'>')
 }
 
-fn name_or_text(reserved: bool, text: &[u8]) -> Look
+fn name_or_text(reserved: bool, text: &Unread) -> Look
     ensures { result ≡ lem.name_or_text reserved (folded text.now) }
 {
     if reserved {
         None
     } else {
-        or_else(function_name(text), text_of(Kind::CommandText, text))
+        or_else(
+            function_name(text.bytes()),
+            text_of(Kind::CommandText, text),
+        )
     }
 }
 
 #[tactic(auto, unfolding(crate::specs::Commands::command_word))]
-pub(crate) fn command_word(words: Words, text: &[u8]) -> Look
+pub(crate) fn command_word(words: Words, text: &Unread) -> Look
     ensures { result ≡ lem.command_word words (folded text.now) }
 {
-    if long_number(text) {
+    let bytes = text.bytes();
+    if long_number(bytes) {
         None
     } else {
-        or_else(opening(words, text), name_or_text(is_in(words, text), text))
+        or_else(
+            opening(words, bytes),
+            name_or_text(is_in(words, bytes), text),
+        )
     }
 }
 
 #[tactic(auto, unfolding(crate::specs::Commands::prefix_word))]
-pub(crate) fn prefix_word(text: &[u8]) -> Look
+pub(crate) fn prefix_word(text: &Unread) -> Look
     ensures { result ≡ lem.prefix_word (folded text.now) }
 {
-    if long_number(text) {
+    if long_number(text.bytes()) {
         None
     } else {
         text_of(Kind::PrefixText, text)
@@ -134,12 +142,13 @@ pub(crate) fn prefix_word(text: &[u8]) -> Look
 }
 
 #[tactic(auto, unfolding(crate::specs::Commands::argument_word))]
-pub(crate) fn argument_word(words: Words, text: &[u8]) -> Look
+pub(crate) fn argument_word(words: Words, text: &Unread) -> Look
     ensures { result ≡ lem.argument_word words (folded text.now) }
 {
-    if long_number(text) {
+    let bytes = text.bytes();
+    if long_number(bytes) {
         None
-    } else if is_in(words, text) {
+    } else if is_in(words, bytes) {
         Some((Kind::In, 2))
     } else {
         text_of(Kind::WordText, text)

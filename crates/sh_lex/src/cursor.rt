@@ -9,15 +9,17 @@ ghost use Rattle.sh_lex.specs.Steps.{drops as drops_lem, next_drops as next_lem,
 ghost use Rattle.sh_lex.specs.Takes.{Takes};
 
 use crate::blanks::past_blanks;
+use crate::brackets::holds_symbol;
 use crate::effect::{Effect, effect_of, opens_level, takes_body};
 use crate::folded::is_read_out;
 use crate::front::front_of;
-use crate::kinds::is_raw;
+use crate::kinds::{is_raw, text_class};
 use crate::lexeme::measured;
 use crate::place::{Cursor, Words};
 use crate::queue::Queue;
 use crate::recognizer::tried;
 use crate::taken::Taken;
+use crate::unread::Unread;
 use rk_base::NoMemory;
 use sh_rules::{Kind, Mode};
 use std::alloc::{AllocFailed, Global};
@@ -58,7 +60,7 @@ impl<'a> Cursor<'a> {
         let rest = past_blanks(text.split_at(at).1);
         Cursor {
             alloc,
-            text: rest,
+            text: Unread::new(rest),
             at: text.len() - rest.len(),
             words: Words::All,
             levels: 0,
@@ -81,14 +83,14 @@ impl<'a> Cursor<'a> {
         ensures found { result ≡ look_lem mode self.now }
         ensures within { IfSome result (λ x. x.1 ≤ length self.now.text) }
     {
-        let front = front_of(self.words, self.text);
+        let front = front_of(self.words, self.text.bytes());
         measured(
             tried(mode, front),
             self.is_whole(),
             self.is_closed(),
             self.words,
             &self.awaited,
-            self.text,
+            &self.text,
         )
     }
     // Whether the tabs at the beginning of lines are dropped from a token.
@@ -106,7 +108,7 @@ impl<'a> Cursor<'a> {
     pub(crate) fn is_read_out(&self) -> bool
         ensures { result ≡ is_none (folded self.now.text) }
     {
-        is_read_out(self.text)
+        is_read_out(self.text.bytes())
     }
 
     /// The first bytes of what is left.
@@ -114,7 +116,7 @@ impl<'a> Cursor<'a> {
         requires { n ≤ length self.now.text }
         ensures { result.now ≡ first_bytes n self.now.text }
     {
-        self.text.split_at(n).0
+        self.text.bytes().split_at(n).0
     }
 
     /// Takes the token of a kind that stands here, of so many bytes, as `look` told them.
@@ -131,12 +133,26 @@ impl<'a> Cursor<'a> {
         let tabs = self.drops(effect);
         match self.step(effect, length) {
             Err(_) => Err(Stop::Memory),
-            Ok(()) => Ok(Taken {
-                text,
-                raw: is_raw(kind),
-                tabs,
-                begins: takes_body(effect),
-            }),
+            Ok(()) => {
+                self.remember(kind, text);
+                Ok(Taken {
+                    text,
+                    raw: is_raw(kind),
+                    tabs,
+                    begins: takes_body(effect),
+                })
+            }
+        }
+    }
+
+    // Behind a text with a bracket that isn't closed, looks for how far none is, where this isn't known.
+    fn remember(&mut self, kind: Kind, token: &[u8])
+        ensures { self.new ≡ self.old }
+    {
+        if let Some(class) = text_class(kind) {
+            if !self.text.is_unclosed(class) && holds_symbol(token) {
+                self.text = self.text.looked_through(class);
+            }
         }
     }
 }

@@ -11,6 +11,7 @@ use crate::folded::{first, is_read_out, rest};
 use crate::lexeme::tabs_extent;
 use crate::place::{Cursor, HereDocument, Outer, Words};
 use crate::queue::Queue;
+use crate::unread::Unread;
 use std::mem;
 
 impl<'a> Cursor<'a> {
@@ -19,7 +20,7 @@ impl<'a> Cursor<'a> {
         requires within { n ≤ length self.old.text }
         ensures { self.new ≡ lem.after e.Awaits n self.old }
     {
-        self.dashed = is_dashed(self.text.split_at(n).0);
+        self.dashed = is_dashed(self.text.bytes().split_at(n).0);
         self.operator = self.at;
         self.due = true;
         self.ends_word(n);
@@ -30,7 +31,7 @@ impl<'a> Cursor<'a> {
         requires within { n ≤ length self.old.text }
         ensures { IfOk result (λ _. self.new ≡ lem.after e.Delimits n self.old) }
     {
-        let word = self.text.split_at(n).0;
+        let word = self.text.bytes().split_at(n).0;
         let document = HereDocument {
             at: self.operator,
             levels: self.levels,
@@ -57,7 +58,7 @@ impl<'a> Cursor<'a> {
     fn pass_line(&mut self, literal: bool)
         ensures { self.new ≡ lem.past_line literal self.old }
     {
-        let n = line(literal, self.text);
+        let n = line(literal, self.text.bytes());
         self.advance(n);
     }
 
@@ -85,7 +86,7 @@ impl<'a> Cursor<'a> {
     fn drop_tabs(&mut self)
         ensures { self.new ≡ lem.past_tabs_if true self.old }
     {
-        let n = tabs_extent(self.text);
+        let n = tabs_extent(self.text.bytes());
         self.advance(n);
         self.pass_joins();
     }
@@ -107,7 +108,7 @@ impl<'a> Cursor<'a> {
     {
         let alloc = self.alloc;
         let outer = Outer {
-            text: self.text,
+            text: self.text.bytes(),
             at: self.at,
             levels: self.levels,
             opened: mem::replace(&mut self.opened, Vec::new(alloc)),
@@ -129,11 +130,11 @@ impl<'a> Cursor<'a> {
         requires within { n ≤ length self.old.text }
         ensures { IfOk result (λ _. self.new ≡ lem.body_begun literal levels tabs n self.old) }
     {
-        let body = self.text.split_at(n).0;
+        let body = self.text.bytes().split_at(n).0;
         let at = self.at;
         self.pass_body(literal, n);
         self.put_aside()?;
-        self.text = body;
+        self.text = Unread::new(body);
         self.at = at;
         self.words = Words::Ordinary;
         self.levels = levels;
@@ -180,7 +181,7 @@ impl<'a> Cursor<'a> {
             awaited,
             tabs,
         } = outer;
-        self.text = text;
+        self.text = Unread::new(text);
         self.at = at;
         self.levels = levels;
         self.opened = opened;

@@ -1,8 +1,10 @@
 // What is told of a token by its kind alone.
 ghost use Rattle.std.specs.Prelude.{◌≡◌};
 ghost use Rattle.sh_rules.specs.LookAhead.{mode_of as mode_lem};
+ghost use Rattle.sh_lex.specs.Brackets.{text_class as class_lem};
 ghost use Rattle.sh_lex.specs.Lexemes.{is_raw as raw_lem};
 
+use crate::bytes::Class;
 use sh_rules::{Kind, Mode};
 
 /// Whether joined lines stay in a token of a kind.
@@ -154,5 +156,81 @@ pub fn mode_of(kind: Kind) -> Mode
         Kind::QuotedBraceText => Mode::InQuotedBraces,
         Kind::QuotedBraceEscape => Mode::InQuotedBraces,
         Kind::End => Mode::CommandStart,
+    }
+}
+
+/// The class of the bytes of a text that may have a bracket, `None` where a token of the kind is no such text.
+pub(crate) fn text_class(kind: Kind) -> Option<Class>
+    ensures { result ≡ class_lem kind }
+{
+    match kind {
+        Kind::Semi => None,
+        Kind::Newline => None,
+        Kind::NoBody => None,
+        Kind::LiteralBody => None,
+        Kind::BodyOpen => None,
+        Kind::BodyClose => None,
+        Kind::BodyText => None,
+        Kind::BodyEscape => None,
+        Kind::QuotedBrace => None,
+        Kind::AndIf => None,
+        Kind::OrIf => None,
+        Kind::Bang => None,
+        Kind::Pipe => None,
+        Kind::FunctionName => None,
+        Kind::FunctionOpen => None,
+        Kind::FunctionClose => None,
+        Kind::Assignment => None,
+        Kind::CommandText => Some(Class::Plain),
+        Kind::LeftBrace => None,
+        Kind::RightBrace => None,
+        Kind::LeftParen => None,
+        Kind::RightParen => None,
+        Kind::If => None,
+        Kind::Then => None,
+        Kind::While => None,
+        Kind::Do => None,
+        Kind::Done => None,
+        Kind::Until => None,
+        Kind::For => None,
+        Kind::Name => None,
+        Kind::Case => None,
+        Kind::Fi => None,
+        Kind::Else => None,
+        Kind::Elif => None,
+        Kind::In => None,
+        Kind::CaseIn => None,
+        Kind::Esac => None,
+        Kind::PatternOpen => None,
+        Kind::PatternText => Some(Class::Plain),
+        Kind::PatternClose => None,
+        Kind::PatternBar => None,
+        Kind::DoubleSemi => None,
+        Kind::Redirect => None,
+        Kind::Here => None,
+        Kind::Delimiter => None,
+        Kind::PrefixText => Some(Class::Plain),
+        Kind::WordText => Some(Class::Plain),
+        Kind::WordEnd => None,
+        Kind::ValueText => Some(Class::Plain),
+        Kind::Text => Some(Class::Plain),
+        Kind::Escape => None,
+        Kind::Single => None,
+        Kind::QuoteOpen => None,
+        Kind::Brace => None,
+        Kind::Parameter => None,
+        Kind::Braced => None,
+        Kind::Substitution => None,
+        Kind::Dollar => None,
+        Kind::PatternBrace => None,
+        Kind::QuoteClose => None,
+        Kind::QuotedText => None,
+        Kind::QuotedEscape => None,
+        Kind::BraceClose => None,
+        Kind::BraceStartText => Some(Class::BraceText),
+        Kind::BraceText => Some(Class::BraceText),
+        Kind::QuotedBraceText => None,
+        Kind::QuotedBraceEscape => None,
+        Kind::End => None,
     }
 }

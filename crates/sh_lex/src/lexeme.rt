@@ -20,6 +20,7 @@ use crate::queue::Queue;
 use crate::quotes::{escape, raw_byte, single};
 use crate::recognizer::Recognizer;
 use crate::reserved::closer;
+use crate::unread::Unread;
 use crate::words::{backslash, is_quotable, is_quotable_in_body, is_quotable_in_braces};
 use sh_rules::Kind;
 
@@ -92,63 +93,64 @@ fn recognized(
     closed: bool,
     words: Words,
     awaited: &Queue,
-    text: &[u8],
+    text: &Unread,
 ) -> Look
     ensures { result ≡ lem.recognized recognizer whole closed words awaited.now text.now }
 {
+    let bytes = text.bytes();
     match recognizer {
         Recognizer::Nothing => None,
         Recognizer::AtEnd => token_if(whole, Kind::End, 0),
         Recognizer::Newline => Some((Kind::Newline, 1)),
-        Recognizer::Operator => operator_look(text),
-        Recognizer::Redirects => redirection(text),
+        Recognizer::Operator => operator_look(bytes),
+        Recognizer::Redirects => redirection(bytes),
         Recognizer::LeftParen => Some((Kind::LeftParen, 1)),
-        Recognizer::Escape => escape(text),
-        Recognizer::Single => single(text),
+        Recognizer::Escape => escape(bytes),
+        Recognizer::Single => single(bytes),
         Recognizer::QuoteOpen => Some((Kind::QuoteOpen, 1)),
-        Recognizer::Expands => dollar(Kind::Brace, text),
-        Recognizer::ExpandsQuoted => dollar(Kind::QuotedBrace, text),
-        Recognizer::Closer => closer(text),
+        Recognizer::Expands => dollar(Kind::Brace, bytes),
+        Recognizer::ExpandsQuoted => dollar(Kind::QuotedBrace, bytes),
+        Recognizer::Closer => closer(bytes),
         Recognizer::Esac => Some((Kind::Esac, 4)),
-        Recognizer::Assignment => assignment(text),
+        Recognizer::Assignment => assignment(bytes),
         Recognizer::CommandWord => command_word(words, text),
         Recognizer::PrefixWord => prefix_word(text),
         Recognizer::ArgumentWord => argument_word(words, text),
         Recognizer::PatternOpen => Some((Kind::PatternOpen, 1)),
         Recognizer::PatternText => text_of(Kind::PatternText, text),
-        Recognizer::CaseIn => case_in(text),
+        Recognizer::CaseIn => case_in(bytes),
         Recognizer::PatternClose => Some((Kind::PatternClose, 1)),
-        Recognizer::PatternBar => pattern_bar(text),
-        Recognizer::Bodies => bodies_look(awaited, text),
+        Recognizer::PatternBar => pattern_bar(bytes),
+        Recognizer::Bodies => bodies_look(awaited, bytes),
         Recognizer::BodyClose => token_if(closed, Kind::BodyClose, 0),
         Recognizer::BodyBackslash => {
-            let quotes = is_quotable_in_body(raw_byte(text, 1));
+            let quotes = is_quotable_in_body(raw_byte(bytes, 1));
             backslash(quotes, Kind::BodyEscape, Kind::BodyText)
         }
-        Recognizer::BodyText => Some((Kind::BodyText, run_on(Class::BodyText, text))),
+        Recognizer::BodyText => Some((Kind::BodyText, run_on(Class::BodyText, bytes))),
         Recognizer::WordEnd => Some((Kind::WordEnd, 0)),
         Recognizer::ValueText => text_of(Kind::ValueText, text),
         Recognizer::Text => text_of(Kind::Text, text),
         Recognizer::QuoteClose => Some((Kind::QuoteClose, 1)),
         Recognizer::QuotedBackslash => {
-            let quotes = is_quotable(raw_byte(text, 1));
+            let quotes = is_quotable(raw_byte(bytes, 1));
             backslash(quotes, Kind::QuotedEscape, Kind::QuotedText)
         }
-        Recognizer::QuotedText => Some((Kind::QuotedText, run_on(Class::QuotedText, text))),
+        Recognizer::QuotedText => Some((Kind::QuotedText, run_on(Class::QuotedText, bytes))),
         Recognizer::BraceClose => Some((Kind::BraceClose, 1)),
         Recognizer::BraceStartText => text_look(Class::BraceText, Kind::BraceStartText, text),
         Recognizer::BraceText => text_look(Class::BraceText, Kind::BraceText, text),
         Recognizer::QuotedBraceBackslash => {
-            let quotes = is_quotable_in_braces(raw_byte(text, 1));
+            let quotes = is_quotable_in_braces(raw_byte(bytes, 1));
             backslash(quotes, Kind::QuotedBraceEscape, Kind::QuotedBraceText)
         }
         Recognizer::QuotedBraceText => {
-            Some((Kind::QuotedBraceText, run_on(Class::QuotedBraceText, text)))
+            Some((Kind::QuotedBraceText, run_on(Class::QuotedBraceText, bytes)))
         }
-        Recognizer::Name => name_look(text),
+        Recognizer::Name => name_look(bytes),
         Recognizer::FunctionOpen => Some((Kind::FunctionOpen, 1)),
         Recognizer::FunctionClose => Some((Kind::FunctionClose, 1)),
-        Recognizer::Delimiter => delimiter_look(text),
+        Recognizer::Delimiter => delimiter_look(bytes),
     }
 }
 
@@ -180,13 +182,13 @@ pub(crate) fn measured(
     closed: bool,
     words: Words,
     awaited: &Queue,
-    text: &[u8],
+    text: &Unread,
 ) -> Look
     ensures found { result ≡ lem.measured text.now (lem.recognized recognizer whole closed words awaited.now text.now) }
     ensures within { IfSome result (λ x. x.1 ≤ length text.now) }
 {
     match recognized(recognizer, whole, closed, words, awaited, text) {
         None => None,
-        Some((kind, n)) => Some((kind, extent(is_raw(kind), n, text))),
+        Some((kind, n)) => Some((kind, extent(is_raw(kind), n, text.bytes()))),
     }
 }

@@ -27,6 +27,7 @@ mod recognizer;
 mod reserved;
 mod taken;
 mod telling;
+mod unread;
 mod words;
 
 pub use cursor::Stop;

@@ -4,7 +4,7 @@ ghost use Rattle.sh_lex.specs.declared.effect.Effect.TheVariants as e;
 ghost use Rattle.sh_lex.specs.Places as place;
 ghost use Rattle.sh_lex.specs.Steps as lem;
 
-use crate::blanks::{past_blanks, past_joins};
+use crate::blanks::{blanks, joins};
 use crate::cursor::Stop;
 use crate::effect::Effect;
 use crate::place::{Cursor, Words};
@@ -15,26 +15,23 @@ impl<'a> Cursor<'a> {
         requires within { n ≤ length self.old.text }
         ensures { self.new ≡ place.moved n self.old }
     {
-        let text = self.text;
-        self.text = text.split_at(n).1;
+        self.text = self.text.behind(n);
         self.at += n;
     }
 
     pub(crate) fn pass_joins(&mut self)
         ensures { self.new ≡ place.past_joins self.old }
     {
-        let rest = past_joins(self.text);
-        self.at += self.text.len() - rest.len();
-        self.text = rest;
+        let n = joins(self.text.bytes());
+        self.advance(n);
         self.in_word = true;
     }
 
     pub(crate) fn pass_blanks(&mut self)
         ensures { self.new ≡ place.past_blanks self.old }
     {
-        let rest = past_blanks(self.text);
-        self.at += self.text.len() - rest.len();
-        self.text = rest;
+        let n = blanks(self.text.bytes());
+        self.advance(n);
         self.in_word = false;
     }
 

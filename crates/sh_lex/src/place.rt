@@ -3,6 +3,7 @@ ghost use Rattle.std.specs.Prelude.{◌≡◌};
 ghost use Rattle.sh_lex.specs.Places as lem;
 
 use crate::queue::Queue;
+use crate::unread::Unread;
 use std::alloc::Global;
 use std::marker::Model;
 
@@ -62,7 +63,7 @@ impl<'a> Model for Outer<'a> {
 #[derive(Drop)]
 pub struct Cursor<'a> {
     pub(crate) alloc: Global,
-    pub(crate) text: &'a [u8],
+    pub(crate) text: Unread<'a>,
     pub(crate) at: usize,
     pub(crate) words: Words,
     pub(crate) levels: usize,
@@ -85,7 +86,7 @@ impl<'a> Model for Cursor<'a> {
     ghost Value = { Place };
 
     ghost view = { λ p. record {
-      text = p.text.now;
+      text = p.text;
       at = p.at;
       words = p.words;
       levels = p.levels;
@@ -101,7 +102,7 @@ impl<'a> Model for Cursor<'a> {
       around = p.around.items;
     } };
 
-    ghost invariant = { λ p. p.at + length p.text.now < 2 ^ 63 };
+    ghost invariant = { λ p. p.at + length p.text < 2 ^ 63 };
 }
 
 impl<'a> Cursor<'a> {

@@ -230,8 +230,9 @@ impl<'a> Cursor<'a> {
     fn body_fault(&self) -> ScriptFault
         ensures { result ≡ lem.body_fault self.now }
     {
-        let n = before_nul(self.text);
-        if n < self.text.len() {
+        let text = self.text.bytes();
+        let n = before_nul(text);
+        if n < text.len() {
             fault(self.at + n, Why::Syntax)
         } else {
             self.unclosed()
@@ -242,11 +243,12 @@ impl<'a> Cursor<'a> {
         requires { n ≤ length self.now.text }
         ensures { IfOk result (λ f. f ≡ lem.delimiter_fault n self.now) }
     {
-        if n >= self.text.len() {
+        let text = self.text.bytes();
+        if n >= text.len() {
             return Ok(self.unclosed());
         }
         let place = self.at + n;
-        if raw_byte(self.text, n) == b'`' {
+        if raw_byte(text, n) == b'`' {
             let word = Bytes::from_slice(alloc, b"`")?;
             Ok(fault(place, Why::NotInProfile(word)))
         } else {
@@ -259,10 +261,11 @@ impl<'a> Cursor<'a> {
         requires { 1 ≤ length self.now.text }
         ensures { result ≡ lem.single_fault (suc (run_lem not_quote (drop 1 self.now.text))) self.now }
     {
-        let n = before_quote(self.text.split_at(1).1) + 1;
-        if n >= self.text.len() {
+        let text = self.text.bytes();
+        let n = before_quote(text.split_at(1).1) + 1;
+        if n >= text.len() {
             self.unclosed()
-        } else if raw_byte(self.text, n) == b'\'' {
+        } else if raw_byte(text, n) == b'\'' {
             fault(self.at, Why::Syntax)
         } else {
             fault(self.at + n, Why::Syntax)
@@ -273,21 +276,22 @@ impl<'a> Cursor<'a> {
     fn text_fault(&self, alloc: Global) -> Result<ScriptFault, NoMemory>
         ensures { IfOk result (λ f. f ≡ lem.text_fault self.now) }
     {
-        if self.text.is_empty() {
+        let text = self.text.bytes();
+        if text.is_empty() {
             Ok(self.end_fault())
-        } else if raw_byte(self.text, 0) == b'\'' {
+        } else if raw_byte(text, 0) == b'\'' {
             Ok(self.single_fault())
-        } else if breaks_off(self.text) {
+        } else if breaks_off(text) {
             Ok(self.unclosed())
         } else {
-            out_fault(alloc, self.at, left_out(self.in_word, self.text), self.text)
+            out_fault(alloc, self.at, left_out(self.in_word, text), text)
         }
     }
 
     fn due_fault(&self, alloc: Global) -> Result<ScriptFault, NoMemory>
         ensures { IfOk result (λ f. f ≡ lem.due_fault self.now) }
     {
-        let (count, ends) = walk(self.text);
+        let (count, ends) = walk(self.text.bytes());
         if ends {
             self.text_fault(alloc)
         } else {

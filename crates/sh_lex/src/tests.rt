@@ -125,7 +125,7 @@ fn tells_a_fault_behind_what_goes_on(rt: HostRuntime) -> Result<(), Fail> {
 // `[.` and `[=`, where an unquoted `]` closes the bracket.
 #[test]
 fn leaves_out_symbols_in_brackets(rt: HostRuntime) -> Result<(), Fail> {
-    let rows: [(&[u8], &[u8], usize, u8); 10] = [
+    let rows: [(&[u8], &[u8], usize, u8); 18] = [
         (b"echo [.a.]", b"cwa", 5, b'N'),
         (b"echo a[=b]", b"cwaw", 6, b'N'),
         (b"x=[.]", b"cv", 2, b'N'),
@@ -136,6 +136,14 @@ fn leaves_out_symbols_in_brackets(rt: HostRuntime) -> Result<(), Fail> {
         (b"${x:-[. ]}", b"cs", 5, b'N'),
         (b"for [.a ]", b"cn", 4, b'S'),
         (b"for [.a]", b"cn", 4, b'N'),
+        (b"[.$[.$a", b"cwww", 7, b'-'),
+        (b"echo [=$[.$[.b] ", b"cwa", 5, b'N'),
+        (b"echo [.$[.$ [.b]", b"cwawwwwa", 12, b'N'),
+        (b"a[.$'['[.b]", b"cwww", 7, b'N'),
+        (b"a[.$[=\\\nx$b] ", b"cwwwww", 13, b'-'),
+        (b"${x:-[.$[. $'a'[.]}", b"csbbbbb", 15, b'N'),
+        (b"cat <<X\n[.$[\nX\n[.$[.]", b"cwadaBTTTTBc", 15, b'N'),
+        (b"${x:-[.$}[.]", b"csbbw", 9, b'N'),
     ];
     for (text, modes, at, why) in rows {
         assert_eq!(rt; walk(rt.alloc(), text, modes)?, (at, why));

@@ -1,0 +1,25 @@
+use Rattle.std.proofs.Common.{sym, ap, ◌∙◌}
+use Rattle.sh_rules.specs.declared.kind.Kind.TheVariants as k
+use Rattle.sh_lex.specs.Bytes.{is_body_text, is_quoted_text, is_quoted_brace_text}
+use Rattle.sh_lex.specs.Folded.{folded, run_on}
+use Rattle.sh_lex.specs.Lexemes.{recognized}
+use Rattle.sh_lex.specs.Tokens.{token}
+use Rattle.sh_lex.proofs.lexeme.recognized.Goals as goal
+
+pub returns-in-BodyText : goal.returns-in-BodyText
+unfolding recognized
+returns-in-BodyText c =
+    ap (token k.BodyText) (c.run_on.ensures ∙ ap (λ xs. run_on is_body_text (folded xs)) c.bytes-bytes.ensures)
+    ∙ ap (λ r. recognized r c.args.whole c.args.closed c.args.words c.args.awaited.now c.args.text.now) (sym c.in-BodyText.is)
+
+pub returns-in-QuotedText : goal.returns-in-QuotedText
+unfolding recognized
+returns-in-QuotedText c =
+    ap (token k.QuotedText) (c.run_on-in-QuotedText.ensures ∙ ap (λ xs. run_on is_quoted_text (folded xs)) c.bytes-bytes.ensures)
+    ∙ ap (λ r. recognized r c.args.whole c.args.closed c.args.words c.args.awaited.now c.args.text.now) (sym c.in-QuotedText.is)
+
+pub returns-in-QuotedBraceText : goal.returns-in-QuotedBraceText
+unfolding recognized
+returns-in-QuotedBraceText c =
+    ap (token k.QuotedBraceText) (c.run_on-in-QuotedBraceText.ensures ∙ ap (λ xs. run_on is_quoted_brace_text (folded xs)) c.bytes-bytes.ensures)
+    ∙ ap (λ r. recognized r c.args.whole c.args.closed c.args.words c.args.awaited.now c.args.text.now) (sym c.in-QuotedBraceText.is)
