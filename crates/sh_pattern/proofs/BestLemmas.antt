@@ -1,12 +1,12 @@
 -- The best part, as a function.
-use Rattle.std.proofs.Common.{◌≡◌, ℕ, zero, suc, ◌+◌, ◌-◌, ◌≤◌, ◌<◌, length, length-drop, take, drop, refl, sym, ap, ◌∙◌, subst, arith, inl, inr, Bool, true, false}
+use Rattle.std.proofs.Common.{◌≡◌, ℕ, zero, suc, ◌-◌, ◌≤◌, length, length-drop, take, drop, refl, sym, ap, ◌∙◌, subst, arith, inl, inr, Bool, true, false}
 use Rattle.std.specs.Prelude.{Option, Some, None, IfSome, ◌↔◌}
 use Rattle.std.proofs.lemmas.Bool.{cases_lt}
 use Rattle.std.proofs.lemmas.List.{drop_all}
 use Rattle.rk_base.specs.Text.{Text}
-use Rattle.sh_pattern.specs.Parts.{Part, parts}
-use Rattle.sh_pattern.specs.Matching.{MatchesParts, Matches, IsBest, TellsBest, MatchesPrefix, MatchesSuffix}
-use Rattle.sh_pattern.specs.Decided.{matched, is_matched}
+use Rattle.sh_pattern.specs.Parts.{parts}
+use Rattle.sh_pattern.specs.Matching.{MatchesParts, TellsBest, MatchesPrefix, MatchesSuffix}
+use Rattle.sh_pattern.specs.Decided.{is_matched}
 use Rattle.sh_pattern.specs.Best.{greatest, least, or_last, best, best_prefix, best_suffix}
 use Rattle.sh_pattern.proofs.DecidedLemmas.{there, back}
 

@@ -1,12 +1,13 @@
 -- Patterns from one byte to the next.
-use Rattle.std.proofs.Common.{◌≡◌, ℕ, suc, ◌+◌, ◌≤◌, ◌<◌, [], ◌∷◌, ◌++◌, length, drop, drop-drop, subst, refl, sym, ap, ◌∙◌, arith, inl, inr}
-use Rattle.std.specs.Prelude.{Bool, true, false, ◌==◌, ◌||◌, if◌then◌else◌}
+use Rattle.std.proofs.Common.{◌≡◌, ℕ, suc, ◌+◌, [], ◌∷◌, ◌++◌, drop, drop-drop, subst, refl, sym, ap, ◌∙◌, arith, inl, inr}
+use Rattle.std.specs.Prelude.{Bool, true, false, ◌||◌}
 use Rattle.std.proofs.lemmas.Bool.Decides.{eqb_tells}
 use Rattle.rk_base.specs.Text.{Text}
 use Rattle.sh_pattern.specs.Sets.{value, extra}
 use Rattle.sh_pattern.specs.Special.{is_special, has_special, unquoted}
 
-rest : (pattern : Text) (at : ℕ) (b : ℕ) (bs : Text) (n : ℕ) → drop at pattern ≡ b ∷ bs → drop n bs ≡ drop (at + (1 + n)) pattern
+-- what stands behind so many bytes after one
+pub rest : (pattern : Text) (at : ℕ) (b : ℕ) (bs : Text) (n : ℕ) → drop at pattern ≡ b ∷ bs → drop n bs ≡ drop (at + (1 + n)) pattern
 rest pattern at b bs n e =
     let f : at + (1 + n) ≡ at + suc n = omega arith in
     ap (drop (suc n)) (sym e) ∙ (drop-drop (suc n) at pattern ∙ ap (λ k. drop k pattern) (sym f))

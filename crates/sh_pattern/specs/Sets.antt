@@ -60,6 +60,10 @@ set_from items at zero (b ∷ bs) = if closes at b then Some (record { items = i
 abbrev pub set_of : Text → Option Set
 set_of = set_from [] 0 0
 
+-- whether a text has a byte that may close a set
+abbrev pub has_close : Text → Bool
+has_close text = list_any (λ b. b == 93) text
+
 abbrev pub in_items : List Item → ℕ → Bool
 in_items items b = list_any (λ item. in_item item b) items
 

@@ -1,5 +1,5 @@
 -- Patterns that are more than a text (XCU 2.13.3).
-use Rattle.std.specs.Prelude.{ℕ, [], ◌∷◌, Bool, true, false, ◌==◌, ◌&&◌, ◌||◌, is_some, if◌then◌else◌}
+use Rattle.std.specs.Prelude.{ℕ, [], ◌∷◌, Bool, false, ◌==◌, ◌&&◌, ◌||◌, is_some, if◌then◌else◌}
 use Rattle.rk_base.specs.Text.{Text}
 use Rattle.sh_pattern.specs.Sets.{set_of}
 

@@ -1,24 +1,30 @@
 // The parts of patterns.
 ghost use Rattle.std.specs.Prelude.{◌≡◌, ◌≤◌, ◌+◌, [], MatchOption, true, false, length};
-ghost use Rattle.sh_pattern.specs.Sets.{set_of};
+ghost use Rattle.sh_pattern.specs.Sets.{set_of, has_close};
 ghost use Rattle.sh_pattern.specs.Parts.{byte, bracket_or, bracket, first_of, AsFirst, Begins, parts};
 
 use crate::front::front;
-use crate::set::{extra, scan, value};
+use crate::set::{extra, may_close_behind, scan, value};
 use std::marker::Model;
 
 /// What is left of a pattern.
 #[derive(Debug, Drop)]
 pub(crate) struct Pattern<'a> {
     rest: &'a [u8],
+    // Whether a `]` may be in it. Without one no bracket is closed, and none is read to the pattern's end for that.
+    may_close: bool,
 }
 
 impl<'a> Model for Pattern<'a> {
+    ghost use Rattle.std.specs.Prelude.{◌≡◌, false};
     ghost use Rattle.rk_base.specs.Text.{Text};
+    ghost use Rattle.sh_pattern.specs.Sets.{has_close};
 
     ghost Value = { Text };
 
     ghost view = { λ p. p.rest.now };
+
+    ghost invariant = { λ p. p.may_close ≡ false → has_close p.rest.now ≡ false };
 }
 
 /// A part of a pattern: any bytes, or one byte, with whether a byte that was shown meets it.
@@ -59,10 +65,15 @@ fn bracket_or(negated: bool, before: usize, text: &[u8], b: u8) -> First
     }
 }
 
-fn bracket(text: &[u8], b: u8) -> First
+#[tactic(auto, using(crate::proofs::CloseLemmas::open_bracket))]
+fn bracket(text: &[u8], b: u8, may_close: bool) -> First
+    requires { may_close ≡ false → has_close text.now ≡ false }
     ensures value { AsFirst b (bracket text.now) result }
     ensures more { result.more ≤ length text.now }
 {
+    if !may_close {
+        return open_bracket(b);
+    }
     match text {
         [] => open_bracket(b),
         [first, rest @ ..] => {
@@ -75,9 +86,10 @@ fn bracket(text: &[u8], b: u8) -> First
     }
 }
 
-// The part that begins with a byte c and a text, of which a byte b is shown.
+// The part that begins with a byte c and a text, of which a byte b is shown; whether a `]` may be in the text.
 #[tactic(auto, unfolding(crate::specs::Parts::first_of))]
-fn first_of(c: u8, text: &[u8], b: u8) -> First
+fn first_of(c: u8, text: &[u8], b: u8, may_close: bool) -> First
+    requires { may_close ≡ false → has_close text.now ≡ false }
     ensures value { AsFirst b (first_of c text.now) result }
     ensures more { result.more ≤ length text.now }
 {
@@ -94,7 +106,7 @@ fn first_of(c: u8, text: &[u8], b: u8) -> First
         };
     }
     if c == b'[' {
-        return bracket(text, b);
+        return bracket(text, b, may_close);
     }
     First {
         part: Part::One(b == value(c, text)),
@@ -106,13 +118,19 @@ impl<'a> Pattern<'a> {
     pub(crate) fn new(text: &'a [u8]) -> Pattern<'a>
         ensures { parts result ≡ parts text.now }
     {
-        Pattern { rest: text }
+        Pattern {
+            rest: text,
+            may_close: true,
+        }
     }
 
     pub(crate) fn copy(&self) -> Pattern<'a>
         ensures { result ≡ self.entry.now }
     {
-        Pattern { rest: self.rest }
+        Pattern {
+            rest: self.rest,
+            may_close: self.may_close,
+        }
     }
 
     /// The first part, of which a byte is shown, and what is left after it.
@@ -120,10 +138,10 @@ impl<'a> Pattern<'a> {
         ensures { MatchOption result (parts self.entry.now ≡ []) (λ r. Begins b (parts self.entry.now) r.0 (parts r.1)) }
     {
         let (c, text) = front(self.rest)?;
-        let first = first_of(c, text, b);
-        let rest = Pattern {
-            rest: text.split_at(first.more).1,
-        };
-        Some((first.part, rest))
+        let first = first_of(c, text, b, self.may_close);
+        let rest = text.split_at(first.more).1;
+        let is_open = c == b'[' && first.more == 0;
+        let may_close = may_close_behind(self.may_close, is_open, rest);
+        Some((first.part, Pattern { rest, may_close }))
     }
 }

@@ -1,7 +1,7 @@
 // Sets of patterns.
-ghost use Rattle.std.specs.Prelude.{◌≡◌, ◌≤◌, IfSome, ◌<◌, ◌+◌, length, ◌^◌, ◌==◌, None, ◌||◌, if◌then◌else◌};
+ghost use Rattle.std.specs.Prelude.{false, ◌≡◌, ◌≤◌, IfSome, ◌<◌, ◌+◌, length, ◌^◌, ◌==◌, None, ◌||◌, if◌then◌else◌};
 ghost use Rattle.sh_pattern.specs.Classes.{class_at};
-ghost use Rattle.sh_pattern.specs.Sets.{value, extra, after_first, in_item, ranged, classed, closes, item_at, set_of, ScansTo};
+ghost use Rattle.sh_pattern.specs.Sets.{value, extra, after_first, in_item, ranged, classed, closes, item_at, set_of, has_close, ScansTo};
 
 use crate::Class;
 use crate::class::{between, class_at};
@@ -117,6 +117,15 @@ fn item_at(b: u8, text: &[u8]) -> (Item, usize)
         Some((class, size)) => (Item::Named(class), size + 1),
         None => ranged(value(b, text), extra(b, text) + 1, after_first(b, text)),
     }
+}
+
+/// Whether a `]` may be in a text, where that was known before of it; it is looked for only behind a `[` that nothing
+/// closes.
+pub(crate) fn may_close_behind(may_close: bool, is_open: bool, text: &[u8]) -> bool
+    requires { may_close ≡ false → has_close text.now ≡ false }
+    ensures { result ≡ false → has_close text.now ≡ false }
+{
+    may_close && (!is_open || text.contains(&b']'))
 }
 
 /// Whether a byte is in the set that begins with this text, and at what place its `]` stands; `None` where no

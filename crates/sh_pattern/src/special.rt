@@ -1,14 +1,14 @@
 // Patterns that are more than a text.
-ghost use Rattle.std.specs.Prelude.{◌≡◌, ◌++◌, ◌==◌, ◌&&◌, ◌||◌, is_some, IfOk};
-ghost use Rattle.sh_pattern.specs.Sets.{set_of};
+ghost use Rattle.std.specs.Prelude.{false, ◌≡◌, ◌++◌, ◌==◌, ◌&&◌, ◌||◌, is_some, IfOk};
+ghost use Rattle.sh_pattern.specs.Sets.{set_of, has_close};
 ghost use Rattle.sh_pattern.specs.Special.{is_closed, is_special, has_special, unquoted};
 
 use crate::front::front;
-use crate::set::{extra, scan, value};
+use crate::set::{extra, may_close_behind, scan, value};
 use rk_base::{Bytes, NoMemory};
 use std::alloc::Global;
 
-fn has_close(text: &[u8]) -> bool
+fn has_end(text: &[u8]) -> bool
     ensures { result ≡ is_some (set_of text.now) }
 {
     match scan(text, 0) {
@@ -23,14 +23,16 @@ fn is_closed(text: &[u8]) -> bool
     match text {
         [] => false,
         [first, rest @ ..] => if *first == b'!' {
-            has_close(rest)
+            has_end(rest)
         } else {
-            has_close(text)
+            has_end(text)
         },
     }
 }
 
-fn is_special(b: u8, text: &[u8]) -> bool
+#[tactic(auto, using(crate::proofs::CloseLemmas::not_closed))]
+fn is_special(b: u8, text: &[u8], may_close: bool) -> bool
+    requires { may_close ≡ false → has_close text.now ≡ false }
     ensures { result ≡ is_special b text.now }
 {
     if b == b'*' {
@@ -39,7 +41,11 @@ fn is_special(b: u8, text: &[u8]) -> bool
     if b == b'?' {
         return true;
     }
-    if b == b'[' { is_closed(text) } else { false }
+    if b == b'[' {
+        may_close && is_closed(text)
+    } else {
+        false
+    }
 }
 
 /// Whether a pattern has something that makes it more than a text: a `*`, a `?` or a bracket expression that is closed,
@@ -48,10 +54,12 @@ pub fn has_special(pattern: &[u8]) -> bool
     ensures { result ≡ has_special pattern.now }
 {
     let mut at = 0;
+    let mut may_close = true;
     'bytes: while let Some((b, rest)) = front(pattern.split_at(at).1) {
-        if is_special(b, rest) {
+        if is_special(b, rest, may_close) {
             return true;
         }
+        may_close = may_close_behind(may_close, b == b'[', rest);
         at += 1 + extra(b, rest);
     }
     false

@@ -1,5 +1,5 @@
 // Patterns against texts. The expected answers are those of dash and bash.
-use crate::{matches, prefix, suffix};
+use crate::{has_special, matches, prefix, suffix};
 use std::test::Fail;
 
 #[test]
@@ -36,6 +36,22 @@ fn matches_texts(rt: HostRuntime) -> Result<(), Fail> {
     ] {
         assert_eq!(rt; matches(pattern, text), answer);
     }
+    Ok(())
+}
+
+#[test]
+fn reads_open_brackets(rt: HostRuntime) -> Result<(), Fail> {
+    for (pattern, text, answer) in [
+        (b"[[[".as_slice(), b"[[[".as_slice(), true),
+        (b"[[*[", b"[[x[", true),
+        (b"[[\\]", b"[[]", true),
+        (b"[]][[", b"][[", true),
+        (b"[!][[a]", b"x", true),
+    ] {
+        assert_eq!(rt; matches(pattern, text), answer);
+    }
+    assert!(rt; !has_special(b"[[\\][["));
+    assert!(rt; has_special(b"[[[a]"));
     Ok(())
 }
 
