@@ -8,3 +8,6 @@ mod steps;
 
 pub use glob::{Component, Glob, Globbing};
 pub use paths::PathList;
+
+#[cfg(test)]
+mod tests;
