@@ -9,7 +9,7 @@ use rk_base::{Bytes, NoMemory};
 use rk_calls::Key;
 
 /// A number in decimal digits, put after a text.
-pub(crate) fn add_number(out: &mut Vec<u8>, n: u64) -> Result<(), NoMemory>
+pub fn add_number(out: &mut Vec<u8>, n: u64) -> Result<(), NoMemory>
     ensures { OnOk result (out.new.items ≡ out.old.items ++ decimal n) }
 {
     let digits = format!(in *out.allocator(); "{n}")?;

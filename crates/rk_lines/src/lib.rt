@@ -5,6 +5,6 @@ mod command;
 mod ran;
 mod showing;
 
-pub use command::add_command;
+pub use command::{add_command, add_number};
 pub use ran::{Why, add_launched, add_ran};
 pub use showing::shown;

@@ -1,0 +1,11 @@
+//! The texts that show a trace: its lines, and the same as JSON, byte for byte.
+#![tactic(auto)]
+
+mod json;
+#[cfg(test)]
+mod tests;
+mod trace;
+mod turns;
+
+pub use json::trace_json;
+pub use trace::{records_text, trace_text};
