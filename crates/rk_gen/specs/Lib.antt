@@ -1,0 +1,6 @@
+pub mod Draws
+pub mod Lines
+pub mod Scripts
+pub mod Start
+pub mod Edits
+pub mod Summary
