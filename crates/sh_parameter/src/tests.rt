@@ -1,7 +1,10 @@
 // Values of parameters.
-use crate::{captured, put_all, separator, text_of, value, values};
+use crate::{
+    all_removed, captured, joined, pattern_of, put_all, put_given, put_literal, separator, text_of,
+    value, values,
+};
 use rk_base::{Bytes, NoMemory, Path, WordList};
-use sh_ast::Parameter;
+use sh_ast::{Parameter, Removal};
 use sh_vars::{Env, Vars};
 use std::alloc::Global;
 use std::test::Fail;
@@ -36,35 +39,82 @@ fn shown(alloc: Global, env: &Env, parameters: &[Parameter]) -> Result<Vec<u8>, 
     Ok(out)
 }
 
+fn parameters(alloc: Global) -> Result<Vec<Parameter>, NoMemory> {
+    let mut parameters = Vec::new(alloc);
+    for digits in [b"02".as_slice(), b"99999999999999999999"] {
+        let digits = Bytes::from_slice(alloc, digits)?;
+        parameters.push(Parameter::Positional(digits))?;
+    }
+    parameters.push(Parameter::At)?;
+    parameters.push(Parameter::Count)?;
+    parameters.push(Parameter::Status)?;
+    parameters.push(Parameter::Zero)?;
+    parameters.push(Parameter::Variable(Bytes::from_slice(alloc, b"x")?))?;
+    Ok(parameters)
+}
+
 #[test]
 fn tells_values(rt: HostRuntime) -> Result<(), Fail> {
     let alloc = rt.alloc();
-    let mut env = env(alloc)?;
-    let parameters = [
-        Parameter::Positional(Bytes::from_slice(alloc, b"02")?),
-        Parameter::Positional(Bytes::from_slice(alloc, b"99999999999999999999")?),
-        Parameter::At,
-        Parameter::Count,
-        Parameter::Status,
-        Parameter::Zero,
-        Parameter::Variable(Bytes::from_slice(alloc, b"x")?),
-    ];
+    let env = env(alloc)?;
+    let parameters = parameters(alloc)?;
     let told = shown(alloc, &env, parameters.as_slice())?;
     assert_eq!(rt; told.as_slice(), b"|c|-|a b c|2|3|sh|-".as_slice());
-    let all = values(alloc, &env, &Parameter::Asterisk)?.ok_or("values")?;
-    env.vars.set(b"IFS", b":x").map_err(|_| "IFS")?;
+    Ok(())
+}
+
+// `*`, with its values joined in quotes.
+fn all_joined(alloc: Global, env: &Env) -> Result<Bytes, NoMemory> {
     let mut marks = Vec::new(alloc);
-    put_all(
-        alloc,
-        false,
-        true,
-        separator(&env),
-        all.as_slice(),
-        &mut marks,
-    )?;
-    let text = text_of(alloc, marks.as_slice())?;
+    if let Some(all) = values(alloc, env, &Parameter::Asterisk)? {
+        put_all(
+            alloc,
+            false,
+            true,
+            separator(env),
+            all.as_slice(),
+            &mut marks,
+        )?;
+    }
+    text_of(alloc, marks.as_slice())
+}
+
+#[test]
+fn joins_values(rt: HostRuntime) -> Result<(), Fail> {
+    let alloc = rt.alloc();
+    let mut env = env(alloc)?;
+    env.vars.set(b"IFS", b":x").map_err(|_| "IFS")?;
+    let text = all_joined(alloc, &env)?;
     assert_eq!(rt; text.as_slice(), b"a b:c".as_slice());
-    let text = captured(alloc, b"x\n\0y\n\n")?;
+    Ok(())
+}
+
+#[test]
+fn captures_output(rt: HostRuntime) -> Result<(), Fail> {
+    let text = captured(rt.alloc(), b"x\n\0y\n\n")?;
     assert_eq!(rt; text.as_slice(), b"x\ny".as_slice());
+    Ok(())
+}
+
+#[test]
+fn marks_patterns(rt: HostRuntime) -> Result<(), Fail> {
+    let alloc = rt.alloc();
+    let mut marks = Vec::new(alloc);
+    put_literal(b"a*", &mut marks)?;
+    put_given(true, b"*", &mut marks)?;
+    put_given(false, b"?", &mut marks)?;
+    let pattern = pattern_of(alloc, marks.as_slice())?;
+    assert_eq!(rt; pattern.as_slice(), b"a*\\*?".as_slice());
+    Ok(())
+}
+
+#[test]
+fn removes_from_each(rt: HostRuntime) -> Result<(), Fail> {
+    let alloc = rt.alloc();
+    let env = env(alloc)?;
+    let words = env.vars.positional().as_slice();
+    let left = all_removed(alloc, Removal::SmallestPrefix, b"*a", words)?;
+    let text = joined(alloc, b":", left.as_slice())?;
+    assert_eq!(rt; text.as_slice(), b" b:c".as_slice());
     Ok(())
 }
