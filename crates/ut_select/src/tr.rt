@@ -141,7 +141,7 @@ impl Tr {
         ensures { IfOk result (λ o. o ≡ tr_text self.now text.now) }
     {
         let tables = self.tables(alloc)?;
-        let mut output = Vec::new(alloc);
+        let mut output = Vec::with_capacity(alloc, text.len())?;
         self.put_all(&tables, text, &mut output)?;
         Bytes::new(alloc, output)
     }
