@@ -1,0 +1,24 @@
+// What records paid.
+ghost use Rattle.std.specs.Prelude.{◌≡◌, ◌<◌, ◌^◌};
+ghost use Rattle.rk_runs.specs.Own.{own, steps_cost};
+
+use tr_record::{Record, Step};
+
+fn steps_cost(steps: &[Step]) -> u64
+    requires { steps_cost steps.now < 2 ^ 64 }
+    ensures { result ≡ steps_cost steps.now }
+{
+    let mut total: u64 = 0;
+    for step in steps {
+        total += u64::from(step.cost);
+    }
+    total
+}
+
+/// What a command paid, in turns.
+pub(crate) fn own(rec: &Record) -> u64
+    requires { own rec.now < 2 ^ 64 }
+    ensures { result ≡ own rec.now }
+{
+    steps_cost(rec.steps.as_slice()) + u64::from(rec.exit_cost)
+}
