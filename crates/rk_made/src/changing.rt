@@ -1,0 +1,63 @@
+// A folder in memory, and what is changed of it.
+ghost use Rattle.std.specs.Prelude.{◌≡◌, IfOk, OnOk};
+ghost use Rattle.rk_folder.specs.Memory.{held_by};
+ghost use Rattle.rk_folder.specs.Told.{root_alone};
+ghost use Rattle.rk_made.specs.Changed.{changed, with_file, with_files, without_file};
+
+use rk_base::{NoMemory, Path};
+use rk_folder::{Folder, MemFolder, Standing};
+use rk_gen::{Edit, File};
+use std::alloc::Global;
+
+// A file is put where it may stand.
+fn put_file(alloc: Global, folder: &mut MemFolder, file: &File) -> Result<(), NoMemory>
+    ensures { OnOk result (held_by folder.new ≡ with_file file.now (held_by folder.old)) }
+{
+    let _ = folder.set_file(alloc, &file.path, file.bytes.as_slice())?;
+    Ok(())
+}
+
+// A file is removed if it stands.
+fn remove_file(alloc: Global, folder: &mut MemFolder, path: &Path) -> Result<(), NoMemory>
+    ensures { OnOk result (held_by folder.new ≡ without_file path.now (held_by folder.old)) }
+{
+    match folder.at(path) {
+        Some(Standing::File(_)) => {}
+        _ => return Ok(()),
+    }
+    // No call of the folder is to fail, so nothing but memory may be wanting.
+    match folder.remove_file(alloc, path) {
+        Ok(()) => Ok(()),
+        Err(_) => Err(NoMemory),
+    }
+}
+
+/// Makes an edit. What the folder doesn't allow is passed over: a file where none may stand, and the removal of one that
+/// doesn't stand.
+pub fn change(alloc: Global, folder: &mut MemFolder, edit: &Edit) -> Result<(), NoMemory>
+    ensures { OnOk result (held_by folder.new ≡ changed edit.now (held_by folder.old)) }
+{
+    match edit {
+        Edit::Write(file) => put_file(alloc, folder, file),
+        Edit::Remove(path) => remove_file(alloc, folder, path),
+        Edit::Nothing => Ok(()),
+    }
+}
+
+fn put_files(alloc: Global, folder: &mut MemFolder, files: &[File]) -> Result<(), NoMemory>
+    ensures { OnOk result (held_by folder.new ≡ with_files files.now (held_by folder.old)) }
+{
+    for file in files {
+        put_file(alloc, folder, file)?;
+    }
+    Ok(())
+}
+
+/// A folder of these files.
+pub fn start_folder(alloc: Global, files: &[File]) -> Result<MemFolder, NoMemory>
+    ensures { IfOk result (λ folder. held_by folder ≡ with_files files.now root_alone) }
+{
+    let mut folder = MemFolder::new(alloc)?;
+    put_files(alloc, &mut folder, files)?;
+    Ok(folder)
+}
