@@ -1,0 +1,56 @@
+// The records, checked.
+ghost use Rattle.std.specs.Prelude.{◌≡◌, true, IfErr, IfOk};
+ghost use Rattle.rk_database.specs.Answers.{Checks, IsNoFault, ReadsCounted, Shows, WritesCounted};
+ghost use Rattle.rk_database.specs.Texts.{IsChecked, NoCheck, StartsRecords};
+
+use crate::database::{database, table_of};
+use crate::output::{put, say_none};
+use crate::stop::{Said, Stop};
+use rk_base::Bytes;
+use rk_calls::Maker;
+use rk_check::{CheckErr, check_with};
+use rk_folder::{Folder, Sink};
+use rk_show::records_text;
+use std::alloc::Global;
+
+// How many records a database's bytes spell, where each of them is spoken.
+fn text_of<M: Maker>(alloc: Global, maker: &mut M, db: &[u8]) -> Result<Bytes, Stop>
+    ensures checked { IfOk result (λ text. IsChecked M.first db.now text) }
+    ensures refused { IfErr result (NoCheck M.first db.now) }
+    ensures starts { StartsRecords db.now (M.starts maker.old) (M.starts maker.new) result }
+{
+    let table = table_of(alloc, db)?;
+    match check_with(maker, &table) {
+        Ok(()) => Ok(records_text(alloc, table.len() as u64)?),
+        Err(CheckErr::Forged { rec, step }) => Err(Stop::Forged { rec, step }),
+        Err(CheckErr::NoMemory) => Err(Stop::NoMemory),
+    }
+}
+
+/// Checks every record of the folder's database by the machines of a maker, and puts `records R` on the output where each is
+/// spoken; or `no trace` where there is no database.
+///
+/// The folder stays as it is, and only `.rkr` and its state files are looked at.
+pub fn check<M: Maker, F: Folder, O: Sink>(
+    alloc: Global,
+    maker: &mut M,
+    folder: &mut F,
+    out: &mut O,
+) -> Result<Said, Stop>
+    ensures shows { Shows (IsChecked M.first) (NoCheck M.first) (F.told folder.old) (O.so_far out.old) (O.so_far out.new) result }
+    ensures held { F.told folder.new ≡ F.told folder.old }
+    ensures starts { Checks (F.told folder.old) (M.starts maker.old) (M.starts maker.new) result }
+    ensures reads { ReadsCounted (F.read_faults folder.old) (F.read_faults folder.new) result }
+    ensures writes { F.write_faults folder.new ≡ F.write_faults folder.old }
+    ensures puts { WritesCounted (O.faults out.old) (O.faults out.new) result }
+    ensures steady { F.steady folder.old ≡ true → O.steady out.old ≡ true → IsNoFault result }
+{
+    match database(alloc, folder)? {
+        None => say_none(out),
+        Some(db) => {
+            let text = text_of(alloc, maker, db.as_slice())?;
+            put(out, &text)?;
+            Ok(Said::Done)
+        }
+    }
+}

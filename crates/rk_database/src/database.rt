@@ -1,0 +1,43 @@
+// The database of a folder.
+ghost use Rattle.std.specs.Prelude.{◌≡◌, IfErr, IfOk, true};
+ghost use Rattle.rk_database.specs.Answers.{FindsDb, IsNoFault, ReadsCounted};
+ghost use Rattle.rk_database.specs.Texts.{NoTrace, Spells};
+
+use crate::stop::Stop;
+use rk_base::Bytes;
+use rk_folder::{Folder, Hidden, ImportErr, State, state};
+use std::alloc::Global;
+use tr_codec::{CodecErr, read_db};
+use tr_record::Table;
+
+/// The bytes of the database; nothing where it doesn't stand. Only `.rkr` and its state files are looked at.
+pub(crate) fn database<F: Folder>(alloc: Global, folder: &mut F) -> Result<Option<Bytes>, Stop>
+    ensures finds { FindsDb (F.told folder.old) result }
+    ensures held { F.told folder.new ≡ F.told folder.old }
+    ensures reads { ReadsCounted (F.read_faults folder.old) (F.read_faults folder.new) result }
+    ensures writes { F.write_faults folder.new ≡ F.write_faults folder.old }
+    ensures steady { F.steady folder.new ≡ F.steady folder.old }
+    ensures no_fault { F.steady folder.old ≡ true → IsNoFault result }
+{
+    match state(alloc, folder) {
+        Ok(Hidden { state, .. }) => {
+            let State { db, .. } = state;
+            Ok(db)
+        }
+        Err(ImportErr::Special(path)) => Err(Stop::Special(path)),
+        Err(ImportErr::ReadFault) => Err(Stop::ReadFault),
+        Err(ImportErr::NoMemory) => Err(Stop::NoMemory),
+    }
+}
+
+/// The records that a database's bytes spell.
+pub(crate) fn table_of(alloc: Global, db: &[u8]) -> Result<Table, Stop>
+    ensures spelt { IfOk result (λ table. Spells db.now table) }
+    ensures refused { IfErr result (NoTrace db.now) }
+{
+    match read_db(alloc, db) {
+        Ok(table) => Ok(table),
+        Err(CodecErr::Damaged(damage)) => Err(Stop::Damaged(damage)),
+        Err(CodecErr::NoMemory) => Err(Stop::NoMemory),
+    }
+}

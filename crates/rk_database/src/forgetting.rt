@@ -1,0 +1,49 @@
+// The database, removed.
+ghost use Rattle.std.specs.Prelude.{◌≡◌, true, IfOk};
+ghost use Rattle.rk_folder.specs.Hidden as paths;
+ghost use Rattle.rk_database.specs.Answers.{EitherCounted, Forgets, IsNoFault, ReadsCounted, SaysNone};
+
+use crate::database::database;
+use crate::output::say_none;
+use crate::stop::{Said, Stop};
+use rk_base::{NoMemory, Path};
+use rk_folder::{Folder, FolderErr, Sink};
+use std::alloc::Global;
+
+fn path_of(alloc: Global, text: &[u8]) -> Result<Path, NoMemory>
+    ensures { IfOk result (λ path. path ≡ text.now) }
+{
+    match Path::parse(alloc, text) {
+        Ok(path) => Ok(path),
+        Err(_) => Err(NoMemory),
+    }
+}
+
+fn db_file(alloc: Global) -> Result<Path, NoMemory>
+    ensures { IfOk result (λ path. path ≡ paths.db_file) }
+{
+    let path = path_of(alloc, b"/.rkr/db")?;
+    Ok(path)
+}
+
+/// Removes the folder's database, which isn't decoded, and leaves all else; or puts `no trace` on the output where there is
+/// no database. Only `.rkr` and its state files are looked at.
+pub fn forget<F: Folder, O: Sink>(alloc: Global, folder: &mut F, out: &mut O) -> Result<Said, Stop>
+    ensures folder { Forgets (F.told folder.old) (F.told folder.new) result }
+    ensures output { SaysNone (O.so_far out.old) (O.so_far out.new) result }
+    ensures reads { ReadsCounted (F.read_faults folder.old) (F.read_faults folder.new) result }
+    ensures writes { EitherCounted (F.write_faults folder.old) (F.write_faults folder.new) (O.faults out.old) (O.faults out.new) result }
+    ensures steady { F.steady folder.old ≡ true → O.steady out.old ≡ true → IsNoFault result }
+{
+    match database(alloc, folder)? {
+        None => say_none(out),
+        Some(_) => {
+            let file = db_file(alloc)?;
+            match folder.remove_file(alloc, &file) {
+                Ok(()) => Ok(Said::Done),
+                Err(FolderErr::Failed) => Err(Stop::WriteFault),
+                Err(FolderErr::NoMemory) => Err(Stop::NoMemory),
+            }
+        }
+    }
+}

@@ -1,0 +1,63 @@
+// The records, shown.
+ghost use Rattle.std.specs.Prelude.{◌≡◌, true, IfErr, IfOk};
+ghost use Rattle.std.specs.List.{AllByRecursion};
+ghost use Rattle.rk_show.specs.Traces.{IsCounted};
+ghost use Rattle.rk_database.specs.Answers.{IsNoFault, ReadsCounted, Shows, WritesCounted};
+ghost use Rattle.rk_database.specs.Texts.{IsTrace, NoTrace, shown_text};
+
+use crate::database::{database, table_of};
+use crate::output::{put, say_none};
+use crate::stop::{Said, Stop};
+use rk_base::{Bytes, NoMemory};
+use rk_folder::{Folder, Sink};
+use rk_show::{trace_json, trace_text};
+use std::alloc::Global;
+use tr_record::Table;
+
+// The records of a database, as JSON or as lines.
+fn shown(alloc: Global, table: &Table, db: &[u8], json: bool) -> Result<Bytes, NoMemory>
+    requires { AllByRecursion IsCounted table.now }
+    ensures { IfOk result (λ text. text ≡ shown_text json table.now db.now) }
+{
+    if json {
+        trace_json(alloc, table.as_slice())
+    } else {
+        trace_text(alloc, table.as_slice(), db)
+    }
+}
+
+// The text that shows the records which a database's bytes spell.
+fn text_of(alloc: Global, db: &[u8], json: bool) -> Result<Bytes, Stop>
+    ensures shown { IfOk result (λ text. IsTrace json db.now text) }
+    ensures refused { IfErr result (NoTrace db.now) }
+{
+    let table = table_of(alloc, db)?;
+    let text = shown(alloc, &table, db, json)?;
+    Ok(text)
+}
+
+/// Puts the records of the folder's database on the output, as lines or as JSON; or `no trace` where there is no database.
+///
+/// The folder stays as it is, and only `.rkr` and its state files are looked at.
+pub fn trace<F: Folder, O: Sink>(
+    alloc: Global,
+    folder: &mut F,
+    out: &mut O,
+    json: bool,
+) -> Result<Said, Stop>
+    ensures shows { Shows (IsTrace json) NoTrace (F.told folder.old) (O.so_far out.old) (O.so_far out.new) result }
+    ensures held { F.told folder.new ≡ F.told folder.old }
+    ensures reads { ReadsCounted (F.read_faults folder.old) (F.read_faults folder.new) result }
+    ensures writes { F.write_faults folder.new ≡ F.write_faults folder.old }
+    ensures puts { WritesCounted (O.faults out.old) (O.faults out.new) result }
+    ensures steady { F.steady folder.old ≡ true → O.steady out.old ≡ true → IsNoFault result }
+{
+    match database(alloc, folder)? {
+        None => say_none(out),
+        Some(db) => {
+            let text = text_of(alloc, db.as_slice(), json)?;
+            put(out, &text)?;
+            Ok(Said::Done)
+        }
+    }
+}
