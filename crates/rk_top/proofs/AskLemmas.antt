@@ -1,9 +1,10 @@
 -- What is so of the request that words are.
 use Rattle.std.proofs.Common.{◌≡◌, List, Option, Some, None, IfSome, sym, subst}
 use Rattle.rk_base.specs.Text.{Text}
-use Rattle.rk_words.specs.Asked.{request_of}
+use Rattle.rk_words.specs.Asked.{IfBuild, IfQuery, request_of}
+use Rattle.rk_words.specs.declared.requests.Request.TheVariants.{Build, Check, Trace, Forget}
 use Rattle.rk_words.specs.declared.requests.Request.{Request}
-use Rattle.rk_top.specs.Asks.{Asks}
+use Rattle.rk_top.specs.Asks.{Asks, AsksBuild, AsksQuery}
 
 pub asks : (words : List Text) (P : Request → Type 0) (request : Request) → request_of words ≡ Some request → P request → Asks words P
 asks words P request asked h = subst (λ (o : Option Request). IfSome o P) (sym asked) h
@@ -27,3 +28,50 @@ both (Some request) P Q f h = f request h
 -- what follows from what is so
 pub asks-then : (words : List Text) (P Q : Request → Type 0) → ((request : Request) → P request → Q request) → Asks words P → Asks words Q
 asks-then words P Q f h = both (request_of words) P Q f h
+
+-- Of a build alone, and of a request of the database alone.
+
+pub if-build : (request : Request) (P : Type 0) → P → IfBuild request P
+if-build (Build steps explain fresh check) P p = p
+if-build Check P p = tt
+if-build (Trace json) P p = tt
+if-build Forget P p = tt
+
+pub if-query : (request : Request) (P : Type 0) → P → IfQuery request P
+if-query (Build steps explain fresh check) P p = tt
+if-query Check P p = p
+if-query (Trace json) P p = p
+if-query Forget P p = p
+
+pub build-then : (request : Request) (P Q : Type 0) → (P → Q) → IfBuild request P → IfBuild request Q
+build-then (Build steps explain fresh check) P Q f h = f h
+build-then Check P Q f h = tt
+build-then (Trace json) P Q f h = tt
+build-then Forget P Q f h = tt
+
+pub query-then : (request : Request) (P Q : Type 0) → (P → Q) → IfQuery request P → IfQuery request Q
+query-then (Build steps explain fresh check) P Q f h = tt
+query-then Check P Q f h = f h
+query-then (Trace json) P Q f h = f h
+query-then Forget P Q f h = f h
+
+-- what follows from what is so
+pub builds-then : (words : List Text) (P Q : Request → Type 0) → ((request : Request) → P request → Q request) → AsksBuild words P → AsksBuild words Q
+builds-then words P Q f h = asks-then words (λ r. IfBuild r (P r)) (λ r. IfBuild r (Q r)) (λ r p. build-then r (P r) (Q r) (f r) p) h
+
+pub queries-then : (words : List Text) (P Q : Request → Type 0) → ((request : Request) → P request → Q request) → AsksQuery words P → AsksQuery words Q
+queries-then words P Q f h = asks-then words (λ r. IfQuery r (P r)) (λ r. IfQuery r (Q r)) (λ r p. query-then r (P r) (Q r) (f r) p) h
+
+-- whatever the request is
+pub builds-any : (words : List Text) (P : Request → Type 0) → ((request : Request) → P request) → AsksBuild words P
+builds-any words P h = asks-any words (λ r. IfBuild r (P r)) (λ r. if-build r (P r) (h r))
+
+pub queries-any : (words : List Text) (P : Request → Type 0) → ((request : Request) → P request) → AsksQuery words P
+queries-any words P h = asks-any words (λ r. IfQuery r (P r)) (λ r. if-query r (P r) (h r))
+
+-- nothing is said of a build where the request is none
+pub no-build : (request it : Request) (P : Type 0) → request ≡ it → IfBuild it P → IfBuild request P
+no-build request it P same h = subst (λ (r : Request). IfBuild r P) (sym same) h
+
+pub a-query : (request it : Request) (P : Type 0) → request ≡ it → IfQuery it P → IfQuery request P
+a-query request it P same h = subst (λ (r : Request). IfQuery r P) (sym same) h

@@ -17,16 +17,17 @@ use Rattle.rk_kernel.specs.World.{World}
 use Rattle.rk_replay.specs.declared.ran.Ran.{Ran}
 use Rattle.rk_runs.specs.Run.{Outcome as Run}
 use Rattle.rk_runs.specs.Spoken.{AreSpoken}
-use Rattle.rk_words.specs.Asked.{turns}
+use Rattle.rk_words.specs.Asked.{turns, is_fresh}
 use Rattle.rk_words.specs.declared.requests.Request.{Request}
-use Rattle.rk_top.specs.Outcomes.{outcome_of_stop, IfSpecial, IfDamaged, IfForged, EndsSo, EndsWith, HasStatus, Tallies, IsLeft, Leaves, FolderCounts, PartlyInstalled, Halts, Gains, HaltsErrors, GainsErrors, Counts, Counted, ErrorsCounted, Ticked}
+use Rattle.rk_top.specs.Outcomes.{Checked, outcome_of_stop, IfSpecial, IfDamaged, IfForged, EndsSo, EndsWith, HasStatus, Tallies, IsLeft, Leaves, FolderCounts, PartlyInstalled, Halts, Gains, HaltsErrors, GainsErrors, Counts, Counted, ErrorsCounted, Ticked}
 use Rattle.rk_top.specs.Stages.{PreparesSo, IsPrepared, ReadsCounted, WritesCounted, MemoryRose, InstallsSo}
 use Rattle.rk_top.specs.Telling.{SinkState, IsPut, IsCut, PutsLine, PutsErrors}
 use Rattle.rk_top.specs.Texts.{Front, PutSo, BothCounted, MemoryCounted}
-use Rattle.rk_top.specs.Run.{fresh_run, IsForged}
+use Rattle.rk_top.specs.Checks.{TellsForged}
+use Rattle.rk_top.specs.Run.{fresh_run}
 use Rattle.rk_top.specs.Fresh.{RunText, output_of, error_text_of}
 use Rattle.rk_top.specs.Explained.{explanation}
-use Rattle.rk_top.specs.Kept.{Keeping, IsDamaged, state_in}
+use Rattle.rk_top.specs.Kept.{Keeping, IsDamaged, state_in, decoded}
 use Rattle.rk_top.specs.declared.stop.Refusal.TheVariants as refusal
 use Rattle.rk_top.specs.declared.outcome.Outcome.{Outcome}
 use Rattle.rk_top.specs.declared.outcome.Outcome.TheVariants as out
@@ -81,7 +82,7 @@ prepare-errors first request told old new before now stop.NoMemory p same = inl 
 pub prepare-ticked : (first : KeyValue → Says) (request : Request) (told : Option Held) (before now : ℕ) (e : Stop) → PreparesSo first request told before now (Err e) → Ticked request before now (outcome_of_stop e)
 prepare-ticked first request told before now (stop.Refused (refusal.Special path)) p = p.1
 prepare-ticked first request told before now (stop.Refused (refusal.Damaged file damage)) p = p.1
-prepare-ticked first request told before now (stop.Forged rec step) p = p.1
+prepare-ticked first request told before now (stop.Forged rec step) p = (p.1, p.2)
 prepare-ticked first request told before now stop.Spent p = p.1
 prepare-ticked first request told before now stop.ReadFault p = p
 prepare-ticked first request told before now stop.WriteFault p = absurd p
@@ -100,6 +101,7 @@ prepare-counted first request told before now b n stop.NoMemory p r w o x = coun
 pub unput-errors : (s : SinkState) (o : Outcome) → ErrorsCounted s s o
 unput-errors s (out.Ended status launched ran) = (refl, refl)
 unput-errors s out.Usage = (refl, refl)
+unput-errors s (out.Said status) = (refl, refl)
 unput-errors s (out.Special path) = (refl, refl)
 unput-errors s (out.Damaged file damage) = (refl, refl)
 unput-errors s (out.Forged rec step) = (refl, refl)
@@ -120,7 +122,7 @@ put-leaves first request told new b n text o m stop.NoMemory p same = inl same
 
 -- of the text that the run has over spoken records
 abbrev pub IsTextOf : (KeyValue → Says) → Request → RunText → Option Held → Text → Type 0
-IsTextOf first request text told it = IfSome told (λ held. Keeping held (λ entries kept. AreSpoken first kept → it ≡ text request kept (fresh_run first request entries)))
+IsTextOf first request text told it = IfSome told (λ held. Keeping (is_fresh request) held (λ entries kept. AreSpoken first kept → it ≡ text request kept (fresh_run first request entries)))
 
 pub output-told : (first : KeyValue → Says) (request : Request) (told : Option Held) (before now : ℕ) (p : Prepared) → IfSome told (λ held. IsPrepared first request held before now p) → IsTextOf first request output_of told p.finished.world.out
 output-told first request None before now p is = tt
@@ -196,7 +198,7 @@ left : (first : KeyValue → Says) (request : Request) (held : Held) (before now
 left first request held before now p is spoken =
     subst (λ (r : Run World). IsLeft r p.finished.world p.finished.table) (sym (is.run.ends spoken).1) (refl, refl)
 
-partly : (first : KeyValue → Says) (request : Request) (told new : Option Held) (before now : ℕ) (p : Prepared) (e : InstallErr) → IfSome told (λ held. IsPrepared first request held before now p) → Partly p.plan told new e → IfSome told (λ held. Keeping held (λ entries old. PartlyInstalled first request entries old held new e))
+partly : (first : KeyValue → Says) (request : Request) (told new : Option Held) (before now : ℕ) (p : Prepared) (e : InstallErr) → IfSome told (λ held. IsPrepared first request held before now p) → Partly p.plan told new e → IfSome told (λ held. Keeping (is_fresh request) held (λ entries old. PartlyInstalled first request entries old held new e))
 partly first request None new before now p e is part = tt
 partly first request (Some held) new before now p e is part = record {
   plain = is.plain;
@@ -283,6 +285,11 @@ end-status first request None before now p is = tt
 end-status first request (Some held) before now p is =
     record { plain = is.plain; rows = is.rows; old = is.old; kept = is.kept; so = λ spoken. subst (λ (r : Run World). EndsWith r p.finished.status) (sym (is.run.ends spoken).1) refl }
 
+-- where every record was to be checked, each is spoken
+pub end-checked : (first : KeyValue → Says) (request : Request) (told : Option Held) (before now : ℕ) (p : Prepared) → IfSome told (λ held. IsPrepared first request held before now p) → Checked first request told
+end-checked first request None before now p is = tt
+end-checked first request (Some held) before now p is = record { plain = is.plain; rows = is.rows; old = is.old; kept = is.kept; so = is.checked }
+
 pub end-tally : (first : KeyValue → Says) (request : Request) (told new : Option Held) (before now : ℕ) (p : Prepared) (launched : ℕ) → IfSome told (λ held. IsPrepared first request held before now p) → new ≡ option_map (after_all p.plan) told → launched ≡ length p.finished.table → Tallies first request told new before now launched (length p.finished.ran)
 end-tally first request None new before now p launched is same number = tt
 end-tally first request (Some held) new before now p launched is same number = record {
@@ -317,6 +324,7 @@ pub special-first : (first : KeyValue → Says) (request : Request) (told new : 
 special-first first request told new b n (out.Special path) l = l.1
 special-first first request told new b n (out.Ended status launched ran) l = tt
 special-first first request told new b n out.Usage l = tt
+special-first first request told new b n (out.Said status) l = tt
 special-first first request told new b n (out.Damaged file damage) l = tt
 special-first first request told new b n out.Spent l = tt
 special-first first request told new b n (out.Forged rec step) l = tt
@@ -324,10 +332,11 @@ special-first first request told new b n out.ReadFault l = tt
 special-first first request told new b n out.WriteFault l = tt
 special-first first request told new b n out.NoMemory l = tt
 
-pub damaged-first : (first : KeyValue → Says) (request : Request) (told new : Option Held) (b n : FolderCounts) (outcome : Outcome) → Leaves first request told new b n outcome → IfDamaged outcome (λ file damage. IfSome told (λ held. (first_special held ≡ None) × IsDamaged (state_in held) file damage))
+pub damaged-first : (first : KeyValue → Says) (request : Request) (told new : Option Held) (b n : FolderCounts) (outcome : Outcome) → Leaves first request told new b n outcome → IfDamaged outcome (λ file damage. IfSome told (λ held. (first_special held ≡ None) × IsDamaged (decoded (is_fresh request) (state_in held)) file damage))
 damaged-first first request told new b n (out.Damaged file damage) l = l.1
 damaged-first first request told new b n (out.Ended status launched ran) l = tt
 damaged-first first request told new b n out.Usage l = tt
+damaged-first first request told new b n (out.Said status) l = tt
 damaged-first first request told new b n (out.Special path) l = tt
 damaged-first first request told new b n out.Spent l = tt
 damaged-first first request told new b n (out.Forged rec step) l = tt
@@ -335,10 +344,11 @@ damaged-first first request told new b n out.ReadFault l = tt
 damaged-first first request told new b n out.WriteFault l = tt
 damaged-first first request told new b n out.NoMemory l = tt
 
-pub forged-so : (first : KeyValue → Says) (request : Request) (told new : Option Held) (b n : FolderCounts) (outcome : Outcome) → Leaves first request told new b n outcome → IfForged outcome (λ rec step. IfSome told (λ held. Keeping held (λ entries old. IsForged first old rec step)))
+pub forged-so : (first : KeyValue → Says) (request : Request) (told new : Option Held) (b n : FolderCounts) (outcome : Outcome) → Leaves first request told new b n outcome → IfForged outcome (λ rec step. IfSome told (λ held. Keeping (is_fresh request) held (λ entries old. TellsForged first request old rec step)))
 forged-so first request told new b n (out.Forged rec step) l = l.1
 forged-so first request told new b n (out.Ended status launched ran) l = tt
 forged-so first request told new b n out.Usage l = tt
+forged-so first request told new b n (out.Said status) l = tt
 forged-so first request told new b n (out.Special path) l = tt
 forged-so first request told new b n (out.Damaged file damage) l = tt
 forged-so first request told new b n out.Spent l = tt

@@ -10,3 +10,5 @@ pub mod SessionLemmas
 pub mod SettledLemmas
 pub mod TellLemmas
 pub mod TextsLemmas
+pub mod CheckLemmas
+pub mod QueryLemmas

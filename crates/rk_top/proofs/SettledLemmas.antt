@@ -18,9 +18,11 @@ use Rattle.rk_folder.specs.Attributes.{with_rows}
 use Rattle.rk_folder.specs.Import.{snapshot_of}
 use Rattle.rk_runs.specs.Spoken.{AreSpoken}
 use Rattle.rk_tree.specs.Entries.{Entries}
+use Rattle.rk_words.specs.Asked.{is_fresh}
 use Rattle.rk_words.specs.declared.requests.Request.{Request}
-use Rattle.rk_top.specs.Kept.{AreRows, IsTable, IsKept, IsDamagedAttrs, IsDamagedDb, IsDamaged, state_in, Keeping, Refuses}
-use Rattle.rk_top.specs.Run.{fresh_run, IsForged}
+use Rattle.rk_top.specs.Kept.{AreRows, IsTable, IsKept, IsDamagedAttrs, IsDamagedDb, IsDamaged, state_in, Keeping, Refuses, decoded}
+use Rattle.rk_top.specs.Checks.{IsForged, TellsForged}
+use Rattle.rk_top.specs.Run.{fresh_run}
 use Rattle.rk_top.specs.Outcomes.{EndsWith, HasStatus, IfEnded, Leaves, FolderCounts, Counts, Counted, Settles, outcome_of_refusal}
 use Rattle.rk_top.specs.Laws.{IsOr, Answers, KeepsSpoken}
 use Rattle.rk_top.specs.declared.outcome.StateFile.{StateFile}
@@ -47,9 +49,9 @@ kept-clash state rows table file.Db d k h = db-clash state.db table d k.1 h.1
 none-some : (o : Option Text) (path : Text) → o ≡ None → o ≡ Some path → ⊥
 none-some o path none some = cc
 
-refused-kept : (held : Held) (r : Refusal) (P : Entries → List Record → Type 0) → Refuses held r → Keeping held P → ⊥
-refused-kept held (refusal.Special path) P r k = none-some _ path k.plain r
-refused-kept held (refusal.Damaged f d) P r k = kept-clash (state_in held) k.rows k.old f d k.kept r.1
+refused-kept : (request : Request) (held : Held) (r : Refusal) (P : Entries → List Record → Type 0) → Refuses (is_fresh request) held r → Keeping (is_fresh request) held P → ⊥
+refused-kept request held (refusal.Special path) P r k = none-some _ path k.plain r
+refused-kept request held (refusal.Damaged f d) P r k = kept-clash (decoded (is_fresh request) (state_in held)) k.rows k.old f d k.kept r.1
 
 -- A file has one damage.
 
@@ -84,19 +86,20 @@ damaged-one state file.Db file.Db a b h g = ap (out.Damaged file.Db) (sym (db-on
 one-path : (o : Option Text) (p q : Text) → o ≡ Some p → o ≡ Some q → out.Special q ≡ out.Special p
 one-path o p q h g = cc
 
-refused-one : (held : Held) (r s : Refusal) → Refuses held r → Refuses held s → outcome_of_refusal s ≡ outcome_of_refusal r
-refused-one held (refusal.Special p) (refusal.Special q) h g = one-path _ p q h g
-refused-one held (refusal.Special p) (refusal.Damaged f d) h g = absurd (none-some _ p g.0 h)
-refused-one held (refusal.Damaged f d) (refusal.Special p) h g = absurd (none-some _ p h.0 g)
-refused-one held (refusal.Damaged f a) (refusal.Damaged g b) h k = damaged-one (state_in held) f g a b h.1 k.1
+refused-one : (request : Request) (held : Held) (r s : Refusal) → Refuses (is_fresh request) held r → Refuses (is_fresh request) held s → outcome_of_refusal s ≡ outcome_of_refusal r
+refused-one request held (refusal.Special p) (refusal.Special q) h g = one-path _ p q h g
+refused-one request held (refusal.Special p) (refusal.Damaged f d) h g = absurd (none-some _ p g.0 h)
+refused-one request held (refusal.Damaged f d) (refusal.Special p) h g = absurd (none-some _ p h.0 g)
+refused-one request held (refusal.Damaged f a) (refusal.Damaged g b) h k = damaged-one (decoded (is_fresh request) (state_in held)) f g a b h.1 k.1
 
-pub refused-settle : (first : KeyValue → Says) (request : Request) (held : Held) (r : Refusal) (outcome : Outcome) → Refuses held r → Settles first request held outcome → IsOr (outcome_of_refusal r) outcome
-refused-settle first request held r (out.Ended status launched ran) h s = absurd (refused-kept held r _ h s)
+pub refused-settle : (first : KeyValue → Says) (request : Request) (held : Held) (r : Refusal) (outcome : Outcome) → Refuses (is_fresh request) held r → Settles first request held outcome → IsOr (outcome_of_refusal r) outcome
+refused-settle first request held r (out.Ended status launched ran) h s = absurd (refused-kept request held r _ h s)
 refused-settle first request held r out.Usage h s = absurd s
-refused-settle first request held r (out.Special path) h s = inl (refused-one held r (refusal.Special path) h s)
-refused-settle first request held r (out.Damaged f d) h s = inl (refused-one held r (refusal.Damaged f d) h s)
-refused-settle first request held r (out.Forged rec step) h s = absurd (refused-kept held r _ h s)
-refused-settle first request held r out.Spent h s = absurd (refused-kept held r _ h s)
+refused-settle first request held r (out.Said status) h s = absurd s
+refused-settle first request held r (out.Special path) h s = inl (refused-one request held r (refusal.Special path) h s)
+refused-settle first request held r (out.Damaged f d) h s = inl (refused-one request held r (refusal.Damaged f d) h s)
+refused-settle first request held r (out.Forged rec step) h s = absurd (refused-kept request held r _ h s)
+refused-settle first request held r out.Spent h s = absurd (refused-kept request held r _ h s)
 refused-settle first request held r out.ReadFault h s = absurd s
 refused-settle first request held r out.WriteFault h s = absurd s
 refused-settle first request held r out.NoMemory h s = inr refl
@@ -126,21 +129,22 @@ no_memory (Done world exit left table) = tt
 no_memory Spent = tt
 
 -- what is so of what a folder keeps is so of its entries and its records
-same-kept : (first : KeyValue → Says) (held : Held) (it : Entries) (P : Entries → List Record → Type 0) (k : KeepsSpoken first held it) → Keeping held P → P it k.old
-same-kept first held it P k s =
-    let table : s.old ≡ k.old = one-table (state_in held).db s.old k.old s.kept.1 k.kept.1 in
-    let rows : s.rows ≡ k.rows = one-rows (state_in held).attrs s.rows k.rows s.kept.0 k.kept.0 in
+same-kept : (first : KeyValue → Says) (request : Request) (held : Held) (it : Entries) (P : Entries → List Record → Type 0) (k : KeepsSpoken first request held it) → Keeping (is_fresh request) held P → P it k.old
+same-kept first request held it P k s =
+    let table : s.old ≡ k.old = one-table (decoded (is_fresh request) (state_in held)).db s.old k.old s.kept.1 k.kept.1 in
+    let rows : s.rows ≡ k.rows = one-rows (decoded (is_fresh request) (state_in held)).attrs s.rows k.rows s.kept.0 k.kept.0 in
     let entries : with_rows (snapshot_of held) s.rows ≡ it = ap (with_rows (snapshot_of held)) rows ∙ k.so.0 in
     subst (λ (e : Entries). P e k.old) entries (subst (λ (t : List Record). P (with_rows (snapshot_of held) s.rows) t) table s.so)
 
-pub spoken-settle : (first : KeyValue → Says) (request : Request) (held : Held) (it : Entries) (outcome : Outcome) → KeepsSpoken first held it → Settles first request held outcome → Answers (fresh_run first request it) outcome
+pub spoken-settle : (first : KeyValue → Says) (request : Request) (held : Held) (it : Entries) (outcome : Outcome) → KeepsSpoken first request held it → Settles first request held outcome → Answers (fresh_run first request it) outcome
 spoken-settle first request held it (out.Ended status launched ran) k s =
-    ends-with (fresh_run first request it) status launched ran (same-kept first held it (λ entries old. AreSpoken first old → EndsWith (fresh_run first request entries) status) k s k.so.1)
+    ends-with (fresh_run first request it) status launched ran (same-kept first request held it (λ entries old. AreSpoken first old → EndsWith (fresh_run first request entries) status) k s k.so.1)
 spoken-settle first request held it out.Usage k s = absurd s
-spoken-settle first request held it (out.Special path) k s = absurd (refused-kept held (refusal.Special path) (λ entries old. (entries ≡ it) × AreSpoken first old) s k)
-spoken-settle first request held it (out.Damaged f d) k s = absurd (refused-kept held (refusal.Damaged f d) (λ entries old. (entries ≡ it) × AreSpoken first old) s k)
-spoken-settle first request held it (out.Forged rec step) k s = absurd (forged-clash first k.old rec step k.so.1 (same-kept first held it (λ entries old. IsForged first old rec step) k s))
-spoken-settle first request held it out.Spent k s = spent-answers (fresh_run first request it) (same-kept first held it (λ entries old. AreSpoken first old × (fresh_run first request entries ≡ Spent)) k s).1
+spoken-settle first request held it (out.Said status) k s = absurd s
+spoken-settle first request held it (out.Special path) k s = absurd (refused-kept request held (refusal.Special path) (λ entries old. (entries ≡ it) × AreSpoken first old) s k)
+spoken-settle first request held it (out.Damaged f d) k s = absurd (refused-kept request held (refusal.Damaged f d) (λ entries old. (entries ≡ it) × AreSpoken first old) s k)
+spoken-settle first request held it (out.Forged rec step) k s = absurd (forged-clash first k.old rec step k.so.1 (same-kept first request held it (λ entries old. TellsForged first request old rec step) k s).wrong)
+spoken-settle first request held it out.Spent k s = spent-answers (fresh_run first request it) (same-kept first request held it (λ entries old. AreSpoken first old × (fresh_run first request entries ≡ Spent)) k s).1
 spoken-settle first request held it out.ReadFault k s = absurd s
 spoken-settle first request held it out.WriteFault k s = absurd s
 spoken-settle first request held it out.NoMemory k s = no_memory (fresh_run first request it)
@@ -154,10 +158,11 @@ pub settles : (first : KeyValue → Says) (request : Request) (told new : Option
     → Still c.reads d.reads → Still c.writes d.writes → Still c.puts d.puts → Still c.error_puts d.error_puts → Settles first request held outcome
 settles first request told new b n c d (out.Ended status launched ran) held l s counted asked is r w o x = subst (λ (t : Option Held). HasStatus first request t status) is s
 settles first request told new b n c d out.Usage held l s counted asked is r w o x = absurd (asked refl)
-settles first request told new b n c d (out.Special path) held l s counted asked is r w o x = subst (λ (t : Option Held). IfSome t (λ held. Refuses held (refusal.Special path))) is l.1
-settles first request told new b n c d (out.Damaged f damage) held l s counted asked is r w o x = subst (λ (t : Option Held). IfSome t (λ held. Refuses held (refusal.Damaged f damage))) is l.1
-settles first request told new b n c d (out.Forged rec step) held l s counted asked is r w o x = subst (λ (t : Option Held). IfSome t (λ held. Keeping held (λ entries old. IsForged first old rec step))) is l.1
-settles first request told new b n c d out.Spent held l s counted asked is r w o x = subst (λ (t : Option Held). IfSome t (λ held. Keeping held (λ entries old. AreSpoken first old × (fresh_run first request entries ≡ Spent)))) is l.1
+settles first request told new b n c d (out.Said status) held l s counted asked is r w o x = absurd l
+settles first request told new b n c d (out.Special path) held l s counted asked is r w o x = subst (λ (t : Option Held). IfSome t (λ held. Refuses (is_fresh request) held (refusal.Special path))) is l.1
+settles first request told new b n c d (out.Damaged f damage) held l s counted asked is r w o x = subst (λ (t : Option Held). IfSome t (λ held. Refuses (is_fresh request) held (refusal.Damaged f damage))) is l.1
+settles first request told new b n c d (out.Forged rec step) held l s counted asked is r w o x = subst (λ (t : Option Held). IfSome t (λ held. Keeping (is_fresh request) held (λ entries old. TellsForged first request old rec step))) is l.1
+settles first request told new b n c d out.Spent held l s counted asked is r w o x = subst (λ (t : Option Held). IfSome t (λ held. Keeping (is_fresh request) held (λ entries old. AreSpoken first old × (fresh_run first request entries ≡ Spent)))) is l.1
 settles first request told new b n c d out.ReadFault held l s counted asked is r w o x = absurd (never-rose c.reads d.reads counted.0 r)
 settles first request told new b n c d out.WriteFault held l s counted asked is r w o x = absurd (elim counted.1 [
   | inl writes ↦ never-rose c.writes d.writes writes w

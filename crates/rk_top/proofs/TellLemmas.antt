@@ -5,12 +5,14 @@ use Rattle.rk_calls.specs.Keys.{KeyValue}
 use Rattle.rk_calls.specs.Talk.{Says}
 use Rattle.rk_folder.specs.Counts.{Still}
 use Rattle.rk_folder.specs.Told.{Held}
+use Rattle.tr_codec.specs.declared.fault.Damage.{Damage}
+use Rattle.rk_top.specs.declared.outcome.StateFile.{StateFile}
 use Rattle.rk_words.specs.Asked.{request_of}
 use Rattle.rk_words.specs.declared.requests.Request.{Request}
 use Rattle.rk_top.specs.Asks.{Asks}
 use Rattle.rk_top.proofs.AskLemmas.{asks}
 use Rattle.rk_top.specs.Fresh.{RunText}
-use Rattle.rk_top.specs.Outcomes.{IfEnded, Leaves, FolderCounts, Gains, GainsErrors, GainsLine, ErrorsCounted, Counts, Counted, AfterLine, Faults, Ticked, IsNoFault, Settles}
+use Rattle.rk_top.specs.Outcomes.{IfEnded, Leaves, FolderCounts, Gains, GainsErrors, GainsLine, ErrorsCounted, Counts, Counted, AfterLine, Faults, Ticked, IsNoFault, Settles, IfSpecial, IfDamaged, IfForged}
 use Rattle.rk_top.specs.Telling.{SinkState, IsNamed, IsTold, Put, PutsLine, Tells}
 use Rattle.rk_top.specs.declared.outcome.Outcome.{Outcome}
 use Rattle.rk_top.specs.declared.outcome.Outcome.TheVariants as out
@@ -27,6 +29,7 @@ unnamed-leaves first request told new b n (out.Damaged file damage) named l = in
 unnamed-leaves first request told new b n (out.Forged rec step) named l = inl l.0
 unnamed-leaves first request told new b n (out.Ended status launched ran) named l = absurd named
 unnamed-leaves first request told new b n out.Usage named l = absurd named
+unnamed-leaves first request told new b n (out.Said status) named l = absurd named
 unnamed-leaves first request told new b n out.Spent named l = absurd named
 unnamed-leaves first request told new b n out.ReadFault named l = absurd named
 unnamed-leaves first request told new b n out.WriteFault named l = absurd named
@@ -41,6 +44,7 @@ unnamed-gains first request text told old new (out.Damaged file damage) named g 
 unnamed-gains first request text told old new (out.Forged rec step) named g = inl g
 unnamed-gains first request text told old new (out.Ended status launched ran) named g = absurd named
 unnamed-gains first request text told old new out.Usage named g = absurd named
+unnamed-gains first request text told old new (out.Said status) named g = absurd named
 unnamed-gains first request text told old new out.Spent named g = absurd named
 unnamed-gains first request text told old new out.ReadFault named g = absurd named
 unnamed-gains first request text told old new out.WriteFault named g = absurd named
@@ -55,6 +59,7 @@ unnamed-gains-errors first request told old new (out.Damaged file damage) named 
 unnamed-gains-errors first request told old new (out.Forged rec step) named g = inl g
 unnamed-gains-errors first request told old new (out.Ended status launched ran) named g = absurd named
 unnamed-gains-errors first request told old new out.Usage named g = absurd named
+unnamed-gains-errors first request told old new (out.Said status) named g = absurd named
 unnamed-gains-errors first request told old new out.Spent named g = absurd named
 unnamed-gains-errors first request told old new out.ReadFault named g = absurd named
 unnamed-gains-errors first request told old new out.WriteFault named g = absurd named
@@ -66,6 +71,7 @@ unnamed-errors old new (out.Damaged file damage) named c = (c.0, omega arith)
 unnamed-errors old new (out.Forged rec step) named c = (c.0, omega arith)
 unnamed-errors old new (out.Ended status launched ran) named c = absurd named
 unnamed-errors old new out.Usage named c = absurd named
+unnamed-errors old new (out.Said status) named c = absurd named
 unnamed-errors old new out.Spent named c = absurd named
 unnamed-errors old new out.ReadFault named c = absurd named
 unnamed-errors old new out.WriteFault named c = absurd named
@@ -85,9 +91,10 @@ line-gains first request told old mid new outcome it g c t = record {
 unnamed-ticked : (request : Request) (before now : ℕ) (outcome : Outcome) → IsNamed outcome → Ticked request before now outcome → Ticked request before now out.NoMemory
 unnamed-ticked request before now (out.Special path) named t = omega arith
 unnamed-ticked request before now (out.Damaged file damage) named t = omega arith
-unnamed-ticked request before now (out.Forged rec step) named t = t
+unnamed-ticked request before now (out.Forged rec step) named t = t.0
 unnamed-ticked request before now (out.Ended status launched ran) named t = absurd named
 unnamed-ticked request before now out.Usage named t = absurd named
+unnamed-ticked request before now (out.Said status) named t = absurd named
 unnamed-ticked request before now out.Spent named t = absurd named
 unnamed-ticked request before now out.ReadFault named t = absurd named
 unnamed-ticked request before now out.WriteFault named t = absurd named
@@ -102,6 +109,7 @@ unnamed-counted b n (out.Damaged file damage) named c = c
 unnamed-counted b n (out.Forged rec step) named c = c
 unnamed-counted b n (out.Ended status launched ran) named c = absurd named
 unnamed-counted b n out.Usage named c = absurd named
+unnamed-counted b n (out.Said status) named c = absurd named
 unnamed-counted b n out.Spent named c = absurd named
 unnamed-counted b n out.ReadFault named c = absurd named
 unnamed-counted b n out.WriteFault named c = absurd named
@@ -122,6 +130,7 @@ fell line old new before now b n (inr cut) = let most : old.faults ≤ new.fault
 after-line : (m n : Counts) (old new : SinkState) (outcome : Outcome) → n.reads ≡ m.reads → n.writes ≡ m.writes → n.puts ≡ m.puts → m.error_puts ≡ old.faults → n.error_puts ≡ new.faults → Put outcome old new → AfterLine m n outcome
 after-line m n old new (out.Ended status launched ran) r w p o x put = counts-same m n r w p (x ∙ ap (λ (s : SinkState). s.faults) put ∙ sym o)
 after-line m n old new out.Usage r w p o x put = (r, w, p, fell _ old new m.error_puts n.error_puts o x put)
+after-line m n old new (out.Said status) r w p o x put = counts-same m n r w p (x ∙ ap (λ (s : SinkState). s.faults) put ∙ sym o)
 after-line m n old new (out.Special path) r w p o x put = (r, w, p, fell _ old new m.error_puts n.error_puts o x put)
 after-line m n old new (out.Damaged file damage) r w p o x put = (r, w, p, fell _ old new m.error_puts n.error_puts o x put)
 after-line m n old new (out.Forged rec step) r w p o x put = (r, w, p, fell _ old new m.error_puts n.error_puts o x put)
@@ -136,6 +145,15 @@ line-faults b m n old new outcome it c t r w p o x = (m, told-counted b m outcom
 pub line-ended : (P : ℕ → ℕ → ℕ → Type 0) (outcome it : Outcome) → IsTold outcome it → IfEnded outcome P → IfEnded it P
 line-ended P outcome it t h = as_told (λ (o : Outcome). IfEnded o P) outcome it t h (λ named g. tt)
 
+pub line-special : (P : Text → Type 0) (outcome it : Outcome) → IsTold outcome it → IfSpecial outcome P → IfSpecial it P
+line-special P outcome it t h = as_told (λ (o : Outcome). IfSpecial o P) outcome it t h (λ named g. tt)
+
+pub line-damaged : (P : StateFile → Damage → Type 0) (outcome it : Outcome) → IsTold outcome it → IfDamaged outcome P → IfDamaged it P
+line-damaged P outcome it t h = as_told (λ (o : Outcome). IfDamaged o P) outcome it t h (λ named g. tt)
+
+pub line-forged : (P : ℕ → ℕ → Type 0) (outcome it : Outcome) → IsTold outcome it → IfForged outcome P → IfForged it P
+line-forged P outcome it t h = as_told (λ (o : Outcome). IfForged o P) outcome it t h (λ named g. tt)
+
 pub line-no-fault : (outcome it : Outcome) → IsTold outcome it → IsNoFault outcome → IsNoFault it
 line-no-fault outcome it t h = as_told IsNoFault outcome it t h (λ named g. tt)
 
@@ -147,6 +165,7 @@ line-settles first request held outcome it t h = as_told (Settles first request 
 rises : (old new : SinkState) (outcome : Outcome) → ErrorsCounted old new outcome → old.faults ≤ new.faults
 rises old new (out.Ended status launched ran) c = let same : new.faults ≡ old.faults = c.0 in omega arith
 rises old new out.Usage c = let same : new.faults ≡ old.faults = c.0 in omega arith
+rises old new (out.Said status) c = let same : new.faults ≡ old.faults = c.0 in omega arith
 rises old new (out.Special path) c = let same : new.faults ≡ old.faults = c.0 in omega arith
 rises old new (out.Damaged file damage) c = let same : new.faults ≡ old.faults = c.0 in omega arith
 rises old new (out.Forged rec step) c = let same : new.faults ≡ old.faults = c.0 in omega arith
@@ -158,6 +177,7 @@ rises old new out.NoMemory c = let same : new.faults ≡ old.faults = c.0 in ome
 put-rises : (old new : SinkState) (outcome : Outcome) → Put outcome old new → old.faults ≤ new.faults
 put-rises old new (out.Ended status launched ran) put = let same : new.faults ≡ old.faults = ap (λ (s : SinkState). s.faults) put in omega arith
 put-rises old new out.Usage put = fell _ old new old.faults new.faults refl refl put
+put-rises old new (out.Said status) put = let same : new.faults ≡ old.faults = ap (λ (s : SinkState). s.faults) put in omega arith
 put-rises old new (out.Special path) put = fell _ old new old.faults new.faults refl refl put
 put-rises old new (out.Damaged file damage) put = fell _ old new old.faults new.faults refl refl put
 put-rises old new (out.Forged rec step) put = fell _ old new old.faults new.faults refl refl put
@@ -179,6 +199,7 @@ mid-still old mid new outcome it c put still =
 no-fault-same : (b m : Counts) (outcome : Outcome) → Counted b m outcome → IsNoFault outcome → m ≡ b
 no-fault-same b m (out.Ended status launched ran) c safe = c
 no-fault-same b m out.Usage c safe = c
+no-fault-same b m (out.Said status) c safe = c
 no-fault-same b m (out.Special path) c safe = c
 no-fault-same b m (out.Damaged file damage) c safe = c
 no-fault-same b m (out.Forged rec step) c safe = c
@@ -194,6 +215,7 @@ steady-same b m n outcome c safe r w p x = counts-same m n r w p x ∙ no-fault-
 pub ended-then : (P Q : ℕ → ℕ → ℕ → Type 0) (outcome : Outcome) → ((status launched ran : ℕ) → P status launched ran → Q status launched ran) → IfEnded outcome P → IfEnded outcome Q
 ended-then P Q (out.Ended status launched ran) f h = f status launched ran h
 ended-then P Q out.Usage f h = tt
+ended-then P Q (out.Said status) f h = tt
 ended-then P Q (out.Special path) f h = tt
 ended-then P Q (out.Damaged file damage) f h = tt
 ended-then P Q (out.Forged rec step) f h = tt
@@ -201,6 +223,19 @@ ended-then P Q out.Spent f h = tt
 ended-then P Q out.ReadFault f h = tt
 ended-then P Q out.WriteFault f h = tt
 ended-then P Q out.NoMemory f h = tt
+
+-- whatever it is
+pub ended-any : (P : ℕ → ℕ → ℕ → Type 0) (outcome : Outcome) → ((status launched ran : ℕ) → P status launched ran) → IfEnded outcome P
+ended-any P (out.Ended status launched ran) f = f status launched ran
+ended-any P out.Usage f = tt
+ended-any P (out.Said status) f = tt
+ended-any P (out.Special path) f = tt
+ended-any P (out.Damaged file damage) f = tt
+ended-any P (out.Forged rec step) f = tt
+ended-any P out.Spent f = tt
+ended-any P out.ReadFault f = tt
+ended-any P out.WriteFault f = tt
+ended-any P out.NoMemory f = tt
 
 -- an end of the request that was asked for
 pub asks-ended : (words : List Text) (P : Request → ℕ → ℕ → ℕ → Type 0) (outcome : Outcome) (request : Request) → request_of words ≡ Some request → IfEnded outcome (P request) → IfEnded outcome (λ status launched ran. Asks words (λ request. P request status launched ran))

@@ -1,5 +1,5 @@
 -- What the state files of a folder keep, and which damage they have.
-use Rattle.std.specs.Prelude.{◌≡◌, ◌≢◌, true, List, [], Option, Some, None, Result, Ok, Err}
+use Rattle.std.specs.Prelude.{◌≡◌, ◌≢◌, Bool, true, if◌then◌else◌, List, [], Option, Some, None, Result, Ok, Err}
 use Rattle.rk_base.specs.Text.{Text}
 use Rattle.tr_record.specs.declared.records.Record.{Record}
 use Rattle.tr_codec.specs.Attrs.{are_rows, attrs_spelling}
@@ -63,19 +63,23 @@ IsDamaged state file.Db damage = ((rows : List (Text × AttrRow)) × AreRows sta
 abbrev pub state_in : Held → State
 state_in held = (state_of held).state
 
+-- the state files that are decoded: of a build that begins afresh all but the database
+abbrev pub decoded : Bool → State → State
+decoded fresh state = record { db = if fresh then None else state.db; attrs = state.attrs }
+
 -- Nothing of the folder is special, its state files are well, and this is so of its entries with the rows of attributes and
 -- of the records.
-pub record Keeping (held : Held) (P : Entries → List Record → Type 0) : Type 0 where
+pub record Keeping (fresh : Bool) (held : Held) (P : Entries → List Record → Type 0) : Type 0 where
   pub plain : first_special held ≡ None
   pub rows : List (Text × AttrRow)
   pub old : List Record
-  pub kept : IsKept (state_in held) rows old
+  pub kept : IsKept (decoded fresh (state_in held)) rows old
   pub so : P (with_rows (snapshot_of held) rows) old
 
 -- why the folder is refused: its first special path, or else the first state file that is damaged
-abbrev pub Refuses : Held → Refusal → Type 0
-Refuses held (refusal.Special path) = first_special held ≡ Some path
-Refuses held (refusal.Damaged file damage) = (first_special held ≡ None) × IsDamaged (state_in held) file damage
+abbrev pub Refuses : Bool → Held → Refusal → Type 0
+Refuses fresh held (refusal.Special path) = first_special held ≡ Some path
+Refuses fresh held (refusal.Damaged file damage) = (first_special held ≡ None) × IsDamaged (decoded fresh (state_in held)) file damage
 
 -- What reading tells.
 

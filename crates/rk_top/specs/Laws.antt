@@ -14,6 +14,7 @@ use Rattle.rk_folder.specs.Told.{Held}
 use Rattle.rk_folder.specs.Whole.{IsWhole}
 use Rattle.rk_folder.specs.Specials.{first_special}
 use Rattle.rk_install.specs.Holdings.{IsAfter}
+use Rattle.rk_words.specs.Asked.{is_fresh}
 use Rattle.rk_words.specs.declared.requests.Request.{Request}
 use Rattle.rk_top.specs.Fresh.{AreInMemory, held_after}
 use Rattle.rk_top.specs.Kept.{Keeping, Refuses}
@@ -29,7 +30,7 @@ IsOr it outcome = (outcome ≡ it) ⊎ (outcome ≡ out.NoMemory)
 
 -- a folder that is refused calls for that refusal
 abbrev pub RefusedSettle : Type 0
-RefusedSettle = (first : KeyValue → Says) (request : Request) (held : Held) (refusal : Refusal) (outcome : Outcome) → Refuses held refusal → Settles first request held outcome → IsOr (outcome_of_refusal refusal) outcome
+RefusedSettle = (first : KeyValue → Says) (request : Request) (held : Held) (refusal : Refusal) (outcome : Outcome) → Refuses (is_fresh request) held refusal → Settles first request held outcome → IsOr (outcome_of_refusal refusal) outcome
 
 -- the run's end, with its status, or that it is spent; or want of memory
 abbrev pub Answers : Run World → Outcome → Type 0
@@ -39,12 +40,12 @@ Answers run out.NoMemory = Unit {0}
 Answers run other = ⊥
 
 -- the folder is well, has these entries with its rows, and keeps spoken records or none
-abbrev pub KeepsSpoken : (KeyValue → Says) → Held → Entries → Type 0
-KeepsSpoken first held it = Keeping held (λ entries old. (entries ≡ it) × AreSpoken first old)
+abbrev pub KeepsSpoken : (KeyValue → Says) → Request → Held → Entries → Type 0
+KeepsSpoken first request held it = Keeping (is_fresh request) held (λ entries old. (entries ≡ it) × AreSpoken first old)
 
 -- a folder that keeps spoken records calls for what its fresh run comes to
 abbrev pub SpokenSettle : Type 0
-SpokenSettle = (first : KeyValue → Says) (request : Request) (held : Held) (entries : Entries) (outcome : Outcome) → KeepsSpoken first held entries → Settles first request held outcome → Answers (fresh_run first request entries) outcome
+SpokenSettle = (first : KeyValue → Says) (request : Request) (held : Held) (entries : Entries) (outcome : Outcome) → KeepsSpoken first request held entries → Settles first request held outcome → Answers (fresh_run first request entries) outcome
 
 -- a folder that holds what a run leaves has, with the rows of its attributes, the very entries that the run left, and keeps
 -- its records (where both state files have fewer than 2^64 bytes, as all bytes in memory do)

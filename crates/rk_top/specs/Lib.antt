@@ -1,3 +1,5 @@
+pub mod Checks
+pub mod Queries
 pub mod Asks
 pub mod Explained
 pub mod Fresh

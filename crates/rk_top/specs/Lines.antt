@@ -36,6 +36,7 @@ forged_line rec step = codes "rkr: record " ++ (decimal rec ++ (codes " step " +
 -- the lines that name nothing; none for an end
 abbrev pub fixed_line : Outcome → Text
 fixed_line (out.Ended status launched ran) = []
+fixed_line (out.Said status) = []
 fixed_line out.Usage = codes "usage: rkr build [--steps N] [--explain] [--fresh] [--check] | check | trace [--json] | forget | gen SEED\n"
 fixed_line (out.Special path) = []
 fixed_line (out.Damaged file damage) = []
@@ -48,6 +49,7 @@ fixed_line out.NoMemory = codes "rkr: out of memory\n"
 -- an outcome's line
 abbrev pub line_of : Outcome → Text
 line_of (out.Ended status launched ran) = []
+line_of (out.Said status) = []
 line_of out.Usage = fixed_line out.Usage
 line_of (out.Special path) = special_line path
 line_of (out.Damaged file damage) = damaged_line file damage
@@ -59,6 +61,7 @@ line_of out.NoMemory = fixed_line out.NoMemory
 
 abbrev pub exit_code : Outcome → ℕ
 exit_code (out.Ended status launched ran) = status
+exit_code (out.Said status) = status
 exit_code out.Usage = 241
 exit_code (out.Special path) = 247
 exit_code (out.Damaged file damage) = 242

@@ -1,5 +1,5 @@
 -- What each outcome says of the folder, the sinks, the counts of faults, the count of turns and the count of starts.
-use Rattle.std.specs.Prelude.{◌≡◌, ◌⊎◌, ◌≤◌, ◌+◌, ℕ, List, length, Option, Some, IfSome, Result, Ok, Err}
+use Rattle.std.specs.Prelude.{◌≡◌, true, false, ◌⊎◌, ◌≤◌, ◌+◌, ℕ, List, length, Option, Some, IfSome, Result, Ok, Err}
 use Rattle.rk_base.specs.Text.{Text}
 use Rattle.rk_calls.specs.Keys.{KeyValue}
 use Rattle.rk_calls.specs.Talk.{Says}
@@ -22,11 +22,12 @@ use Rattle.rk_kernel.specs.World.{World}
 use Rattle.rk_runs.specs.Run.{Outcome as Run, Done, Spent}
 use Rattle.rk_runs.specs.Spoken.{AreSpoken}
 use Rattle.rk_replay.specs.Ran.{ran_total}
-use Rattle.rk_words.specs.Asked.{turns}
+use Rattle.rk_words.specs.Asked.{checks, is_fresh, turns}
 use Rattle.rk_words.specs.declared.requests.Request.{Request}
 use Rattle.rk_top.specs.Fresh.{RunText, error_text_of, held_after}
 use Rattle.rk_top.specs.Kept.{Keeping, Refuses}
-use Rattle.rk_top.specs.Run.{fresh_run, IsForged, ran_count}
+use Rattle.rk_top.specs.Checks.{ChecksWhole, TellsForged, checked_count}
+use Rattle.rk_top.specs.Run.{fresh_run, ran_count}
 use Rattle.rk_top.specs.Telling.{SinkState, IsPut, PutsLine, Put}
 use Rattle.rk_top.specs.Texts.{Front}
 use Rattle.rk_top.specs.declared.build.Ended.{Ended}
@@ -89,7 +90,7 @@ pub record Installed (world : World) (table : List Record) (held : Held) (new : 
 
 -- a build that finds it begins with the very tree that the run left, and with its records
 abbrev pub IsNext : World → List Record → Held → Type 0
-IsNext world table after = Keeping after (λ entries old. (entries ≡ entries_of world.tree) × (old ≡ table))
+IsNext world table after = Keeping false after (λ entries old. (entries ≡ entries_of world.tree) × (old ≡ table))
 
 -- what was installed, of which the records are spoken and can be read back
 pub record LeavesRun (first : KeyValue → Says) (world : World) (table : List Record) (held : Held) (new : Option Held) : Type 0 where
@@ -118,7 +119,7 @@ pub record PartlyInstalled (first : KeyValue → Says) (request : Request) (entr
 -- it is as before; or the folder's own count of such failures rose, and it is partly installed
 abbrev pub StoppedAt : (KeyValue → Says) → Request → Option Held → Option Held → ℕ → ℕ → InstallErr → Type 0
 StoppedAt first request told new before now e =
-    (new ≡ told) ⊎ (Rose before now × IfSome told (λ held. Keeping held (λ entries old. PartlyInstalled first request entries old held new e)))
+    (new ≡ told) ⊎ (Rose before now × IfSome told (λ held. Keeping (is_fresh request) held (λ entries old. PartlyInstalled first request entries old held new e)))
 
 -- the folder's counts of failed changes, and of calls that had no memory
 pub record FolderCounts : Type 0 where
@@ -126,11 +127,12 @@ pub record FolderCounts : Type 0 where
   pub memory : ℕ
 
 abbrev pub Leaves : (KeyValue → Says) → Request → Option Held → Option Held → FolderCounts → FolderCounts → Outcome → Type 0
-Leaves first request told new before now (out.Ended status launched ran) = IfSome told (λ held. Keeping held (λ entries old. AreSpoken first old → EndsSo first (fresh_run first request entries) held new))
-Leaves first request told new before now (out.Special path) = (new ≡ told) × IfSome told (λ held. Refuses held (refusal.Special path))
-Leaves first request told new before now (out.Damaged file damage) = (new ≡ told) × IfSome told (λ held. Refuses held (refusal.Damaged file damage))
-Leaves first request told new before now (out.Forged rec step) = (new ≡ told) × IfSome told (λ held. Keeping held (λ entries old. IsForged first old rec step))
-Leaves first request told new before now out.Spent = (new ≡ told) × IfSome told (λ held. Keeping held (λ entries old. AreSpoken first old × (fresh_run first request entries ≡ Spent)))
+Leaves first request told new before now (out.Ended status launched ran) = IfSome told (λ held. Keeping (is_fresh request) held (λ entries old. AreSpoken first old → EndsSo first (fresh_run first request entries) held new))
+Leaves first request told new before now (out.Special path) = (new ≡ told) × IfSome told (λ held. Refuses (is_fresh request) held (refusal.Special path))
+Leaves first request told new before now (out.Damaged file damage) = (new ≡ told) × IfSome told (λ held. Refuses (is_fresh request) held (refusal.Damaged file damage))
+Leaves first request told new before now (out.Forged rec step) = (new ≡ told) × IfSome told (λ held. Keeping (is_fresh request) held (λ entries old. TellsForged first request old rec step))
+Leaves first request told new before now out.Spent = (new ≡ told) × IfSome told (λ held. Keeping (is_fresh request) held (λ entries old. AreSpoken first old × (fresh_run first request entries ≡ Spent)))
+Leaves first request told new before now (out.Said status) = ⊥
 Leaves first request told new before now out.WriteFault = StoppedAt first request told new before.writes now.writes install.WriteFault
 Leaves first request told new before now out.NoMemory = StoppedAt first request told new before.memory now.memory install.NoMemory
 Leaves first request told new before now other = new ≡ told
@@ -145,7 +147,7 @@ EndsWith Spent status = ⊥
 -- the status is the fresh run's, over records that are spoken
 abbrev pub HasStatus : (KeyValue → Says) → Request → Option Held → ℕ → Type 0
 HasStatus first request told status =
-    IfSome told (λ held. Keeping held (λ entries old. AreSpoken first old → EndsWith (fresh_run first request entries) status))
+    IfSome told (λ held. Keeping (is_fresh request) held (λ entries old. AreSpoken first old → EndsWith (fresh_run first request entries) status))
 
 -- Whatever the records: what was installed has so many records, and so many of them ran over those that were kept, which
 -- paid so many turns. Over spoken ones it is what the fresh run leaves.
@@ -160,7 +162,7 @@ pub record IsTally (first : KeyValue → Says) (request : Request) (entries : En
 
 abbrev pub Tallies : (KeyValue → Says) → Request → Option Held → Option Held → ℕ → ℕ → ℕ → ℕ → Type 0
 Tallies first request told new before now launched ran =
-    IfSome told (λ held. Keeping held (λ entries old. IsTally first request entries old held new launched ran before now))
+    IfSome told (λ held. Keeping (is_fresh request) held (λ entries old. IsTally first request entries old held new launched ran before now))
 
 -- The sinks: a text of the run by what the folder held, all over an end, a front over a stop that came late, and
 -- nothing over the others.
@@ -174,10 +176,10 @@ pub record HaltsIn (first : KeyValue → Says) (request : Request) (text : RunTe
 -- nothing, or a front of a text
 abbrev pub Halts : (KeyValue → Says) → Request → RunText → Option Held → Option Text → Option Text → Type 0
 Halts first request text told old new =
-    (new ≡ old) ⊎ IfSome told (λ held. Keeping held (λ entries kept. HaltsIn first request text entries kept old new))
+    (new ≡ old) ⊎ IfSome told (λ held. Keeping (is_fresh request) held (λ entries kept. HaltsIn first request text entries kept old new))
 
 abbrev pub Gains : (KeyValue → Says) → Request → RunText → Option Held → Option Text → Option Text → Outcome → Type 0
-Gains first request text told old new (out.Ended status launched ran) = IfSome told (λ held. Keeping held (λ entries kept. AreSpoken first kept → new ≡ with_bytes (text request kept (fresh_run first request entries)) old))
+Gains first request text told old new (out.Ended status launched ran) = IfSome told (λ held. Keeping (is_fresh request) held (λ entries kept. AreSpoken first kept → new ≡ with_bytes (text request kept (fresh_run first request entries)) old))
 Gains first request text told old new out.WriteFault = Halts first request text told old new
 Gains first request text told old new out.NoMemory = Halts first request text told old new
 Gains first request text told old new other = new ≡ old
@@ -191,11 +193,11 @@ pub record HaltsErrorsIn (first : KeyValue → Says) (request : Request) (entrie
 -- nothing was put, or such a text
 abbrev pub HaltsErrors : (KeyValue → Says) → Request → Option Held → SinkState → SinkState → Type 0
 HaltsErrors first request told old new =
-    (new ≡ old) ⊎ IfSome told (λ held. Keeping held (λ entries kept. HaltsErrorsIn first request entries kept old new))
+    (new ≡ old) ⊎ IfSome told (λ held. Keeping (is_fresh request) held (λ entries kept. HaltsErrorsIn first request entries kept old new))
 
 -- what the error text's sink gains before the outcome's line
 abbrev pub GainsErrors : (KeyValue → Says) → Request → Option Held → SinkState → SinkState → Outcome → Type 0
-GainsErrors first request told old new (out.Ended status launched ran) = IfSome told (λ held. Keeping held (λ entries kept. AreSpoken first kept → IsPut (error_text_of request kept (fresh_run first request entries)) old new))
+GainsErrors first request told old new (out.Ended status launched ran) = IfSome told (λ held. Keeping (is_fresh request) held (λ entries kept. AreSpoken first kept → IsPut (error_text_of request kept (fresh_run first request entries)) old new))
 GainsErrors first request told old new out.WriteFault = HaltsErrors first request told old new
 GainsErrors first request told old new out.NoMemory = HaltsErrors first request told old new
 GainsErrors first request told old new other = new ≡ old
@@ -226,6 +228,7 @@ Counted before now other = now ≡ before
 -- elsewhere a put of the line may be one more fault of the error text's sink
 abbrev pub AfterLine : Counts → Counts → Outcome → Type 0
 AfterLine before now (out.Ended status launched ran) = now ≡ before
+AfterLine before now (out.Said status) = now ≡ before
 AfterLine before now other = (now.reads ≡ before.reads) × (now.writes ≡ before.writes) × (now.puts ≡ before.puts) × (before.error_puts ≤ now.error_puts)
 
 -- the faults of the work, and then of the line
@@ -242,29 +245,44 @@ IsNoFault out.ReadFault = ⊥
 IsNoFault out.WriteFault = ⊥
 IsNoFault other = Unit {0}
 
--- The count of turns: none are paid for a folder that is refused, and no more than are asked for elsewhere.
+-- The count of turns: none are paid for a folder that is refused, or where a record is found forged by the check of all, and
+-- no more than are asked for elsewhere.
 
 abbrev pub Ticked : Request → ℕ → ℕ → Outcome → Type 0
 Ticked request before now out.Usage = now ≡ before
 Ticked request before now (out.Special path) = now ≡ before
 Ticked request before now (out.Damaged file damage) = now ≡ before
+Ticked request before now (out.Forged rec step) = (now ≤ before + turns request) × (checks request ≡ true → now ≡ before)
 Ticked request before now other = now ≤ before + turns request
 
--- The count of starts: one for each command that ran, and none where the folder is refused.
+-- The count of starts: one for each record that is checked, then one for each command that ran; none where the folder is
+-- refused.
 
-abbrev pub Started : ℕ → ℕ → Outcome → Type 0
-Started before now (out.Ended status launched ran) = now ≡ started ran before
-Started before now out.Usage = now ≡ before
-Started before now (out.Special path) = now ≡ before
-Started before now (out.Damaged file damage) = now ≡ before
-Started before now other = Unit {0}
+-- so many records are checked: none where that isn't asked for
+abbrev pub ChecksMany : Request → Option Held → ℕ → Type 0
+ChecksMany request told many =
+    (checks request ≡ false → many ≡ 0) × IfSome told (λ held. Keeping (is_fresh request) held (λ entries old. many ≡ checked_count (checks request) old))
+
+abbrev pub StartsBoth : Request → Option Held → ℕ → ℕ → ℕ → Type 0
+StartsBoth request told before now ran = (many : ℕ) × (ChecksMany request told many × (now ≡ started ran (started many before)))
+
+abbrev pub Started : Request → Option Held → ℕ → ℕ → Outcome → Type 0
+Started request told before now (out.Ended status launched ran) = StartsBoth request told before now ran
+Started request told before now out.Usage = now ≡ before
+Started request told before now (out.Special path) = now ≡ before
+Started request told before now (out.Damaged file damage) = now ≡ before
+Started request told before now other = Unit {0}
+
+-- where every record is to be checked, each is spoken
+abbrev pub Checked : (KeyValue → Says) → Request → Option Held → Type 0
+Checked first request told = IfSome told (λ held. Keeping (is_fresh request) held (λ entries old. ChecksWhole first (checks request) old))
 
 -- an outcome that what a folder holds calls for, or want of memory (`Laws.antt` has that it calls for one alone)
 abbrev pub Settles : (KeyValue → Says) → Request → Held → Outcome → Type 0
-Settles first request held (out.Ended status launched ran) = Keeping held (λ entries old. AreSpoken first old → EndsWith (fresh_run first request entries) status)
-Settles first request held (out.Special path) = Refuses held (refusal.Special path)
-Settles first request held (out.Damaged file damage) = Refuses held (refusal.Damaged file damage)
-Settles first request held (out.Forged rec step) = Keeping held (λ entries old. IsForged first old rec step)
-Settles first request held out.Spent = Keeping held (λ entries old. AreSpoken first old × (fresh_run first request entries ≡ Spent))
+Settles first request held (out.Ended status launched ran) = Keeping (is_fresh request) held (λ entries old. AreSpoken first old → EndsWith (fresh_run first request entries) status)
+Settles first request held (out.Special path) = Refuses (is_fresh request) held (refusal.Special path)
+Settles first request held (out.Damaged file damage) = Refuses (is_fresh request) held (refusal.Damaged file damage)
+Settles first request held (out.Forged rec step) = Keeping (is_fresh request) held (λ entries old. TellsForged first request old rec step)
+Settles first request held out.Spent = Keeping (is_fresh request) held (λ entries old. AreSpoken first old × (fresh_run first request entries ≡ Spent))
 Settles first request held out.NoMemory = Unit {0}
 Settles first request held other = ⊥

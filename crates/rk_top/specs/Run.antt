@@ -4,19 +4,18 @@ use Rattle.rk_calls.specs.Refs.{top_refs}
 use Rattle.rk_calls.specs.Keys.{KeyValue}
 use Rattle.rk_calls.specs.Talk.{Says}
 use Rattle.tr_record.specs.declared.records.Record.{Record}
-use Rattle.tr_record.specs.Rec.{rec_at}
 use Rattle.rk_tree.specs.Entries.{Entries}
 use Rattle.rk_kernel.specs.World.{World, fresh_world}
 use Rattle.rk_kernel.specs.Do.{answered}
 use Rattle.rk_runs.specs.Run.{Outcome, Done, Spent, game, fresh}
-use Rattle.rk_runs.specs.Spoken.{AreSpoken, IsWrongStep}
-use Rattle.rk_check.specs.Started.{started}
+use Rattle.rk_runs.specs.Spoken.{AreSpoken}
 use Rattle.tr_codec.specs.Sound.{IsSound}
 use Rattle.std.specs.List.{AllByRecursion}
 use Rattle.rk_words.specs.Asked.{turns}
 use Rattle.rk_words.specs.declared.requests.Request.{Request}
 use Rattle.rk_replay.specs.Ran.{ran_of, ran_total}
 use Rattle.rk_replay.specs.Script.{script_key}
+use Rattle.rk_top.specs.Checks.{IsForged}
 use Rattle.rk_top.specs.declared.stop.Stop.{Stop}
 use Rattle.rk_top.specs.declared.stop.Stop.TheVariants as stop
 use Rattle.rk_top.specs.declared.run.Finished.{Finished}
@@ -25,10 +24,6 @@ use Rattle.rk_top.specs.declared.run.Finished.{Finished}
 -- yet, within the turns that are asked for
 unfoldable pub fresh_run : (KeyValue → Says) → Request → Entries → Outcome World
 fresh_run first request entries = fresh (game first answered) (turns request) script_key top_refs (fresh_world entries)
-
--- this record isn't what its command says, and this is the first step that its command doesn't take
-abbrev pub IsForged : (KeyValue → Says) → List Record → ℕ → ℕ → Type 0
-IsForged first table rec step = (rec < length table) × IsWrongStep first (rec_at rec table) step
 
 -- how many commands of a table ran, over the records of an old one: those whose steps aren't recorded there
 -- under their key and ordinal
@@ -50,9 +45,3 @@ Runs first request entries old before now (Err (stop.Forged rec step)) = IsForge
 Runs first request entries old before now (Err stop.Spent) = AreSpoken first old × (fresh_run first request entries ≡ Spent)
 Runs first request entries old before now (Err stop.NoMemory) = Unit {0}
 Runs first request entries old before now (Err other) = ⊥
-
--- a machine was started for each command that ran, and none where the folder is refused
-abbrev pub StartsSo : {T : Type 0} → (T → ℕ) → ℕ → ℕ → Result T Stop → Type 0
-StartsSo ran before now (Ok it) = now ≡ started (ran it) before
-StartsSo ran before now (Err (stop.Refused refusal)) = now ≡ before
-StartsSo ran before now (Err other) = Unit {0}

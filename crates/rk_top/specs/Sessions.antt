@@ -1,5 +1,5 @@
 -- Sessions: a folder, and edits and builds of it, one after another.
-use Rattle.std.specs.Prelude.{◌≡◌, List, [], ◌∷◌, true, None}
+use Rattle.std.specs.Prelude.{◌≡◌, List, [], ◌∷◌, true, None, false}
 use Rattle.rk_base.specs.Text.{Text, is_within}
 use Rattle.rk_calls.specs.Keys.{KeyValue}
 use Rattle.rk_calls.specs.Talk.{Says}
@@ -16,6 +16,7 @@ use Rattle.rk_runs.specs.Run.{Outcome as Run, Done, Spent}
 use Rattle.rk_runs.specs.Spoken.{AreSpoken}
 use Rattle.rk_tree.specs.Copies.{snapshot_of as entries_of}
 use Rattle.rk_tree.specs.Entries.{IsWholeSnapshot}
+use Rattle.rk_words.specs.Asked.{is_fresh}
 use Rattle.rk_words.specs.declared.requests.Request.{Request}
 use Rattle.rk_top.specs.Fresh.{AreInMemory, held_after}
 use Rattle.rk_top.specs.Kept.{Keeping}
@@ -46,7 +47,7 @@ Builds Spent held to = to ≡ held
 
 abbrev pub Becomes : (KeyValue → Says) → Held → Item → Held → Type 0
 Becomes first held (Edit it) to = (to ≡ it) × Edits held it
-Becomes first held (Build request) to = Keeping held (λ entries old. Builds (fresh_run first request entries) held to)
+Becomes first held (Build request) to = Keeping (is_fresh request) held (λ entries old. Builds (fresh_run first request entries) held to)
 
 -- the folder goes through these items to the last; each folder on the way is whole, as every folder is
 abbrev pub Session : (KeyValue → Says) → Held → List Item → Held → Type 0
@@ -55,7 +56,7 @@ Session first held (item ∷ items) last = (next : Held) × (Becomes first held 
 
 -- nothing is special, the state files are well, and the database is absent or spoken
 abbrev pub IsWell : (KeyValue → Says) → Held → Type 0
-IsWell first held = Keeping held (λ entries old. AreSpoken first old)
+IsWell first held = Keeping false held (λ entries old. AreSpoken first old)
 
 -- a session that begins so is so at every item (each front of its items is a session)
 abbrev pub StaysWell : Type 0

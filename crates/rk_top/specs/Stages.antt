@@ -22,13 +22,14 @@ use Rattle.tr_record.specs.declared.records.Record.{Record}
 use Rattle.rk_base.specs.Text.{Text}
 use Rattle.rk_runs.specs.Run.{Spent}
 use Rattle.rk_runs.specs.Spoken.{AreSpoken}
-use Rattle.rk_words.specs.Asked.{turns}
+use Rattle.rk_words.specs.Asked.{checks, is_fresh, turns}
 use Rattle.rk_words.specs.declared.requests.Request.{Request}
-use Rattle.rk_top.specs.Run.{IsRun, fresh_run, IsForged}
+use Rattle.rk_top.specs.Checks.{ChecksWhole, TellsForged}
+use Rattle.rk_top.specs.Run.{IsRun, fresh_run}
 use Rattle.rk_top.specs.Explained.{explanation}
 use Rattle.rk_top.specs.Fresh.{held_after}
-use Rattle.rk_top.specs.Kept.{IsKept, Keeping, Refuses, state_in}
-use Rattle.rk_top.specs.Outcomes.{IsNext}
+use Rattle.rk_top.specs.Kept.{IsKept, Keeping, Refuses, state_in, decoded}
+use Rattle.rk_top.specs.Outcomes.{IsNext, StartsBoth}
 use Rattle.rk_top.specs.Texts.{IsNoFault}
 use Rattle.rk_top.specs.declared.stop.Refusal.TheVariants as refusal
 use Rattle.rk_top.specs.declared.found.Found.{Found}
@@ -60,12 +61,12 @@ Steadily before now result = (now ≡ before) × (before ≡ true → IsNoFault 
 
 -- nothing is special, this is what the folder holds, and these are the records and the rows that it keeps; or why it is
 -- refused
-abbrev pub FindsSo : Option Held → Result Found Stop → Type 0
-FindsSo told (Ok found) = IfSome told (λ held. (first_special held ≡ None) × (found.holding ≡ holding_of held) × IsKept (state_in held) found.attrs found.old)
-FindsSo told (Err (stop.Refused refusal)) = IfSome told (λ held. Refuses held refusal)
-FindsSo told (Err stop.ReadFault) = Unit {0}
-FindsSo told (Err stop.NoMemory) = Unit {0}
-FindsSo told (Err other) = ⊥
+abbrev pub FindsSo : Request → Option Held → Result Found Stop → Type 0
+FindsSo request told (Ok found) = IfSome told (λ held. (first_special held ≡ None) × (found.holding ≡ holding_of held) × IsKept (decoded (is_fresh request) (state_in held)) found.attrs found.old)
+FindsSo request told (Err (stop.Refused refusal)) = IfSome told (λ held. Refuses (is_fresh request) held refusal)
+FindsSo request told (Err stop.ReadFault) = Unit {0}
+FindsSo request told (Err stop.NoMemory) = Unit {0}
+FindsSo request told (Err other) = ⊥
 
 -- the planned calls lead on, or some were made and the next one failed
 abbrev pub InstallsSo : {T : Type 0} → List Op → Option Held → Option Held → Result T Stop → Type 0
@@ -90,7 +91,8 @@ pub record IsPrepared (first : KeyValue → Says) (request : Request) (held : He
   pub plain : first_special held ≡ None
   pub rows : List (Text × AttrRow)
   pub old : List Record
-  pub kept : IsKept (state_in held) rows old
+  pub kept : IsKept (decoded (is_fresh request) (state_in held)) rows old
+  pub checked : ChecksWhole first (checks request) old
   pub run : IsRun first request (with_rows (snapshot_of held) rows) old before now p.finished
   pub text : p.error_text ≡ p.finished.world.err ++ explanation request p.finished.ran (length p.finished.table)
   pub plan : p.plan ≡ planned (holding_of held) (held_after p.finished.world p.finished.table)
@@ -101,9 +103,15 @@ pub record IsPrepared (first : KeyValue → Says) (request : Request) (held : He
 
 abbrev pub PreparesSo : (KeyValue → Says) → Request → Option Held → ℕ → ℕ → Result Prepared Stop → Type 0
 PreparesSo first request told before now (Ok p) = IfSome told (λ held. IsPrepared first request held before now p) × (now ≤ before + turns request)
-PreparesSo first request told before now (Err (stop.Refused refusal)) = IfSome told (λ held. Refuses held refusal) × (now ≡ before)
-PreparesSo first request told before now (Err (stop.Forged rec step)) = IfSome told (λ held. Keeping held (λ entries old. IsForged first old rec step)) × (now ≤ before + turns request)
-PreparesSo first request told before now (Err stop.Spent) = IfSome told (λ held. Keeping held (λ entries old. AreSpoken first old × (fresh_run first request entries ≡ Spent))) × (now ≤ before + turns request)
+PreparesSo first request told before now (Err (stop.Refused refusal)) = IfSome told (λ held. Refuses (is_fresh request) held refusal) × (now ≡ before)
+PreparesSo first request told before now (Err (stop.Forged rec step)) = IfSome told (λ held. Keeping (is_fresh request) held (λ entries old. TellsForged first request old rec step)) × (now ≤ before + turns request) × (checks request ≡ true → now ≡ before)
+PreparesSo first request told before now (Err stop.Spent) = IfSome told (λ held. Keeping (is_fresh request) held (λ entries old. AreSpoken first old × (fresh_run first request entries ≡ Spent))) × (now ≤ before + turns request)
 PreparesSo first request told before now (Err stop.ReadFault) = now ≤ before + turns request
 PreparesSo first request told before now (Err stop.NoMemory) = now ≤ before + turns request
 PreparesSo first request told before now (Err stop.WriteFault) = ⊥
+
+-- a machine was started for each record that is checked and then for each command that ran, and none where the folder is refused
+abbrev pub StartsSo : {T : Type 0} → (T → ℕ) → Request → Option Held → ℕ → ℕ → Result T Stop → Type 0
+StartsSo ran request told before now (Ok it) = StartsBoth request told before now (ran it)
+StartsSo ran request told before now (Err (stop.Refused refusal)) = now ≡ before
+StartsSo ran request told before now (Err other) = Unit {0}

@@ -39,9 +39,10 @@ PutsErrors text old new (Err stop.WriteFault) = (new ≡ old) ⊎ IsCut text old
 PutsErrors text old new (Err stop.NoMemory) = (new ≡ old) ⊎ IsCut text old new
 PutsErrors text old new (Err other) = ⊥
 
--- the outcome's own line; over an end nothing is put
+-- the outcome's own line; over an end and an answer nothing is put
 abbrev pub Put : Outcome → SinkState → SinkState → Type 0
 Put (out.Ended status launched ran) old new = new ≡ old
+Put (out.Said status) old new = new ≡ old
 Put told old new = PutsLine (line_of told) old new
 
 -- its line names a path, a file or a record

@@ -2,9 +2,8 @@
 ghost use Rattle.std.specs.Prelude.{◌≡◌, ◌<◌, Ok, length, IfOk, true};
 ghost use Rattle.rk_install.specs.Changes.{MayRun};
 ghost use Rattle.rk_words.specs.Asked.{turns};
-ghost use Rattle.rk_top.specs.Outcomes.{outcome_of, Leaves, HasStatus, Tallies, Gains, GainsErrors, ErrorsCounted, Counted, Ticked};
-ghost use Rattle.rk_top.specs.Run.{StartsSo};
-ghost use Rattle.rk_top.specs.Stages.{InstallsSo, WritesCounted, MemoryRose, Steadily};
+ghost use Rattle.rk_top.specs.Outcomes.{Checked, outcome_of, Leaves, HasStatus, Tallies, Gains, GainsErrors, ErrorsCounted, Counted, Ticked};
+ghost use Rattle.rk_top.specs.Stages.{StartsSo, InstallsSo, WritesCounted, MemoryRose, Steadily};
 ghost use Rattle.rk_top.specs.Fresh.{output_of};
 ghost use Rattle.rk_top.specs.Texts.{IsNoFault};
 
@@ -58,6 +57,7 @@ pub(crate) fn build<M: Maker, F: Folder, O: Sink, E: Sink, L: Ledger>(
     ensures folder { Leaves M.first request.now (F.told folder.old) (F.told folder.new) (record { writes = F.write_faults folder.old; memory = F.memory_failures folder.old }) (record { writes = F.write_faults folder.new; memory = F.memory_failures folder.new }) (outcome_of result) }
     ensures status { IfOk result (λ e. HasStatus M.first request.now (F.told folder.old) e.status) }
     ensures tally { IfOk result (λ e. Tallies M.first request.now (F.told folder.old) (F.told folder.new) live.old live.new e.launched (length e.ran)) }
+    ensures checked { IfOk result (λ _. Checked M.first request.now (F.told folder.old)) }
     ensures output { Gains M.first request.now output_of (F.told folder.old) (O.so_far out.old) (O.so_far out.new) (outcome_of result) }
     ensures errors { GainsErrors M.first request.now (F.told folder.old) (record { so_far = E.so_far err.old; faults = E.faults err.old; memory = E.memory_failures err.old }) (record { so_far = E.so_far err.new; faults = E.faults err.new; memory = E.memory_failures err.new }) (outcome_of result) }
     ensures error_counts { ErrorsCounted (record { so_far = E.so_far err.old; faults = E.faults err.old; memory = E.memory_failures err.old }) (record { so_far = E.so_far err.new; faults = E.faults err.new; memory = E.memory_failures err.new }) (outcome_of result) }
@@ -65,7 +65,7 @@ pub(crate) fn build<M: Maker, F: Folder, O: Sink, E: Sink, L: Ledger>(
         (record { reads = F.read_faults folder.new; writes = F.write_faults folder.new; puts = O.faults out.new; error_puts = E.faults err.new }) (outcome_of result) }
     ensures steady { F.steady folder.old ≡ true → O.steady out.old ≡ true → E.steady err.old ≡ true → (E.steady err.new ≡ true) × IsNoFault result }
     ensures live { Ticked request.now live.old live.new (outcome_of result) }
-    ensures starts { StartsSo (λ e. length e.ran) (M.starts maker.old) (M.starts maker.new) result }
+    ensures starts { StartsSo (λ e. length e.ran) request.now (F.told folder.old) (M.starts maker.old) (M.starts maker.new) result }
 {
     let Prepared {
         finished,

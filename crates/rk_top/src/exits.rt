@@ -4,13 +4,14 @@ ghost use Rattle.rk_top.specs.Lines.{exit_code};
 
 use crate::Outcome;
 
-/// The status with which the program exits: the script's own where the build ended, else the number of the
-/// refusal.
+/// The status with which the program exits: the script's own where the build ended, 0 or 1 where the database alone
+/// was asked of, else the number of the refusal.
 pub fn exit_code(outcome: &Outcome) -> u8
     ensures { result ≡ exit_code outcome.now }
 {
     match outcome {
         Outcome::Ended { status, .. } => *status,
+        Outcome::Said(status) => *status,
         Outcome::Usage => 241,
         Outcome::Special(_) => 247,
         Outcome::Damaged(_, _) => 242,

@@ -1,23 +1,15 @@
 // The error text, and the lines of what ran and why.
 ghost use Rattle.std.specs.Prelude.{◌≡◌, ◌++◌, IfOk, OnOk, length};
 ghost use Rattle.std.specs.List.{flat_map};
-ghost use Rattle.rk_words.specs.Asked.{explains};
 ghost use Rattle.rk_top.specs.Explained.{explained, explanation, line_of_ran, why_of};
 
+use crate::options::explains;
 use crate::run::Finished;
 use rk_base::{Bytes, NoMemory};
 use rk_lines::{Why, add_launched, add_ran};
 use rk_replay::{Cause, Ran, RanList};
 use rk_words::Request;
 use std::alloc::Global;
-
-fn explains(request: &Request) -> bool
-    ensures { result ≡ explains request.now }
-{
-    match request {
-        Request::Build { explain, .. } => *explain,
-    }
-}
 
 fn why_of(cause: &Cause) -> Why
     ensures { result ≡ why_of cause.now }

@@ -2,6 +2,7 @@
 #![tactic(auto)]
 
 mod build;
+mod checked;
 mod exits;
 mod explain;
 mod found;
@@ -9,8 +10,10 @@ mod kept;
 mod laws;
 mod lines;
 mod look;
+mod options;
 mod outcome;
 mod prepare;
+mod queries;
 mod run;
 mod stop;
 #[cfg(test)]

@@ -79,6 +79,7 @@ fn fixed_line(outcome: &Outcome) -> &'static [u8]
 {
     match outcome {
         Outcome::Ended { .. } => b"",
+        Outcome::Said(_) => b"",
         Outcome::Usage =>
             b"usage: rkr build [--steps N] [--explain] [--fresh] [--check] | check | trace [--json] | forget | gen SEED\n",
         Outcome::Special(_) => b"",
@@ -145,6 +146,7 @@ pub(crate) fn tell<E: Sink>(alloc: Global, err: &mut E, outcome: Outcome) -> Out
             launched,
             ran,
         },
+        Outcome::Said(status) => Outcome::Said(status),
         Outcome::Usage => {
             put_line(err, fixed_line(&Outcome::Usage));
             Outcome::Usage

@@ -14,6 +14,8 @@ pub enum StateFile {
 pub enum Outcome {
     /// The build ran: the script's status, how many commands were launched, and how many of them ran.
     Ended { status: u8, launched: u64, ran: u64 },
+    /// What was asked of the database alone is done: 0; or there is none: 1.
+    Said(u8),
     /// The words are no request.
     Usage,
     /// The first path, in listing order, at which neither a file nor a directory stands where one has to.

@@ -7,10 +7,10 @@ ghost use Rattle.std.specs.List.{AllByRecursion};
 ghost use Rattle.tr_codec.specs.Fits.{Fits};
 ghost use Rattle.tr_codec.specs.Sound.{IsSound};
 ghost use Rattle.rk_words.specs.Asked.{turns};
-ghost use Rattle.rk_top.specs.Run.{StartsSo};
-ghost use Rattle.rk_top.specs.Stages.{PreparesSo, ReadsCounted, Steadily};
+ghost use Rattle.rk_top.specs.Stages.{StartsSo, PreparesSo, ReadsCounted, Steadily};
 ghost use Rattle.rk_top.specs.Fresh.{IsInMemory, attrs_bytes, held_after};
 
+use crate::checked::check_old;
 use crate::explain::error_text;
 use crate::found::{Found, find};
 use crate::run::{Finished, run};
@@ -87,13 +87,14 @@ pub(crate) fn prepare<M: Maker, F: Folder, L: Ledger>(
     ensures memory { OnOk result (F.memory_failures folder.new ≡ F.memory_failures folder.old) }
     ensures steady { Steadily (F.steady folder.old) (F.steady folder.new) result }
     ensures prepares { PreparesSo M.first request.now (F.told folder.old) live.old live.new result }
-    ensures starts { StartsSo (λ p. length p.finished.ran) (M.starts maker.old) (M.starts maker.new) result }
+    ensures starts { StartsSo (λ p. length p.finished.ran) request.now (F.told folder.old) (M.starts maker.old) (M.starts maker.new) result }
 {
     let Found {
         holding: before,
         attrs,
         old,
-    } = find(alloc, folder)?;
+    } = find(alloc, request, folder)?;
+    check_old(maker, request, &old)?;
     let finished = run(alloc, maker, request, &before.entries, &attrs, &old, live)?;
     let after = held_after(alloc, &finished)?;
     let plan = plan(alloc, &before, &after)?;

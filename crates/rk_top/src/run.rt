@@ -6,6 +6,7 @@ ghost use Rattle.rk_folder.specs.Attributes.{with_rows};
 ghost use Rattle.rk_words.specs.Asked.{turns};
 ghost use Rattle.rk_top.specs.Run.{Runs};
 
+use crate::options::turns;
 use crate::stop::Stop;
 use rk_base::{Budget, NoMemory, Steps};
 use rk_calls::Maker;
@@ -36,9 +37,7 @@ fn budget(request: &Request) -> Budget
     ensures used { result.used ≡ 0 }
     ensures few { turns request.now < 2 ^ 32 }
 {
-    match request {
-        Request::Build { steps, .. } => Budget::new(*steps).unwrap(),
-    }
+    Budget::new(turns(request)).unwrap()
 }
 
 fn copy_of(alloc: Global, entries: &Snapshot) -> Result<Snapshot, NoMemory>

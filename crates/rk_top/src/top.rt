@@ -6,17 +6,20 @@ ghost use Rattle.rk_folder.specs.Told.{Held};
 ghost use Rattle.rk_folder.specs.Specials.{first_special};
 ghost use Rattle.rk_runs.specs.Run.{Spent};
 ghost use Rattle.rk_runs.specs.Spoken.{AreSpoken};
-ghost use Rattle.rk_top.specs.Asks.{Asks};
-ghost use Rattle.rk_top.specs.Outcomes.{outcome_of, outcome_of_stop, outcome_of_refusal, Leaves, HasStatus, Tallies, Gains, GainsErrors, GainsLine, ErrorsCounted, Counted, Ticked, Started, Faults, IfEnded, IfSpecial, IfDamaged, IfForged, IsNoFault, NoneRose, Settles};
+ghost use Rattle.rk_top.specs.Asks.{Asks, AsksBuild, AsksQuery};
+ghost use Rattle.rk_top.specs.Outcomes.{Checked, outcome_of, outcome_of_stop, outcome_of_refusal, Leaves, HasStatus, Tallies, Gains, GainsErrors, GainsLine, ErrorsCounted, Counted, Ticked, Started, Faults, IfEnded, IfSpecial, IfDamaged, IfForged, IsNoFault, NoneRose, Settles};
 ghost use Rattle.rk_top.specs.Fresh.{output_of};
-ghost use Rattle.rk_top.specs.Kept.{state_in, IsDamaged, Keeping};
-ghost use Rattle.rk_top.specs.Run.{IsForged, fresh_run};
+ghost use Rattle.rk_top.specs.Kept.{decoded, state_in, IsDamaged, Keeping};
+ghost use Rattle.rk_top.specs.Checks.{TellsForged};
+ghost use Rattle.rk_top.specs.Queries.{Queried};
+ghost use Rattle.rk_top.specs.Run.{fresh_run};
 ghost use Rattle.rk_top.specs.Telling.{SinkState, Put};
-ghost use Rattle.rk_words.specs.Asked.{request_of, turns};
+ghost use Rattle.rk_words.specs.Asked.{is_fresh, request_of, turns, IfBuild, IfQuery};
 
 use crate::Outcome;
 use crate::build::{Ended, build};
 use crate::lines::tell;
+use crate::queries::{check_records, forget_records, show_records};
 use crate::stop::{Refusal, Stop};
 use rk_base::Steps;
 use rk_calls::Maker;
@@ -86,10 +89,12 @@ pub fn build_in<M: Maker, F: Folder, O: Sink, E: Sink, L: Ledger>(
     ensures folder { Leaves M.first request.now (F.told folder.old) (F.told folder.new) (record { writes = F.write_faults folder.old; memory = F.memory_failures folder.old }) (record { writes = F.write_faults folder.new; memory = F.memory_failures folder.new }) result }
 
     // The status is the fresh run's. Whatever the records: how many were left, how many of their commands ran over those that
-    // were kept, and what these paid; and a machine was started for each of them.
+    // were kept, and what these paid; and a machine was started for each of them, after one for each record that is checked.
+    // Where every record is to be checked, each is spoken.
     ensures status { IfEnded result (λ status launched ran. HasStatus M.first request.now (F.told folder.old) status) }
     ensures tally { IfEnded result (λ status launched ran. Tallies M.first request.now (F.told folder.old) (F.told folder.new) live.old live.new launched ran) }
-    ensures starts { Started (M.starts maker.old) (M.starts maker.new) result }
+    ensures starts { Started request.now (F.told folder.old) (M.starts maker.old) (M.starts maker.new) result }
+    ensures checked { IfEnded result (λ status launched ran. Checked M.first request.now (F.told folder.old)) }
     ensures live { Ticked request.now live.old live.new result }
 
     // What was put: the run's output and error text.
@@ -100,9 +105,9 @@ pub fn build_in<M: Maker, F: Folder, O: Sink, E: Sink, L: Ledger>(
     // Each refusal only for its cause.
     ensures asked { result ≢ Outcome.Usage }
     ensures special { IfSpecial result (λ path. IfSome (F.told folder.old) (λ held. first_special held ≡ Some path)) }
-    ensures damaged { IfDamaged result (λ file damage. IfSome (F.told folder.old) (λ held. (first_special held ≡ None) × IsDamaged (state_in held) file damage)) }
-    ensures forged { IfForged result (λ rec step. IfSome (F.told folder.old) (λ held. Keeping held (λ entries old. IsForged M.first old rec step))) }
-    ensures spent { result ≡ Outcome.Spent → IfSome (F.told folder.old) (λ held. Keeping held (λ entries old. AreSpoken M.first old × (fresh_run M.first request.now entries ≡ Spent))) }
+    ensures damaged { IfDamaged result (λ file damage. IfSome (F.told folder.old) (λ held. (first_special held ≡ None) × IsDamaged (decoded (is_fresh request.now) (state_in held)) file damage)) }
+    ensures forged { IfForged result (λ rec step. IfSome (F.told folder.old) (λ held. Keeping (is_fresh request.now) held (λ entries old. TellsForged M.first request.now old rec step))) }
+    ensures spent { result ≡ Outcome.Spent → IfSome (F.told folder.old) (λ held. Keeping (is_fresh request.now) held (λ entries old. AreSpoken M.first old × (fresh_run M.first request.now entries ≡ Spent))) }
 
     // A fault is told only where a count for it rose in this call, and none over what is steady.
     ensures counts { Counted (record { reads = F.read_faults folder.old; writes = F.write_faults folder.old; puts = O.faults out.old; error_puts = E.faults err.old })
@@ -117,6 +122,55 @@ pub fn build_in<M: Maker, F: Folder, O: Sink, E: Sink, L: Ledger>(
     outcome_of(build(alloc, maker, request, folder, out, err, live))
 }
 
+// Does what is asked for.
+fn serve<F: Folder, O: Sink, E: Sink, L: Ledger>(
+    alloc: Global,
+    request: &Request,
+    folder: &mut F,
+    out: &mut O,
+    err: &mut E,
+    live: &mut Steps<L>,
+) -> Outcome
+    requires { IfBuild request.now (0 < turns request.now) }
+    ensures asked { result ≢ Outcome.Usage }
+
+    // Of a build.
+    ensures folder { IfBuild request.now (Leaves first_talk request.now (F.told folder.old) (F.told folder.new) (record { writes = F.write_faults folder.old; memory = F.memory_failures folder.old }) (record { writes = F.write_faults folder.new; memory = F.memory_failures folder.new }) result) }
+    ensures status { IfEnded result (λ status launched ran. IfBuild request.now (HasStatus first_talk request.now (F.told folder.old) status)) }
+    ensures checked { IfEnded result (λ status launched ran. IfBuild request.now (Checked first_talk request.now (F.told folder.old))) }
+    ensures tally { IfEnded result (λ status launched ran. IfBuild request.now (Tallies first_talk request.now (F.told folder.old) (F.told folder.new) live.old live.new launched ran)) }
+    ensures live { IfBuild request.now (Ticked request.now live.old live.new result) }
+    ensures output { IfBuild request.now (Gains first_talk request.now output_of (F.told folder.old) (O.so_far out.old) (O.so_far out.new) result) }
+    ensures errors { IfBuild request.now (GainsErrors first_talk request.now (F.told folder.old) (record { so_far = E.so_far err.old; faults = E.faults err.old; memory = E.memory_failures err.old }) (record { so_far = E.so_far err.new; faults = E.faults err.new; memory = E.memory_failures err.new }) result) }
+    ensures special { IfBuild request.now (IfSpecial result (λ path. IfSome (F.told folder.old) (λ held. first_special held ≡ Some path))) }
+    ensures damaged { IfBuild request.now (IfDamaged result (λ file damage. IfSome (F.told folder.old) (λ held. (first_special held ≡ None) × IsDamaged (decoded (is_fresh request.now) (state_in held)) file damage))) }
+    ensures forged { IfBuild request.now (IfForged result (λ rec step. IfSome (F.told folder.old) (λ held. Keeping (is_fresh request.now) held (λ entries old. TellsForged first_talk request.now old rec step)))) }
+    ensures spent { IfBuild request.now (result ≡ Outcome.Spent → IfSome (F.told folder.old) (λ held. Keeping (is_fresh request.now) held (λ entries old. AreSpoken first_talk old × (fresh_run first_talk request.now entries ≡ Spent)))) }
+    ensures complete { IfBuild request.now ((held : Held) → F.told folder.old ≡ Some held
+        → Still (F.read_faults folder.old) (F.read_faults folder.new) → Still (F.write_faults folder.old) (F.write_faults folder.new) → Still (O.faults out.old) (O.faults out.new) → Still (E.faults err.old) (E.faults err.new)
+        → Settles first_talk request.now held result) }
+
+    // Of the others.
+    ensures queried { Queried first_talk request.now (F.told folder.old) (F.told folder.new) (O.so_far out.old) (O.so_far out.new) result }
+    ensures silent { IfQuery request.now ((live.new ≡ live.old) × (E.so_far err.new ≡ E.so_far err.old)) }
+
+    // Of all.
+    ensures error_counts { ErrorsCounted (record { so_far = E.so_far err.old; faults = E.faults err.old; memory = E.memory_failures err.old }) (record { so_far = E.so_far err.new; faults = E.faults err.new; memory = E.memory_failures err.new }) result }
+    ensures counts { Counted (record { reads = F.read_faults folder.old; writes = F.write_faults folder.old; puts = O.faults out.old; error_puts = E.faults err.old })
+        (record { reads = F.read_faults folder.new; writes = F.write_faults folder.new; puts = O.faults out.new; error_puts = E.faults err.new }) result }
+    ensures steady { F.steady folder.old ≡ true → O.steady out.old ≡ true → E.steady err.old ≡ true → (E.steady err.new ≡ true) × IsNoFault result }
+{
+    match request {
+        Request::Build { .. } => {
+            let mut maker = Commands::new(alloc);
+            build_in(alloc, &mut maker, request, folder, out, err, live)
+        }
+        Request::Check => check_records(alloc, folder, out),
+        Request::Trace { json } => show_records(alloc, *json, folder, out),
+        Request::Forget => forget_records(alloc, folder, out),
+    }
+}
+
 // Does what the words ask for.
 fn work<F: Folder, O: Sink, E: Sink, L: Ledger>(
     alloc: Global,
@@ -129,29 +183,29 @@ fn work<F: Folder, O: Sink, E: Sink, L: Ledger>(
     ensures usage { result ≡ Outcome.Usage → request_of (map string_bytes words.now) ≡ None }
     ensures refused { request_of (map string_bytes words.now) ≡ None → (result ≡ Outcome.Usage) ⊎ (result ≡ Outcome.NoMemory) }
     ensures untouched { request_of (map string_bytes words.now) ≡ None → (F.told folder.new ≡ F.told folder.old) × (O.so_far out.new ≡ O.so_far out.old) × (E.so_far err.new ≡ E.so_far err.old) × (live.new ≡ live.old) }
-    ensures folder { Asks (map string_bytes words.now) (λ request. Leaves first_talk request (F.told folder.old) (F.told folder.new) (record { writes = F.write_faults folder.old; memory = F.memory_failures folder.old }) (record { writes = F.write_faults folder.new; memory = F.memory_failures folder.new }) result) }
-    ensures status { IfEnded result (λ status launched ran. Asks (map string_bytes words.now) (λ request. HasStatus first_talk request (F.told folder.old) status)) }
-    ensures tally { IfEnded result (λ status launched ran. Asks (map string_bytes words.now) (λ request. Tallies first_talk request (F.told folder.old) (F.told folder.new) live.old live.new launched ran)) }
-    ensures live { Asks (map string_bytes words.now) (λ request. Ticked request live.old live.new result) }
-    ensures output { Asks (map string_bytes words.now) (λ request. Gains first_talk request output_of (F.told folder.old) (O.so_far out.old) (O.so_far out.new) result) }
-    ensures errors { Asks (map string_bytes words.now) (λ request. GainsErrors first_talk request (F.told folder.old) (record { so_far = E.so_far err.old; faults = E.faults err.old; memory = E.memory_failures err.old }) (record { so_far = E.so_far err.new; faults = E.faults err.new; memory = E.memory_failures err.new }) result) }
+    ensures folder { AsksBuild (map string_bytes words.now) (λ request. Leaves first_talk request (F.told folder.old) (F.told folder.new) (record { writes = F.write_faults folder.old; memory = F.memory_failures folder.old }) (record { writes = F.write_faults folder.new; memory = F.memory_failures folder.new }) result) }
+    ensures status { IfEnded result (λ status launched ran. AsksBuild (map string_bytes words.now) (λ request. HasStatus first_talk request (F.told folder.old) status)) }
+    ensures checked { IfEnded result (λ status launched ran. AsksBuild (map string_bytes words.now) (λ request. Checked first_talk request (F.told folder.old))) }
+    ensures tally { IfEnded result (λ status launched ran. AsksBuild (map string_bytes words.now) (λ request. Tallies first_talk request (F.told folder.old) (F.told folder.new) live.old live.new launched ran)) }
+    ensures live { AsksBuild (map string_bytes words.now) (λ request. Ticked request live.old live.new result) }
+    ensures output { AsksBuild (map string_bytes words.now) (λ request. Gains first_talk request output_of (F.told folder.old) (O.so_far out.old) (O.so_far out.new) result) }
+    ensures errors { AsksBuild (map string_bytes words.now) (λ request. GainsErrors first_talk request (F.told folder.old) (record { so_far = E.so_far err.old; faults = E.faults err.old; memory = E.memory_failures err.old }) (record { so_far = E.so_far err.new; faults = E.faults err.new; memory = E.memory_failures err.new }) result) }
+    ensures queried { Asks (map string_bytes words.now) (λ request. Queried first_talk request (F.told folder.old) (F.told folder.new) (O.so_far out.old) (O.so_far out.new) result) }
+    ensures silent { AsksQuery (map string_bytes words.now) (λ request. (live.new ≡ live.old) × (E.so_far err.new ≡ E.so_far err.old)) }
     ensures error_counts { ErrorsCounted (record { so_far = E.so_far err.old; faults = E.faults err.old; memory = E.memory_failures err.old }) (record { so_far = E.so_far err.new; faults = E.faults err.new; memory = E.memory_failures err.new }) result }
-    ensures special { IfSpecial result (λ path. IfSome (F.told folder.old) (λ held. first_special held ≡ Some path)) }
-    ensures damaged { IfDamaged result (λ file damage. IfSome (F.told folder.old) (λ held. (first_special held ≡ None) × IsDamaged (state_in held) file damage)) }
-    ensures forged { IfForged result (λ rec step. IfSome (F.told folder.old) (λ held. Keeping held (λ entries old. IsForged first_talk old rec step))) }
-    ensures spent { result ≡ Outcome.Spent → Asks (map string_bytes words.now) (λ request. IfSome (F.told folder.old) (λ held. Keeping held (λ entries old. AreSpoken first_talk old × (fresh_run first_talk request entries ≡ Spent)))) }
+    ensures special { AsksBuild (map string_bytes words.now) (λ request. IfSpecial result (λ path. IfSome (F.told folder.old) (λ held. first_special held ≡ Some path))) }
+    ensures damaged { AsksBuild (map string_bytes words.now) (λ request. IfDamaged result (λ file damage. IfSome (F.told folder.old) (λ held. (first_special held ≡ None) × IsDamaged (decoded (is_fresh request) (state_in held)) file damage))) }
+    ensures forged { AsksBuild (map string_bytes words.now) (λ request. IfForged result (λ rec step. IfSome (F.told folder.old) (λ held. Keeping (is_fresh request) held (λ entries old. TellsForged first_talk request old rec step)))) }
+    ensures spent { result ≡ Outcome.Spent → AsksBuild (map string_bytes words.now) (λ request. IfSome (F.told folder.old) (λ held. Keeping (is_fresh request) held (λ entries old. AreSpoken first_talk old × (fresh_run first_talk request entries ≡ Spent)))) }
     ensures counts { Counted (record { reads = F.read_faults folder.old; writes = F.write_faults folder.old; puts = O.faults out.old; error_puts = E.faults err.old })
         (record { reads = F.read_faults folder.new; writes = F.write_faults folder.new; puts = O.faults out.new; error_puts = E.faults err.new }) result }
     ensures steady { F.steady folder.old ≡ true → O.steady out.old ≡ true → E.steady err.old ≡ true → (E.steady err.new ≡ true) × IsNoFault result }
-    ensures complete { Asks (map string_bytes words.now) (λ request. (held : Held) → F.told folder.old ≡ Some held
+    ensures complete { AsksBuild (map string_bytes words.now) (λ request. (held : Held) → F.told folder.old ≡ Some held
         → Still (F.read_faults folder.old) (F.read_faults folder.new) → Still (F.write_faults folder.old) (F.write_faults folder.new) → Still (O.faults out.old) (O.faults out.new) → Still (E.faults err.old) (E.faults err.new)
         → Settles first_talk request held result) }
 {
     match request(alloc, words) {
-        Ok(asked) => {
-            let mut maker = Commands::new(alloc);
-            build_in(alloc, &mut maker, &asked, folder, out, err, live)
-        }
+        Ok(asked) => serve(alloc, &asked, folder, out, err, live),
         Err(RequestErr::Usage) => Outcome::Usage,
         Err(RequestErr::NoMemory) => Outcome::NoMemory,
     }
@@ -174,29 +228,35 @@ pub fn rkr<F: Folder, O: Sink, E: Sink, L: Ledger>(
     ensures untouched { request_of (map string_bytes words.now) ≡ None → (F.told folder.new ≡ F.told folder.old) × (O.so_far out.new ≡ O.so_far out.old) × (live.new ≡ live.old) }
     ensures unasked { request_of (map string_bytes words.now) ≡ None → (worked : SinkState) × (worked.so_far ≡ E.so_far err.old) × ErrorsCounted (record { so_far = E.so_far err.old; faults = E.faults err.old; memory = E.memory_failures err.old }) worked result × Put result worked (record { so_far = E.so_far err.new; faults = E.faults err.new; memory = E.memory_failures err.new }) }
 
-    // What the folder holds afterwards: over an end, and records that are spoken, what the fresh run on the present tree
+    // Of what is asked of the database alone: the folder and the output, and that nothing is paid, and nothing put on the error
+    // text but the outcome's line.
+    ensures queried { Asks (map string_bytes words.now) (λ request. Queried first_talk request (F.told folder.old) (F.told folder.new) (O.so_far out.old) (O.so_far out.new) result) }
+    ensures silent { AsksQuery (map string_bytes words.now) (λ request. (live.new ≡ live.old) × ((worked : SinkState) × (worked.so_far ≡ E.so_far err.old) × ErrorsCounted (record { so_far = E.so_far err.old; faults = E.faults err.old; memory = E.memory_failures err.old }) worked result × Put result worked (record { so_far = E.so_far err.new; faults = E.faults err.new; memory = E.memory_failures err.new }))) }
+
+    // Of a build, what the folder holds afterwards: over an end, and records that are spoken, what the fresh run on the present tree
     // leaves, and what the next build begins with. After a failure it is as before, or the folder's own count of such
     // failures rose.
-    ensures folder { Asks (map string_bytes words.now) (λ request. Leaves first_talk request (F.told folder.old) (F.told folder.new) (record { writes = F.write_faults folder.old; memory = F.memory_failures folder.old }) (record { writes = F.write_faults folder.new; memory = F.memory_failures folder.new }) result) }
+    ensures folder { AsksBuild (map string_bytes words.now) (λ request. Leaves first_talk request (F.told folder.old) (F.told folder.new) (record { writes = F.write_faults folder.old; memory = F.memory_failures folder.old }) (record { writes = F.write_faults folder.new; memory = F.memory_failures folder.new }) result) }
 
     // The status is the fresh run's. Whatever the records: how many were left, how many of their commands ran over those that
     // were kept, and the turns that these paid.
-    ensures status { IfEnded result (λ status launched ran. Asks (map string_bytes words.now) (λ request. HasStatus first_talk request (F.told folder.old) status)) }
-    ensures tally { IfEnded result (λ status launched ran. Asks (map string_bytes words.now) (λ request. Tallies first_talk request (F.told folder.old) (F.told folder.new) live.old live.new launched ran)) }
-    ensures live { Asks (map string_bytes words.now) (λ request. Ticked request live.old live.new result) }
+    ensures status { IfEnded result (λ status launched ran. AsksBuild (map string_bytes words.now) (λ request. HasStatus first_talk request (F.told folder.old) status)) }
+    ensures checked { IfEnded result (λ status launched ran. AsksBuild (map string_bytes words.now) (λ request. Checked first_talk request (F.told folder.old))) }
+    ensures tally { IfEnded result (λ status launched ran. AsksBuild (map string_bytes words.now) (λ request. Tallies first_talk request (F.told folder.old) (F.told folder.new) live.old live.new launched ran)) }
+    ensures live { AsksBuild (map string_bytes words.now) (λ request. Ticked request live.old live.new result) }
 
     // What was put: the run's output and error text, and then the outcome's own line, whole unless that put failed or had no
     // memory.
-    ensures output { Asks (map string_bytes words.now) (λ request. Gains first_talk request output_of (F.told folder.old) (O.so_far out.old) (O.so_far out.new) result) }
-    ensures errors { Asks (map string_bytes words.now) (λ request. GainsLine first_talk request (F.told folder.old) (record { so_far = E.so_far err.old; faults = E.faults err.old; memory = E.memory_failures err.old }) (record { so_far = E.so_far err.new; faults = E.faults err.new; memory = E.memory_failures err.new }) result) }
+    ensures output { AsksBuild (map string_bytes words.now) (λ request. Gains first_talk request output_of (F.told folder.old) (O.so_far out.old) (O.so_far out.new) result) }
+    ensures errors { AsksBuild (map string_bytes words.now) (λ request. GainsLine first_talk request (F.told folder.old) (record { so_far = E.so_far err.old; faults = E.faults err.old; memory = E.memory_failures err.old }) (record { so_far = E.so_far err.new; faults = E.faults err.new; memory = E.memory_failures err.new }) result) }
 
     // Special only with the first special path; Damaged only with the first state file that is damaged, and its damage;
     // Forged only with a record that its command doesn't say, and the first wrong step; Spent only where each record is
     // spoken and the fresh run is spent.
-    ensures special { IfSpecial result (λ path. IfSome (F.told folder.old) (λ held. first_special held ≡ Some path)) }
-    ensures damaged { IfDamaged result (λ file damage. IfSome (F.told folder.old) (λ held. (first_special held ≡ None) × IsDamaged (state_in held) file damage)) }
-    ensures forged { IfForged result (λ rec step. IfSome (F.told folder.old) (λ held. Keeping held (λ entries old. IsForged first_talk old rec step))) }
-    ensures spent { result ≡ Outcome.Spent → Asks (map string_bytes words.now) (λ request. IfSome (F.told folder.old) (λ held. Keeping held (λ entries old. AreSpoken first_talk old × (fresh_run first_talk request entries ≡ Spent)))) }
+    ensures special { AsksBuild (map string_bytes words.now) (λ request. IfSpecial result (λ path. IfSome (F.told folder.old) (λ held. first_special held ≡ Some path))) }
+    ensures damaged { AsksBuild (map string_bytes words.now) (λ request. IfDamaged result (λ file damage. IfSome (F.told folder.old) (λ held. (first_special held ≡ None) × IsDamaged (decoded (is_fresh request) (state_in held)) file damage))) }
+    ensures forged { AsksBuild (map string_bytes words.now) (λ request. IfForged result (λ rec step. IfSome (F.told folder.old) (λ held. Keeping (is_fresh request) held (λ entries old. TellsForged first_talk request old rec step)))) }
+    ensures spent { result ≡ Outcome.Spent → AsksBuild (map string_bytes words.now) (λ request. IfSome (F.told folder.old) (λ held. Keeping (is_fresh request) held (λ entries old. AreSpoken first_talk old × (fresh_run first_talk request entries ≡ Spent)))) }
 
     // A fault is told only where a count for it rose in this call, and none over a folder and sinks that are steady.
     ensures read_fault { result ≡ Outcome.ReadFault → Rose (F.read_faults folder.old) (F.read_faults folder.new) }
@@ -206,7 +266,7 @@ pub fn rkr<F: Folder, O: Sink, E: Sink, L: Ledger>(
     ensures steady { F.steady folder.old ≡ true → O.steady out.old ≡ true → E.steady err.old ≡ true → IsNoFault result × NoneRose (record { reads = F.read_faults folder.old; writes = F.write_faults folder.old; puts = O.faults out.old; error_puts = E.faults err.old }) (record { reads = F.read_faults folder.new; writes = F.write_faults folder.new; puts = O.faults out.new; error_puts = E.faults err.new }) }
 
     // With a request and no count that rose, the outcome is the one that what the folder holds calls for.
-    ensures complete { Asks (map string_bytes words.now) (λ request. (held : Held) → F.told folder.old ≡ Some held
+    ensures complete { AsksBuild (map string_bytes words.now) (λ request. (held : Held) → F.told folder.old ≡ Some held
         → Still (F.read_faults folder.old) (F.read_faults folder.new) → Still (F.write_faults folder.old) (F.write_faults folder.new) → Still (O.faults out.old) (O.faults out.new) → Still (E.faults err.old) (E.faults err.new)
         → Settles first_talk request held result) }
 {

@@ -3,14 +3,13 @@ use Rattle.std.proofs.Common.{◌≡◌, ℕ, ◌<◌, ◌≤◌, List, [], ◌�
 use Rattle.std.specs.Prelude.{option_and_then}
 use Rattle.std.specs.Str.{bytes_eq}
 use Rattle.std.proofs.lemmas.Bool.Decides.{nat_tests}
-use Rattle.std.specs.Str.Parse.{digits_value}
 use Rattle.clap.specs.Words.{Kinds, Row, Text, first_of, fault_of, subcommand_of}
 use Rattle.rk_words.specs.CommandLine.{command_line}
-use Rattle.rk_words.specs.Asked.{is_true, steps_of, build_request, request_by, if_no_fault, request_of, turns}
-use Rattle.rk_words.specs.Decimal.{is_decimal, is_within, number_of}
+use Rattle.rk_words.specs.Asked.{is_given, steps_of, build_request, trace_request, request_by, if_no_fault, request_of, turns, IfBuild}
+use Rattle.rk_words.specs.Decimal.{number_of}
 use Rattle.rk_words.specs.declared.requests.Request.{Request}
 use Rattle.rk_words.specs.declared.requests.RequestErr.{RequestErr}
-use Rattle.rk_words.specs.declared.requests.Request.TheVariants.{Build}
+use Rattle.rk_words.specs.declared.requests.Request.TheVariants.{Build, Check, Forget}
 
 some-is : (a b : ℕ) → Some a ≡ Some b → a ≡ b
 some-is a b e = cc
@@ -24,20 +23,24 @@ turns-some (Some text) n e = let h : 1 ≤ n = number-low 10 1 4294967295 text n
 
 abbrev HasTurns : Option Request → Type 0
 HasTurns None = Unit {0}
-HasTurns (Some (Build n explain)) = 0 < n
+HasTurns (Some r) = IfBuild r (0 < turns r)
 
-built : (explain : Bool) (o : Option ℕ) → ((n : ℕ) → o ≡ Some n → 0 < n) → HasTurns (option_map (λ n. Build n explain) o)
-built explain None h = tt
-built explain (Some n) h = h n refl
+built : (explain fresh check : Bool) (o : Option ℕ) → ((n : ℕ) → o ≡ Some n → 0 < n) → HasTurns (option_map (λ n. Build n explain fresh check) o)
+built explain fresh check None h = tt
+built explain fresh check (Some n) h = h n refl
 
-where_so : (b : Bool) (o : Option Request) → HasTurns o → HasTurns (if b then o else None)
-where_so true o h = h
-where_so false o h = tt
+either : (b : Bool) (o other : Option Request) → HasTurns o → HasTurns other → HasTurns (if b then o else other)
+either true o other h too = h
+either false o other h too = too
+
+by_name : (p : Text × List Row) → HasTurns (request_by p.0 p.1)
+by_name p =
+    either (bytes_eq p.0 (codes "build")) (build_request p.1) _ (built (is_given (codes "explain") p.1) (is_given (codes "fresh") p.1) (is_given (codes "check") p.1) (steps_of (first_of (codes "steps") p.1)) (turns-some (first_of (codes "steps") p.1)))
+    (either (bytes_eq p.0 (codes "check")) (Some Check) _ tt (either (bytes_eq p.0 (codes "trace")) (Some (trace_request p.1)) _ tt (either (bytes_eq p.0 (codes "forget")) (Some Forget) None tt tt)))
 
 found : (o : Option (Text × List Row)) → HasTurns (option_and_then (λ p. request_by p.0 p.1) o)
 found None = tt
-found (Some p) =
-    where_so (bytes_eq p.0 (codes "build")) (build_request p.1) (built (is_true (first_of (codes "explain") p.1)) (steps_of (first_of (codes "steps") p.1)) (turns-some (first_of (codes "steps") p.1)))
+found (Some p) = by_name p
 
 unless_fault : (kinds : Kinds) (o : Option Request) → HasTurns o → HasTurns (if_no_fault kinds o)
 unless_fault [] o h = h
@@ -48,9 +51,9 @@ unfolding request_of
 has_turns words = unless_fault (fault_of command_line words) _ (found (subcommand_of command_line words))
 
 -- so has the request that words are
-pub some_turns : (words : List Text) (r : Request) → request_of words ≡ Some r → 0 < turns r
-some_turns words (Build n explain) e = subst HasTurns e (has_turns words)
+pub some_turns : (words : List Text) (r : Request) → request_of words ≡ Some r → IfBuild r (0 < turns r)
+some_turns words r e = subst HasTurns e (has_turns words)
 
-pub some-read : (words : List Text) (result : Result Request RequestErr) → IfOk result (λ r. request_of words ≡ Some r) → IfOk result (λ r. 0 < turns r)
+pub some-read : (words : List Text) (result : Result Request RequestErr) → IfOk result (λ r. request_of words ≡ Some r) → IfOk result (λ r. IfBuild r (0 < turns r))
 some-read words (Ok r) asked = some_turns words r asked
 some-read words (Err e) asked = tt

@@ -17,14 +17,26 @@ abbrev pub is_true : Option Text → Bool
 is_true None = false
 is_true (Some text) = bytes_eq text (codes "true")
 
--- `build [--steps N] [--explain]`
+-- whether this flag was given
+abbrev pub is_given : Text → List Row → Bool
+is_given name rows = is_true (first_of name rows)
+
+-- `build [--steps N] [--explain] [--fresh] [--check]`
 abbrev pub build_request : List Row → Option Request
-build_request rows = option_map (λ steps. request.Build steps (is_true (first_of (codes "explain") rows))) (steps_of (first_of (codes "steps") rows))
+build_request rows =
+    option_map (λ steps. request.Build steps (is_given (codes "explain") rows) (is_given (codes "fresh") rows) (is_given (codes "check") rows)) (steps_of (first_of (codes "steps") rows))
+
+-- `trace [--json]`
+abbrev pub trace_request : List Row → Request
+trace_request rows = request.Trace (is_given (codes "json") rows)
 
 -- the request of a subcommand with what its words name
 abbrev pub request_by : Text → List Row → Option Request
 request_by name rows =
     if bytes_eq name (codes "build") then build_request rows
+    else if bytes_eq name (codes "check") then Some request.Check
+    else if bytes_eq name (codes "trace") then Some (trace_request rows)
+    else if bytes_eq name (codes "forget") then Some request.Forget
     else None
 
 -- what was found, where the words have no fault
@@ -38,10 +50,32 @@ unfoldable pub request_of : List Text → Option Request
 request_of words =
     if_no_fault (fault_of command_line words) (option_and_then (λ p. request_by p.0 p.1) (subcommand_of command_line words))
 
--- the turns within which a build is to end
+-- the turns within which a build is to end; nothing else has any
 abbrev pub turns : Request → ℕ
-turns (request.Build steps explain) = steps
+turns (request.Build steps explain fresh check) = steps
+turns other = 0
 
 -- whether the lines of what ran are asked for
 abbrev pub explains : Request → Bool
-explains (request.Build steps explain) = explain
+explains (request.Build steps explain fresh check) = explain
+explains other = false
+
+-- whether the recorded table counts as empty
+abbrev pub is_fresh : Request → Bool
+is_fresh (request.Build steps explain fresh check) = fresh
+is_fresh other = false
+
+-- whether every record is to be checked before the build
+abbrev pub checks : Request → Bool
+checks (request.Build steps explain fresh check) = check
+checks other = false
+
+-- this is so of what is asked of the database alone
+abbrev pub IfQuery : Request → Type 0 → Type 0
+IfQuery (request.Build steps explain fresh check) P = Unit {0}
+IfQuery other P = P
+
+-- this is so of a build
+abbrev pub IfBuild : Request → Type 0 → Type 0
+IfBuild (request.Build steps explain fresh check) P = P
+IfBuild other P = Unit {0}

@@ -11,9 +11,14 @@ valued name = record (new_rule name) { long = Some name; action = Some Set }
 abbrev pub flag : Text → Rule
 flag name = record (new_rule name) { long = Some name; action = Some SetTrue }
 
--- `build [--steps N] [--explain]`
+-- `build [--steps N] [--explain] [--fresh] [--check]`
 unfoldable pub build_app : App
-build_app = with_rule (with_rule (new_app (codes "build")) (valued (codes "steps"))) (flag (codes "explain"))
+build_app =
+    with_rule (with_rule (with_rule (with_rule (new_app (codes "build")) (valued (codes "steps"))) (flag (codes "explain"))) (flag (codes "fresh"))) (flag (codes "check"))
+
+-- `trace [--json]`
+unfoldable pub trace_app : App
+trace_app = with_rule (new_app (codes "trace")) (flag (codes "json"))
 
 -- no help words, and a subcommand has to be named
 abbrev pub bare : Text → App
@@ -21,5 +26,7 @@ bare name = let a = new_app name in record a {
   top = record a.top { disable_help_flag = true; disable_help_subcommand = true; subcommand_required = true };
 }
 
+-- `check` and `forget` take no further words
 unfoldable pub command_line : App
-command_line = with_subcommand (bare (codes "rkr")) build_app.top
+command_line =
+    with_subcommand (with_subcommand (with_subcommand (with_subcommand (bare (codes "rkr")) build_app.top) (new_app (codes "check")).top) trace_app.top) (new_app (codes "forget")).top

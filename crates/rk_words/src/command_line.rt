@@ -2,7 +2,7 @@
 ghost use Rattle.std.specs.Prelude.{◌≡◌, IfOk, false};
 ghost use Rattle.clap.specs.Words.{app_of, shape_of, rule_of, with_rule, with_subcommand};
 ghost use Rattle.clap.specs.declared.Command.TheViews.{out-Command as fields_of};
-ghost use Rattle.rk_words.specs.CommandLine.{bare, build_app, command_line, flag, valued};
+ghost use Rattle.rk_words.specs.CommandLine.{bare, build_app, command_line, flag, trace_app, valued};
 
 use clap::{Arg, ArgAction, Command};
 use std::alloc::{AllocError, Global};
@@ -56,7 +56,17 @@ fn build_command<'a>(alloc: Global) -> Result<Command<'a>, AllocError>
     ensures local { IfOk result (λ c. (fields_of c).has_globals ≡ false) }
 {
     let command = with_arg(Command::new(alloc, "build"), valued(alloc, "steps"))?;
-    with_arg(command, flag(alloc, "explain"))
+    let command = with_arg(command, flag(alloc, "explain"))?;
+    let command = with_arg(command, flag(alloc, "fresh"))?;
+    with_arg(command, flag(alloc, "check"))
+}
+
+#[tactic(auto, unfolding(crate::specs::CommandLine::trace_app))]
+fn trace_command<'a>(alloc: Global) -> Result<Command<'a>, AllocError>
+    ensures app { IfOk result (λ c. app_of c ≡ trace_app) }
+    ensures local { IfOk result (λ c. (fields_of c).has_globals ≡ false) }
+{
+    with_arg(Command::new(alloc, "trace"), flag(alloc, "json"))
 }
 
 /// The program's command with its subcommands.
@@ -64,5 +74,8 @@ fn build_command<'a>(alloc: Global) -> Result<Command<'a>, AllocError>
 pub(crate) fn command_line<'a>(alloc: Global) -> Result<Command<'a>, AllocError>
     ensures app { IfOk result (λ c. app_of c ≡ command_line) }
 {
-    with_sub(bare(alloc, "rkr"), build_command(alloc)?)
+    let command = with_sub(bare(alloc, "rkr"), build_command(alloc)?)?;
+    let command = with_sub(command, Command::new(alloc, "check"))?;
+    let command = with_sub(command, trace_command(alloc)?)?;
+    with_sub(command, Command::new(alloc, "forget"))
 }

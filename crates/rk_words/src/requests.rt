@@ -8,7 +8,21 @@ use std::alloc::AllocError;
 #[derive(Clone, Copy, Debug, PartialEq, Eq)]
 pub enum Request {
     /// A build within so many turns, at least one. `explain`: the lines of what ran and why follow the error text.
-    Build { steps: u32, explain: bool },
+    /// `fresh`: the recorded table counts as empty. `check`: every record is checked before the script runs.
+    Build {
+        steps: u32,
+        explain: bool,
+        fresh: bool,
+        check: bool,
+    },
+    /// Checks every record.
+    Check,
+    /// Shows the records, as lines or as JSON.
+    Trace {
+        json: bool,
+    },
+    /// Removes the database.
+    Forget,
 }
 
 /// Why there is no request.

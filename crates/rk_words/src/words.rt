@@ -3,7 +3,7 @@ ghost use Rattle.std.specs.Prelude.{◌≡◌, ◌↔◌, ◌≢◌, ◌<◌, []
 ghost use Rattle.clap.specs.Words.{kind_of, fault_of, subcommand_of, subcommand_rows_of, first_of, rows_of, found_of};
 ghost use Rattle.rk_words.specs.declared.requests.RequestErr.TheVariants.{Usage};
 ghost use Rattle.rk_words.specs.CommandLine.{command_line};
-ghost use Rattle.rk_words.specs.Asked.{is_true, request_by, request_of, steps_of, turns};
+ghost use Rattle.rk_words.specs.Asked.{build_request, is_given, request_by, request_of, steps_of, turns, IfBuild};
 ghost use Rattle.rk_words.specs.Forms.{ReadsForms};
 
 use crate::command_line::command_line;
@@ -33,7 +33,7 @@ fn steps(matches: &ArgMatches<'_>) -> Option<u32>
 
 // Whether a flag was given.
 fn is_set(matches: &ArgMatches<'_>, id: &str) -> bool
-    ensures { result ≡ is_true (first_of id.now (rows_of (found_of matches.now))) }
+    ensures { result ≡ is_given id.now (rows_of (found_of matches.now)) }
 {
     match text_of(matches, id) {
         None => false,
@@ -41,13 +41,31 @@ fn is_set(matches: &ArgMatches<'_>, id: &str) -> bool
     }
 }
 
+fn build_request(matches: &ArgMatches<'_>) -> Option<Request>
+    ensures { result ≡ build_request (rows_of (found_of matches.now)) }
+{
+    let steps = steps(matches)?;
+    Some(Request::Build {
+        steps,
+        explain: is_set(matches, "explain"),
+        fresh: is_set(matches, "fresh"),
+        check: is_set(matches, "check"),
+    })
+}
+
 fn request_by(name: &str, matches: &ArgMatches<'_>) -> Option<Request>
     ensures { result ≡ request_by name.now (rows_of (found_of matches.now)) }
 {
     if name == "build" {
-        let steps = steps(matches)?;
-        let explain = is_set(matches, "explain");
-        Some(Request::Build { steps, explain })
+        build_request(matches)
+    } else if name == "check" {
+        Some(Request::Check)
+    } else if name == "trace" {
+        Some(Request::Trace {
+            json: is_set(matches, "json"),
+        })
+    } else if name == "forget" {
+        Some(Request::Forget)
     } else {
         None
     }
@@ -91,7 +109,7 @@ fn read_request(matches: &ArgMatches<'_>) -> Option<Request>
 pub fn request(alloc: Global, words: &[String]) -> Result<Request, RequestErr>
     ensures asked { IfOk result (λ r. request_of (map string_bytes words.now) ≡ Some r) }
     ensures usage { IfErr result (λ e. e ≡ Usage → request_of (map string_bytes words.now) ≡ None) }
-    ensures some { IfOk result (λ r. 0 < turns r) }
+    ensures some { IfOk result (λ r. IfBuild r (0 < turns r)) }
     ensures forms { ReadsForms (map string_bytes words.now) result }
 {
     match matches_of(alloc, words) {
@@ -107,52 +125,127 @@ mod tests {
     use std::alloc::AllocError;
     use std::test::Fail;
 
-    // The turns of the build that a line of words asks for, and whether it is to be explained; nothing where the line is no
-    // request.
-    fn asked(alloc: Global, line: &str) -> Result<Result<(u32, bool), RequestErr>, AllocError> {
+    fn asked(alloc: Global, line: &str) -> Result<Result<Request, RequestErr>, AllocError> {
         let mut words = Vec::new(alloc);
         for word in line.split(' ') {
             words.push(String::from_str(alloc, word)?)?;
         }
-        match request(alloc, &words) {
-            Ok(Request::Build { steps, explain }) => Ok(Ok((steps, explain))),
-            Err(e) => Ok(Err(e)),
+        Ok(request(alloc, &words))
+    }
+
+    // The turns of the build that a line of words asks for, where it asks for nothing else.
+    fn plain(alloc: Global, line: &str) -> Result<Option<u32>, AllocError> {
+        match asked(alloc, line)? {
+            Ok(
+                Request::Build {
+                    steps,
+                    explain: false,
+                    fresh: false,
+                    check: false,
+                },
+            ) => Ok(Some(steps)),
+            _ => Ok(None),
+        }
+    }
+
+    // The flags of the build that a line of words asks for, in the usage line's order.
+    fn flags(alloc: Global, line: &str) -> Result<Option<(bool, bool, bool)>, AllocError> {
+        match asked(alloc, line)? {
+            Ok(
+                Request::Build {
+                    explain,
+                    fresh,
+                    check,
+                    ..
+                },
+            ) => Ok(Some((explain, fresh, check))),
+            _ => Ok(None),
         }
     }
 
     #[test]
-    fn reads_words(rt: HostRuntime) -> Result<(), Fail> {
+    fn reads_builds(rt: HostRuntime) -> Result<(), Fail> {
         let lines = [
-            ("rkr build", (1000000, false)),
-            ("rkr build --steps 17", (17, false)),
-            ("rkr build --steps=17", (17, false)),
-            ("rkr build --steps 1", (1, false)),
-            ("rkr build --steps 4294967295", (4294967295, false)),
-            ("rkr build --steps 0000000017", (17, false)),
-            ("rkr build --", (1000000, false)),
-            ("rkr build --steps 17 --", (17, false)),
-            ("another build", (1000000, false)),
-            ("rkr build --explain", (1000000, true)),
-            ("rkr build --explain --steps 17", (17, true)),
+            ("rkr build", 1000000),
+            ("rkr build --steps 17", 17),
+            ("rkr build --steps=17", 17),
+            ("rkr build --steps 1", 1),
+            ("rkr build --steps 4294967295", 4294967295),
+            ("rkr build --steps 0000000017", 17),
+            ("rkr build --", 1000000),
+            ("rkr build --steps 17 --", 17),
+            ("another build", 1000000),
         ];
-        for (line, is) in lines {
-            assert!(rt; asked(rt.alloc(), line)? == Ok(is), "{line}");
+        for (line, steps) in lines {
+            assert!(rt; plain(rt.alloc(), line)? == Some(steps), "{line}");
         }
         Ok(())
     }
 
     #[test]
-    fn refuses_words(rt: HostRuntime) -> Result<(), Fail> {
+    fn reads_flags(rt: HostRuntime) -> Result<(), Fail> {
+        let lines = [
+            ("rkr build --explain", (true, false, false)),
+            ("rkr build --explain --steps 17", (true, false, false)),
+            ("rkr build --fresh", (false, true, false)),
+            ("rkr build --check", (false, false, true)),
+            ("rkr build --check --fresh", (false, true, true)),
+            (
+                "rkr build --steps 17 --explain --fresh --check",
+                (true, true, true),
+            ),
+        ];
+        for (line, is) in lines {
+            assert!(rt; flags(rt.alloc(), line)? == Some(is), "{line}");
+        }
+        Ok(())
+    }
+
+    #[test]
+    fn reads_other_requests(rt: HostRuntime) -> Result<(), Fail> {
+        let alloc = rt.alloc();
+        assert!(rt; asked(alloc, "rkr check")? == Ok(Request::Check));
+        assert!(rt; asked(alloc, "rkr check --")? == Ok(Request::Check));
+        assert!(rt; asked(alloc, "rkr trace")? == Ok(Request::Trace { json: false }));
+        assert!(rt; asked(alloc, "rkr trace --json")? == Ok(Request::Trace { json: true }));
+        assert!(rt; asked(alloc, "rkr forget")? == Ok(Request::Forget));
+        Ok(())
+    }
+
+    fn is_usage(alloc: Global, line: &str) -> Result<bool, AllocError> {
+        Ok(asked(alloc, line)? == Err(RequestErr::Usage))
+    }
+
+    #[test]
+    fn refuses_other_first_words(rt: HostRuntime) -> Result<(), Fail> {
         let refused = [
             "rkr",
             "rkr frob",
             "rkr Build",
             "rkr buil",
-            "rkr build build",
-            "rkr build frob",
             "rkr -- build",
-            "rkr build -- --steps 17",
             "rkr --steps 17 build",
+            "rkr --help",
+            "rkr -h",
+            "rkr help",
+            "rkr help build",
+            "rkr --version",
+            "rkr -V",
+            "rkr gen 0",
+        ];
+        for line in refused {
+            assert!(rt; is_usage(rt.alloc(), line)?, "{line}");
+        }
+        assert!(rt;
+            request(rt.alloc(), &[]) == Err(RequestErr::Usage),
+            "no words"
+        );
+        Ok(())
+    }
+
+    #[test]
+    fn refuses_numbers(rt: HostRuntime) -> Result<(), Fail> {
+        let refused = [
             "rkr build --steps",
             "rkr build --steps=",
             "rkr build --steps ",
@@ -167,35 +260,57 @@ mod tests {
             "rkr build --steps=-17",
             "rkr build --steps 1_000",
             "rkr build --steps 17x",
+        ];
+        for line in refused {
+            assert!(rt; is_usage(rt.alloc(), line)?, "{line}");
+        }
+        Ok(())
+    }
+
+    #[test]
+    fn refuses_options(rt: HostRuntime) -> Result<(), Fail> {
+        let refused = [
+            "rkr build build",
+            "rkr build frob",
+            "rkr build -- --steps 17",
             "rkr build --step 17",
             "rkr build -s 17",
             "rkr build --steps 1 --steps 2",
             "rkr build --steps 1 --steps 1",
-            "rkr --help",
-            "rkr -h",
-            "rkr help",
-            "rkr help build",
             "rkr build --help",
             "rkr build -h",
-            "rkr --version",
-            "rkr -V",
             "rkr build --version",
-            "rkr check",
             "rkr build --explain=true",
             "rkr build --explain --explain",
+            "rkr build --fresh --fresh",
+            "rkr build --check --check",
             "rkr build --expl",
-            "rkr build --fresh",
         ];
         for line in refused {
-            assert!(rt;
-                asked(rt.alloc(), line)? == Err(RequestErr::Usage),
-                "{line}"
-            );
+            assert!(rt; is_usage(rt.alloc(), line)?, "{line}");
         }
-        assert!(rt;
-            request(rt.alloc(), &[]) == Err(RequestErr::Usage),
-            "no words"
-        );
+        Ok(())
+    }
+
+    #[test]
+    fn refuses_more_words(rt: HostRuntime) -> Result<(), Fail> {
+        let refused = [
+            "rkr check check",
+            "rkr check --json",
+            "rkr check --explain",
+            "rkr trace json",
+            "rkr trace --json --json",
+            "rkr trace --js",
+            "rkr trace --steps 1",
+            "rkr forget db",
+            "rkr forget --json",
+            "rkr build --json",
+            "rkr for",
+            "rkr check build",
+        ];
+        for line in refused {
+            assert!(rt; is_usage(rt.alloc(), line)?, "{line}");
+        }
         Ok(())
     }
 }

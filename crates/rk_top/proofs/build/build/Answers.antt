@@ -2,7 +2,7 @@ use Rattle.std.proofs.Common.{◌∙◌, ap, option_map}
 use Rattle.std.proofs.lemmas.Result.{err_from_is_err_and}
 use Rattle.rk_install.specs.Changes.{after_all}
 use Rattle.rk_top.specs.Fresh.{output_of, error_text_of}
-use Rattle.rk_top.proofs.BuildLemmas.{put-gains, put-gains-errors, install-leaves-now, install-gains, install-gains-errors, end-gains, end-gains-errors, end-leaves, end-status, end-tally, text-told, output-told, error_text-told}
+use Rattle.rk_top.proofs.BuildLemmas.{put-gains, put-gains-errors, install-leaves-now, install-gains, install-gains-errors, end-gains, end-gains-errors, end-leaves, end-status, end-checked, end-tally, text-told, output-told, error_text-told}
 use Rattle.rk_top.proofs.build.build.Goals as goal
 
 pub returns-in_err-put_texts-clause-output : goal.returns-in_err-put_texts-clause-output
@@ -35,6 +35,9 @@ returns-clause-folder g c = end-leaves g.M.Maker.first c.args.request.now _ _ _ 
 
 pub returns-clause-status : goal.returns-clause-status
 returns-clause-status g c = end-status g.M.Maker.first c.args.request.now _ _ _ c.in_ok-finished.field-0 c.in_ok-finished.ensures.prepares.0
+
+pub returns-clause-checked : goal.returns-clause-checked
+returns-clause-checked g c = end-checked g.M.Maker.first c.args.request.now _ _ _ c.in_ok-finished.field-0 c.in_ok-finished.ensures.prepares.0
 
 pub returns-clause-tally : goal.returns-clause-tally
 returns-clause-tally g c = end-tally g.M.Maker.first c.args.request.now _ _ _ _ c.in_ok-finished.field-0 _ c.in_ok-finished.ensures.prepares.0 (c.in_ok-carry_out.ensures.held ∙ ap (option_map (after_all c.in_ok-finished.field-0.plan)) c.prepare.ensures.held) c.len-launched.ensures

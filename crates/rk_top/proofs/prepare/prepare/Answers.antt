@@ -1,6 +1,8 @@
-use Rattle.std.proofs.Common.{refl}
+use Rattle.std.proofs.Common.{length, refl}
+use Rattle.rk_top.specs.declared.prepare.Prepared.{Prepared}
 use Rattle.std.proofs.lemmas.Result.{err_from_is_err_and}
-use Rattle.rk_top.proofs.PrepareLemmas.{find-stops, run-stops, is_prepared}
+use Rattle.rk_top.proofs.CheckLemmas.{check-no-fault, check-reads, check-starts, starts-both}
+use Rattle.rk_top.proofs.PrepareLemmas.{check-stops, find-stops, run-stops, is_prepared}
 use Rattle.rk_top.proofs.prepare.prepare.Goals as goal
 
 pub returns-in_err-before-clause-prepares : goal.returns-in_err-before-clause-prepares
@@ -11,12 +13,12 @@ returns-in_err-before-clause-prepares g c =
 pub returns-in_err-finished-clause-prepares : goal.returns-in_err-finished-clause-prepares
 returns-in_err-finished-clause-prepares g c =
     let p = err_from_is_err_and c.from_residual-in_err-finished.result c.from_residual-in_err-finished.ensures.1 in
-    rw (p.1, p.2) (run-stops g.M.Maker.first c.args.request.now _ c.in_ok-before.field-0 _ _ _ c.in_ok-before.ensures.finds c.in_err-finished.ensures.runs c.run.ensures.at_most)
+    rw (p.1, p.2) (run-stops g.M.Maker.first c.args.request.now _ c.in_ok-before.field-0 _ _ _ c.in_ok-before.ensures.finds c.in_err-finished.ensures.runs c.in_ok-check_old.ensures.checked c.run.ensures.at_most)
 
 pub returns-clause-prepares : goal.returns-clause-prepares
 returns-clause-prepares g c =
     is_prepared g.M.Maker.first c.args.request.now _ c.in_ok-before.field-0 c.in_ok-after.after _ _ c.in_ok-finished.finished c.in_ok-plan.plan c.in_ok-error_text.error_text (g.met.F.Folder.whole c.args.folder.now)
-    c.in_ok-before.ensures.finds c.in_ok-finished.ensures.runs c.run.ensures.at_most c.in_ok-after.ensures.holding c.in_ok-after.ensures.built c.in_ok-after.ensures.memory c.in_ok-after.ensures.fits
+    c.in_ok-before.ensures.finds c.in_ok-check_old.ensures.checked c.in_ok-finished.ensures.runs c.run.ensures.at_most c.in_ok-after.ensures.holding c.in_ok-after.ensures.built c.in_ok-after.ensures.memory c.in_ok-after.ensures.fits
     c.in_ok-plan.ensures.planned c.in_ok-plan.ensures.allowed c.in_ok-plan.ensures.leads c.in_ok-error_text.ensures
 
 pub returns-in_err-plan-clause-reads : goal.returns-in_err-plan-clause-reads
@@ -78,3 +80,26 @@ pub returns-in_err-error_text-clause-starts : goal.returns-in_err-error_text-cla
 returns-in_err-error_text-clause-starts g c =
     let p = err_from_is_err_and c.from_residual-in_err-error_text.result c.from_residual-in_err-error_text.ensures.1 in
     rw (p.1, p.2) tt
+
+pub returns-in_err-check_old-clause-prepares : goal.returns-in_err-check_old-clause-prepares
+returns-in_err-check_old-clause-prepares g c =
+    let p = err_from_is_err_and c.from_residual-in_err-check_old.result c.from_residual-in_err-check_old.ensures.1 in
+    rw (p.1, p.2) (check-stops g.M.Maker.first c.args.request.now _ c.in_ok-before.field-0 _ _ _ c.in_ok-before.ensures.finds c.in_err-check_old.ensures.checked refl)
+
+pub returns-in_err-check_old-clause-reads : goal.returns-in_err-check_old-clause-reads
+returns-in_err-check_old-clause-reads g c =
+    let p = err_from_is_err_and c.from_residual-in_err-check_old.result c.from_residual-in_err-check_old.ensures.1 in
+    rw (p.1, p.2) (check-reads Prepared g.M.Maker.first _ c.in_ok-before.field-0.old _ _ _ c.in_err-check_old.ensures.checked c.in_ok-before.ensures.reads)
+
+pub returns-in_err-check_old-clause-steady : goal.returns-in_err-check_old-clause-steady
+returns-in_err-check_old-clause-steady g c =
+    let p = err_from_is_err_and c.from_residual-in_err-check_old.result c.from_residual-in_err-check_old.ensures.1 in
+    rw (p.1, p.2) (c.in_ok-before.ensures.steady.0, λ steady. check-no-fault Prepared g.M.Maker.first _ c.in_ok-before.field-0.old _ c.in_err-check_old.ensures.checked)
+
+pub returns-in_err-check_old-clause-starts : goal.returns-in_err-check_old-clause-starts
+returns-in_err-check_old-clause-starts g c =
+    let p = err_from_is_err_and c.from_residual-in_err-check_old.result c.from_residual-in_err-check_old.ensures.1 in
+    rw (p.1, p.2) (check-starts {T = Prepared} (λ (p : Prepared). length p.finished.ran) g.M.Maker.first c.args.request.now (g.F.Folder.told c.args.folder.now) c.in_ok-before.field-0.old _ _ _ c.in_err-check_old.ensures.checked)
+
+pub returns-clause-starts : goal.returns-clause-starts
+returns-clause-starts g c = starts-both c.args.request.now _ c.in_ok-before.field-0 _ _ _ _ c.in_ok-before.ensures.finds c.in_ok-check_old.ensures.starts c.in_ok-finished.ensures.starts

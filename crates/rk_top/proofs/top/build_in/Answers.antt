@@ -27,8 +27,11 @@ returns-clause-status g c = rw c.outcome_of.ensures (built-ended _ c.build.resul
 pub returns-clause-tally : goal.returns-clause-tally
 returns-clause-tally g c = rw c.outcome_of.ensures (built-ended _ c.build.result c.build.ensures.tally)
 
+pub returns-clause-checked : goal.returns-clause-checked
+returns-clause-checked g c = rw c.outcome_of.ensures (built-ended _ c.build.result c.build.ensures.checked)
+
 pub returns-clause-starts : goal.returns-clause-starts
-returns-clause-starts g c = rw c.outcome_of.ensures (built-started _ _ c.build.result c.build.ensures.starts)
+returns-clause-starts g c = rw c.outcome_of.ensures (built-started c.args.request.now _ _ _ c.build.result c.build.ensures.starts)
 
 pub returns-clause-asked : goal.returns-clause-asked
 returns-clause-asked g c = rw c.outcome_of.ensures (built-asked c.build.result)
