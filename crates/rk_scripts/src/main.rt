@@ -1,0 +1,58 @@
+//! Carries out sessions of edits and builds over folders in memory, and prints for each file of them how many builds there
+//! were, and what wasn't as it is wanted.
+#![tactic(auto)]
+
+mod session;
+mod showing;
+mod steps;
+mod workload;
+
+use crate::session::{Session, carried_out};
+use crate::workload::made;
+use rk_base::NoMemory;
+use std::process::ExitCode;
+use std::{env, fs, io};
+
+fn print(rt: &HostRuntime, name: &str, came: Result<Session, NoMemory>) -> io::Result<()> {
+    match came {
+        Ok(session) => {
+            print!(rt; "{}", session.told())?;
+            println!(rt;
+                "{name}: {} builds, {} otherwise",
+                session.builds(),
+                session.otherwise()
+            )
+        }
+        Err(_) => println!(rt; "{name}: out of memory"),
+    }
+}
+
+// The sessions of each of these files, and then made ones.
+fn run(rt: &HostRuntime, names: &[String]) -> io::Result<()> {
+    'names: for name in names {
+        let text = fs::read_to_string(rt, name.as_str())?;
+        print(rt, name.as_str(), carried_out(rt.alloc(), text.as_str()))?;
+    }
+    'seeds: for seed in 0..4u64 {
+        let name = format!(in rt.alloc(); "seed {seed}")?;
+        print(rt, name.as_str(), made(rt.alloc(), seed, 8))?;
+    }
+    Ok(())
+}
+
+fn main(rt: HostRuntime) -> ExitCode {
+    let words: Vec<String> = match env::args(&rt) {
+        Ok(words) => match words.collect(rt.alloc()) {
+            Ok(words) => words,
+            Err(_) => return ExitCode::from(1),
+        },
+        Err(_) => return ExitCode::from(1),
+    };
+    match words.as_slice() {
+        [_, names @ ..] => match run(&rt, names) {
+            Ok(()) => ExitCode::SUCCESS,
+            Err(_) => ExitCode::from(1),
+        },
+        [] => ExitCode::SUCCESS,
+    }
+}

@@ -1,0 +1,305 @@
+// Sessions of edits and builds over a folder in memory.
+ghost use Rattle.std.specs.Prelude.{◌≡◌, ◌<◌};
+
+use crate::showing::{contents, has_line, kind_at, ran, rows_at, shown, text_at, unexplained};
+use crate::steps::{Kind, Step, steps_of};
+use rk_base::{NoMemory, Path, Steps};
+use rk_folder::{Folder, FolderErr, MemFolder, MemSink};
+use rk_top::{Outcome, exit_code, rkr};
+use std::alloc::Global;
+use std::marker::Brand;
+use std::sync::ledger::{Blank, Ledger};
+
+const ENOUGH: u32 = 1_000_000;
+
+/// A build that was made.
+#[derive(Drop)]
+struct Built {
+    outcome: Outcome,
+    out: MemSink,
+    err: MemSink,
+}
+
+/// A folder, what was built in it last, and what wasn't as it was wanted.
+#[derive(Drop)]
+pub(crate) struct Session {
+    alloc: Global,
+    folder: MemFolder,
+    /// Another one, in which the same is done, but each build is the first.
+    twin: MemFolder,
+    script: String,
+    /// What the next build is to cost, or 0 where that isn't looked at.
+    cost: u32,
+    explained: String,
+    told: String,
+    builds: u64,
+    otherwise: u64,
+}
+
+// No path of a session is faulty, so a path that is none counts as want of memory.
+fn at(alloc: Global, text: &str) -> Result<Path, NoMemory> {
+    match Path::parse(alloc, text.as_bytes()) {
+        Ok(path) => Ok(path),
+        Err(_) => Err(NoMemory),
+    }
+}
+
+// An explained build within so many turns.
+fn call<L: Ledger>(
+    alloc: Global,
+    turns: u32,
+    folder: &mut MemFolder,
+    blank: Blank,
+) -> Result<Built, NoMemory>
+    requires name { blank.name ≡ L.name }
+    requires parts { blank.parts ≡ L.parts }
+    requires some { 0 < L.parts }
+{
+    let mut words = Vec::new(alloc);
+    'words: for word in ["rkr", "build", "--explain", "--steps"] {
+        words.push(String::from_str(alloc, word)?)?;
+    }
+    words.push(format!(in alloc; "{turns}")?)?;
+    let mut live = Steps::<L>::new(blank);
+    let mut out = MemSink::new(alloc);
+    let mut err = MemSink::new(alloc);
+    let outcome = rkr(alloc, &words, folder, &mut out, &mut err, &mut live);
+    Ok(Built { outcome, out, err })
+}
+
+fn build_in(alloc: Global, turns: u32, folder: &mut MemFolder) -> Result<Built, NoMemory> {
+    call::<Brand>(alloc, turns, folder, Blank::new(1))
+}
+
+// 0 where it is no number.
+fn number(text: &str) -> u32 {
+    text.parse::<u32>().unwrap_or(0)
+}
+
+impl Session {
+    pub(crate) fn new(alloc: Global) -> Result<Session, NoMemory> {
+        Ok(Session {
+            alloc,
+            folder: MemFolder::new(alloc)?,
+            twin: MemFolder::new(alloc)?,
+            script: String::new(alloc),
+            cost: 0,
+            explained: String::new(alloc),
+            told: String::new(alloc),
+            builds: 0,
+            otherwise: 0,
+        })
+    }
+
+    /// What wasn't as it was wanted, a line for each such thing.
+    pub(crate) fn told(&self) -> &str {
+        self.told.as_str()
+    }
+
+    pub(crate) fn builds(&self) -> u64 {
+        self.builds
+    }
+
+    /// How many things weren't as they were wanted.
+    pub(crate) fn otherwise(&self) -> u64 {
+        self.otherwise
+    }
+
+    // Notes what came in place of what was wanted.
+    fn tell(&mut self, what: &str, came: &str, wanted: &str) -> Result<(), NoMemory> {
+        if came != wanted {
+            let line = format!(in self.alloc;
+                "[{}] {what}: {came:?}, wanted {wanted:?}\n",
+                self.script.as_str()
+            )?;
+            self.told.push_str(line.as_str())?;
+            self.otherwise = self.otherwise.saturating_add(1);
+        }
+        Ok(())
+    }
+
+    // Notes a change that the folder didn't allow.
+    fn is_done(&mut self, done: bool, path: &str) -> Result<(), NoMemory> {
+        if done {
+            return Ok(());
+        }
+        self.tell("change", "refused", path)
+    }
+
+    fn begin(&mut self, script: &str) -> Result<(), NoMemory> {
+        self.folder = MemFolder::new(self.alloc)?;
+        self.twin = MemFolder::new(self.alloc)?;
+        self.script = String::from_str(self.alloc, script)?;
+        self.put("/Rikerfile", script)
+    }
+
+    pub(crate) fn put(&mut self, path: &str, text: &str) -> Result<(), NoMemory> {
+        let place = at(self.alloc, path)?;
+        self.twin.set_file(self.alloc, &place, text.as_bytes())?;
+        let is_put = self.folder.set_file(self.alloc, &place, text.as_bytes())?;
+        self.is_done(is_put, path)
+    }
+
+    fn make_dir(&mut self, path: &str) -> Result<(), NoMemory> {
+        let place = at(self.alloc, path)?;
+        self.twin.set_dir(&place)?;
+        let is_made = self.folder.set_dir(&place)?;
+        self.is_done(is_made, path)
+    }
+
+    pub(crate) fn remove(&mut self, path: &str) -> Result<(), NoMemory> {
+        let place = at(self.alloc, path)?;
+        drop_file(&mut self.twin, self.alloc, &place)?;
+        drop_file(&mut self.folder, self.alloc, &place)
+    }
+
+    /// Builds in both folders, and notes where they differ.
+    pub(crate) fn compare(&mut self) -> Result<(), NoMemory> {
+        self.builds = self.builds.saturating_add(1);
+        let built = build_in(self.alloc, ENOUGH, &mut self.folder)?;
+        let fresh = self.afresh()?;
+        let status = format!(in self.alloc; "{}", exit_code(&fresh.outcome))?;
+        let errors = unexplained(shown(fresh.err.bytes()));
+        self.judge(&built, status.as_str(), shown(fresh.out.bytes()), errors)?;
+        let came = contents(self.alloc, &mut self.folder)?;
+        let wanted = contents(self.alloc, &mut self.twin)?;
+        self.tell("folder", came.as_str(), wanted.as_str())
+    }
+
+    // The build within the fewest turns that do.
+    fn cheapest(&mut self) -> Result<Built, NoMemory> {
+        if self.cost != 0 {
+            let wanted = format!(in self.alloc; "{}", self.cost)?;
+            self.cost = 0;
+            'turns: for turns in 1..400u32 {
+                let built = build_in(self.alloc, turns, &mut self.folder)?;
+                if !matches!(built.outcome, Outcome::Spent) {
+                    let came = format!(in self.alloc; "{turns}")?;
+                    self.tell("costs", came.as_str(), wanted.as_str())?;
+                    return Ok(built);
+                }
+            }
+            self.tell("costs", "400 or more", wanted.as_str())?;
+        }
+        build_in(self.alloc, ENOUGH, &mut self.folder)
+    }
+
+    // Notes where a build didn't come to this.
+    fn judge(
+        &mut self,
+        built: &Built,
+        status: &str,
+        output: &str,
+        error_text: &str,
+    ) -> Result<(), NoMemory> {
+        let came = format!(in self.alloc; "{}", exit_code(&built.outcome))?;
+        self.tell("status", came.as_str(), status)?;
+        self.tell("output", shown(built.out.bytes()), output)?;
+        let errors = unexplained(shown(built.err.bytes()));
+        self.tell("error text", errors, error_text)
+    }
+
+    fn build(&mut self, status: &str, output: &str, error_text: &str) -> Result<(), NoMemory> {
+        self.builds = self.builds.saturating_add(1);
+        let built = self.cheapest()?;
+        self.judge(&built, status, output, error_text)?;
+        self.explained = String::from_str(self.alloc, shown(built.err.bytes()))?;
+        let fresh = self.afresh()?;
+        self.judge(&fresh, status, output, error_text)
+    }
+
+    // The build of the twin, without the records of an earlier one.
+    fn afresh(&mut self) -> Result<Built, NoMemory> {
+        let db = at(self.alloc, "/.rkr/db")?;
+        if self.twin.at(&db).is_some() {
+            drop_file(&mut self.twin, self.alloc, &db)?;
+        }
+        build_in(self.alloc, ENOUGH, &mut self.twin)
+    }
+
+    fn spent(&mut self, turns: u32) -> Result<(), NoMemory> {
+        self.folder.clear_changes();
+        let built = build_in(self.alloc, turns, &mut self.folder)?;
+        if !matches!(built.outcome, Outcome::Spent) || !self.folder.changes().is_empty() {
+            self.tell("budget", "enough", "spent")?;
+        }
+        self.tell("output", shown(built.out.bytes()), "")
+    }
+
+    fn ran(&mut self, wanted: &str) -> Result<(), NoMemory> {
+        let came = ran(self.alloc, self.explained.as_str())?;
+        self.tell("ran", came.as_str(), wanted)
+    }
+
+    fn why(&mut self, line: &str) -> Result<(), NoMemory> {
+        if has_line(self.explained.as_str(), line) {
+            return Ok(());
+        }
+        let came = String::from_str(self.alloc, self.explained.as_str())?;
+        self.tell("explained", came.as_str(), line)
+    }
+
+    fn stands(&mut self, path: &str, kind: &str, text: &str) -> Result<(), NoMemory> {
+        let place = at(self.alloc, path)?;
+        let came_kind = kind_at(&self.folder, &place);
+        self.tell(path, came_kind, kind)?;
+        let twin_kind = kind_at(&self.twin, &place);
+        self.tell("twin", twin_kind, kind)?;
+        let came = text_at(self.alloc, &self.folder, &place)?;
+        self.tell(path, came.as_str(), text)?;
+        let twin = text_at(self.alloc, &self.twin, &place)?;
+        self.tell("twin", twin.as_str(), text)
+    }
+
+    fn attrs(&mut self, wanted: &str) -> Result<(), NoMemory> {
+        let place = at(self.alloc, "/.rkr/attrs")?;
+        let came = rows_at(self.alloc, &self.folder, &place)?;
+        self.tell("attrs", came.as_str(), wanted)?;
+        let twin = rows_at(self.alloc, &self.twin, &place)?;
+        self.tell("twin", twin.as_str(), wanted)
+    }
+
+    fn take(&mut self, step: &Step) -> Result<(), NoMemory> {
+        let rest = step.rest.as_str();
+        let text = step.text.as_str();
+        match step.kind {
+            Kind::Fresh => self.begin(text),
+            Kind::Script => self.put("/Rikerfile", text),
+            Kind::File => self.put(rest, text),
+            Kind::Dir => self.make_dir(rest),
+            Kind::Removed => self.remove(rest),
+            Kind::Costs => {
+                self.cost = number(rest);
+                Ok(())
+            }
+            Kind::Build => self.build(rest, text, step.errors.as_str()),
+            Kind::Spent => self.spent(number(rest)),
+            Kind::Ran => self.ran(rest),
+            Kind::Why => self.why(rest),
+            Kind::Holds => self.stands(rest, "file", text),
+            Kind::Lacks => self.stands(rest, "nothing", ""),
+            Kind::Directory => self.stands(rest, "directory", ""),
+            Kind::Attrs => self.attrs(rest),
+            Kind::Unknown => self.tell("step", "unknown", rest),
+        }
+    }
+}
+
+// A file that isn't there is removed already.
+fn drop_file(folder: &mut MemFolder, alloc: Global, place: &Path) -> Result<(), NoMemory> {
+    match folder.remove_file(alloc, place) {
+        Ok(()) => Ok(()),
+        Err(FolderErr::Failed) => Ok(()),
+        Err(FolderErr::NoMemory) => Err(NoMemory),
+    }
+}
+
+/// The sessions of a file, carried out.
+pub(crate) fn carried_out(alloc: Global, text: &str) -> Result<Session, NoMemory> {
+    let steps = steps_of(alloc, text)?;
+    let mut session = Session::new(alloc)?;
+    'steps: for step in &steps {
+        session.take(step)?;
+    }
+    Ok(session)
+}

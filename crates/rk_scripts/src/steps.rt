@@ -1,0 +1,118 @@
+// The steps of a file of sessions.
+use rk_base::NoMemory;
+use std::alloc::Global;
+
+/// What is done with a folder, or looked at in it.
+#[derive(Clone, Copy, PartialEq, Eq)]
+pub(crate) enum Kind {
+    /// A fresh folder with the text as its script, and nothing else.
+    Fresh,
+    /// Another script.
+    Script,
+    /// A file is written.
+    File,
+    /// A directory is made.
+    Dir,
+    /// A file is removed.
+    Removed,
+    /// What the next build costs, in turns.
+    Costs,
+    /// A build: its status, its output and its error text.
+    Build,
+    /// A build within so many turns is spent, and changes nothing.
+    Spent,
+    /// How many commands the last build launched, and the words of those that ran.
+    Ran,
+    /// A line of the last build's explanation.
+    Why,
+    /// What a file holds.
+    Holds,
+    /// Nothing stands there.
+    Lacks,
+    /// A directory stands there.
+    Directory,
+    /// The links, and the modes other than the usual ones.
+    Attrs,
+    /// No step has such a word.
+    Unknown,
+}
+
+/// A step: its kind, what stands behind its word, and the texts below it.
+#[derive(Drop)]
+pub(crate) struct Step {
+    pub(crate) kind: Kind,
+    pub(crate) rest: String,
+    pub(crate) text: String,
+    pub(crate) errors: String,
+}
+
+fn kind_of(word: &str) -> Kind {
+    match word {
+        "fresh" => Kind::Fresh,
+        "script" => Kind::Script,
+        "file" => Kind::File,
+        "dir" => Kind::Dir,
+        "removed" => Kind::Removed,
+        "costs" => Kind::Costs,
+        "build" => Kind::Build,
+        "spent" => Kind::Spent,
+        "ran" => Kind::Ran,
+        "why" => Kind::Why,
+        "holds" => Kind::Holds,
+        "lacks" => Kind::Lacks,
+        "directory" => Kind::Directory,
+        "attrs" => Kind::Attrs,
+        _ => Kind::Unknown,
+    }
+}
+
+impl Step {
+    // The step of a line, without the texts below it.
+    fn new(alloc: Global, line: &str) -> Result<Step, NoMemory> {
+        let (word, rest) = line.split_once(' ').unwrap_or((line, ""));
+        Ok(Step {
+            kind: kind_of(word),
+            rest: String::from_str(alloc, rest)?,
+            text: String::new(alloc),
+            errors: String::new(alloc),
+        })
+    }
+
+    // Takes a line below it: `| ` before a line of text, `~ ` before one that no newline ends, `! ` before one of error text.
+    fn add(&mut self, line: &str) -> Result<(), NoMemory> {
+        if let Some(more) = line.strip_prefix("~ ") {
+            self.text.push_str(more)?;
+        } else if let Some(more) = line.strip_prefix("! ") {
+            self.errors.push_str(more)?;
+            self.errors.push('\n')?;
+        } else {
+            self.text.push_str(line.strip_prefix("| ").unwrap_or(""))?;
+            self.text.push('\n')?;
+        }
+        Ok(())
+    }
+}
+
+fn is_text(line: &str) -> bool {
+    line.starts_with('|') || line.starts_with('~') || line.starts_with('!')
+}
+
+fn is_comment(line: &str) -> bool {
+    line.is_empty() || line.starts_with('#')
+}
+
+/// The steps of a file: a line for each, with its texts in the lines below it. Empty lines, and those that begin with `#`,
+/// say nothing.
+pub(crate) fn steps_of(alloc: Global, text: &str) -> Result<Vec<Step>, NoMemory> {
+    let mut steps: Vec<Step> = Vec::new(alloc);
+    'lines: for line in text.lines() {
+        if is_text(line) {
+            if let Some(step) = steps.last_mut() {
+                step.add(line)?;
+            }
+        } else if !is_comment(line) {
+            steps.push(Step::new(alloc, line)?)?;
+        }
+    }
+    Ok(steps)
+}
