@@ -1,7 +1,6 @@
 // The top call over folders in memory.
 mod attributes;
 mod directories;
-mod queries;
 mod rebuilds;
 
 ghost use Rattle.std.specs.Prelude.{◌≡◌, ◌<◌};
@@ -276,37 +275,6 @@ fn finds_a_database_without_its_last_byte(rt: HostRuntime) -> Result<(), Fail> {
         b"rkr: .rkr/db: damaged: digest 00a342bf5380cc76578f27ddbfe179fb35460c2738ef3fc26748b74ba27594cd, computed d23cb4ffa1c8131219b3f57899ba9838b8e52450d9e9a0c7362f9dc47321d296\n";
     assert!(rt; finds_damaged(alloc, &mut folder, line)?);
     Ok(())
-}
-
-#[test]
-fn begins_afresh_over_any_database(rt: HostRuntime) -> Result<(), Fail> {
-    let alloc = rt.alloc();
-    let db = first_db(alloc)?;
-    let file = at(alloc, b"/.rkr/db")?;
-    for kept in [db.as_slice(), b"".as_slice()] {
-        let mut folder = folder_with_db(alloc, kept)?;
-        let outcome = afresh(alloc, &mut folder)?;
-        assert!(rt;
-            matches!(
-                outcome,
-                Outcome::Ended {
-                    status: 0,
-                    launched: 2,
-                    ran: 2
-                }
-            )
-        );
-        assert!(rt; is_file(&folder, &file, db.as_slice()));
-    }
-    Ok(())
-}
-
-// A build that begins afresh.
-fn afresh(alloc: Global, folder: &mut MemFolder) -> Result<Outcome, Fail> {
-    let mut out = MemSink::new(alloc);
-    let mut err = MemSink::new(alloc);
-    let words = ["rkr", "build", "--fresh"];
-    call::<Brand>(alloc, &words, folder, &mut out, &mut err, Blank::new(1))
 }
 
 #[test]
