@@ -61,6 +61,7 @@ pub fn build_with<K: Maker, W: Answerer, L: Ledger>(
     ensures paid { IfOk result (λ b. budget.new.used ≡ budget.old.used + total b.table) }
     ensures limit { budget.new.limit ≡ budget.old.limit }
     ensures within { IfOk result (λ b. budget.new.used ≤ budget.new.limit) }
+    ensures at_least { live.old ≤ live.new }
     ensures at_most { live.new ≤ live.old + left budget.old }
 {
     let mut table = Table::new(alloc);

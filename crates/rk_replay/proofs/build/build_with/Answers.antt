@@ -114,6 +114,7 @@ returns-in_err-answer-in_default g c =
       paid = rw p.1 tt;
       limit = omega arith;
       within = rw p.1 tt;
+      at_least = omega (arith, c.in_err-answer-in_default.ensures.still);
       at_most = omega (arith, c.in_err-answer-in_default.ensures.still);
     }
 
