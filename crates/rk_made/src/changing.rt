@@ -1,17 +1,18 @@
 // A folder in memory, and what is changed of it.
-ghost use Rattle.std.specs.Prelude.{◌≡◌, IfOk, OnOk};
-ghost use Rattle.rk_folder.specs.Memory.{held_by};
+ghost use Rattle.std.specs.Prelude.{◌≡◌, IfOk, OnOk, true};
+ghost use Rattle.rk_folder.specs.Memory.{held_by, is_steady};
 ghost use Rattle.rk_folder.specs.Told.{root_alone};
 ghost use Rattle.rk_made.specs.Changed.{changed, with_file, with_files, without_file};
 
 use rk_base::{NoMemory, Path};
-use rk_folder::{Folder, MemFolder, Standing};
+use rk_folder::{Folder, FolderErr, MemFolder, Standing};
 use rk_gen::{Edit, File};
 use std::alloc::Global;
 
 // A file is put where it may stand.
 fn put_file(alloc: Global, folder: &mut MemFolder, file: &File) -> Result<(), NoMemory>
-    ensures { OnOk result (held_by folder.new ≡ with_file file.now (held_by folder.old)) }
+    ensures held { OnOk result (held_by folder.new ≡ with_file file.now (held_by folder.old)) }
+    ensures steady { is_steady folder.new ≡ is_steady folder.old }
 {
     let _ = folder.set_file(alloc, &file.path, file.bytes.as_slice())?;
     Ok(())
@@ -19,23 +20,27 @@ fn put_file(alloc: Global, folder: &mut MemFolder, file: &File) -> Result<(), No
 
 // A file is removed if it stands.
 fn remove_file(alloc: Global, folder: &mut MemFolder, path: &Path) -> Result<(), NoMemory>
-    ensures { OnOk result (held_by folder.new ≡ without_file path.now (held_by folder.old)) }
+    requires { is_steady folder.old ≡ true }
+    ensures held { OnOk result (held_by folder.new ≡ without_file path.now (held_by folder.old)) }
+    ensures steady { is_steady folder.new ≡ is_steady folder.old }
 {
     match folder.at(path) {
         Some(Standing::File(_)) => {}
         _ => return Ok(()),
     }
-    // No call of the folder is to fail, so nothing but memory may be wanting.
     match folder.remove_file(alloc, path) {
         Ok(()) => Ok(()),
-        Err(_) => Err(NoMemory),
+        Err(FolderErr::Failed) => unreachable!(),
+        Err(FolderErr::NoMemory) => Err(NoMemory),
     }
 }
 
 /// Makes an edit. What the folder doesn't allow is passed over: a file where none may stand, and the removal of one that
-/// doesn't stand.
+/// doesn't stand. No call of the folder is to fail.
 pub fn change(alloc: Global, folder: &mut MemFolder, edit: &Edit) -> Result<(), NoMemory>
-    ensures { OnOk result (held_by folder.new ≡ changed edit.now (held_by folder.old)) }
+    requires { is_steady folder.old ≡ true }
+    ensures held { OnOk result (held_by folder.new ≡ changed edit.now (held_by folder.old)) }
+    ensures steady { is_steady folder.new ≡ is_steady folder.old }
 {
     match edit {
         Edit::Write(file) => put_file(alloc, folder, file),
@@ -45,7 +50,8 @@ pub fn change(alloc: Global, folder: &mut MemFolder, edit: &Edit) -> Result<(), 
 }
 
 fn put_files(alloc: Global, folder: &mut MemFolder, files: &[File]) -> Result<(), NoMemory>
-    ensures { OnOk result (held_by folder.new ≡ with_files files.now (held_by folder.old)) }
+    ensures held { OnOk result (held_by folder.new ≡ with_files files.now (held_by folder.old)) }
+    ensures steady { is_steady folder.new ≡ is_steady folder.old }
 {
     for file in files {
         put_file(alloc, folder, file)?;
@@ -55,7 +61,8 @@ fn put_files(alloc: Global, folder: &mut MemFolder, files: &[File]) -> Result<()
 
 /// A folder of these files.
 pub fn start_folder(alloc: Global, files: &[File]) -> Result<MemFolder, NoMemory>
-    ensures { IfOk result (λ folder. held_by folder ≡ with_files files.now root_alone) }
+    ensures held { IfOk result (λ folder. held_by folder ≡ with_files files.now root_alone) }
+    ensures steady { IfOk result (λ folder. is_steady folder ≡ true) }
 {
     let mut folder = MemFolder::new(alloc)?;
     put_files(alloc, &mut folder, files)?;
