@@ -4,16 +4,16 @@ use Rattle.clap.specs.Words.{Kinds, HasKind, IsAmong, kind_of, is_simple, is_sim
 use Rattle.clap.specs.declared.Error.{Error}
 use Rattle.clap.specs.declared.error.ErrorKind.TheVariants as kind
 use Rattle.clap.proofs.OnLiterals.{clap_on_literals}
-use Rattle.rk_words.specs.CommandLine.{build_app, command_line, trace_app}
+use Rattle.rk_words.specs.CommandLine.{build_app, command_line, folder_line, gen_app, trace_app}
 use Rattle.rk_words.specs.Asked.{if_no_fault}
 use Rattle.rk_words.specs.declared.requests.Request.{Request}
 
 pub command_line_is_simple : is_simple command_line ≡ true
-unfolding clap_on_literals command_line build_app trace_app
+unfolding clap_on_literals command_line build_app trace_app gen_app folder_line
 command_line_is_simple = refl
 
 pub command_line_is_free : is_simple_and_free command_line ≡ true
-unfolding clap_on_literals command_line build_app trace_app
+unfolding clap_on_literals command_line build_app trace_app gen_app folder_line
 command_line_is_free = refl
 
 -- an error that isn't want of memory has a kind

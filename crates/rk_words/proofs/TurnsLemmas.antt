@@ -5,11 +5,11 @@ use Rattle.std.specs.Str.{bytes_eq}
 use Rattle.std.proofs.lemmas.Bool.Decides.{nat_tests}
 use Rattle.clap.specs.Words.{Kinds, Row, Text, first_of, fault_of, subcommand_of}
 use Rattle.rk_words.specs.CommandLine.{command_line}
-use Rattle.rk_words.specs.Asked.{is_given, steps_of, build_request, trace_request, request_by, if_no_fault, request_of, turns, IfBuild}
+use Rattle.rk_words.specs.Asked.{is_given, steps_of, build_request, gen_request, trace_request, request_by, if_no_fault, request_of, turns, IfBuild}
 use Rattle.rk_words.specs.Decimal.{number_of}
 use Rattle.rk_words.specs.declared.requests.Request.{Request}
 use Rattle.rk_words.specs.declared.requests.RequestErr.{RequestErr}
-use Rattle.rk_words.specs.declared.requests.Request.TheVariants.{Build, Check, Forget}
+use Rattle.rk_words.specs.declared.requests.Request.TheVariants.{Build, Check, Forget, Gen}
 
 some-is : (a b : ℕ) → Some a ≡ Some b → a ≡ b
 some-is a b e = cc
@@ -29,6 +29,10 @@ built : (explain fresh check : Bool) (o : Option ℕ) → ((n : ℕ) → o ≡ S
 built explain fresh check None h = tt
 built explain fresh check (Some n) h = h n refl
 
+made : (o : Option ℕ) → HasTurns (option_map Gen o)
+made None = tt
+made (Some seed) = tt
+
 either : (b : Bool) (o other : Option Request) → HasTurns o → HasTurns other → HasTurns (if b then o else other)
 either true o other h too = h
 either false o other h too = too
@@ -36,7 +40,7 @@ either false o other h too = too
 by_name : (p : Text × List Row) → HasTurns (request_by p.0 p.1)
 by_name p =
     either (bytes_eq p.0 (codes "build")) (build_request p.1) _ (built (is_given (codes "explain") p.1) (is_given (codes "fresh") p.1) (is_given (codes "check") p.1) (steps_of (first_of (codes "steps") p.1)) (turns-some (first_of (codes "steps") p.1)))
-    (either (bytes_eq p.0 (codes "check")) (Some Check) _ tt (either (bytes_eq p.0 (codes "trace")) (Some (trace_request p.1)) _ tt (either (bytes_eq p.0 (codes "forget")) (Some Forget) None tt tt)))
+    (either (bytes_eq p.0 (codes "check")) (Some Check) _ tt (either (bytes_eq p.0 (codes "trace")) (Some (trace_request p.1)) _ tt (either (bytes_eq p.0 (codes "forget")) (Some Forget) _ tt (either (bytes_eq p.0 (codes "gen")) (gen_request p.1) None (made (option_and_then (number_of 20 0 18446744073709551615) (first_of (codes "seed") p.1))) tt))))
 
 found : (o : Option (Text × List Row)) → HasTurns (option_and_then (λ p. request_by p.0 p.1) o)
 found None = tt

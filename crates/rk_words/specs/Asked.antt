@@ -30,6 +30,10 @@ build_request rows =
 abbrev pub trace_request : List Row → Request
 trace_request rows = request.Trace (is_given (codes "json") rows)
 
+-- `gen SEED`: a seed has one to twenty digits and lies below 2^64
+abbrev pub gen_request : List Row → Option Request
+gen_request rows = option_map request.Gen (option_and_then (number_of 20 0 18446744073709551615) (first_of (codes "seed") rows))
+
 -- the request of a subcommand with what its words name
 abbrev pub request_by : Text → List Row → Option Request
 request_by name rows =
@@ -37,6 +41,7 @@ request_by name rows =
     else if bytes_eq name (codes "check") then Some request.Check
     else if bytes_eq name (codes "trace") then Some (trace_request rows)
     else if bytes_eq name (codes "forget") then Some request.Forget
+    else if bytes_eq name (codes "gen") then gen_request rows
     else None
 
 -- what was found, where the words have no fault
@@ -73,7 +78,13 @@ checks other = false
 -- this is so of what is asked of the database alone
 abbrev pub IfQuery : Request → Type 0 → Type 0
 IfQuery (request.Build steps explain fresh check) P = Unit {0}
+IfQuery (request.Gen seed) P = Unit {0}
 IfQuery other P = P
+
+-- this is so of a made workload, by its seed
+abbrev pub IfGen : Request → (ℕ → Type 0) → Type 0
+IfGen (request.Gen seed) P = P seed
+IfGen other P = Unit {0}
 
 -- this is so of a build
 abbrev pub IfBuild : Request → Type 0 → Type 0

@@ -5,7 +5,7 @@ use Rattle.std.specs.Str.Parse.{starts_with_minus}
 use Rattle.clap.specs.Words.{Text}
 use Rattle.rk_words.specs.Decimal.{number_of}
 use Rattle.rk_words.specs.declared.requests.Request.{Request}
-use Rattle.rk_words.specs.declared.requests.Request.TheVariants.{Build, Check, Trace, Forget}
+use Rattle.rk_words.specs.declared.requests.Request.TheVariants.{Build, Check, Trace, Forget, Gen}
 use Rattle.rk_words.specs.declared.requests.RequestErr.{RequestErr}
 use Rattle.rk_words.specs.declared.requests.RequestErr.TheVariants.{Usage, NoMemory}
 
@@ -26,6 +26,10 @@ explained_within n = option_map (λ steps. Build steps true false false) (number
 abbrev pub all_within : Text → Option Request
 all_within n = option_map (λ steps. Build steps true true true) (number_of 10 1 4294967295 n)
 
+-- the workload of a seed, where that is a number in range
+abbrev pub made_of : Text → Option Request
+made_of n = option_map Gen (number_of 20 0 18446744073709551615 n)
+
 -- the word does not begin with a hyphen
 abbrev pub IsPlainWord : Text → Type 0
 IsPlainWord word = starts_with_minus word ≡ false
@@ -37,6 +41,7 @@ pub record IsOther (word : Text) : Type 0 where
   pub check : bytes_eq (codes "check") word ≡ false
   pub trace : bytes_eq (codes "trace") word ≡ false
   pub forget : bytes_eq (codes "forget") word ≡ false
+  pub gen : bytes_eq (codes "gen") word ≡ false
 
 pub record ReadsForms (words : List Text) (answer : Result Request RequestErr) : Type 0 where
   -- no words, or the program's name alone
@@ -69,6 +74,10 @@ pub record ReadsForms (words : List Text) (answer : Result Request RequestErr) :
   pub json : (name : Text) → words ≡ name ∷ codes "trace" ∷ codes "--json" ∷ [] → Answers (Some (Trace true)) answer
   pub json_twice : (name : Text) → words ≡ name ∷ codes "trace" ∷ codes "--json" ∷ codes "--json" ∷ [] → Answers None answer
   pub forget : (name : Text) → words ≡ name ∷ codes "forget" ∷ [] → Answers (Some Forget) answer
+  -- `gen SEED`, and without a seed or with two
+  pub gen : (name n : Text) → IsPlainWord n → words ≡ name ∷ codes "gen" ∷ n ∷ [] → Answers (made_of n) answer
+  pub no_seed : (name : Text) → words ≡ name ∷ codes "gen" ∷ [] → Answers None answer
+  pub two_seeds : (name m n : Text) → IsPlainWord m → IsPlainWord n → words ≡ name ∷ codes "gen" ∷ m ∷ n ∷ [] → Answers None answer
   -- a word after each of them
   pub after_check : (name word : Text) → IsPlainWord word → words ≡ name ∷ codes "check" ∷ word ∷ [] → Answers None answer
   pub after_trace : (name word : Text) → IsPlainWord word → words ≡ name ∷ codes "trace" ∷ word ∷ [] → Answers None answer

@@ -2,7 +2,7 @@
 ghost use Rattle.std.specs.Prelude.{◌≡◌, IfOk, false};
 ghost use Rattle.clap.specs.Words.{app_of, shape_of, rule_of, with_rule, with_subcommand};
 ghost use Rattle.clap.specs.declared.Command.TheViews.{out-Command as fields_of};
-ghost use Rattle.rk_words.specs.CommandLine.{bare, build_app, command_line, flag, trace_app, valued};
+ghost use Rattle.rk_words.specs.CommandLine.{bare, build_app, command_line, flag, folder_line, gen_app, placed, trace_app, valued};
 
 use clap::{Arg, ArgAction, Command};
 use std::alloc::{AllocError, Global};
@@ -19,6 +19,13 @@ fn flag<'a>(alloc: Global, name: &'static str) -> Arg<'a>
     ensures local { result.global ≡ false }
 {
     Arg::new(alloc, name).long(name).action(ArgAction::SetTrue)
+}
+
+fn placed<'a>(alloc: Global, name: &'static str) -> Arg<'a>
+    ensures rule { rule_of result ≡ placed name.entry.now }
+    ensures local { result.global ≡ false }
+{
+    Arg::new(alloc, name).required(true).action(ArgAction::Set)
 }
 
 fn with_arg<'a>(command: Command<'a>, arg: Arg<'a>) -> Result<Command<'a>, AllocError>
@@ -69,13 +76,29 @@ fn trace_command<'a>(alloc: Global) -> Result<Command<'a>, AllocError>
     with_arg(Command::new(alloc, "trace"), flag(alloc, "json"))
 }
 
-/// The program's command with its subcommands.
-#[tactic(auto, unfolding(crate::specs::CommandLine::command_line))]
-pub(crate) fn command_line<'a>(alloc: Global) -> Result<Command<'a>, AllocError>
-    ensures app { IfOk result (λ c. app_of c ≡ command_line) }
+#[tactic(auto, unfolding(crate::specs::CommandLine::gen_app))]
+fn gen_command<'a>(alloc: Global) -> Result<Command<'a>, AllocError>
+    ensures app { IfOk result (λ c. app_of c ≡ gen_app) }
+    ensures local { IfOk result (λ c. (fields_of c).has_globals ≡ false) }
+{
+    with_arg(Command::new(alloc, "gen"), placed(alloc, "seed"))
+}
+
+// With the subcommands that ask something of a folder.
+#[tactic(auto, unfolding(crate::specs::CommandLine::folder_line))]
+fn folder_command<'a>(alloc: Global) -> Result<Command<'a>, AllocError>
+    ensures app { IfOk result (λ c. app_of c ≡ folder_line) }
 {
     let command = with_sub(bare(alloc, "rkr"), build_command(alloc)?)?;
     let command = with_sub(command, Command::new(alloc, "check"))?;
     let command = with_sub(command, trace_command(alloc)?)?;
     with_sub(command, Command::new(alloc, "forget"))
+}
+
+/// The program's command with its subcommands.
+#[tactic(auto, unfolding(crate::specs::CommandLine::command_line))]
+pub(crate) fn command_line<'a>(alloc: Global) -> Result<Command<'a>, AllocError>
+    ensures app { IfOk result (λ c. app_of c ≡ command_line) }
+{
+    with_sub(folder_command(alloc)?, gen_command(alloc)?)
 }

@@ -23,6 +23,8 @@ pub enum Request {
     },
     /// Removes the database.
     Forget,
+    /// Runs the session that this seed makes.
+    Gen(u64),
 }
 
 /// Why there is no request.

@@ -3,7 +3,7 @@ ghost use Rattle.std.specs.Prelude.{◌≡◌, ◌↔◌, ◌≢◌, ◌<◌, []
 ghost use Rattle.clap.specs.Words.{kind_of, fault_of, subcommand_of, subcommand_rows_of, first_of, rows_of, found_of};
 ghost use Rattle.rk_words.specs.declared.requests.RequestErr.TheVariants.{Usage};
 ghost use Rattle.rk_words.specs.CommandLine.{command_line};
-ghost use Rattle.rk_words.specs.Asked.{build_request, is_given, request_by, request_of, steps_of, turns, IfBuild};
+ghost use Rattle.rk_words.specs.Asked.{build_request, gen_request, is_given, request_by, request_of, steps_of, turns, IfBuild};
 ghost use Rattle.rk_words.specs.Forms.{ReadsForms};
 
 use crate::command_line::command_line;
@@ -53,6 +53,14 @@ fn build_request(matches: &ArgMatches<'_>) -> Option<Request>
     })
 }
 
+fn gen_request(matches: &ArgMatches<'_>) -> Option<Request>
+    ensures { result ≡ gen_request (rows_of (found_of matches.now)) }
+{
+    let text = text_of(matches, "seed")?;
+    let seed = number(20, 0, u64::MAX, text)?;
+    Some(Request::Gen(seed))
+}
+
 fn request_by(name: &str, matches: &ArgMatches<'_>) -> Option<Request>
     ensures { result ≡ request_by name.now (rows_of (found_of matches.now)) }
 {
@@ -66,6 +74,8 @@ fn request_by(name: &str, matches: &ArgMatches<'_>) -> Option<Request>
         })
     } else if name == "forget" {
         Some(Request::Forget)
+    } else if name == "gen" {
+        gen_request(matches)
     } else {
         None
     }
@@ -209,6 +219,10 @@ mod tests {
         assert!(rt; asked(alloc, "rkr trace")? == Ok(Request::Trace { json: false }));
         assert!(rt; asked(alloc, "rkr trace --json")? == Ok(Request::Trace { json: true }));
         assert!(rt; asked(alloc, "rkr forget")? == Ok(Request::Forget));
+        assert!(rt; asked(alloc, "rkr gen 0")? == Ok(Request::Gen(0)));
+        assert!(rt; asked(alloc, "rkr gen -- 5")? == Ok(Request::Gen(5)));
+        assert!(rt; asked(alloc, "rkr gen 007")? == Ok(Request::Gen(7)));
+        assert!(rt; asked(alloc, "rkr gen 18446744073709551615")? == Ok(Request::Gen(u64::MAX)));
         Ok(())
     }
 
@@ -231,7 +245,7 @@ mod tests {
             "rkr help build",
             "rkr --version",
             "rkr -V",
-            "rkr gen 0",
+            "rkr generate 0",
         ];
         for line in refused {
             assert!(rt; is_usage(rt.alloc(), line)?, "{line}");
@@ -260,6 +274,11 @@ mod tests {
             "rkr build --steps=-17",
             "rkr build --steps 1_000",
             "rkr build --steps 17x",
+            "rkr gen",
+            "rkr gen 18446744073709551616",
+            "rkr gen -1",
+            "rkr gen 1x",
+            "rkr gen 000000000000000000001",
         ];
         for line in refused {
             assert!(rt; is_usage(rt.alloc(), line)?, "{line}");
@@ -307,6 +326,8 @@ mod tests {
             "rkr build --json",
             "rkr for",
             "rkr check build",
+            "rkr gen 1 2",
+            "rkr gen --json 1",
         ];
         for line in refused {
             assert!(rt; is_usage(rt.alloc(), line)?, "{line}");
