@@ -1,9 +1,9 @@
 // What inputs gave.
-ghost use Rattle.std.specs.Prelude.{◌≡◌, IfOk};
+ghost use Rattle.std.specs.Prelude.{◌≡◌, length, IfOk};
 ghost use Rattle.ut_filter.specs.Parts.{part_of, joined};
 
 use crate::made::Input;
-use rk_base::NoMemory;
+use rk_base::{Bytes, NoMemory};
 use std::alloc::Global;
 
 impl Input {
@@ -18,13 +18,44 @@ impl Input {
     }
 }
 
-/// The inputs that were read, joined.
-pub fn joined(alloc: Global, inputs: &[Input]) -> Result<Vec<u8>, NoMemory>
-    ensures { IfOk result (λ text. text.items ≡ joined inputs.now) }
+// How many bytes the inputs gave.
+fn length(inputs: &[Input]) -> Result<usize, NoMemory>
+    ensures { IfOk result (λ n. n ≡ length (joined inputs.now)) }
 {
-    let mut text = Vec::new(alloc);
+    let mut count = 0usize;
+    'inputs: for input in inputs {
+        count = count.checked_add(input.part().len()).ok_or(NoMemory)?;
+    }
+    Ok(count)
+}
+
+// A copy, which takes its memory at once.
+fn copied(alloc: Global, inputs: &[Input]) -> Result<Bytes, NoMemory>
+    ensures { IfOk result (λ text. text ≡ joined inputs.now) }
+{
+    let mut text = Vec::with_capacity(alloc, length(inputs)?)?;
     'inputs: for input in inputs {
         text.extend_from_slice(input.part())?;
     }
-    Ok(text)
+    Bytes::new(alloc, text)
+}
+
+// The text of one input, which both share.
+fn shared(alloc: Global, input: &Input) -> Result<Bytes, NoMemory>
+    ensures { IfOk result (λ text. text ≡ part_of input.now) }
+{
+    match &input.brought {
+        Ok(bytes) => bytes.copy(),
+        Err(_) => Bytes::from_slice(alloc, b""),
+    }
+}
+
+/// The inputs that were read, joined. A single one shares its text, so no byte is copied.
+pub fn joined(alloc: Global, inputs: &[Input]) -> Result<Bytes, NoMemory>
+    ensures { IfOk result (λ text. text ≡ joined inputs.now) }
+{
+    match inputs {
+        [input] => shared(alloc, input),
+        _ => copied(alloc, inputs),
+    }
 }
