@@ -1,12 +1,11 @@
 // What options and operands choose.
 ghost use Rattle.std.specs.Prelude.{◌≡◌, count_by, option_copied, IfOk};
-ghost use Rattle.rk_base.specs.Canonical.{is_empty};
 ghost use Rattle.ut_select.specs.Chosen.{sort_of, is_list, or_text, list_text, first_or_tab, delimiter_of, cut_of, first_set, deletes, translates, also, tr_of_one, tr_of_two, tr_by_one, tr_by_two, tr_of};
 ghost use Rattle.ut_select.specs.Sets.{set_of};
 
 use crate::cut::Cut;
 use crate::ranges::ranges_of;
-use crate::sets::{complement, has_class, set_of};
+use crate::sets::{complement, has_class, is_empty, set_of};
 use crate::sort::Sort;
 use crate::tr::Tr;
 use rk_base::{Bytes, NoMemory, WordList};
@@ -131,15 +130,6 @@ fn tr_of_one(alloc: Global, args: &Args, a: Vec<u8>) -> Option<Tr>
         return Some(translates(alloc, Vec::new(alloc), Vec::new(alloc), a));
     }
     None
-}
-
-fn is_empty(text: &[u8]) -> bool
-    ensures { result ≡ is_empty text.now }
-{
-    match text {
-        [] => true,
-        [_, ..] => false,
-    }
 }
 
 // Its bytes where they are squeezed too.

@@ -1,6 +1,7 @@
 // The sets of `tr`.
 ghost use Rattle.std.specs.Prelude.{◌≡◌, ◌++◌, ◌∷◌, [], ℕ, suc, not, IfOk, OnOk};
 ghost use Rattle.std.specs.List.{filter};
+ghost use Rattle.rk_base.specs.Canonical.{is_empty};
 ghost use Rattle.ut_args.specs.Forms.{is_octal};
 ghost use Rattle.ut_select.specs.Sets.{unit, digit_more, two_more, letter, escaped, unit_of, ranged, item, range, set_within, set_of, has_class, is_member, complement};
 ghost use Rattle.ut_select.specs.Items.{IsUnit, IsItem};
@@ -219,6 +220,15 @@ pub(crate) fn has_class(text: &[u8]) -> bool
         last = *b;
     }
     false
+}
+
+pub(crate) fn is_empty(set: &[u8]) -> bool
+    ensures { result ≡ is_empty set.now }
+{
+    match set {
+        [] => true,
+        [_, ..] => false,
+    }
 }
 
 /// Whether a byte is in a set.

@@ -1,11 +1,13 @@
 // `tr`.
-ghost use Rattle.std.specs.Prelude.{◌≡◌, ◌++◌, ◌∷◌, map, Some, None, IfOk, OnOk};
+ghost use Rattle.std.specs.Prelude.{◌≡◌, ◌++◌, ◌∷◌, ◌&&◌, map, Some, None, IfOk, OnOk};
 ghost use Rattle.std.specs.List.{filter};
+ghost use Rattle.rk_base.specs.Canonical.{is_empty};
 ghost use Rattle.rk_base.specs.Text.{Text};
 ghost use Rattle.ut_select.specs.Sets.{is_member};
 ghost use Rattle.ut_select.specs.Trs.{image, repeats, squeeze, kept, tr_text};
 ghost use Rattle.ut_select.specs.Tables.{AreTables};
 
+use crate::sets::is_empty;
 use crate::table::Table;
 use rk_base::{Bytes, NoMemory};
 use std::alloc::Global;
@@ -137,13 +139,43 @@ impl Tr {
         Ok(())
     }
 
-    fn output(&self, alloc: Global, text: &[u8]) -> Result<Bytes, NoMemory>
+    // What is left where bytes may be deleted or squeezed.
+    fn selected(&self, alloc: Global, text: &[u8]) -> Result<Bytes, NoMemory>
         ensures { IfOk result (λ o. o ≡ tr_text self.now text.now) }
     {
         let tables = self.tables(alloc)?;
         let mut output = Vec::with_capacity(alloc, text.len())?;
         self.put_all(&tables, text, &mut output)?;
         Bytes::new(alloc, output)
+    }
+
+    // What the bytes become.
+    fn images(&self, alloc: Global, text: &[u8]) -> Result<Bytes, NoMemory>
+        ensures { IfOk result (λ o. o ≡ map (image self.now.from self.now.to) text.now) }
+    {
+        let images = Table::of_images(alloc, self.from.as_slice(), self.to.as_slice())?;
+        let mut output = Vec::with_capacity(alloc, text.len())?;
+        'bytes: for b in text {
+            output.push(images.at(*b))?;
+        }
+        Bytes::new(alloc, output)
+    }
+
+    // Whether no byte is deleted or squeezed.
+    fn only_translates(&self) -> bool
+        ensures { result ≡ (is_empty self.now.deleted && is_empty self.now.squeezed) }
+    {
+        is_empty(self.deleted.as_slice()) && is_empty(self.squeezed.as_slice())
+    }
+
+    #[tactic(auto, using(crate::proofs::TrLemmas::translated))]
+    fn output(&self, alloc: Global, text: &[u8]) -> Result<Bytes, NoMemory>
+        ensures { IfOk result (λ o. o ≡ tr_text self.now text.now) }
+    {
+        if self.only_translates() {
+            return self.images(alloc, text);
+        }
+        self.selected(alloc, text)
     }
 }
 
