@@ -1,3 +1,4 @@
 pub mod FieldLemmas
 pub mod SetLemmas
+pub mod SortLemmas
 pub mod TrLemmas

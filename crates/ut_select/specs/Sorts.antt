@@ -1,5 +1,6 @@
 -- What `sort` makes.
-use Rattle.std.specs.Prelude.{List, [], ◌∷◌, ◌++◌, reverse, codes, if◌then◌else◌}
+use Rattle.std.specs.Prelude.{List, [], ◌∷◌, ◌++◌, map, reverse, codes, if◌then◌else◌}
+use denote.Ref.{Bor}
 use Rattle.rk_base.specs.Sorted.{sorted}
 use Rattle.rk_base.specs.Text.{Text, same_text}
 use Rattle.ut_filter.specs.declared.made.Input.{Input}
@@ -9,6 +10,10 @@ use Rattle.ut_filter.specs.Parts.{all_lines}
 use Rattle.ut_filter.specs.Refusals.{refusals}
 use Rattle.ut_filter.specs.Statuses.{status_of}
 use Rattle.ut_select.specs.declared.sort.Sort.{Sort}
+
+-- what lines that stand in other texts are
+abbrev pub texts : List (Bor Text) → List Text
+texts lines = map (λ line. line.now) lines
 
 -- each line and a newline
 abbrev pub text_of : List Text → Text

@@ -1,11 +1,12 @@
 // `sort`.
-ghost use Rattle.std.specs.Prelude.{◌≡◌, ◌∷◌, ◌++◌, [], List, IfOk, OnOk, MatchOption, if◌then◌else◌};
+ghost use Rattle.std.specs.Prelude.{◌≡◌, ◌∷◌, ◌++◌, [], List, reverse, IfOk, OnOk, if◌then◌else◌};
+ghost use Rattle.rk_base.specs.Sorted.{sorted};
 ghost use Rattle.rk_base.specs.Text.{Text, same_text};
 ghost use Rattle.ut_filter.specs.Lines.{lines_of};
 ghost use Rattle.ut_filter.specs.Parts.{all_lines};
-ghost use Rattle.ut_select.specs.Sorts.{text_of, unlike, distinct, in_order, once, chosen};
+ghost use Rattle.ut_select.specs.Sorts.{texts, text_of, unlike, distinct, in_order, once, chosen};
 
-use rk_base::{Bytes, NoMemory, sort_texts};
+use rk_base::{Bytes, NoMemory};
 use std::alloc::Global;
 use ut_filter::{Input, Made, Work, front_line, refusal_lines, status_of};
 
@@ -17,12 +18,12 @@ pub struct Sort {
     pub out: Option<Bytes>,
 }
 
-fn add_lines(alloc: Global, text: &[u8], lines: &mut Vec<Bytes>) -> Result<(), NoMemory>
-    ensures { OnOk result (lines.new.items ≡ lines.old.items ++ lines_of text.now) }
+// A line stays where its text is, so that it takes no memory of its own.
+fn add_lines<'a>(text: &'a [u8], lines: &mut Vec<&'a [u8]>) -> Result<(), NoMemory>
+    ensures { OnOk result (texts lines.new.items ≡ texts lines.old.items ++ lines_of text.now) }
 {
     let mut rest = text;
     'lines: while let Some((line, after)) = front_line(rest) {
-        let line = Bytes::from_slice(alloc, line)?;
         lines.push(line)?;
         rest = after;
     }
@@ -30,29 +31,29 @@ fn add_lines(alloc: Global, text: &[u8], lines: &mut Vec<Bytes>) -> Result<(), N
 }
 
 // The lines of each input.
-fn all_lines(alloc: Global, inputs: &[Input]) -> Result<Vec<Bytes>, NoMemory>
-    ensures { IfOk result (λ lines. lines.items ≡ all_lines inputs.now) }
+fn all_lines(alloc: Global, inputs: &[Input]) -> Result<Vec<&[u8]>, NoMemory>
+    ensures { IfOk result (λ lines. texts lines.items ≡ all_lines inputs.now) }
 {
     let mut lines = Vec::new(alloc);
     'inputs: for input in inputs {
-        add_lines(alloc, input.part(), &mut lines)?;
+        add_lines(input.part(), &mut lines)?;
     }
     Ok(lines)
 }
 
-fn put_line(line: &Bytes, output: &mut Vec<u8>) -> Result<(), NoMemory>
+fn put_line(line: &[u8], output: &mut Vec<u8>) -> Result<(), NoMemory>
     ensures { OnOk result (output.new.items ≡ output.old.items ++ text_of (line.now ∷ [])) }
 {
-    output.extend_from_slice(line.as_slice())?;
+    output.extend_from_slice(line)?;
     output.push(b'\n')?;
     Ok(())
 }
 
-fn put_lines(lines: &[Bytes], output: &mut Vec<u8>) -> Result<(), NoMemory>
-    ensures { OnOk result (output.new.items ≡ output.old.items ++ text_of lines.now) }
+fn put_lines(lines: &[&[u8]], output: &mut Vec<u8>) -> Result<(), NoMemory>
+    ensures { OnOk result (output.new.items ≡ output.old.items ++ text_of (texts lines.now)) }
 {
     'lines: for line in lines {
-        put_line(line, output)?;
+        put_line(*line, output)?;
     }
     Ok(())
 }
@@ -65,65 +66,76 @@ fn is_same(a: &[u8], b: &[u8]) -> bool
 
 // The next line, unless it is equal to the one before, and the line that comes before what follows.
 fn put_unlike<'a>(
-    line: &'a Bytes,
-    next: &'a Bytes,
+    line: &'a [u8],
+    next: &'a [u8],
     output: &mut Vec<u8>,
-) -> Result<&'a Bytes, NoMemory>
+) -> Result<&'a [u8], NoMemory>
     ensures { IfOk result (λ last. (more : List Text) → output.new.items ++ text_of (unlike last.now more) ≡ output.old.items ++ text_of (unlike line.now (next.now ∷ more))) }
 {
-    if is_same(next.as_slice(), line.as_slice()) {
+    if is_same(next, line) {
         return Ok(line);
     }
     put_line(next, output)?;
     Ok(next)
 }
 
-fn put_unlike_all(line: &Bytes, lines: &[Bytes], output: &mut Vec<u8>) -> Result<(), NoMemory>
-    ensures { OnOk result (output.new.items ≡ output.old.items ++ text_of (unlike line.now lines.now)) }
+fn put_unlike_all<'a>(
+    line: &'a [u8],
+    lines: &[&'a [u8]],
+    output: &mut Vec<u8>,
+) -> Result<(), NoMemory>
+    ensures { OnOk result (output.new.items ≡ output.old.items ++ text_of (unlike line.now (texts lines.now))) }
 {
     let mut last = line;
     'lines: for next in lines {
-        last = put_unlike(last, next, output)?;
+        last = put_unlike(last, *next, output)?;
     }
     Ok(())
 }
 
-fn first_line(lines: &[Bytes]) -> Option<(&Bytes, &[Bytes])>
-    ensures { MatchOption result (lines.now ≡ []) (λ r. lines.now ≡ r.0.now ∷ r.1.now) }
+fn put_distinct(lines: &[&[u8]], output: &mut Vec<u8>) -> Result<(), NoMemory>
+    ensures { OnOk result (output.new.items ≡ output.old.items ++ text_of (distinct (texts lines.now))) }
 {
     match lines {
-        [] => None,
-        [line, more @ ..] => Some((line, more)),
+        [] => Ok(()),
+        [line, more @ ..] => {
+            put_line(*line, output)?;
+            put_unlike_all(*line, more, output)
+        }
     }
 }
 
-fn put_distinct(lines: &[Bytes], output: &mut Vec<u8>) -> Result<(), NoMemory>
-    ensures { OnOk result (output.new.items ≡ output.old.items ++ text_of (distinct lines.now)) }
+// Into the order of their bytes.
+#[tactic(auto, using(crate::proofs::SortLemmas::sorted_texts))]
+fn sort_lines(lines: &mut Vec<&[u8]>) -> Result<(), NoMemory>
+    ensures { OnOk result (texts lines.new.items ≡ sorted (texts lines.old.items)) }
 {
-    match first_line(lines) {
-        None => Ok(()),
-        Some((line, more)) => {
-            put_line(line, output)?;
-            put_unlike_all(line, more, output)
-        }
-    }
+    lines.sort()?;
+    Ok(())
+}
+
+#[tactic(auto, using(crate::proofs::SortLemmas::reversed_texts))]
+fn reverse_lines(lines: &mut Vec<&[u8]>)
+    ensures { texts lines.new.items ≡ reverse (texts lines.old.items) }
+{
+    lines.reverse();
 }
 
 impl Sort {
-    fn order(&self, lines: &mut Vec<Bytes>) -> Result<(), NoMemory>
-        ensures { OnOk result (lines.new.items ≡ in_order self.now lines.old.items) }
+    fn order(&self, lines: &mut Vec<&[u8]>) -> Result<(), NoMemory>
+        ensures { OnOk result (texts lines.new.items ≡ in_order self.now (texts lines.old.items)) }
     {
-        sort_texts(lines)?;
+        sort_lines(lines)?;
         if !self.reversed {
             return Ok(());
         }
-        lines.reverse();
+        reverse_lines(lines);
         Ok(())
     }
 
     // Lines that are in order.
-    fn put(&self, lines: &[Bytes], output: &mut Vec<u8>) -> Result<(), NoMemory>
-        ensures { OnOk result (output.new.items ≡ output.old.items ++ text_of (once self.now lines.now)) }
+    fn put(&self, lines: &[&[u8]], output: &mut Vec<u8>) -> Result<(), NoMemory>
+        ensures { OnOk result (output.new.items ≡ output.old.items ++ text_of (once self.now (texts lines.now))) }
     {
         if self.unique {
             put_distinct(lines, output)
