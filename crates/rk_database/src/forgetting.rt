@@ -19,7 +19,8 @@ fn path_of(alloc: Global, text: &[u8]) -> Result<Path, NoMemory>
     }
 }
 
-fn db_file(alloc: Global) -> Result<Path, NoMemory>
+/// The path of the database.
+pub fn db_file(alloc: Global) -> Result<Path, NoMemory>
     ensures { IfOk result (λ path. path ≡ paths.db_file) }
 {
     let path = path_of(alloc, b"/.rkr/db")?;

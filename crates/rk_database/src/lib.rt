@@ -12,6 +12,6 @@ mod stop;
 mod tests;
 
 pub use checking::check;
-pub use forgetting::forget;
+pub use forgetting::{db_file, forget};
 pub use showing::trace;
 pub use stop::{Said, Stop};
