@@ -44,10 +44,10 @@ fn at(alloc: Global, text: &str) -> Result<Path, NoMemory> {
     }
 }
 
-// An explained build within so many turns.
+// What these words ask for, of which the first is the program's name.
 fn call<L: Ledger>(
     alloc: Global,
-    turns: u32,
+    words: &[String],
     folder: &mut MemFolder,
     blank: Blank,
 ) -> Result<Built, NoMemory>
@@ -55,20 +55,31 @@ fn call<L: Ledger>(
     requires parts { blank.parts ≡ L.parts }
     requires some { 0 < L.parts }
 {
+    let mut live = Steps::<L>::new(blank);
+    let mut out = MemSink::new(alloc);
+    let mut err = MemSink::new(alloc);
+    let outcome = rkr(alloc, words, folder, &mut out, &mut err, &mut live);
+    Ok(Built { outcome, out, err })
+}
+
+// An explained build within so many turns.
+fn build_in(alloc: Global, turns: u32, folder: &mut MemFolder) -> Result<Built, NoMemory> {
     let mut words = Vec::new(alloc);
     'words: for word in ["rkr", "build", "--explain", "--steps"] {
         words.push(String::from_str(alloc, word)?)?;
     }
     words.push(format!(in alloc; "{turns}")?)?;
-    let mut live = Steps::<L>::new(blank);
-    let mut out = MemSink::new(alloc);
-    let mut err = MemSink::new(alloc);
-    let outcome = rkr(alloc, &words, folder, &mut out, &mut err, &mut live);
-    Ok(Built { outcome, out, err })
+    call::<Brand>(alloc, &words, folder, Blank::new(1))
 }
 
-fn build_in(alloc: Global, turns: u32, folder: &mut MemFolder) -> Result<Built, NoMemory> {
-    call::<Brand>(alloc, turns, folder, Blank::new(1))
+// What the words of a line ask for.
+fn ask_in(alloc: Global, line: &str, folder: &mut MemFolder) -> Result<Built, NoMemory> {
+    let mut words = Vec::new(alloc);
+    words.push(String::from_str(alloc, "rkr")?)?;
+    'words: for word in line.split(' ') {
+        words.push(String::from_str(alloc, word)?)?;
+    }
+    call::<Brand>(alloc, &words, folder, Blank::new(1))
 }
 
 // 0 where it is no number.
@@ -217,6 +228,17 @@ impl Session {
         build_in(self.alloc, ENOUGH, &mut self.twin)
     }
 
+    // What a line asks for, whose first word is the status that it is to end with.
+    fn ask(&mut self, line: &str, output: &str, error_text: &str) -> Result<(), NoMemory> {
+        let (status, words) = line.split_once(' ').unwrap_or((line, ""));
+        self.builds = self.builds.saturating_add(1);
+        let asked = ask_in(self.alloc, words, &mut self.folder)?;
+        let came = format!(in self.alloc; "{}", exit_code(&asked.outcome))?;
+        self.tell("status", came.as_str(), status)?;
+        self.tell("output", shown(asked.out.bytes()), output)?;
+        self.tell("error text", shown(asked.err.bytes()), error_text)
+    }
+
     fn spent(&mut self, turns: u32) -> Result<(), NoMemory> {
         self.folder.clear_changes();
         let built = build_in(self.alloc, turns, &mut self.folder)?;
@@ -273,6 +295,7 @@ impl Session {
                 Ok(())
             }
             Kind::Build => self.build(rest, text, step.errors.as_str()),
+            Kind::Asked => self.ask(rest, text, step.errors.as_str()),
             Kind::Spent => self.spent(number(rest)),
             Kind::Ran => self.ran(rest),
             Kind::Why => self.why(rest),

@@ -19,6 +19,8 @@ pub(crate) enum Kind {
     Costs,
     /// A build: its status, its output and its error text.
     Build,
+    /// What words ask for: its status, its output and its error text.
+    Asked,
     /// A build within so many turns is spent, and changes nothing.
     Spent,
     /// How many commands the last build launched, and the words of those that ran.
@@ -55,6 +57,7 @@ fn kind_of(word: &str) -> Kind {
         "removed" => Kind::Removed,
         "costs" => Kind::Costs,
         "build" => Kind::Build,
+        "asked" => Kind::Asked,
         "spent" => Kind::Spent,
         "ran" => Kind::Ran,
         "why" => Kind::Why,

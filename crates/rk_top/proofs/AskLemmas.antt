@@ -1,8 +1,8 @@
 -- What is so of the request that words are.
-use Rattle.std.proofs.Common.{◌≡◌, List, Option, Some, None, IfSome, sym, subst}
+use Rattle.std.proofs.Common.{◌≡◌, ℕ, List, Option, Some, None, IfSome, sym, subst}
 use Rattle.rk_base.specs.Text.{Text}
-use Rattle.rk_words.specs.Asked.{IfBuild, IfQuery, request_of}
-use Rattle.rk_words.specs.declared.requests.Request.TheVariants.{Build, Check, Trace, Forget}
+use Rattle.rk_words.specs.Asked.{IfBuild, IfGen, IfQuery, request_of}
+use Rattle.rk_words.specs.declared.requests.Request.TheVariants.{Build, Check, Trace, Forget, Gen}
 use Rattle.rk_words.specs.declared.requests.Request.{Request}
 use Rattle.rk_top.specs.Asks.{Asks, AsksBuild, AsksQuery}
 
@@ -36,24 +36,42 @@ if-build (Build steps explain fresh check) P p = p
 if-build Check P p = tt
 if-build (Trace json) P p = tt
 if-build Forget P p = tt
+if-build (Gen seed) P p = tt
 
 pub if-query : (request : Request) (P : Type 0) → P → IfQuery request P
 if-query (Build steps explain fresh check) P p = tt
 if-query Check P p = p
 if-query (Trace json) P p = p
 if-query Forget P p = p
+if-query (Gen seed) P p = tt
 
 pub build-then : (request : Request) (P Q : Type 0) → (P → Q) → IfBuild request P → IfBuild request Q
 build-then (Build steps explain fresh check) P Q f h = f h
 build-then Check P Q f h = tt
 build-then (Trace json) P Q f h = tt
 build-then Forget P Q f h = tt
+build-then (Gen seed) P Q f h = tt
 
 pub query-then : (request : Request) (P Q : Type 0) → (P → Q) → IfQuery request P → IfQuery request Q
 query-then (Build steps explain fresh check) P Q f h = tt
 query-then Check P Q f h = f h
 query-then (Trace json) P Q f h = f h
 query-then Forget P Q f h = f h
+query-then (Gen seed) P Q f h = tt
+
+if-gen : (request : Request) (P : ℕ → Type 0) → ((seed : ℕ) → P seed) → IfGen request P
+if-gen (Build steps explain fresh check) P p = tt
+if-gen Check P p = tt
+if-gen (Trace json) P p = tt
+if-gen Forget P p = tt
+if-gen (Gen seed) P p = p seed
+
+gen-then : (request : Request) (P Q : ℕ → Type 0) → ((seed : ℕ) → P seed → Q seed) → IfGen request P → IfGen request Q
+gen-then (Build steps explain fresh check) P Q f h = tt
+gen-then Check P Q f h = tt
+gen-then (Trace json) P Q f h = tt
+gen-then Forget P Q f h = tt
+gen-then (Gen seed) P Q f h = f seed h
 
 -- what follows from what is so
 pub builds-then : (words : List Text) (P Q : Request → Type 0) → ((request : Request) → P request → Q request) → AsksBuild words P → AsksBuild words Q
@@ -61,6 +79,13 @@ builds-then words P Q f h = asks-then words (λ r. IfBuild r (P r)) (λ r. IfBui
 
 pub queries-then : (words : List Text) (P Q : Request → Type 0) → ((request : Request) → P request → Q request) → AsksQuery words P → AsksQuery words Q
 queries-then words P Q f h = asks-then words (λ r. IfQuery r (P r)) (λ r. IfQuery r (Q r)) (λ r p. query-then r (P r) (Q r) (f r) p) h
+
+-- the same of made workloads
+pub gens-then : (words : List Text) (P Q : ℕ → Type 0) → ((seed : ℕ) → P seed → Q seed) → Asks words (λ r. IfGen r P) → Asks words (λ r. IfGen r Q)
+gens-then words P Q f h = asks-then words (λ r. IfGen r P) (λ r. IfGen r Q) (λ r p. gen-then r P Q f p) h
+
+pub gens-any : (words : List Text) (P : ℕ → Type 0) → ((seed : ℕ) → P seed) → Asks words (λ r. IfGen r P)
+gens-any words P h = asks-any words (λ r. IfGen r P) (λ r. if-gen r P h)
 
 -- whatever the request is
 pub builds-any : (words : List Text) (P : Request → Type 0) → ((request : Request) → P request) → AsksBuild words P

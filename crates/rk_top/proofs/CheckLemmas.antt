@@ -1,5 +1,5 @@
 -- What the check of an old table is no cause of.
-use Rattle.std.proofs.Common.{◌≡◌, ◌∙◌, ℕ, Bool, true, List, length, Option, Err, Ok, ap}
+use Rattle.std.proofs.Common.{◌≡◌, ◌∙◌, ℕ, Bool, List, Option, Err, Ok, ap}
 use Rattle.rk_calls.specs.Keys.{KeyValue}
 use Rattle.rk_calls.specs.Talk.{Says}
 use Rattle.rk_check.specs.Started.{started}
@@ -8,7 +8,7 @@ use Rattle.tr_record.specs.declared.records.Record.{Record}
 use Rattle.rk_words.specs.Asked.{checks}
 use Rattle.rk_words.specs.declared.requests.Request.{Request}
 use Rattle.rk_top.specs.Checks.{ChecksSo, checked_count}
-use Rattle.rk_top.specs.Outcomes.{ChecksMany, StartsBoth}
+use Rattle.rk_top.specs.Outcomes.{StartsBoth}
 use Rattle.rk_top.specs.Stages.{FindsSo, ReadsCounted, StartsSo}
 use Rattle.rk_top.specs.Texts.{IsNoFault}
 use Rattle.rk_top.specs.declared.found.Found.{Found}

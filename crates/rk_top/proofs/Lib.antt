@@ -2,6 +2,7 @@ pub mod AskLemmas
 pub mod BuildLemmas
 pub mod BuiltLemmas
 pub mod FoundLemmas
+pub mod GeneratedLemmas
 pub mod KeptLemmas
 pub mod PrepareLemmas
 pub mod ReadBackLemmas

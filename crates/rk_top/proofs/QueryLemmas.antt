@@ -1,5 +1,5 @@
 -- What is asked of the database alone, and what is told of it.
-use Rattle.std.proofs.Common.{◌≡◌, ℕ, Option, Result, Ok, Err, refl, ap, subst, ◌∙◌, inl, inr}
+use Rattle.std.proofs.Common.{◌≡◌, Option, Result, Ok, Err, refl, subst, inl, inr}
 use Rattle.rk_base.specs.Text.{Text}
 use Rattle.rk_calls.specs.Keys.{KeyValue}
 use Rattle.rk_calls.specs.Talk.{Says}
@@ -13,7 +13,7 @@ use Rattle.rk_folder.specs.Told.{Held}
 use Rattle.rk_words.specs.declared.requests.Request.{Request}
 use Rattle.rk_words.specs.declared.requests.Request.TheVariants as request
 use Rattle.rk_top.specs.Outcomes.{Counted, Counts, IsNoFault}
-use Rattle.rk_top.specs.Queries.{IsAnswer, Queried, outcome_of_answer, outcome_of_refused}
+use Rattle.rk_top.specs.Queries.{IsAnswer, Queried, outcome_of_answer}
 use Rattle.rk_top.specs.Telling.{IsNamed, IsTold}
 use Rattle.rk_top.specs.declared.outcome.Outcome.{Outcome}
 use Rattle.rk_top.specs.declared.outcome.Outcome.TheVariants as out
@@ -92,6 +92,7 @@ unnamed-queried : (first : KeyValue → Says) (it : Request) (told now : Option 
 unnamed-queried first (request.Build steps explain fresh check) told now old new outcome named q = tt
 unnamed-queried first request.Check told now old new outcome named q = (q.0, named-answer _ outcome (shown-named (IsChecked first) (NoCheck first) told old new) named q.1)
 unnamed-queried first (request.Trace json) told now old new outcome named q = (q.0, named-answer _ outcome (shown-named (IsTrace json) NoTrace told old new) named q.1)
+unnamed-queried first (request.Gen seed) told now old new outcome named q = tt
 unnamed-queried first request.Forget told now old new outcome named q = named-answer _ outcome (forgotten-named told now old new) named q
 
 pub line-queried : (first : KeyValue → Says) (it : Request) (told now : Option Held) (old new : Option Text) (outcome said : Outcome) → IsTold outcome said → Queried first it told now old new outcome → Queried first it told now old new said
@@ -102,4 +103,5 @@ pub unread-queried : (first : KeyValue → Says) (it : Request) (told : Option H
 unread-queried first (request.Build steps explain fresh check) told old = tt
 unread-queried first request.Check told old = (refl, (Err stop.NoMemory, (refl, inl refl)))
 unread-queried first (request.Trace json) told old = (refl, (Err stop.NoMemory, (refl, inl refl)))
+unread-queried first (request.Gen seed) told old = tt
 unread-queried first request.Forget told old = (Err stop.NoMemory, (refl, (refl, inl refl)))

@@ -49,7 +49,7 @@ kept-clash state rows table file.Db d k h = db-clash state.db table d k.1 h.1
 none-some : (o : Option Text) (path : Text) → o ≡ None → o ≡ Some path → ⊥
 none-some o path none some = cc
 
-refused-kept : (request : Request) (held : Held) (r : Refusal) (P : Entries → List Record → Type 0) → Refuses (is_fresh request) held r → Keeping (is_fresh request) held P → ⊥
+pub refused-kept : (request : Request) (held : Held) (r : Refusal) (P : Entries → List Record → Type 0) → Refuses (is_fresh request) held r → Keeping (is_fresh request) held P → ⊥
 refused-kept request held (refusal.Special path) P r k = none-some _ path k.plain r
 refused-kept request held (refusal.Damaged f d) P r k = kept-clash (decoded (is_fresh request) (state_in held)) k.rows k.old f d k.kept r.1
 
@@ -106,7 +106,7 @@ refused-settle first request held r out.NoMemory h s = inr refl
 
 -- Spoken records.
 
-forged-clash : (first : KeyValue → Says) (table : List Record) (rec step : ℕ) → AreSpoken first table → IsForged first table rec step → ⊥
+pub forged-clash : (first : KeyValue → Says) (table : List Record) (rec step : ℕ) → AreSpoken first table → IsForged first table rec step → ⊥
 forged-clash first table rec step spoken f =
     never-first_wrong first table rec step spoken
     (record { here = f.0; wrong = f.1; before = λ i h. spoken i (let here : rec < length table = f.0 in omega arith) })

@@ -3,6 +3,7 @@ pub mod Queries
 pub mod Asks
 pub mod Explained
 pub mod Fresh
+pub mod Generated
 pub mod Kept
 pub mod Laws
 pub mod Lines

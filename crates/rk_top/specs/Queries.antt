@@ -37,6 +37,7 @@ IsAnswer outcome P = (answer : Result Said Stop) × ((outcome ≡ outcome_of_ans
 -- what each request of the database alone comes to: a check and a trace leave the folder as it was
 abbrev pub Queried : (KeyValue → Says) → Request → Option Held → Option Held → Option Text → Option Text → Outcome → Type 0
 Queried first (request.Build steps explain fresh check) told new old_out new_out outcome = Unit {0}
+Queried first (request.Gen seed) told new old_out new_out outcome = Unit {0}
 Queried first request.Check told new old_out new_out outcome = (new ≡ told) × IsAnswer outcome (Shows (IsChecked first) (NoCheck first) told old_out new_out)
 Queried first (request.Trace json) told new old_out new_out outcome = (new ≡ told) × IsAnswer outcome (Shows (IsTrace json) NoTrace told old_out new_out)
 Queried first request.Forget told new old_out new_out outcome = IsAnswer outcome (λ answer. Forgets told new answer × SaysNone old_out new_out answer)

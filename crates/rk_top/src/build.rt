@@ -1,5 +1,5 @@
 // The build, once the words are read.
-ghost use Rattle.std.specs.Prelude.{◌≡◌, ◌<◌, Ok, length, IfOk, true};
+ghost use Rattle.std.specs.Prelude.{◌≡◌, ◌<◌, ◌≤◌, Ok, length, IfOk, true};
 ghost use Rattle.rk_install.specs.Changes.{MayRun};
 ghost use Rattle.rk_words.specs.Asked.{turns};
 ghost use Rattle.rk_top.specs.Outcomes.{Checked, outcome_of, Leaves, HasStatus, Tallies, Gains, GainsErrors, ErrorsCounted, Counted, Ticked};
@@ -64,7 +64,9 @@ pub(crate) fn build<M: Maker, F: Folder, O: Sink, E: Sink, L: Ledger>(
     ensures counts { Counted (record { reads = F.read_faults folder.old; writes = F.write_faults folder.old; puts = O.faults out.old; error_puts = E.faults err.old })
         (record { reads = F.read_faults folder.new; writes = F.write_faults folder.new; puts = O.faults out.new; error_puts = E.faults err.new }) (outcome_of result) }
     ensures steady { F.steady folder.old ≡ true → O.steady out.old ≡ true → E.steady err.old ≡ true → (E.steady err.new ≡ true) × IsNoFault result }
+    ensures folder_steady { F.steady folder.new ≡ F.steady folder.old }
     ensures live { Ticked request.now live.old live.new (outcome_of result) }
+    ensures rises { live.old ≤ live.new }
     ensures starts { StartsSo (λ e. length e.ran) request.now (F.told folder.old) (M.starts maker.old) (M.starts maker.new) result }
 {
     let Prepared {

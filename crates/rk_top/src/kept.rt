@@ -38,7 +38,7 @@ fn attrs_in(alloc: Global, attrs: &Option<Bytes>) -> Result<Attrs, Stop>
     }
 }
 
-fn table_in(alloc: Global, db: &Option<Bytes>) -> Result<Table, Stop>
+pub(crate) fn table_in(alloc: Global, db: &Option<Bytes>) -> Result<Table, Stop>
     ensures { ReadsDb db.now result }
 {
     match db {

@@ -6,6 +6,7 @@ mod checked;
 mod exits;
 mod explain;
 mod found;
+mod generate;
 mod kept;
 mod laws;
 mod lines;

@@ -14,6 +14,7 @@ pub(crate) fn turns(request: &Request) -> u32
         Request::Check => 0,
         Request::Trace { .. } => 0,
         Request::Forget => 0,
+        Request::Gen(_) => 0,
     }
 }
 
@@ -26,6 +27,7 @@ pub(crate) fn explains(request: &Request) -> bool
         Request::Check => false,
         Request::Trace { .. } => false,
         Request::Forget => false,
+        Request::Gen(_) => false,
     }
 }
 
@@ -38,6 +40,7 @@ pub(crate) fn is_fresh(request: &Request) -> bool
         Request::Check => false,
         Request::Trace { .. } => false,
         Request::Forget => false,
+        Request::Gen(_) => false,
     }
 }
 
@@ -50,5 +53,6 @@ pub(crate) fn checks(request: &Request) -> bool
         Request::Check => false,
         Request::Trace { .. } => false,
         Request::Forget => false,
+        Request::Gen(_) => false,
     }
 }

@@ -1,5 +1,5 @@
 // What is to be done once the script has run.
-ghost use Rattle.std.specs.Prelude.{◌≡◌, ◌<◌, ◌^◌, IfOk, OnOk, length};
+ghost use Rattle.std.specs.Prelude.{◌≡◌, ◌<◌, ◌≤◌, ◌^◌, IfOk, OnOk, length};
 ghost use Rattle.rk_tree.specs.Entries.{IsWholeSnapshot};
 ghost use Rattle.rk_install.specs.Attributes.{attrs_of};
 ghost use Rattle.rk_install.specs.Holdings.{IsBuilt};
@@ -87,6 +87,7 @@ pub(crate) fn prepare<M: Maker, F: Folder, L: Ledger>(
     ensures memory { OnOk result (F.memory_failures folder.new ≡ F.memory_failures folder.old) }
     ensures steady { Steadily (F.steady folder.old) (F.steady folder.new) result }
     ensures prepares { PreparesSo M.first request.now (F.told folder.old) live.old live.new result }
+    ensures rises { live.old ≤ live.new }
     ensures starts { StartsSo (λ p. length p.finished.ran) request.now (F.told folder.old) (M.starts maker.old) (M.starts maker.new) result }
 {
     let Found {

@@ -65,6 +65,7 @@ pub(crate) fn run<M: Maker, L: Ledger>(
     requires whole { IsWholeSnapshot entries.now }
     requires some { 0 < turns request.now }
     ensures runs { Runs M.first request.now (with_rows entries.now attrs.now) old.now live.old live.new result }
+    ensures at_least { live.old ≤ live.new }
     ensures at_most { live.new ≤ live.old + turns request.now }
     ensures starts { IfOk result (λ f. M.starts maker.new ≡ started (length f.ran) (M.starts maker.old)) }
 {

@@ -2,6 +2,7 @@
 mod attributes;
 mod directories;
 mod rebuilds;
+mod sessions;
 
 ghost use Rattle.std.specs.Prelude.{◌≡◌, ◌<◌};
 

@@ -1,5 +1,5 @@
 // The top call, and the inner call that it makes for a build.
-ghost use Rattle.std.specs.Prelude.{◌≡◌, ◌≢◌, ◌⊎◌, ◌<◌, map, string_bytes, IfSome, Some, None, true};
+ghost use Rattle.std.specs.Prelude.{◌≡◌, ◌≢◌, ◌⊎◌, ◌<◌, ◌≤◌, map, string_bytes, IfSome, Some, None, true};
 ghost use Rattle.rk_command.specs.First.{first_talk};
 ghost use Rattle.rk_folder.specs.Counts.{Rose, Still};
 ghost use Rattle.rk_folder.specs.Told.{Held};
@@ -9,15 +9,17 @@ ghost use Rattle.rk_runs.specs.Spoken.{AreSpoken};
 ghost use Rattle.rk_top.specs.Asks.{Asks, AsksBuild, AsksQuery};
 ghost use Rattle.rk_top.specs.Outcomes.{Checked, outcome_of, outcome_of_stop, outcome_of_refusal, Leaves, HasStatus, Tallies, Gains, GainsErrors, GainsLine, ErrorsCounted, Counted, Ticked, Started, Faults, IfEnded, IfSpecial, IfDamaged, IfForged, IsNoFault, NoneRose, Settles};
 ghost use Rattle.rk_top.specs.Fresh.{output_of};
+ghost use Rattle.rk_top.specs.Generated.{Generates};
 ghost use Rattle.rk_top.specs.Kept.{decoded, state_in, IsDamaged, Keeping};
 ghost use Rattle.rk_top.specs.Checks.{TellsForged};
 ghost use Rattle.rk_top.specs.Queries.{Queried};
 ghost use Rattle.rk_top.specs.Run.{fresh_run};
 ghost use Rattle.rk_top.specs.Telling.{SinkState, Put};
-ghost use Rattle.rk_words.specs.Asked.{is_fresh, request_of, turns, IfBuild, IfQuery};
+ghost use Rattle.rk_words.specs.Asked.{is_fresh, request_of, turns, IfBuild, IfGen, IfQuery};
 
 use crate::Outcome;
 use crate::build::{Ended, build};
+use crate::generate::tell_workload;
 use crate::lines::tell;
 use crate::queries::{check_records, forget_records, show_records};
 use crate::stop::{Refusal, Stop};
@@ -96,6 +98,7 @@ pub fn build_in<M: Maker, F: Folder, O: Sink, E: Sink, L: Ledger>(
     ensures starts { Started request.now (F.told folder.old) (M.starts maker.old) (M.starts maker.new) result }
     ensures checked { IfEnded result (λ status launched ran. Checked M.first request.now (F.told folder.old)) }
     ensures live { Ticked request.now live.old live.new result }
+    ensures rises { live.old ≤ live.new }
 
     // What was put: the run's output and error text.
     ensures output { Gains M.first request.now output_of (F.told folder.old) (O.so_far out.old) (O.so_far out.new) result }
@@ -113,6 +116,7 @@ pub fn build_in<M: Maker, F: Folder, O: Sink, E: Sink, L: Ledger>(
     ensures counts { Counted (record { reads = F.read_faults folder.old; writes = F.write_faults folder.old; puts = O.faults out.old; error_puts = E.faults err.old })
         (record { reads = F.read_faults folder.new; writes = F.write_faults folder.new; puts = O.faults out.new; error_puts = E.faults err.new }) result }
     ensures steady { F.steady folder.old ≡ true → O.steady out.old ≡ true → E.steady err.old ≡ true → (E.steady err.new ≡ true) × IsNoFault result }
+    ensures folder_steady { F.steady folder.new ≡ F.steady folder.old }
 
     // With no count that rose, the outcome is one that what the folder holds calls for.
     ensures complete { (held : Held) → F.told folder.old ≡ Some held
@@ -154,6 +158,10 @@ fn serve<F: Folder, O: Sink, E: Sink, L: Ledger>(
     ensures queried { Queried first_talk request.now (F.told folder.old) (F.told folder.new) (O.so_far out.old) (O.so_far out.new) result }
     ensures silent { IfQuery request.now ((live.new ≡ live.old) × (E.so_far err.new ≡ E.so_far err.old)) }
 
+    // Of a made workload, whose session leaves the folder that was handed in alone.
+    ensures generated { IfGen request.now (λ seed. Generates first_talk seed live.old live.new (O.so_far out.old) (O.so_far out.new) result) }
+    ensures apart { IfGen request.now (λ seed. (F.told folder.new ≡ F.told folder.old) × (E.so_far err.new ≡ E.so_far err.old)) }
+
     // Of all.
     ensures error_counts { ErrorsCounted (record { so_far = E.so_far err.old; faults = E.faults err.old; memory = E.memory_failures err.old }) (record { so_far = E.so_far err.new; faults = E.faults err.new; memory = E.memory_failures err.new }) result }
     ensures counts { Counted (record { reads = F.read_faults folder.old; writes = F.write_faults folder.old; puts = O.faults out.old; error_puts = E.faults err.old })
@@ -168,6 +176,7 @@ fn serve<F: Folder, O: Sink, E: Sink, L: Ledger>(
         Request::Check => check_records(alloc, folder, out),
         Request::Trace { json } => show_records(alloc, *json, folder, out),
         Request::Forget => forget_records(alloc, folder, out),
+        Request::Gen(seed) => tell_workload(alloc, *seed, out, live),
     }
 }
 
@@ -192,6 +201,8 @@ fn work<F: Folder, O: Sink, E: Sink, L: Ledger>(
     ensures errors { AsksBuild (map string_bytes words.now) (λ request. GainsErrors first_talk request (F.told folder.old) (record { so_far = E.so_far err.old; faults = E.faults err.old; memory = E.memory_failures err.old }) (record { so_far = E.so_far err.new; faults = E.faults err.new; memory = E.memory_failures err.new }) result) }
     ensures queried { Asks (map string_bytes words.now) (λ request. Queried first_talk request (F.told folder.old) (F.told folder.new) (O.so_far out.old) (O.so_far out.new) result) }
     ensures silent { AsksQuery (map string_bytes words.now) (λ request. (live.new ≡ live.old) × (E.so_far err.new ≡ E.so_far err.old)) }
+    ensures generated { Asks (map string_bytes words.now) (λ request. IfGen request (λ seed. Generates first_talk seed live.old live.new (O.so_far out.old) (O.so_far out.new) result)) }
+    ensures apart { Asks (map string_bytes words.now) (λ request. IfGen request (λ seed. (F.told folder.new ≡ F.told folder.old) × (E.so_far err.new ≡ E.so_far err.old))) }
     ensures error_counts { ErrorsCounted (record { so_far = E.so_far err.old; faults = E.faults err.old; memory = E.memory_failures err.old }) (record { so_far = E.so_far err.new; faults = E.faults err.new; memory = E.memory_failures err.new }) result }
     ensures special { AsksBuild (map string_bytes words.now) (λ request. IfSpecial result (λ path. IfSome (F.told folder.old) (λ held. first_special held ≡ Some path))) }
     ensures damaged { AsksBuild (map string_bytes words.now) (λ request. IfDamaged result (λ file damage. IfSome (F.told folder.old) (λ held. (first_special held ≡ None) × IsDamaged (decoded (is_fresh request) (state_in held)) file damage))) }
@@ -232,6 +243,11 @@ pub fn rkr<F: Folder, O: Sink, E: Sink, L: Ledger>(
     // text but the outcome's line.
     ensures queried { Asks (map string_bytes words.now) (λ request. Queried first_talk request (F.told folder.old) (F.told folder.new) (O.so_far out.old) (O.so_far out.new) result) }
     ensures silent { AsksQuery (map string_bytes words.now) (λ request. (live.new ≡ live.old) × ((worked : SinkState) × (worked.so_far ≡ E.so_far err.old) × ErrorsCounted (record { so_far = E.so_far err.old; faults = E.faults err.old; memory = E.memory_failures err.old }) worked result × Put result worked (record { so_far = E.so_far err.new; faults = E.faults err.new; memory = E.memory_failures err.new }))) }
+
+    // Of a made workload: the line of the session that its seed makes, and the turns that it tells; the folder stays as it was, and
+    // nothing is put on the error text but the outcome's line.
+    ensures generated { Asks (map string_bytes words.now) (λ request. IfGen request (λ seed. Generates first_talk seed live.old live.new (O.so_far out.old) (O.so_far out.new) result)) }
+    ensures apart { Asks (map string_bytes words.now) (λ request. IfGen request (λ seed. (F.told folder.new ≡ F.told folder.old) × ((worked : SinkState) × (worked.so_far ≡ E.so_far err.old) × ErrorsCounted (record { so_far = E.so_far err.old; faults = E.faults err.old; memory = E.memory_failures err.old }) worked result × Put result worked (record { so_far = E.so_far err.new; faults = E.faults err.new; memory = E.memory_failures err.new })))) }
 
     // Of a build, what the folder holds afterwards: over an end, and records that are spoken, what the fresh run on the present tree
     // leaves, and what the next build begins with. After a failure it is as before, or the folder's own count of such

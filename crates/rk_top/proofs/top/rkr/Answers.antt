@@ -1,7 +1,8 @@
 use Rattle.std.proofs.Common.{refl, map, string_bytes}
 use Rattle.rk_command.specs.First.{first_talk}
 use Rattle.rk_top.specs.Fresh.{output_of}
-use Rattle.rk_top.proofs.AskLemmas.{asks-then, builds-then, queries-then}
+use Rattle.rk_top.proofs.AskLemmas.{asks-then, builds-then, gens-then, queries-then}
+use Rattle.rk_top.proofs.GeneratedLemmas.{line-generates}
 use Rattle.rk_top.proofs.QueryLemmas.{line-queried}
 use Rattle.rk_top.proofs.TellLemmas.{line-gains, told-gains, told-errors, line-leaves, line-ticked, line-faults, line-special, line-damaged, line-forged, line-ended, line-no-fault, line-settles, mid-still, steady-same}
 use Rattle.rk_top.proofs.top.rkr.Goals as goal
@@ -55,3 +56,9 @@ returns-clause-forged g c = builds-then (map string_bytes c.args.words.now) _ _ 
 
 pub returns-clause-special : goal.returns-clause-special
 returns-clause-special g c = builds-then (map string_bytes c.args.words.now) _ _ (λ request s. line-special _ _ _ c.tell.ensures.tells.0 s) c.work-outcome.ensures.special
+
+pub returns-clause-generated : goal.returns-clause-generated
+returns-clause-generated g c = gens-then (map string_bytes c.args.words.now) _ _ (λ seed h. line-generates first_talk seed _ _ _ _ _ _ c.tell.ensures.tells.0 h) c.work-outcome.ensures.generated
+
+pub returns-clause-apart : goal.returns-clause-apart
+returns-clause-apart g c = gens-then (map string_bytes c.args.words.now) _ _ (λ seed q. (q.0, ((record { so_far = g.E.Sink.so_far c.work-outcome.new.err; faults = g.E.Sink.faults c.work-outcome.new.err; memory = g.E.Sink.memory_failures c.work-outcome.new.err }), q.1, told-errors (record { so_far = g.E.Sink.so_far c.args.err.now; faults = g.E.Sink.faults c.args.err.now; memory = g.E.Sink.memory_failures c.args.err.now }) (record { so_far = g.E.Sink.so_far c.work-outcome.new.err; faults = g.E.Sink.faults c.work-outcome.new.err; memory = g.E.Sink.memory_failures c.work-outcome.new.err }) _ _ c.tell.ensures.tells.0 c.work-outcome.ensures.error_counts, c.tell.ensures.tells.1))) c.work-outcome.ensures.apart

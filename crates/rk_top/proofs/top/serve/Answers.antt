@@ -176,3 +176,6 @@ returns-in-Trace-clause-counts g c = c.show_records.ensures.counts (g.E.Sink.fau
 
 pub returns-in-Forget-clause-counts : goal.returns-in-Forget-clause-counts
 returns-in-Forget-clause-counts g c = c.forget_records.ensures.counts (g.E.Sink.faults c.args.err.now)
+
+pub returns-in-Gen-clause-counts : goal.returns-in-Gen-clause-counts
+returns-in-Gen-clause-counts g c = c.tell_workload.ensures.counts (g.F.Folder.read_faults c.args.folder.now) (g.F.Folder.write_faults c.args.folder.now) (g.E.Sink.faults c.args.err.now)

@@ -3,7 +3,7 @@ use Rattle.rk_command.specs.First.{first_talk}
 use Rattle.rk_words.specs.Asked.{IfBuild}
 use Rattle.rk_top.specs.Outcomes.{Checked, HasStatus, Tallies}
 use Rattle.rk_top.proofs.QueryLemmas.{unread-queried}
-use Rattle.rk_top.proofs.AskLemmas.{asks, asks-any, build-then, builds-any, queries-any, unasked}
+use Rattle.rk_top.proofs.AskLemmas.{asks, asks-any, build-then, builds-any, gens-any, queries-any, unasked}
 use Rattle.rk_top.proofs.TellLemmas.{asks-ended}
 use Rattle.rk_top.proofs.top.work.Goals as goal
 
@@ -108,3 +108,21 @@ returns-in-Err-NoMemory-clause-silent g c = queries-any (map string_bytes c.args
 
 pub returns-in-Err-NoMemory-clause-special : goal.returns-in-Err-NoMemory-clause-special
 returns-in-Err-NoMemory-clause-special g c = builds-any (map string_bytes c.args.words.now) _ (λ request. tt)
+
+pub returns-in-Ok-clause-generated : goal.returns-in-Ok-clause-generated
+returns-in-Ok-clause-generated g c = asks (map string_bytes c.args.words.now) _ c.in-Ok.asked c.in-Ok.ensures.asked c.serve.ensures.generated
+
+pub returns-in-Ok-clause-apart : goal.returns-in-Ok-clause-apart
+returns-in-Ok-clause-apart g c = asks (map string_bytes c.args.words.now) _ c.in-Ok.asked c.in-Ok.ensures.asked c.serve.ensures.apart
+
+pub returns-in-Err-Usage-clause-generated : goal.returns-in-Err-Usage-clause-generated
+returns-in-Err-Usage-clause-generated g c = unasked (map string_bytes c.args.words.now) _ (c.in-Err-Usage.ensures.usage (assumption c.in-Err-Usage))
+
+pub returns-in-Err-Usage-clause-apart : goal.returns-in-Err-Usage-clause-apart
+returns-in-Err-Usage-clause-apart g c = unasked (map string_bytes c.args.words.now) _ (c.in-Err-Usage.ensures.usage (assumption c.in-Err-Usage))
+
+pub returns-in-Err-NoMemory-clause-generated : goal.returns-in-Err-NoMemory-clause-generated
+returns-in-Err-NoMemory-clause-generated g c = gens-any (map string_bytes c.args.words.now) _ (λ seed. inl refl)
+
+pub returns-in-Err-NoMemory-clause-apart : goal.returns-in-Err-NoMemory-clause-apart
+returns-in-Err-NoMemory-clause-apart g c = gens-any (map string_bytes c.args.words.now) _ (λ seed. (refl, refl))
