@@ -29,6 +29,13 @@ impl Commands {
     {
         Commands { alloc, started: 0 }
     }
+
+    /// How many have started, up to 2^64 - 1.
+    pub fn started(&self) -> u64
+        ensures { result ≡ self.now }
+    {
+        self.started
+    }
 }
 
 impl Maker for Commands {

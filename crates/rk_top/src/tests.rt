@@ -3,6 +3,7 @@ mod attributes;
 mod directories;
 mod rebuilds;
 mod sessions;
+mod starts;
 
 ghost use Rattle.std.specs.Prelude.{◌≡◌, ◌<◌};
 
