@@ -1,11 +1,2 @@
-pub mod Folding
-pub mod Symbols
-pub mod Unclosed
-pub mod Runs
-pub mod Found
-pub mod Modes
-pub mod Sizes
 pub mod Tokenized
-pub mod Walking
-pub mod Lines
 pub mod Popping

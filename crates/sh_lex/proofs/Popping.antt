@@ -1,8 +1,8 @@
 -- The last of a list goes.
 use Rattle.std.proofs.Common.{◌≡◌, ℕ, List, [], ◌∷◌, ◌++◌, Bool, Option, Some, None, refl, sym, ap, ◌∙◌, length}
 use Rattle.std.specs.Prelude.{option_to_list, MatchOption, ◌+◌}
-use Rattle.sh_lex.specs.Steps.{popped, last_paren, last_around, or_false}
-use Rattle.sh_lex.specs.Places.{Around}
+use Rattle.sh_token.specs.Steps.{popped, last_paren, last_around, or_false}
+use Rattle.sh_token.specs.Places.{Around}
 
 popped_one : {A : Type 0} (xs : List A) (x : A) → popped (xs ++ x ∷ []) ≡ xs
 popped_one [] x = refl

@@ -7,23 +7,23 @@ use Rattle.sh_rules.specs.declared.kind.Mode.{Mode}
 use Rattle.sh_rules.specs.declared.kind.Mode.TheVariants as m
 use Rattle.sh_rules.specs.LookAhead.{number, member, all_kinds, either}
 use Rattle.sh_rules.proofs.Tables.{implies, implied, each, every}
-use Rattle.sh_lex.specs.declared.front.Front.{Front}
-use Rattle.sh_lex.specs.declared.front.Front.TheVariants as f
-use Rattle.sh_lex.specs.declared.place.Words.{Words}
-use Rattle.sh_lex.specs.Bytes.{not_so, is_end, is_quoting}
-use Rattle.sh_lex.specs.Blanks.{blanks}
-use Rattle.sh_lex.specs.Folded.{folded}
-use Rattle.sh_lex.specs.Fronts.{front_of}
-use Rattle.sh_lex.specs.Recognizers.{recognizer}
-use Rattle.sh_lex.specs.Expansions.{or_else}
-use Rattle.sh_lex.specs.Tokens.{Look}
-use Rattle.sh_lex.specs.Lexemes.{look}
-use Rattle.sh_lex.specs.Places.{Place, begin_at, is_none}
+use Rattle.sh_token.specs.declared.front.Front.{Front}
+use Rattle.sh_token.specs.declared.front.Front.TheVariants as f
+use Rattle.sh_token.specs.declared.place.Words.{Words}
+use Rattle.sh_token.specs.Bytes.{not_so, is_end, is_quoting}
+use Rattle.sh_token.specs.Blanks.{blanks}
+use Rattle.sh_token.specs.Folded.{folded}
+use Rattle.sh_token.specs.Fronts.{front_of}
+use Rattle.sh_token.specs.Recognizers.{recognizer}
+use Rattle.sh_token.specs.Expansions.{or_else}
+use Rattle.sh_token.specs.Tokens.{Look}
+use Rattle.sh_token.specs.Lexemes.{look}
+use Rattle.sh_token.specs.Places.{Place, begin_at, is_none}
 use Rattle.sh_lex.specs.declared.lexer.Token.{Token}
 use Rattle.sh_lex.specs.Tokenizing.{Tokens, here, is_over, front, Tells}
-use Rattle.sh_lex.proofs.Found.{may_have_none, kinds_by}
-use Rattle.sh_lex.proofs.Modes.{found, front_at_place, unmeasured, kind_of, all_of, all_at, either_cases, fronts, front_number, front_at}
-use Rattle.sh_lex.proofs.Sizes.{has_byte}
+use Rattle.sh_token.proofs.Found.{may_have_none, kinds_by}
+use Rattle.sh_token.proofs.Modes.{found, front_at_place, unmeasured, kind_of, all_of, all_at, either_cases, fronts, front_number, front_at}
+use Rattle.sh_token.proofs.Sizes.{has_byte}
 
 -- where something is left
 abbrev is_at_end : Front → Bool

@@ -4,9 +4,9 @@ use Rattle.sh_rules.specs.declared.kind.Kind.{Kind}
 use Rattle.sh_lex.specs.declared.cursor.Stop.{Stop}
 use Rattle.sh_lex.specs.declared.cursor.Stop.TheVariants as stop
 use Rattle.sh_lex.specs.declared.taken.Taken.{Taken}
-use Rattle.sh_lex.specs.Effects.{effect_of}
-use Rattle.sh_lex.specs.Places.{Place}
-use Rattle.sh_lex.specs.Steps.{after, over, token_of, as_read}
+use Rattle.sh_token.specs.Effects.{effect_of}
+use Rattle.sh_token.specs.Places.{Place}
+use Rattle.sh_token.specs.Steps.{after, over, token_of, as_read}
 
 -- the bytes of a taken token, as they are read
 abbrev pub read_of : Taken → List ℕ

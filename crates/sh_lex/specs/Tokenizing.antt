@@ -4,12 +4,12 @@ use Rattle.sh_rules.specs.declared.kind.Mode.TheVariants as m
 use Rattle.sh_lex.specs.declared.lexer.Token.{Token}
 use Rattle.sh_lex.specs.declared.lexer.LexErr.{LexErr}
 use Rattle.sh_lex.specs.declared.lexer.LexErr.TheVariants as err
-use Rattle.sh_lex.specs.Tokens.{Look}
-use Rattle.sh_lex.specs.Expansions.{or_else}
-use Rattle.sh_lex.specs.Folded.{folded}
-use Rattle.sh_lex.specs.Lexemes.{look}
-use Rattle.sh_lex.specs.Places.{Place, begin_at, is_none}
-use Rattle.sh_lex.specs.Faults.{blocked_fault}
+use Rattle.sh_token.specs.Tokens.{Look}
+use Rattle.sh_token.specs.Expansions.{or_else}
+use Rattle.sh_token.specs.Folded.{folded}
+use Rattle.sh_token.specs.Lexemes.{look}
+use Rattle.sh_token.specs.Places.{Place, begin_at, is_none}
+use Rattle.sh_token.specs.Faults.{blocked_fault}
 
 -- a text, and how many of its bytes went by
 pub record Tokens : Type 0 where

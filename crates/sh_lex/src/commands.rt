@@ -1,17 +1,17 @@
 // Words among commands, in clauses and behind redirections (XCU 2.3, 2.7, 2.9, 2.10.2).
 ghost use Rattle.std.specs.Prelude.{◌≡◌, drop};
-ghost use Rattle.sh_lex.specs.Folded.{folded};
-ghost use Rattle.sh_lex.specs.Expansions.{or_else as or_else_lem};
-ghost use Rattle.sh_lex.specs.Commands as lem;
+ghost use Rattle.sh_token.specs.Folded.{folded};
+ghost use Rattle.sh_token.specs.Expansions.{or_else as or_else_lem};
+ghost use Rattle.sh_token.specs.Commands as lem;
 
-use crate::brackets::text_look;
-use crate::bytes::{Class, is_end, is_letter};
-use crate::folded::{byte, run, run_on, skip};
 use crate::operators::{numbered, redirect};
-use crate::place::Words;
-use crate::reserved::{is_word, opener};
-use crate::unread::Unread;
 use sh_rules::Kind;
+use sh_token::brackets::text_look;
+use sh_token::bytes::{Class, is_end, is_letter};
+use sh_token::folded::{byte, run, run_on, skip};
+use sh_token::place::Words;
+use sh_token::reserved::{is_word, opener};
+use sh_token::unread::Unread;
 
 type Look = Option<(Kind, usize)>;
 
@@ -115,7 +115,7 @@ fn name_or_text(reserved: bool, text: &Unread) -> Look
     }
 }
 
-#[tactic(auto, unfolding(crate::specs::Commands::command_word))]
+#[tactic(auto, unfolding(sh_token::specs::Commands::command_word))]
 pub(crate) fn command_word(words: Words, text: &Unread) -> Look
     ensures { result ≡ lem.command_word words (folded text.now) }
 {
@@ -130,7 +130,7 @@ pub(crate) fn command_word(words: Words, text: &Unread) -> Look
     }
 }
 
-#[tactic(auto, unfolding(crate::specs::Commands::prefix_word))]
+#[tactic(auto, unfolding(sh_token::specs::Commands::prefix_word))]
 pub(crate) fn prefix_word(text: &Unread) -> Look
     ensures { result ≡ lem.prefix_word (folded text.now) }
 {
@@ -141,7 +141,7 @@ pub(crate) fn prefix_word(text: &Unread) -> Look
     }
 }
 
-#[tactic(auto, unfolding(crate::specs::Commands::argument_word))]
+#[tactic(auto, unfolding(sh_token::specs::Commands::argument_word))]
 pub(crate) fn argument_word(words: Words, text: &Unread) -> Look
     ensures { result ≡ lem.argument_word words (folded text.now) }
 {

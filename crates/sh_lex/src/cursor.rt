@@ -1,27 +1,28 @@
 // The cursor: which token stands where it is.
 ghost use Rattle.std.specs.Prelude.{◌≡◌, ◌≤◌, nat_lt, length, take as first_bytes, ◌+◌, Some, IfSome};
-ghost use Rattle.sh_lex.specs.Bytes.{◌also◌, not_so};
-ghost use Rattle.sh_lex.specs.Folded.{folded};
-ghost use Rattle.sh_lex.specs.Places.{begin, begin_at, is_none};
+ghost use Rattle.sh_token.specs.Bytes.{◌also◌, not_so};
+ghost use Rattle.sh_token.specs.Folded.{folded};
+ghost use Rattle.sh_token.specs.Places.{begin, begin_at, is_none};
 ghost use Rattle.sh_rules.specs.LookAhead.{mode_of as mode_lem};
-ghost use Rattle.sh_lex.specs.Lexemes.{look as look_lem};
-ghost use Rattle.sh_lex.specs.Steps.{drops as drops_lem, next_drops as next_lem, opens_level as opens_lem};
+ghost use Rattle.sh_token.specs.Lexemes.{look as look_lem};
+ghost use Rattle.sh_token.specs.Steps.{drops as drops_lem, next_drops as next_lem, opens_level as opens_lem};
 ghost use Rattle.sh_lex.specs.Takes.{Takes};
 
-use crate::blanks::past_blanks;
-use crate::brackets::holds_symbol;
-use crate::effect::{Effect, effect_of, opens_level, takes_body};
-use crate::folded::is_read_out;
-use crate::front::front_of;
-use crate::kinds::{is_raw, text_class};
 use crate::lexeme::measured;
-use crate::place::{Cursor, Words};
+use crate::place::Cursor;
 use crate::queue::Queue;
-use crate::recognizer::tried;
+use crate::table::tried;
 use crate::taken::Taken;
-use crate::unread::Unread;
 use rk_base::NoMemory;
 use sh_rules::{Kind, Mode};
+use sh_token::blanks::past_blanks;
+use sh_token::brackets::holds_symbol;
+use sh_token::effect::{Effect, effect_of, opens_level, takes_body};
+use sh_token::folded::is_read_out;
+use sh_token::front::front_of;
+use sh_token::kinds::{is_raw, text_class};
+use sh_token::place::Words;
+use sh_token::unread::Unread;
 use std::alloc::{AllocFailed, Global};
 
 /// Why no token is taken: memory ran out, or it opens one level too many.
@@ -78,7 +79,7 @@ impl<'a> Cursor<'a> {
     }
 
     /// The kind of the token that stands here in a mode, and how many bytes of the text it has.
-    #[tactic(auto, unfolding(crate::specs::Lexemes::look))]
+    #[tactic(auto, unfolding(sh_token::specs::Lexemes::look))]
     pub fn look(&self, mode: Mode) -> Option<(Kind, usize)>
         ensures found { result ≡ look_lem mode self.now }
         ensures within { IfSome result (λ x. x.1 ≤ length self.now.text) }
@@ -120,7 +121,7 @@ impl<'a> Cursor<'a> {
     }
 
     /// Takes the token of a kind that stands here, of so many bytes, as `look` told them.
-    #[tactic(auto, unfolding(crate::specs::Steps::over, crate::specs::Takes::Takes))]
+    #[tactic(auto, unfolding(sh_token::specs::Steps::over, crate::specs::Takes::Takes))]
     pub fn take(&mut self, kind: Kind, length: usize) -> Result<Taken<'a>, Stop>
         requires { look_lem (mode_lem kind) self.old ≡ Some (kind, length) }
         ensures { Takes kind length self.old self.new result }

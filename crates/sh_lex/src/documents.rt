@@ -1,21 +1,22 @@
 // Here-documents: those that are awaited, and their bodies (XCU 2.7.4).
 ghost use Rattle.std.specs.Prelude.{◌≡◌, ◌≤◌, length, IfOk, false, true};
-ghost use Rattle.sh_lex.specs.declared.effect.Effect.TheVariants as e;
-ghost use Rattle.sh_lex.specs.Folded.{folded};
-ghost use Rattle.sh_lex.specs.Steps as lem;
+ghost use Rattle.sh_token.specs.declared.effect.Effect.TheVariants as e;
+ghost use Rattle.sh_token.specs.Folded.{folded};
+ghost use Rattle.sh_token.specs.Steps as lem;
 
-use crate::body::line;
 use crate::cursor::Stop;
-use crate::delimiter::{delimiter_of, is_quoted};
-use crate::folded::{first, is_read_out, rest};
-use crate::lexeme::tabs_extent;
-use crate::place::{Cursor, HereDocument, Outer, Words};
+use crate::place::{Cursor, Outer};
 use crate::queue::Queue;
-use crate::unread::Unread;
+use sh_token::body::line;
+use sh_token::delimiter::{delimiter_of, is_quoted};
+use sh_token::extents::tabs_extent;
+use sh_token::folded::{first, is_read_out, rest};
+use sh_token::place::{HereDocument, Words};
+use sh_token::unread::Unread;
 use std::mem;
 
 impl<'a> Cursor<'a> {
-    #[tactic(auto, unfolding(crate::specs::Steps::after))]
+    #[tactic(auto, unfolding(sh_token::specs::Steps::after))]
     pub(crate) fn awaits(&mut self, n: usize)
         requires within { n ≤ length self.old.text }
         ensures { self.new ≡ lem.after e.Awaits n self.old }
@@ -26,7 +27,7 @@ impl<'a> Cursor<'a> {
         self.ends_word(n);
     }
 
-    #[tactic(auto, unfolding(crate::specs::Steps::after))]
+    #[tactic(auto, unfolding(sh_token::specs::Steps::after))]
     pub(crate) fn delimits(&mut self, n: usize) -> Result<(), Stop>
         requires within { n ≤ length self.old.text }
         ensures { IfOk result (λ _. self.new ≡ lem.after e.Delimits n self.old) }
@@ -45,7 +46,7 @@ impl<'a> Cursor<'a> {
         Ok(())
     }
 
-    #[tactic(auto, unfolding(crate::specs::Steps::after))]
+    #[tactic(auto, unfolding(sh_token::specs::Steps::after))]
     pub(crate) fn ends_line(&mut self, n: usize)
         requires within { n ≤ length self.old.text }
         ensures { self.new ≡ lem.after e.EndsLine n self.old }
@@ -72,7 +73,7 @@ impl<'a> Cursor<'a> {
         self.awaited.advance();
     }
 
-    #[tactic(auto, unfolding(crate::specs::Steps::after))]
+    #[tactic(auto, unfolding(sh_token::specs::Steps::after))]
     pub(crate) fn takes_body(&mut self, n: usize)
         requires within { n ≤ length self.old.text }
         ensures { self.new ≡ lem.after e.TakesBody n self.old }
@@ -144,7 +145,7 @@ impl<'a> Cursor<'a> {
         Ok(())
     }
 
-    #[tactic(auto, unfolding(crate::specs::Steps::after))]
+    #[tactic(auto, unfolding(sh_token::specs::Steps::after))]
     pub(crate) fn opens_body(&mut self, n: usize) -> Result<(), Stop>
         requires within { n ≤ length self.old.text }
         ensures { IfOk result (λ _. self.new ≡ lem.after e.OpensBody n self.old) }
@@ -158,7 +159,7 @@ impl<'a> Cursor<'a> {
         }
     }
 
-    #[tactic(auto, unfolding(crate::specs::Steps::after))]
+    #[tactic(auto, unfolding(sh_token::specs::Steps::after))]
     pub(crate) fn closes_body(&mut self)
         ensures { self.new ≡ lem.after e.ClosesBody 0 self.old }
     {

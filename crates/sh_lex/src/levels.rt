@@ -1,13 +1,14 @@
 // What opens and closes: levels, quotes, substitutions and braces.
 ghost use Rattle.std.specs.Prelude.{◌≡◌, ◌≤◌, ◌<◌, ◌-◌, length, IfOk};
-ghost use Rattle.sh_lex.specs.declared.effect.Effect.TheVariants as e;
-ghost use Rattle.sh_lex.specs.Steps as lem;
+ghost use Rattle.sh_token.specs.declared.effect.Effect.TheVariants as e;
+ghost use Rattle.sh_token.specs.Steps as lem;
 
 use crate::cursor::Stop;
-use crate::place::{Cursor, Words};
+use crate::place::Cursor;
+use sh_token::place::Words;
 
 impl<'a> Cursor<'a> {
-    #[tactic(auto, unfolding(crate::specs::Steps::after))]
+    #[tactic(auto, unfolding(sh_token::specs::Steps::after))]
     pub(crate) fn opens(&mut self, n: usize)
         requires within { n ≤ length self.old.text }
         requires room { self.old.levels < 64 }
@@ -19,7 +20,7 @@ impl<'a> Cursor<'a> {
         self.pass_blanks();
     }
 
-    #[tactic(auto, unfolding(crate::specs::Steps::after))]
+    #[tactic(auto, unfolding(sh_token::specs::Steps::after))]
     pub(crate) fn opens_word(&mut self, n: usize)
         requires within { n ≤ length self.old.text }
         requires room { self.old.levels < 64 }
@@ -31,7 +32,7 @@ impl<'a> Cursor<'a> {
         self.pass_blanks();
     }
 
-    #[tactic(auto, unfolding(crate::specs::Steps::after))]
+    #[tactic(auto, unfolding(sh_token::specs::Steps::after))]
     pub(crate) fn opens_paren(&mut self, n: usize) -> Result<(), Stop>
         requires within { n ≤ length self.old.text }
         requires room { self.old.levels < 64 }
@@ -42,7 +43,7 @@ impl<'a> Cursor<'a> {
         Ok(())
     }
 
-    #[tactic(auto, unfolding(crate::specs::Steps::after))]
+    #[tactic(auto, unfolding(sh_token::specs::Steps::after))]
     pub(crate) fn closes(&mut self, n: usize)
         requires within { n ≤ length self.old.text }
         ensures { self.new ≡ lem.after e.Closes n self.old }
@@ -80,7 +81,7 @@ impl<'a> Cursor<'a> {
         }
     }
 
-    #[tactic(auto, unfolding(crate::specs::Steps::after))]
+    #[tactic(auto, unfolding(sh_token::specs::Steps::after))]
     pub(crate) fn closes_paren(&mut self, n: usize)
         requires within { n ≤ length self.old.text }
         ensures { self.new ≡ lem.after e.ClosesParen n self.old }
@@ -90,7 +91,7 @@ impl<'a> Cursor<'a> {
         self.close_paren(substitution);
     }
 
-    #[tactic(auto, unfolding(crate::specs::Steps::after))]
+    #[tactic(auto, unfolding(sh_token::specs::Steps::after))]
     pub(crate) fn substitutes(&mut self, n: usize) -> Result<(), Stop>
         requires within { n ≤ length self.old.text }
         requires room { self.old.levels < 64 }
@@ -102,7 +103,7 @@ impl<'a> Cursor<'a> {
         Ok(())
     }
 
-    #[tactic(auto, unfolding(crate::specs::Steps::after))]
+    #[tactic(auto, unfolding(sh_token::specs::Steps::after))]
     pub(crate) fn quotes(&mut self, n: usize) -> Result<(), Stop>
         requires within { n ≤ length self.old.text }
         ensures { IfOk result (λ _. self.new ≡ lem.after e.Quotes n self.old) }
@@ -112,7 +113,7 @@ impl<'a> Cursor<'a> {
         Ok(())
     }
 
-    #[tactic(auto, unfolding(crate::specs::Steps::after))]
+    #[tactic(auto, unfolding(sh_token::specs::Steps::after))]
     pub(crate) fn unquotes(&mut self, n: usize)
         requires within { n ≤ length self.old.text }
         ensures { self.new ≡ lem.after e.Unquotes n self.old }
@@ -121,7 +122,7 @@ impl<'a> Cursor<'a> {
         self.inside(n);
     }
 
-    #[tactic(auto, unfolding(crate::specs::Steps::after))]
+    #[tactic(auto, unfolding(sh_token::specs::Steps::after))]
     pub(crate) fn opens_braces(&mut self, n: usize) -> Result<(), Stop>
         requires within { n ≤ length self.old.text }
         requires room { self.old.levels < 64 }
@@ -133,7 +134,7 @@ impl<'a> Cursor<'a> {
         Ok(())
     }
 
-    #[tactic(auto, unfolding(crate::specs::Steps::after))]
+    #[tactic(auto, unfolding(sh_token::specs::Steps::after))]
     pub(crate) fn closes_braces(&mut self, n: usize)
         requires within { n ≤ length self.old.text }
         ensures { self.new ≡ lem.after e.ClosesBraces n self.old }

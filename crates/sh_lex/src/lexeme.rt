@@ -1,28 +1,28 @@
 // Which token stands at a place.
-ghost use Rattle.std.specs.Prelude.{◌≡◌, ◌≤◌, length, false, IfSome};
-ghost use Rattle.sh_lex.specs.Bytes.{is_tab};
-ghost use Rattle.sh_lex.specs.Folded.{folded, run as run_lem};
-ghost use Rattle.sh_lex.specs.Lexemes as lem;
+ghost use Rattle.std.specs.Prelude.{◌≡◌, ◌≤◌, length, IfSome};
+ghost use Rattle.sh_token.specs.Folded.{folded};
+ghost use Rattle.sh_token.specs.Lexemes as lem;
 
-use crate::body::body;
-use crate::brackets::text_look;
-use crate::bytes::Class;
 use crate::commands::{
     argument_word, assignment, case_in, command_word, name_look, prefix_word, redirection, text_of,
 };
-use crate::delimiter::walk;
-use crate::expansions::dollar;
-use crate::folded::{byte, run, run_on, skip};
-use crate::kinds::is_raw;
 use crate::operators::operator;
-use crate::place::{HereDocument, Words};
 use crate::queue::Queue;
-use crate::quotes::{escape, raw_byte, single};
-use crate::recognizer::Recognizer;
-use crate::reserved::closer;
-use crate::unread::Unread;
-use crate::words::{backslash, is_quotable, is_quotable_in_body, is_quotable_in_braces};
 use sh_rules::Kind;
+use sh_token::body::body;
+use sh_token::brackets::text_look;
+use sh_token::bytes::Class;
+use sh_token::delimiter::walk;
+use sh_token::expansions::dollar;
+use sh_token::extents::extent;
+use sh_token::folded::{byte, run_on};
+use sh_token::kinds::is_raw;
+use sh_token::place::{HereDocument, Words};
+use sh_token::quotes::{escape, raw_byte, single};
+use sh_token::recognizer::Recognizer;
+use sh_token::reserved::closer;
+use sh_token::unread::Unread;
+use sh_token::words::{backslash, is_quotable, is_quotable_in_body, is_quotable_in_braces};
 
 type Look = Option<(Kind, usize)>;
 
@@ -86,7 +86,7 @@ fn pattern_bar(text: &[u8]) -> Look
 }
 
 // What a recognizer finds, and how many bytes it has, as the text is read or as it stands.
-#[tactic(auto, unfolding(crate::specs::Lexemes::recognized))]
+#[tactic(auto, unfolding(sh_token::specs::Lexemes::recognized))]
 fn recognized(
     recognizer: Recognizer,
     whole: bool,
@@ -152,27 +152,6 @@ fn recognized(
         Recognizer::FunctionClose => Some((Kind::FunctionClose, 1)),
         Recognizer::Delimiter => delimiter_look(bytes),
     }
-}
-
-/// How many bytes of a text a token has that is so long, as the text is read or as it stands.
-pub(crate) fn extent(raw: bool, n: usize, text: &[u8]) -> usize
-    ensures count { result ≡ lem.extent raw n text.now }
-    ensures within { result ≤ length text.now }
-{
-    if raw {
-        if n < text.len() { n } else { text.len() }
-    } else {
-        text.len() - skip(text, n).len()
-    }
-}
-
-/// How many bytes of a text are tabs in front.
-pub(crate) fn tabs_extent(text: &[u8]) -> usize
-    ensures count { result ≡ lem.extent false (run_lem is_tab (folded text.now)) text.now }
-    ensures within { result ≤ length text.now }
-{
-    let n = run(Class::Tab, text);
-    extent(false, n, text)
 }
 
 /// What a recognizer finds, and how many bytes of the text it has.

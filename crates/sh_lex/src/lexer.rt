@@ -2,9 +2,9 @@
 ghost use Rattle.std.specs.Prelude.{◌≡◌, ◌≤◌, length, IfSome};
 ghost use Rattle.sh_lex.specs.Tokenizing as lem;
 
-use crate::fault::ScriptFault;
 use crate::place::Cursor;
 use sh_rules::{Kind, Mode};
+use sh_token::fault::ScriptFault;
 use std::alloc::Global;
 use std::marker::Model;
 

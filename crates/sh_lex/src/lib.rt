@@ -1,20 +1,9 @@
 //! Tokens of the shell, in a text that is read without its joined lines (XCU 2.2, 2.3).
 #![tactic(auto)]
 
-mod blanks;
-mod body;
-mod brackets;
-mod bytes;
 mod commands;
 mod cursor;
-mod delimiter;
 mod documents;
-mod effect;
-mod expansions;
-mod fault;
-mod folded;
-mod front;
-mod kinds;
 mod levels;
 mod lexeme;
 mod lexer;
@@ -22,20 +11,17 @@ mod moves;
 mod operators;
 mod place;
 mod queue;
-mod quotes;
-mod recognizer;
-mod reserved;
+mod table;
 mod taken;
 mod telling;
-mod unread;
-mod words;
 
 pub use cursor::Stop;
-pub use effect::Effect;
-pub use fault::{ScriptFault, Why};
-pub use kinds::mode_of;
 pub use lexer::{LexErr, Lexer, Token};
-pub use place::{Cursor, Words};
+pub use place::Cursor;
+pub use sh_token::effect::Effect;
+pub use sh_token::fault::{ScriptFault, Why};
+pub use sh_token::kinds::mode_of;
+pub use sh_token::place::Words;
 pub use taken::Taken;
 
 #[cfg(test)]

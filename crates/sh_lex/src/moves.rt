@@ -1,13 +1,14 @@
 // From a place to the next one, by what a token leaves open.
 ghost use Rattle.std.specs.Prelude.{◌≡◌, ◌≤◌, ◌<◌, length, IfOk, true};
-ghost use Rattle.sh_lex.specs.declared.effect.Effect.TheVariants as e;
-ghost use Rattle.sh_lex.specs.Places as place;
-ghost use Rattle.sh_lex.specs.Steps as lem;
+ghost use Rattle.sh_token.specs.declared.effect.Effect.TheVariants as e;
+ghost use Rattle.sh_token.specs.Places as place;
+ghost use Rattle.sh_token.specs.Steps as lem;
 
-use crate::blanks::{blanks, joins};
 use crate::cursor::Stop;
-use crate::effect::Effect;
-use crate::place::{Cursor, Words};
+use crate::place::Cursor;
+use sh_token::blanks::{blanks, joins};
+use sh_token::effect::Effect;
+use sh_token::place::Words;
 
 impl<'a> Cursor<'a> {
     // So many bytes further.
@@ -35,7 +36,7 @@ impl<'a> Cursor<'a> {
         self.in_word = false;
     }
 
-    #[tactic(auto, unfolding(crate::specs::Steps::after))]
+    #[tactic(auto, unfolding(sh_token::specs::Steps::after))]
     pub(crate) fn inside(&mut self, n: usize)
         requires within { n ≤ length self.old.text }
         ensures { self.new ≡ lem.after e.Inside n self.old }
@@ -44,7 +45,7 @@ impl<'a> Cursor<'a> {
         self.pass_joins();
     }
 
-    #[tactic(auto, unfolding(crate::specs::Steps::after))]
+    #[tactic(auto, unfolding(sh_token::specs::Steps::after))]
     fn separates(&mut self, n: usize)
         requires within { n ≤ length self.old.text }
         ensures { self.new ≡ lem.after e.Separates n self.old }
@@ -55,7 +56,7 @@ impl<'a> Cursor<'a> {
         self.pass_blanks();
     }
 
-    #[tactic(auto, unfolding(crate::specs::Steps::after))]
+    #[tactic(auto, unfolding(sh_token::specs::Steps::after))]
     pub(crate) fn ends_word(&mut self, n: usize)
         requires within { n ≤ length self.old.text }
         ensures { self.new ≡ lem.after e.EndsWord n self.old }
@@ -65,7 +66,7 @@ impl<'a> Cursor<'a> {
         self.pass_blanks();
     }
 
-    #[tactic(auto, unfolding(crate::specs::Steps::after))]
+    #[tactic(auto, unfolding(sh_token::specs::Steps::after))]
     fn ends_name(&mut self, n: usize)
         requires within { n ≤ length self.old.text }
         ensures { self.new ≡ lem.after e.EndsName n self.old }
@@ -75,7 +76,7 @@ impl<'a> Cursor<'a> {
         self.pass_blanks();
     }
 
-    #[tactic(auto, unfolding(crate::specs::Steps::after))]
+    #[tactic(auto, unfolding(sh_token::specs::Steps::after))]
     /// To the place behind a token of so many bytes.
     pub(crate) fn step(&mut self, effect: Effect, n: usize) -> Result<(), Stop>
         requires within { n ≤ length self.old.text }

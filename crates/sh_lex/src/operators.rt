@@ -1,6 +1,6 @@
 // Operators (XCU 2.10.1).
 ghost use Rattle.std.specs.Prelude.{◌≡◌};
-ghost use Rattle.sh_lex.specs.Operators.{operator as operator_lem, redirect as redirect_lem, numbered as numbered_lem, more_by};
+ghost use Rattle.sh_token.specs.Operators.{operator as operator_lem, redirect as redirect_lem, numbered as numbered_lem, more_by};
 
 use sh_rules::Kind;
 

@@ -1,40 +1,12 @@
 // Places of a text, and the cursor that stands at one.
 ghost use Rattle.std.specs.Prelude.{◌≡◌};
-ghost use Rattle.sh_lex.specs.Places as lem;
+ghost use Rattle.sh_token.specs.Places as lem;
 
 use crate::queue::Queue;
-use crate::unread::Unread;
+use sh_token::place::Words;
+use sh_token::unread::Unread;
 use std::alloc::Global;
 use std::marker::Model;
-
-/// Which words are reserved where one stands (XCU 2.4).
-#[derive(Clone, Copy)]
-pub enum Words {
-    /// All: a command may begin there.
-    All,
-    /// Those that close or go on: a compound command ends in front.
-    Closers,
-    /// None.
-    Ordinary,
-}
-
-/// A here-document whose body is still to come.
-#[derive(Drop)]
-pub struct HereDocument {
-    pub(crate) at: usize,
-    pub(crate) levels: usize,
-    pub(crate) delimiter: Vec<u8>,
-    pub(crate) quoted: bool,
-    pub(crate) tabs: bool,
-}
-
-impl Model for HereDocument {
-    ghost use Rattle.sh_lex.specs.HereDocuments.{Awaited};
-
-    ghost Value = { Awaited };
-
-    ghost view = { λ d. record { at = d.at; levels = d.levels; delimiter = d.delimiter.items; quoted = d.quoted; tabs = d.tabs } };
-}
 
 /// What stands around a here-document's body while it is read.
 #[derive(Drop)]
@@ -50,7 +22,7 @@ pub struct Outer<'a> {
 
 impl<'a> Model for Outer<'a> {
     ghost use Rattle.std.specs.Prelude.{◌+◌, ◌<◌, ◌^◌, length};
-    ghost use Rattle.sh_lex.specs.Places.{Around};
+    ghost use Rattle.sh_token.specs.Places.{Around};
 
     ghost Value = { Around };
 
@@ -81,7 +53,7 @@ pub struct Cursor<'a> {
 
 impl<'a> Model for Cursor<'a> {
     ghost use Rattle.std.specs.Prelude.{◌+◌, ◌<◌, ◌^◌, length};
-    ghost use Rattle.sh_lex.specs.Places.{Place};
+    ghost use Rattle.sh_token.specs.Places.{Place};
 
     ghost Value = { Place };
 

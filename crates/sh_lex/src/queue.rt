@@ -1,10 +1,10 @@
 // The here-documents to come, in order.
 ghost use Rattle.std.specs.Prelude.{◌≡◌, ◌≤◌, ◌++◌, ◌∷◌, [], drop, length, IfOk};
-ghost use Rattle.sh_lex.specs.Places.{is_none};
-ghost use Rattle.sh_lex.specs.Steps.{next as next_lem};
+ghost use Rattle.sh_token.specs.Places.{is_none};
+ghost use Rattle.sh_token.specs.Steps.{next as next_lem};
 
-use crate::place::HereDocument;
 use rk_base::NoMemory;
+use sh_token::place::HereDocument;
 use std::alloc::Global;
 use std::marker::Model;
 
@@ -17,7 +17,7 @@ pub struct Queue {
 
 impl Model for Queue {
     ghost use Rattle.std.specs.Prelude.{List, drop, length, ◌≤◌};
-    ghost use Rattle.sh_lex.specs.HereDocuments.{Awaited};
+    ghost use Rattle.sh_token.specs.HereDocuments.{Awaited};
 
     ghost Value = { List Awaited };
 

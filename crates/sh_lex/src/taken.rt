@@ -1,11 +1,11 @@
 // Tokens as they are read.
 ghost use Rattle.std.specs.Prelude.{◌≡◌, ◌++◌, ◌∷◌, [], ◌==◌, if◌then◌else◌, IfOk};
-ghost use Rattle.sh_lex.specs.Bytes.{◌or◌, ◌also◌, is_tab};
-ghost use Rattle.sh_lex.specs.Steps.{as_read};
+ghost use Rattle.sh_token.specs.Bytes.{◌or◌, ◌also◌, is_tab};
+ghost use Rattle.sh_token.specs.Steps.{as_read};
 ghost use Rattle.sh_lex.specs.Takes.{read_of};
 
-use crate::body::{behind, first_of, is_over};
 use rk_base::{Bytes, NoMemory};
+use sh_token::body::{behind, first_of, is_over};
 use std::alloc::Global;
 
 /// The bytes of a token as they stand in the text, and how they are read.

@@ -1,21 +1,22 @@
 // The fault at a place where no token goes on, or where one opens a level too many.
 ghost use Rattle.std.specs.Prelude.{◌≡◌, ◌≤◌, ◌<◌, ◌==◌, ◌++◌, ◌∷◌, [], suc, take, drop, length, IfOk};
-ghost use Rattle.sh_lex.specs.Folded.{folded, run as run_lem};
-ghost use Rattle.sh_lex.specs.Faults as lem;
-ghost use Rattle.sh_lex.specs.Places.{is_none};
-ghost use Rattle.sh_lex.specs.Quoting.{not_quote};
-ghost use Rattle.sh_lex.specs.Steps as steps;
+ghost use Rattle.sh_token.specs.Folded.{folded, run as run_lem};
+ghost use Rattle.sh_token.specs.Faults as lem;
+ghost use Rattle.sh_token.specs.Places.{is_none};
+ghost use Rattle.sh_token.specs.Quoting.{not_quote};
+ghost use Rattle.sh_token.specs.Steps as steps;
 
-use crate::body::before_nul;
-use crate::brackets::{begins_symbol, has_symbol};
-use crate::bytes::{Class, is_digit};
-use crate::delimiter::walk;
-use crate::expansions::parameter;
-use crate::fault::{ScriptFault, Why};
-use crate::folded::{byte, first, is_read_out, rest, run, skip};
-use crate::place::{Cursor, HereDocument};
-use crate::quotes::{before_quote, raw_byte};
+use crate::place::Cursor;
 use rk_base::{Bytes, NoMemory};
+use sh_token::body::before_nul;
+use sh_token::brackets::{begins_symbol, has_symbol};
+use sh_token::bytes::{Class, is_digit};
+use sh_token::delimiter::walk;
+use sh_token::expansions::parameter;
+use sh_token::fault::{ScriptFault, Why};
+use sh_token::folded::{byte, first, is_read_out, rest, run, skip};
+use sh_token::place::HereDocument;
+use sh_token::quotes::{before_quote, raw_byte};
 use std::alloc::Global;
 
 fn least(a: usize, b: usize) -> usize
@@ -62,7 +63,7 @@ fn is_bracket_out(in_word: bool, text: &[u8]) -> bool
 }
 
 // How many bytes in front the profile leaves out.
-#[tactic(auto, unfolding(crate::specs::Faults::left_out))]
+#[tactic(auto, unfolding(sh_token::specs::Faults::left_out))]
 fn left_out(in_word: bool, text: &[u8]) -> usize
     ensures { result ≡ lem.left_out in_word (folded text.now) }
 {
@@ -93,7 +94,7 @@ fn behind_parameter(n: usize, text: &[u8]) -> usize
 }
 
 // The text ends within `${` and its parameter.
-#[tactic(auto, unfolding(crate::specs::Faults::breaks_off))]
+#[tactic(auto, unfolding(sh_token::specs::Faults::breaks_off))]
 fn breaks_off(text: &[u8]) -> bool
     ensures { result ≡ lem.breaks_off (folded text.now) }
 {
@@ -272,7 +273,7 @@ impl<'a> Cursor<'a> {
         }
     }
 
-    #[tactic(auto, unfolding(crate::specs::Faults::text_fault))]
+    #[tactic(auto, unfolding(sh_token::specs::Faults::text_fault))]
     fn text_fault(&self, alloc: Global) -> Result<ScriptFault, NoMemory>
         ensures { IfOk result (λ f. f ≡ lem.text_fault self.now) }
     {
@@ -300,7 +301,7 @@ impl<'a> Cursor<'a> {
     }
 
     /// Why no script goes on here: a token opens one level too many (`deep`), or none goes on.
-    #[tactic(auto, unfolding(crate::specs::Faults::blocked_fault))]
+    #[tactic(auto, unfolding(sh_token::specs::Faults::blocked_fault))]
     pub fn fault(&self, alloc: Global, deep: bool) -> Result<ScriptFault, NoMemory>
         ensures { IfOk result (λ f. f ≡ lem.told deep self.now) }
     {

@@ -11,12 +11,12 @@ use Rattle.sh_rules.specs.Rules.{Rule, Token, script, spelling}
 use Rattle.sh_rules.specs.LookAhead.{number, mode_of, mode, choose}
 use Rattle.sh_grammar.specs.Marks.{Mark, node, leaf}
 use Rattle.sh_grammar.proofs.Numbers.{same_number}
-use Rattle.sh_lex.specs.Places.{Place, size}
-use Rattle.sh_lex.specs.Lexemes.{look}
-use Rattle.sh_lex.specs.Tokens.{Look}
-use Rattle.sh_lex.specs.Effects.{effect_of}
-use Rattle.sh_lex.specs.Steps.{lex, over, after, token_of}
-use Rattle.sh_lex.proofs.Sizes.{may_be_empty, Shrinks}
+use Rattle.sh_token.specs.Places.{Place, size}
+use Rattle.sh_token.specs.Lexemes.{look}
+use Rattle.sh_token.specs.Tokens.{Look}
+use Rattle.sh_token.specs.Effects.{effect_of}
+use Rattle.sh_token.specs.Steps.{lex, over, after, token_of}
+use Rattle.sh_token.proofs.Sizes.{may_be_empty, Shrinks}
 use Rattle.sh_parse.specs.Owing.{Owes, turns_left}
 use Rattle.sh_parse.specs.Turns.{text_reader, NotOf, HaltsAt, Keeps, IsRead, IsStuck}
 use Rattle.sh_parse.proofs.Owed.{owed_first}

@@ -4,16 +4,16 @@ use Rattle.std.specs.Prelude.{Ok, Err, IfSome}
 use Rattle.sh_rules.specs.declared.kind.Kind.{Kind}
 use Rattle.sh_rules.specs.declared.kind.Mode.{Mode}
 use Rattle.sh_rules.specs.LookAhead.{mode_of}
-use Rattle.sh_lex.specs.Places.{Place, size}
-use Rattle.sh_lex.specs.Lexemes.{look}
-use Rattle.sh_lex.specs.Tokens.{Look}
-use Rattle.sh_lex.specs.Effects.{effect_of}
-use Rattle.sh_lex.specs.Steps.{after, token_of}
+use Rattle.sh_token.specs.Places.{Place, size}
+use Rattle.sh_token.specs.Lexemes.{look}
+use Rattle.sh_token.specs.Tokens.{Look}
+use Rattle.sh_token.specs.Effects.{effect_of}
+use Rattle.sh_token.specs.Steps.{after, token_of}
 use Rattle.sh_lex.specs.Takes.{Takes, read_of}
 use Rattle.sh_lex.specs.declared.taken.Taken.{Taken}
 use Rattle.sh_lex.specs.declared.cursor.Stop.TheVariants as lex_stop_is
-use Rattle.sh_lex.proofs.Modes.{found_by_itself}
-use Rattle.sh_lex.proofs.Sizes.{may_be_empty, Shrinks, shorter}
+use Rattle.sh_token.proofs.Modes.{found_by_itself}
+use Rattle.sh_token.proofs.Sizes.{may_be_empty, Shrinks, shorter}
 use Rattle.sh_parse.specs.Tokens.{StandsThere, Took}
 use Rattle.sh_parse.specs.declared.source.Stop.TheVariants as stop
 use Rattle.sh_parse.proofs.Turning.{lexed_there}

@@ -12,12 +12,12 @@ use Rattle.sh_grammar.specs.declared.spelled.Symbol as ds
 use Rattle.sh_grammar.specs.declared.spelled.Symbol.TheVariants as dv
 use Rattle.sh_grammar.specs.Named.{symbol_named}
 use Rattle.sh_grammar.specs.Marks.{Mark, node, leaf}
-use Rattle.sh_lex.specs.Places.{Place, size}
-use Rattle.sh_lex.specs.Lexemes.{look}
-use Rattle.sh_lex.specs.Tokens.{Look}
-use Rattle.sh_lex.specs.Effects.{effect_of}
-use Rattle.sh_lex.specs.Steps.{lex, lexed, over, after, token_of}
-use Rattle.sh_lex.proofs.Sizes.{may_be_empty, Shrinks}
+use Rattle.sh_token.specs.Places.{Place, size}
+use Rattle.sh_token.specs.Lexemes.{look}
+use Rattle.sh_token.specs.Tokens.{Look}
+use Rattle.sh_token.specs.Effects.{effect_of}
+use Rattle.sh_token.specs.Steps.{lex, lexed, over, after, token_of}
+use Rattle.sh_token.proofs.Sizes.{may_be_empty, Shrinks}
 use Rattle.sh_parse.specs.Tokens.{StandsThere, Took}
 use Rattle.sh_parse.specs.Owing.{Owes}
 use Rattle.sh_parse.specs.Turns.{text_reader, NotOf, HaltsAt, Keeps, Fewer, Halted, Turns, IsRead, IsStuck, StopsBy}

@@ -18,13 +18,13 @@ use Rattle.sh_rules.specs.LookAhead.{sets}
 use Rattle.sh_rules.proofs.Tables.{checked, productive}
 use Rattle.sh_ast.specs.Commands.{CommandsTree}
 use Rattle.sh_grammar.specs.Marks.{Mark}
-use Rattle.sh_lex.specs.Places.{Place, begin}
-use Rattle.sh_lex.specs.Steps.{lex, over}
-use Rattle.sh_lex.specs.declared.fault.ScriptFault.{ScriptFault}
-use Rattle.sh_lex.specs.declared.fault.Why.TheVariants.{Long}
-use Rattle.sh_lex.specs.Faults.{fault, told, fault_of}
-use Rattle.sh_lex.proofs.Modes.{modes_agree}
-use Rattle.sh_lex.proofs.Sizes.{shorter}
+use Rattle.sh_token.specs.Places.{Place, begin}
+use Rattle.sh_token.specs.Steps.{lex, over}
+use Rattle.sh_token.specs.declared.fault.ScriptFault.{ScriptFault}
+use Rattle.sh_token.specs.declared.fault.Why.TheVariants.{Long}
+use Rattle.sh_token.specs.Faults.{fault, told, fault_of}
+use Rattle.sh_token.proofs.Modes.{modes_agree}
+use Rattle.sh_token.proofs.Sizes.{shorter}
 use Rattle.sh_parse.specs.Turns.{text_reader, IsRead, IsStuck, StopsBy}
 use Rattle.sh_parse.specs.declared.source.Stop.{Stop}
 use Rattle.sh_parse.specs.declared.source.Stop.TheVariants as stop

@@ -7,7 +7,7 @@ use Rattle.sh_rules.specs.declared.kind.Mode.{Mode}
 use Rattle.sh_rules.specs.Parts as p
 use Rattle.sh_rules.specs.Parts.{Part}
 use Rattle.sh_rules.specs.Rules.{Rule, Token, shell, script}
-use Rattle.sh_lex.proofs.Sizes.{may_be_empty}
+use Rattle.sh_token.proofs.Sizes.{may_be_empty}
 use Rattle.sh_grammar.specs.Marks.{Mark, flat_all}
 
 -- Whatever reading of the symbols from here comes to, reading of a script from its start comes to: the marks that were left,

@@ -2,10 +2,10 @@
 use Rattle.std.specs.Prelude.{◌≡◌, ℕ, List, Some, Result, Ok, Err, true, false}
 use Rattle.sh_rules.specs.declared.kind.Kind.{Kind}
 use Rattle.sh_rules.specs.LookAhead.{mode_of}
-use Rattle.sh_lex.specs.Places.{Place}
-use Rattle.sh_lex.specs.Lexemes.{look}
-use Rattle.sh_lex.specs.Effects.{effect_of}
-use Rattle.sh_lex.specs.Steps.{over, after, token_of}
+use Rattle.sh_token.specs.Places.{Place}
+use Rattle.sh_token.specs.Lexemes.{look}
+use Rattle.sh_token.specs.Effects.{effect_of}
+use Rattle.sh_token.specs.Steps.{over, after, token_of}
 use Rattle.sh_parse.specs.declared.source.Stop.{Stop}
 use Rattle.sh_parse.specs.declared.source.Stop.TheVariants as stop
 

@@ -8,8 +8,8 @@ use Rattle.sh_rules.specs.Parts.{Part}
 use Rattle.sh_rules.specs.Rules.{Rule, Token, shell, script}
 use Rattle.sh_rules.specs.LookAhead.{reader}
 use Rattle.sh_grammar.specs.Marks.{Mark, flat_all}
-use Rattle.sh_lex.specs.Places.{Place, size}
-use Rattle.sh_lex.specs.Steps.{lex, over}
+use Rattle.sh_token.specs.Places.{Place, size}
+use Rattle.sh_token.specs.Steps.{lex, over}
 use Rattle.sh_parse.specs.Tokens.{StandsThere}
 use Rattle.sh_parse.specs.Owing.{Owes, turns_left}
 use Rattle.sh_parse.specs.declared.source.Stop.{Stop}

@@ -9,7 +9,7 @@ ghost use Rattle.sh_rules.specs.LookAhead.{mode as mode_lem};
 ghost use Rattle.sh_rules.specs.Rules.{spelling as spelling_lem};
 ghost use Rattle.sh_grammar.specs.Named.{part_named, rule_named, symbol_named};
 ghost use Rattle.sh_grammar.specs.Marks.{mark_named, node as node_mark, leaf as leaf_mark};
-ghost use Rattle.sh_lex.specs.Lexemes.{look as look_lem};
+ghost use Rattle.sh_token.specs.Lexemes.{look as look_lem};
 ghost use Rattle.sh_parse.specs.Tokens.{StandsThere};
 ghost use Rattle.sh_parse.specs.Turns.{Ahead, NotOf, HaltsAt, Turns, IsRead, StopsBy};
 

@@ -1,8 +1,8 @@
 // Scripts.
 ghost use Rattle.std.specs.Prelude.{◌≡◌, ◌≤◌, ◌⊎◌, List, ℕ, length, IfOk, IfErr};
 ghost use Rattle.sh_ast.specs.Commands as c;
-ghost use Rattle.sh_lex.specs.declared.fault.ScriptFault as faults;
-ghost use Rattle.sh_lex.specs.Faults.{told};
+ghost use Rattle.sh_token.specs.declared.fault.ScriptFault as faults;
+ghost use Rattle.sh_token.specs.Faults.{told};
 ghost use Rattle.sh_parse.specs.Scripts.{IsScript, IsFaulty, longest};
 ghost use Rattle.sh_parse.specs.Answering.{IsAnswer, IsFaultTold, Tells, IsOnlyScript, IsOnlyFault};
 

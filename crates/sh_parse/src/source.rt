@@ -1,8 +1,8 @@
 // Where tokens come from.
 ghost use Rattle.std.specs.Prelude.{◌≡◌, IfSome, OnOk};
-ghost use Rattle.sh_lex.specs.Places.{Place, size};
-ghost use Rattle.sh_lex.specs.Lexemes.{look as look_lem};
-ghost use Rattle.sh_lex.proofs.Sizes.{may_be_empty, Shrinks};
+ghost use Rattle.sh_token.specs.Places.{Place, size};
+ghost use Rattle.sh_token.specs.Lexemes.{look as look_lem};
+ghost use Rattle.sh_token.proofs.Sizes.{may_be_empty, Shrinks};
 ghost use Rattle.sh_parse.specs.Tokens.{StandsThere, Took};
 
 use rk_base::Bytes;

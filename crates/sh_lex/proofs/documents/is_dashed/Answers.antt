@@ -1,8 +1,8 @@
 use Rattle.std.proofs.Common.{sym, ap, drop, ◌∙◌}
 use Rattle.std.specs.Prelude.{nat_eq}
-use Rattle.sh_lex.specs.Folded.{folded}
-use Rattle.sh_lex.specs.Steps.{ends_with_dash}
-use Rattle.sh_lex.proofs.Folding.{dash_one, dash_none}
+use Rattle.sh_token.specs.Folded.{folded}
+use Rattle.sh_token.specs.Steps.{ends_with_dash}
+use Rattle.sh_token.proofs.Folding.{dash_one, dash_none}
 use Rattle.sh_lex.proofs.documents.is_dashed.Goals as goal
 
 pub bytes-preserved : goal.bytes-preserved

@@ -1,6 +1,6 @@
 use Rattle.std.proofs.Common.{◌≡◌, length, false}
-use Rattle.sh_lex.specs.Folded.{folded}
-use Rattle.sh_lex.specs.Steps.{ends_with_dash}
+use Rattle.sh_token.specs.Folded.{folded}
+use Rattle.sh_token.specs.Steps.{ends_with_dash}
 use Rattle.sh_lex.proofs.documents.is_dashed.Given as goal
 
 abbrev pub invariant-bytes : goal.invariant-bytes

@@ -1,7 +1,7 @@
 use Rattle.std.proofs.Common.{◌≡◌, ◌≤◌, ℕ, List, [], ◌∷◌, length, ap, arith, ◌∙◌}
 use Rattle.std.proofs.Math.ListN.{get_or}
-use Rattle.sh_lex.specs.HereDocuments.{Awaited}
-use Rattle.sh_lex.specs.Lexemes.{bodies_look, body_look}
+use Rattle.sh_token.specs.HereDocuments.{Awaited}
+use Rattle.sh_token.specs.Lexemes.{bodies_look, body_look}
 use Rattle.sh_lex.proofs.lexeme.bodies_look.Goals as goal
 
 of_first : (ds : List Awaited) (d : Awaited) (text : List ℕ) → 1 ≤ length ds → d ≡ get_or ds 0 d → body_look d text ≡ bodies_look ds text

@@ -1,9 +1,9 @@
 use Rattle.std.proofs.Common.{sym, ap, ◌∙◌}
 use Rattle.sh_rules.specs.declared.kind.Kind.TheVariants as k
-use Rattle.sh_lex.specs.Bytes.{is_body_text, is_quoted_text, is_quoted_brace_text}
-use Rattle.sh_lex.specs.Folded.{folded, run_on}
-use Rattle.sh_lex.specs.Lexemes.{recognized}
-use Rattle.sh_lex.specs.Tokens.{token}
+use Rattle.sh_token.specs.Bytes.{is_body_text, is_quoted_text, is_quoted_brace_text}
+use Rattle.sh_token.specs.Folded.{folded, run_on}
+use Rattle.sh_token.specs.Lexemes.{recognized}
+use Rattle.sh_token.specs.Tokens.{token}
 use Rattle.sh_lex.proofs.lexeme.recognized.Goals as goal
 
 pub returns-in-BodyText : goal.returns-in-BodyText

@@ -1,9 +1,9 @@
 use Rattle.std.proofs.Common.{ℕ, Bool, sym, ap, drop, ◌++◌, ◌∷◌, [], ◌∙◌}
 use Rattle.std.specs.Prelude.{if◌then◌else◌, ◌==◌}
-use Rattle.sh_lex.specs.Bytes.{◌or◌, ◌also◌, is_tab}
-use Rattle.sh_lex.specs.HereDocuments.{lines}
-use Rattle.sh_lex.specs.Steps.{as_read, untabbed}
-use Rattle.sh_lex.proofs.Folding.{goes_over, is_over, untab_one, untab_none}
+use Rattle.sh_token.specs.Bytes.{◌or◌, ◌also◌, is_tab}
+use Rattle.sh_token.specs.HereDocuments.{lines}
+use Rattle.sh_token.specs.Steps.{as_read, untabbed}
+use Rattle.sh_token.proofs.Folding.{goes_over, is_over, untab_one, untab_none}
 use Rattle.sh_lex.proofs.taken.copied.Goals as goal
 
 pub returns-then-is_over : goal.returns-then-is_over

@@ -1,6 +1,6 @@
 use Rattle.std.proofs.Common.{◌≡◌, ◌++◌, length}
-use Rattle.sh_lex.specs.HereDocuments.{lines}
-use Rattle.sh_lex.specs.Steps.{as_read, untabbed}
+use Rattle.sh_token.specs.HereDocuments.{lines}
+use Rattle.sh_token.specs.Steps.{as_read, untabbed}
 use Rattle.sh_lex.proofs.taken.copied.Given as goal
 
 abbrev pub invariant-bytes : goal.invariant-bytes

@@ -1,6 +1,6 @@
 use Rattle.std.proofs.Common.{sym, ap, drop, take, ◌-◌, ◌∷◌, [], ◌∙◌}
-use Rattle.sh_lex.specs.Folded.{folded}
-use Rattle.sh_lex.proofs.Folding.{goes_over, take_one}
+use Rattle.sh_token.specs.Folded.{folded}
+use Rattle.sh_token.proofs.Folding.{goes_over, take_one}
 use Rattle.sh_lex.proofs.telling.first_bytes.Goals as goal
 
 pub bytes-preserved : goal.bytes-preserved

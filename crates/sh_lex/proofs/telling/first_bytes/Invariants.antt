@@ -1,5 +1,5 @@
 use Rattle.std.proofs.Common.{◌≡◌, ◌++◌, take}
-use Rattle.sh_lex.specs.Folded.{folded}
+use Rattle.sh_token.specs.Folded.{folded}
 use Rattle.sh_lex.proofs.telling.first_bytes.Given as goal
 
 abbrev pub invariant-bytes : goal.invariant-bytes

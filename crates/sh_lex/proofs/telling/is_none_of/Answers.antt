@@ -1,6 +1,6 @@
 use Rattle.std.proofs.Common.{sym, ◌∙◌}
-use Rattle.sh_lex.specs.Folded.{folded}
-use Rattle.sh_lex.proofs.Folding.{none_of, none_there}
+use Rattle.sh_token.specs.Folded.{folded}
+use Rattle.sh_token.proofs.Folding.{none_of, none_there}
 use Rattle.sh_lex.proofs.telling.is_none_of.Goals as goal
 
 pub returns-then-is_zero : goal.returns-then-is_zero

@@ -1,5 +1,5 @@
 use Rattle.std.proofs.Common.{sym}
-use Rattle.sh_lex.proofs.Modes.{found_by_itself}
+use Rattle.sh_token.proofs.Modes.{found_by_itself}
 use Rattle.sh_lex.proofs.tests.walk.Goals as goal
 
 pub take-requires : goal.take-requires

@@ -1,4 +1,4 @@
-use Rattle.sh_lex.specs.Places.{size}
+use Rattle.sh_token.specs.Places.{size}
 use Rattle.sh_parse.specs.Owing.{Owes, turns_left}
 use Rattle.sh_parse.specs.Turns.{text_reader, Ahead}
 use Rattle.sh_parse.proofs.reading.read_marks.Given as goal

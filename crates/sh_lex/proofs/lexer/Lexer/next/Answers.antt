@@ -1,8 +1,8 @@
 use Rattle.std.proofs.Common.{◌≡◌, ◌+◌, false, refl, sym, ap, subst}
 use Rattle.std.specs.Prelude.{Ok, Some}
 use Rattle.sh_lex.specs.declared.lexer.Token.{Token}
-use Rattle.sh_lex.specs.Places.{is_none}
-use Rattle.sh_lex.specs.Folded.{folded}
+use Rattle.sh_token.specs.Places.{is_none}
+use Rattle.sh_token.specs.Folded.{folded}
 use Rattle.sh_lex.specs.Tokenizing.{Tokens, Tells}
 use Rattle.sh_lex.proofs.Tokenized.{token_told}
 use Rattle.sh_lex.proofs.lexer.Lexer.next.Goals as goal

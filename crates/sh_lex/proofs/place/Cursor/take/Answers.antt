@@ -1,5 +1,5 @@
 use Rattle.sh_rules.specs.LookAhead.{mode_of}
-use Rattle.sh_lex.proofs.Sizes.{look_within}
+use Rattle.sh_token.proofs.Sizes.{look_within}
 use Rattle.sh_lex.proofs.place.Cursor.take.Goals as goal
 
 pub front_bytes-text-requires : goal.front_bytes-text-requires

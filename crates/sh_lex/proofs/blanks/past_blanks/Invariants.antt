@@ -1,9 +1,0 @@
-use Rattle.std.proofs.Common.{length}
-use Rattle.sh_lex.proofs.Runs.{Left}
-use Rattle.sh_lex.proofs.blanks.past_blanks.Given as goal
-
-abbrev pub invariant-skips : goal.invariant-skips
-invariant-skips l = Left l.text l.comment l.rest
-
-abbrev pub decreases-skips : goal.decreases-skips
-decreases-skips l = length l.rest

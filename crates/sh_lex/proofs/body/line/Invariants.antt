@@ -1,9 +1,0 @@
-use Rattle.std.proofs.Common.{length}
-use Rattle.sh_lex.proofs.Lines.{Lined}
-use Rattle.sh_lex.proofs.body.line.Given as goal
-
-abbrev pub invariant-pieces : goal.invariant-pieces
-invariant-pieces l = Lined l.literal l.text l.rest l.count
-
-abbrev pub decreases-pieces : goal.decreases-pieces
-decreases-pieces l = length l.rest

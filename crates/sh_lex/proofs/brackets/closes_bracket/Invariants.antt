@@ -1,6 +1,0 @@
-use Rattle.sh_lex.proofs.Symbols.{Sought}
-use Rattle.sh_lex.proofs.brackets.closes_bracket.Given as goal
-
--- no `]` went by
-abbrev pub invariant-loop-at : goal.invariant-loop-at
-invariant-loop-at l = Sought l.class l.text l.left l.at

@@ -1,5 +1,0 @@
-use Rattle.sh_lex.proofs.Symbols.{Run}
-use Rattle.sh_lex.proofs.brackets.text_run.Given as goal
-
-abbrev pub invariant-loop-at : goal.invariant-loop-at
-invariant-loop-at l = Run l.class l.text l.left l.at

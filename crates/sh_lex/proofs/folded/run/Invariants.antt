@@ -1,5 +1,0 @@
-use Rattle.sh_lex.proofs.Folding.{Counted}
-use Rattle.sh_lex.proofs.folded.run.Given as goal
-
-abbrev pub invariant-loop-at : goal.invariant-loop-at
-invariant-loop-at l = Counted l.class l.text l.left l.at

@@ -1,6 +1,0 @@
-use Rattle.std.proofs.Common.{false, ap, ◌∙◌}
-use Rattle.sh_lex.specs.Lexemes.{extent}
-use Rattle.sh_lex.proofs.lexeme.tabs_extent.Goals as goal
-
-pub returns-clause-count : goal.returns-clause-count
-returns-clause-count c = c.extent.ensures.count ∙ ap (λ n. extent false n c.args.text.now) c.run-n.ensures.count

@@ -1,8 +1,0 @@
-use Rattle.std.proofs.Common.{◌≡◌, drop}
-use Rattle.sh_lex.specs.Folded.{folded}
-use Rattle.sh_lex.specs.Reserved.{is_word}
-use Rattle.sh_lex.proofs.reserved.is_word.Given as goal
-
--- the word stands there exactly where its rest stands behind what went by
-abbrev pub invariant-loop-at : goal.invariant-loop-at
-invariant-loop-at l = is_word l.word (folded l.text) ≡ is_word (drop l.at l.word) (folded l.left)

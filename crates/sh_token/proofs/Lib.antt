@@ -1,0 +1,9 @@
+pub mod Folding
+pub mod Symbols
+pub mod Unclosed
+pub mod Runs
+pub mod Found
+pub mod Modes
+pub mod Sizes
+pub mod Walking
+pub mod Lines

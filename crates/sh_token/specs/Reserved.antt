@@ -1,0 +1,34 @@
+-- Reserved words (XCU 2.4).
+use Rattle.std.specs.Prelude.{ℕ, ◌==◌, List, [], ◌∷◌, drop, slice_index, codes, Bool, if◌then◌else◌, None}
+use Rattle.sh_rules.specs.declared.kind.Kind.TheVariants as k
+use Rattle.sh_token.specs.Bytes.{◌also◌, is_end}
+use Rattle.sh_token.specs.Tokens.{Look, token}
+
+-- a word is what a text begins with, and ends there
+abbrev pub is_word : List ℕ → List ℕ → Bool
+is_word [] text = is_end (slice_index text 0)
+is_word (w ∷ ws) text = (slice_index text 0 == w) also is_word ws (drop 1 text)
+
+-- those that begin a command
+unfoldable pub opener : List ℕ → Look
+opener text =
+    if is_word (33 ∷ []) text then token k.Bang 1
+    else if is_word (123 ∷ []) text then token k.LeftBrace 1
+    else if is_word (codes "if") text then token k.If 2
+    else if is_word (codes "for") text then token k.For 3
+    else if is_word (codes "case") text then token k.Case 4
+    else if is_word (codes "while") text then token k.While 5
+    else if is_word (codes "until") text then token k.Until 5
+    else None
+
+-- those that close a compound command, or go on with it, but esac
+unfoldable pub closer : List ℕ → Look
+closer text =
+    if is_word (125 ∷ []) text then token k.RightBrace 1
+    else if is_word (codes "then") text then token k.Then 4
+    else if is_word (codes "else") text then token k.Else 4
+    else if is_word (codes "elif") text then token k.Elif 4
+    else if is_word (codes "fi") text then token k.Fi 2
+    else if is_word (codes "do") text then token k.Do 2
+    else if is_word (codes "done") text then token k.Done 4
+    else None

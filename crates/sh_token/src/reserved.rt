@@ -1,0 +1,70 @@
+// Reserved words (XCU 2.4).
+ghost use Rattle.std.specs.Prelude.{◌≡◌};
+ghost use Rattle.sh_token.specs.Folded.{folded};
+ghost use Rattle.sh_token.specs.Reserved.{is_word as word_lem, opener as opener_lem, closer as closer_lem};
+
+use crate::bytes::is_end;
+use crate::folded::{first, rest};
+use sh_rules::Kind;
+
+/// Whether a word is what a text begins with, and ends there.
+pub fn is_word(word: &[u8], text: &[u8]) -> bool
+    ensures { result ≡ word_lem word.now (folded text.now) }
+{
+    let mut left = text;
+    for (at, c) in word.iter().enumerate() {
+        if first(left) != *c {
+            return false;
+        }
+        left = rest(left);
+    }
+    is_end(first(left))
+}
+
+/// The reserved word that a text begins with, of those that begin a command.
+#[tactic(auto, unfolding(crate::specs::Reserved::opener))]
+pub fn opener(text: &[u8]) -> Option<(Kind, usize)>
+    ensures { result ≡ opener_lem (folded text.now) }
+{
+    if is_word(b"!", text) {
+        Some((Kind::Bang, 1))
+    } else if is_word(b"{", text) {
+        Some((Kind::LeftBrace, 1))
+    } else if is_word(b"if", text) {
+        Some((Kind::If, 2))
+    } else if is_word(b"for", text) {
+        Some((Kind::For, 3))
+    } else if is_word(b"case", text) {
+        Some((Kind::Case, 4))
+    } else if is_word(b"while", text) {
+        Some((Kind::While, 5))
+    } else if is_word(b"until", text) {
+        Some((Kind::Until, 5))
+    } else {
+        None
+    }
+}
+
+/// The reserved word that a text begins with, of those but `esac` that close a compound command or go on with it.
+#[tactic(auto, unfolding(crate::specs::Reserved::closer))]
+pub fn closer(text: &[u8]) -> Option<(Kind, usize)>
+    ensures { result ≡ closer_lem (folded text.now) }
+{
+    if is_word(b"}", text) {
+        Some((Kind::RightBrace, 1))
+    } else if is_word(b"then", text) {
+        Some((Kind::Then, 4))
+    } else if is_word(b"else", text) {
+        Some((Kind::Else, 4))
+    } else if is_word(b"elif", text) {
+        Some((Kind::Elif, 4))
+    } else if is_word(b"fi", text) {
+        Some((Kind::Fi, 2))
+    } else if is_word(b"do", text) {
+        Some((Kind::Do, 2))
+    } else if is_word(b"done", text) {
+        Some((Kind::Done, 4))
+    } else {
+        None
+    }
+}
