@@ -1,10 +1,10 @@
 // Marks of values and texts.
 ghost use Rattle.std.specs.Prelude.{◌≡◌, ◌≤◌, ◌++◌, take, length, IfOk, OnOk};
-ghost use Rattle.sh_parameter.specs.Marked.{as_literal, as_quoted, as_given, given, more_given, each_given, all_given, text_of, pattern_of, without_newlines, without_nuls, captured};
+ghost use Rattle.sh_split.specs.Marked.{as_literal, as_quoted, as_given, given, more_given, each_given, all_given, text_of, pattern_of, without_newlines, without_nuls, captured};
 
-use crate::parameters::joined;
+use crate::joining::joined;
+use crate::mark::Mark;
 use rk_base::{Bytes, NoMemory};
-use sh_split::Mark;
 use std::alloc::Global;
 
 /// The bytes of a word itself, unquoted.

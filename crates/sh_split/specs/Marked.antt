@@ -1,11 +1,11 @@
 -- Values and texts as marked bytes, and back.
-use Rattle.std.specs.Prelude.{ℕ, List, [], ◌∷◌, ◌++◌, Bool, true, false, ◌==◌, ◌&&◌, if◌then◌else◌}
+use Rattle.std.specs.Prelude.{List, [], ◌∷◌, ◌++◌, Bool, true, false, ◌==◌, ◌&&◌, if◌then◌else◌}
 use Rattle.rk_base.specs.Text.{Text}
 use Rattle.rk_base.specs.Canonical.{is_empty}
 use Rattle.sh_split.specs.declared.mark.Mark.{Mark}
 use Rattle.sh_split.specs.declared.mark.Mark.TheVariants as mark
 use Rattle.sh_split.specs.Cutting.{Marks}
-use Rattle.sh_parameter.specs.Values.{joined}
+use Rattle.sh_split.specs.Joining.{joined}
 
 abbrev pub as_literal : Text → Marks
 as_literal [] = []

@@ -3,8 +3,8 @@ use Rattle.std.specs.Prelude.{◌==◌, ◌&&◌, if◌then◌else◌}
 use Rattle.std.proofs.lemmas.Bool.Decides.{eqb_tells}
 use Rattle.rk_base.specs.Text.{Text}
 use Rattle.rk_base.specs.Canonical.{is_empty}
-use Rattle.sh_parameter.specs.Marked.{without_newlines}
-use Rattle.sh_parameter.proofs.marks.length_without_newlines.Goals as goal
+use Rattle.sh_split.specs.Marked.{without_newlines}
+use Rattle.sh_split.proofs.marked.length_without_newlines.Goals as goal
 
 kept : (b : ℕ) (rest : Text) → (b ≡ 10 → rest ≡ [] → ⊥) → b ∷ rest ≡ (if (b == 10) && is_empty rest then [] else b ∷ rest)
 kept b [] h = elim (eqb_tells b 10) [ inl e ↦ absurd (h e.1 refl) | inr e ↦ rw e.0 refl ]
