@@ -3,6 +3,7 @@ pub mod Classes
 pub mod Decided
 pub mod Matching
 pub mod Parts
+pub mod Pathnames
 pub mod Sets
 pub mod Special
 pub mod Walking

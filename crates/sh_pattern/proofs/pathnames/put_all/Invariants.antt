@@ -1,6 +1,6 @@
 use Rattle.std.proofs.Common.{◌≡◌, ◌++◌, length}
-use Rattle.sh_glob.specs.Globbing.{put_all}
-use Rattle.sh_glob.proofs.steps.put_all.Given as goal
+use Rattle.sh_pattern.specs.Pathnames.{put_all}
+use Rattle.sh_pattern.proofs.pathnames.put_all.Given as goal
 
 abbrev pub invariant-prefixes : goal.invariant-prefixes
 invariant-prefixes l = l.paths ++ put_all l.last l.value l.prefixes ≡ put_all l.last l.value l.initial.prefixes
