@@ -7,7 +7,7 @@ use Rattle.rk_calls.specs.declared.answer.Answer.TheVariants as answer
 use Rattle.rk_calls.specs.declared.call.Call.{Call}
 use Rattle.rk_calls.specs.declared.call.Call.TheVariants as call
 use Rattle.sh_vars.specs.declared.env.Env.{Env}
-use Rattle.sh_glob.specs.Told.{numbered}
+use Rattle.sh_expand.specs.Told.{numbered}
 use Rattle.sh_expand.specs.Expands.{counted}
 use Rattle.sh_redirect.specs.declared.descriptors.Descriptors.{Descriptors}
 use Rattle.sh_redirect.specs.Answers as redirection

@@ -1,5 +1,5 @@
 -- Words within words, one frame after another.
-use Rattle.std.proofs.Common.{◌≡◌, ℕ, suc, ◌+◌, ◌<◌, List, [], ◌∷◌, ◌++◌, refl, sym, ap, ◌∙◌, arith, Bool, true}
+use Rattle.std.proofs.Common.{◌≡◌, ℕ, ◌+◌, ◌<◌, List, [], ◌∷◌, ◌++◌, refl, sym, ap, ◌∙◌, arith, Bool, true}
 use Rattle.std.specs.Prelude.{Option, Some, None}
 use Rattle.std.specs.declared.rc.Rc.{Rc}
 use Rattle.std.specs.declared.alloc.Global.{Global}
@@ -19,7 +19,7 @@ use Rattle.sh_expand.specs.declared.machine.Wants.{Wants}
 use Rattle.sh_expand.specs.declared.machine.Wants.TheVariants.{Pipe, Fault}
 use Rattle.sh_expand.specs.Expands.{Body, Ended, Failed, expand, expand_part}
 use Rattle.sh_expand.specs.Acting.{then_over, acted_on, Does, LeavesAs, acted_size, size, size_part}
-use Rattle.sh_expand.specs.Machine.{after, left_of, goes, context, stack_size, size_of, IsSmaller, ActedOn, EndsAs, Advances}
+use Rattle.sh_expand.specs.Machine.{left_of, goes, context, stack_size, size_of, IsSmaller, ActedOn, EndsAs, Advances}
 
 context-push : (body : ℕ → Body) (fs : List Frame) (f : Frame) (k : Ended) (fail : Failed) → context body (fs ++ f ∷ []) k fail ≡ then_over f.then (goes body f.level (context body fs k fail) fail) fail
 context-push body [] f k fail = refl

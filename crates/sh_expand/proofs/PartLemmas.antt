@@ -15,8 +15,8 @@ use Rattle.sh_ast.specs.Words.{part, parts, parts_of, PartTree, PartsTree, no_pa
 use Rattle.sh_ast.specs.Lists.{part_at}
 use Rattle.sh_vars.specs.declared.env.Env.{Env}
 use Rattle.sh_split.specs.Cutting.{Marks}
-use Rattle.sh_parameter.specs.Values.{counts, value}
-use Rattle.sh_parameter.specs.Marked.{text_of}
+use Rattle.sh_split.specs.Marked.{text_of}
+use Rattle.sh_expand.specs.Values.{counts, value}
 use Rattle.sh_expand.specs.declared.acts.Acted.{Acted}
 use Rattle.sh_expand.specs.Expands.{Body, Failed, With_text, is_quoted, expand, expand_part, expand_text}
 use Rattle.sh_expand.specs.Acting.{Does, word_of, parts_in, used_by, size_part, size_word}

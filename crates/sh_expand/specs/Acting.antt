@@ -1,24 +1,22 @@
 -- What the code does at a part of a word.
-use Rattle.std.specs.Prelude.{◌≡◌, ℕ, ◌+◌, List, [], ◌++◌, Option, Some, None, Bool, true, false}
+use Rattle.std.specs.Prelude.{◌≡◌, ℕ, ◌+◌, [], ◌++◌, Option, Some, None, Bool, true}
 use Rattle.std.specs.declared.rc.Rc.{Rc}
 use Rattle.std.specs.declared.alloc.Global.{Global}
 use Rattle.rk_base.specs.Text.{Text}
 use Rattle.sh_ast.specs.declared.parameter.Parameter.{Parameter}
-use Rattle.sh_ast.specs.declared.word.Part.{Part}
 use Rattle.sh_ast.specs.declared.word.Parts.{Parts}
-use Rattle.sh_ast.specs.declared.word.Removal.{Removal}
 use Rattle.sh_ast.specs.declared.word.Substitute.{Substitute}
-use Rattle.sh_ast.specs.Words.{part, parts, PartTree, literal, value_of, length_of, substitute, without, output_of, OperatorWord, operator_word, no_word, the_word, PartsTree, no_parts, part_and}
+use Rattle.sh_ast.specs.Words.{parts, PartTree, literal, value_of, length_of, substitute, without, output_of, OperatorWord, no_word, the_word, PartsTree, no_parts, part_and}
 use Rattle.sh_vars.specs.declared.env.Env.{Env}
 use Rattle.sh_vars.specs.Held.{is_readonly}
 use Rattle.sh_split.specs.Cutting.{Marks}
-use Rattle.sh_parameter.specs.Values.{all_removed}
-use Rattle.sh_parameter.specs.Marked.{text_of, pattern_of}
+use Rattle.sh_split.specs.Marked.{text_of, pattern_of}
+use Rattle.sh_expand.specs.Values.{all_removed}
 use Rattle.sh_expand.specs.declared.acts.Then.{Then}
 use Rattle.sh_expand.specs.declared.acts.Then.TheVariants.{Keep, Assign, Message, Remove}
 use Rattle.sh_expand.specs.declared.acts.Acted.{Acted}
 use Rattle.sh_expand.specs.declared.acts.Acted.TheVariants.{Put, Enter, Subst, Fault}
-use Rattle.sh_expand.specs.Expands.{Go_on, Body, Ended, Failed, shown, put_by, used, not_set, substituted, expand, expand_part, expand_word, expand_text}
+use Rattle.sh_expand.specs.Expands.{Go_on, Body, Ended, Failed, shown, put_by, used, not_set, substituted, expand, expand_word, expand_text}
 
 -- what comes after a word within a word
 abbrev pub then_over : Then → Ended → Failed → Ended

@@ -1,15 +1,13 @@
 -- What a word says is alike, in any view, where what its bodies say and what comes after it are. As it is this gives its
 -- unfolding, cut that fewer turns only cut it, and properly that its calls are proper.
-use Rattle.std.proofs.Common.{◌≡◌, ℕ, ◌+◌, ◌-◌, ◌≤◌, List, [], ◌∷◌, ◌++◌, Bool, true, false, arith}
+use Rattle.std.proofs.Common.{ℕ, ◌-◌, ◌≤◌, List, [], ◌∷◌, ◌++◌, Bool, true, false, arith}
 use Rattle.std.specs.Prelude.{Option, Some, None, codes, length, ◌&&◌, not}
 use Rattle.std.specs.Fmt.{decimal}
 use Rattle.rk_base.specs.Text.{Text}
 use Rattle.rk_base.specs.Sorted.{sorted}
 use Rattle.rk_base.specs.Canonical.{is_empty}
-use Rattle.rk_calls.specs.declared.call.Call.{Call}
 use Rattle.rk_calls.specs.declared.call.Call.TheVariants.{Pipe, Read, List as Lists, Stat as Stats}
-use Rattle.rk_calls.specs.declared.answer.Answer.{Answer}
-use Rattle.rk_calls.specs.Talk.{Says, ask, pay}
+use Rattle.rk_calls.specs.Talk.{ask}
 use Rattle.rk_calls.specs.Brought.{brought}
 use Rattle.rk_calls.specs.Places.{absolute}
 use Rattle.rk_calls.specs.Turns.{turns}
@@ -26,18 +24,20 @@ use Rattle.sh_vars.specs.Held.{assigned, is_readonly}
 use Rattle.sh_split.specs.Marks.{kind}
 use Rattle.sh_split.specs.Cutting.{Marks}
 use Rattle.sh_split.specs.Pass.{cut_fields}
-use Rattle.sh_glob.specs.declared.glob.Component.{Component}
-use Rattle.sh_glob.specs.declared.glob.Component.TheVariants as component
-use Rattle.sh_glob.specs.Globbing.{Numbered, Found, listed, matching, put_all, kept, lists, stats, checked, globs}
-use Rattle.sh_glob.specs.Told.{names_of, stands, numbered}
-use Rattle.sh_parameter.specs.Values.{value, values, stay_apart, counts, separator, joined, all_removed}
-use Rattle.sh_parameter.specs.Marked.{given, text_of, pattern_of, captured}
+use Rattle.sh_pattern.specs.Pathnames.{matching, put_all}
+use Rattle.sh_split.specs.Joining.{joined}
+use Rattle.sh_split.specs.Marked.{given, text_of, pattern_of, captured}
+use Rattle.sh_expand.specs.declared.glob.Component.{Component}
+use Rattle.sh_expand.specs.declared.glob.Component.TheVariants as component
+use Rattle.sh_expand.specs.Globbing.{Numbered, Found, listed, kept, lists, stats, checked, globs}
+use Rattle.sh_expand.specs.Told.{names_of, stands, numbered}
+use Rattle.sh_expand.specs.Values.{value, values, stay_apart, counts, separator, all_removed}
 use Rattle.sh_expand.specs.declared.mode.Mode.{Mode}
 use Rattle.sh_expand.specs.declared.mode.Mode.TheVariants as mode
 use Rattle.sh_expand.specs.declared.mode.Expanded.{Expanded}
 use Rattle.sh_expand.specs.declared.mode.Expanded.TheVariants as expanded
 use Rattle.sh_expand.specs.Expands.{Go_on, Body, Ended, Failed, With_text, counted, read_of, not_set, not_valid, readonly, is_quoted, literal_marks, unset, shown, got, unmeasured, measured, put_by, assigning, used, taken, substituted, expand, expand_part, expand_word, expand_text}
-use Rattle.sh_expand.specs.Fields.{With_fields, ifs, components, has_pattern, or_as_was, named, names, all_names}
+use Rattle.sh_expand.specs.Fields.{With_fields, ifs, components, has_pattern, or_as_was, named, all_names}
 use Rattle.sh_expand.specs.Means.{With_expanded, all_bytes, pay_fields, splits, finished, expand_in}
 
 module _ (v : View) where

@@ -19,9 +19,10 @@ use Rattle.sh_ast.specs.Words.{PartTree, literal, value_of, length_of, substitut
 use Rattle.sh_vars.specs.declared.env.Env.{Env}
 use Rattle.sh_vars.specs.Held.{assigned, is_readonly}
 use Rattle.sh_split.specs.Cutting.{Marks}
-use Rattle.sh_glob.specs.Told.{numbered}
-use Rattle.sh_parameter.specs.Values.{value, values, stay_apart, counts, separator, joined, all_removed}
-use Rattle.sh_parameter.specs.Marked.{as_literal, as_given, given, all_given, text_of, pattern_of, captured}
+use Rattle.sh_split.specs.Joining.{joined}
+use Rattle.sh_split.specs.Marked.{as_literal, as_given, given, all_given, text_of, pattern_of, captured}
+use Rattle.sh_expand.specs.Told.{numbered}
+use Rattle.sh_expand.specs.Values.{value, values, stay_apart, counts, separator, all_removed}
 
 -- what goes on from a state
 abbrev pub Go_on : Type 0

@@ -1,20 +1,19 @@
 -- The fields of an expanded word: splitting and pathname expansion (XCU 2.6.5 and 2.6.6).
-use Rattle.std.specs.Prelude.{ℕ, List, [], ◌∷◌, ◌++◌, Bool, true, false, ◌==◌, ◌&&◌, not, Option, Some, None, if◌then◌else◌}
+use Rattle.std.specs.Prelude.{List, [], ◌∷◌, ◌++◌, Bool, true, false, ◌==◌, ◌&&◌, not, Option, Some, None, if◌then◌else◌}
 use Rattle.std.specs.List.{list_any}
 use Rattle.rk_base.specs.Text.{Text}
 use Rattle.rk_base.specs.Sorted.{sorted}
-use Rattle.rk_calls.specs.Talk.{Says}
 use Rattle.sh_vars.specs.declared.env.Env.{Env}
 use Rattle.sh_vars.specs.Held.{value_at}
 use Rattle.sh_split.specs.declared.mark.Mark.{Mark}
 use Rattle.sh_split.specs.declared.mark.Mark.TheVariants as mark
 use Rattle.sh_split.specs.Cutting.{Marks}
 use Rattle.sh_pattern.specs.Special.{has_special, unquoted}
-use Rattle.sh_glob.specs.declared.glob.Component.{Component}
-use Rattle.sh_glob.specs.declared.glob.Component.TheVariants.{Literal, Pattern}
-use Rattle.sh_glob.specs.Globbing.{globs}
-use Rattle.sh_parameter.specs.Values.{ifs_name}
-use Rattle.sh_parameter.specs.Marked.{text_of, pattern_of}
+use Rattle.sh_split.specs.Marked.{text_of, pattern_of}
+use Rattle.sh_expand.specs.declared.glob.Component.{Component}
+use Rattle.sh_expand.specs.declared.glob.Component.TheVariants.{Literal, Pattern}
+use Rattle.sh_expand.specs.Globbing.{globs}
+use Rattle.sh_expand.specs.Values.{ifs_name}
 use Rattle.sh_expand.specs.Expands.{Go_on}
 
 -- the bytes at which results are split: those of IFS, or space, tab and newline where it is unset

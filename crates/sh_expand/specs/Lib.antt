@@ -2,6 +2,10 @@ pub mod Acting
 pub mod Alike
 pub mod Expands
 pub mod Fields
+pub mod Globbing
 pub mod Machine
 pub mod Means
+pub mod Stages
+pub mod Told
 pub mod Turns
+pub mod Values

@@ -1,6 +1,5 @@
 -- What the machine of parts says.
-use Rattle.std.specs.Prelude.{◌≡◌, ℕ, zero, suc, ◌+◌, ◌<◌, List, [], ◌∷◌, ◌++◌, Option, Some, None, Bool, true}
-use Rattle.rk_base.specs.Text.{Text}
+use Rattle.std.specs.Prelude.{◌≡◌, ℕ, zero, suc, ◌+◌, ◌<◌, List, [], ◌∷◌, ◌++◌, Option, Some, None, Bool}
 use Rattle.rk_calls.specs.declared.call.Call.TheVariants.{Pipe, Read}
 use Rattle.rk_calls.specs.declared.answer.Answer.{Answer}
 use Rattle.rk_calls.specs.declared.answer.Answer.TheVariants.{Go}
@@ -9,7 +8,7 @@ use Rattle.rk_calls.specs.Brought.{brought}
 use Rattle.sh_ast.specs.Words.{parts, PartsTree, no_parts, part_and}
 use Rattle.sh_vars.specs.declared.env.Env.{Env}
 use Rattle.sh_split.specs.Cutting.{Marks}
-use Rattle.sh_parameter.specs.Marked.{given, captured}
+use Rattle.sh_split.specs.Marked.{given, captured}
 use Rattle.sh_expand.specs.declared.machine.Level.{Level}
 use Rattle.sh_expand.specs.declared.machine.Frame.{Frame}
 use Rattle.sh_expand.specs.declared.machine.Stage.{Stage}

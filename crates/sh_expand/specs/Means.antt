@@ -8,7 +8,7 @@ use Rattle.sh_ast.specs.Commands.{WordTree, word_of}
 use Rattle.sh_split.specs.Marks.{kind}
 use Rattle.sh_split.specs.Cutting.{Marks}
 use Rattle.sh_split.specs.Pass.{cut_fields}
-use Rattle.sh_parameter.specs.Marked.{text_of, pattern_of}
+use Rattle.sh_split.specs.Marked.{text_of, pattern_of}
 use Rattle.sh_expand.specs.declared.mode.Mode.{Mode}
 use Rattle.sh_expand.specs.declared.mode.Mode.TheVariants as mode
 use Rattle.sh_expand.specs.declared.mode.Expanded.{Expanded}

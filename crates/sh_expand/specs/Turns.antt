@@ -1,16 +1,13 @@
 -- What an expander says from turn to turn.
-use Rattle.std.specs.Prelude.{◌≡◌, ℕ, ◌≤◌, ◌<◌, List, [], ◌∷◌, ◌++◌, drop, length}
+use Rattle.std.specs.Prelude.{ℕ, ◌≤◌, ◌<◌, List, [], ◌++◌, drop, length}
 use Rattle.rk_base.specs.Text.{Text}
 use Rattle.rk_base.specs.Sorted.{sorted}
-use Rattle.rk_calls.specs.declared.call.Call.{Call}
 use Rattle.rk_calls.specs.declared.answer.Answer.{Answer}
 use Rattle.rk_calls.specs.declared.answer.Answer.TheVariants.{Go}
 use Rattle.rk_calls.specs.Talk.{ask, pay}
-use Rattle.rk_calls.specs.Turns.{turns}
-use Rattle.sh_vars.specs.declared.env.Env.{Env}
 use Rattle.sh_split.specs.Cutting.{Marks}
-use Rattle.sh_glob.specs.declared.glob.Glob.{Glob}
-use Rattle.sh_glob.specs.Stages.{glob_talk}
+use Rattle.sh_expand.specs.declared.glob.Glob.{Glob}
+use Rattle.sh_expand.specs.Stages.{glob_talk}
 use Rattle.sh_expand.specs.declared.mode.Mode.{Mode}
 use Rattle.sh_expand.specs.declared.mode.Expanded.TheVariants.{Fields}
 use Rattle.sh_expand.specs.declared.names.Names.{Names}

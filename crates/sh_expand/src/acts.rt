@@ -2,15 +2,16 @@
 ghost use Rattle.std.specs.Prelude.{◌≡◌, ◌++◌, [], ℕ, IfOk, OnOk, Some, None, Bool};
 ghost use Rattle.rk_base.specs.Text.{Text};
 ghost use Rattle.sh_vars.specs.Held.{assigned, is_readonly};
-ghost use Rattle.sh_parameter.specs.Values.{all_removed};
-ghost use Rattle.sh_parameter.specs.Marked.{given, text_of, pattern_of};
+ghost use Rattle.sh_split.specs.Marked.{given, text_of, pattern_of};
+ghost use Rattle.sh_expand.specs.Values.{all_removed};
 ghost use Rattle.sh_expand.specs.Expands.{Ended, Failed, put_by, shown};
 ghost use Rattle.sh_expand.specs.Acting.{LeavesAs, left_on};
 
+use crate::parameters::separator;
+use crate::removal::all_removed;
 use rk_base::{Bytes, NoMemory, WordList};
 use sh_ast::{Parts, Removal};
-use sh_parameter::{all_removed, pattern_of, put_all, put_given, separator, text_of};
-use sh_split::{Field, Mark};
+use sh_split::{Field, Mark, pattern_of, put_all, put_given, text_of};
 use sh_vars::Env;
 use std::alloc::Global;
 use std::mem;

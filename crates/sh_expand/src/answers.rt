@@ -1,13 +1,12 @@
 // What a pipe gave.
 ghost use Rattle.std.specs.Prelude.{◌≡◌, ◌++◌, IfOk, OnOk};
 ghost use Rattle.rk_calls.specs.Brought.{brought};
-ghost use Rattle.sh_parameter.specs.Marked.{given, captured};
+ghost use Rattle.sh_split.specs.Marked.{given, captured};
 ghost use Rattle.sh_expand.specs.Expands.{read_of};
 
 use rk_base::{Bytes, Errno, NoMemory};
 use rk_calls::{Answer, brought};
-use sh_parameter::{captured, put_given};
-use sh_split::Mark;
+use sh_split::{Mark, captured, put_given};
 use std::alloc::Global;
 
 // A refused read gives nothing.

@@ -11,6 +11,7 @@ ghost use Rattle.sh_expand.specs.Fields.{With_fields, ifs};
 ghost use Rattle.sh_expand.specs.Means.{With_expanded, all_bytes, splits, finished, pay_fields, expand_in, parts_of};
 ghost use Rattle.sh_expand.specs.Turns.{fields_left, all_left, looks, named_talk, at_step, after_step, expander_says, after_turn, IsCostly};
 
+use crate::glob::Glob;
 use crate::machine::{Machine, Wants};
 use crate::mode::{ExpandFault, Expanded, Mode};
 use crate::names::{Named, Names, look, next_field};
@@ -18,9 +19,7 @@ use crate::parts::share;
 use rk_base::{Bytes, NoMemory, WordList};
 use rk_calls::{Answer, Call, turns};
 use sh_ast::Word;
-use sh_glob::Glob;
-use sh_parameter::{pattern_of, text_of};
-use sh_split::{Mark, split_fields};
+use sh_split::{Mark, pattern_of, split_fields, text_of};
 use sh_vars::Env;
 use std::alloc::Global;
 use std::mem;

@@ -4,12 +4,18 @@
 
 mod acts;
 mod answers;
+mod decimal;
 mod expander;
+mod glob;
 mod machine;
 mod mode;
 mod names;
+mod parameters;
 mod parts;
 mod pieces;
+mod removal;
+mod steps;
+mod told;
 
 pub use acts::{Acted, Then};
 pub use expander::{Expander, Expanding, Step};

@@ -1,17 +1,17 @@
 // The fields of a word and their pathnames.
 ghost use Rattle.std.specs.Prelude.{◌≡◌, ◌++◌, ◌+◌, ◌∷◌, [], ℕ, length, IfOk, OnOk, ◌&&◌, not};
 ghost use Rattle.rk_base.specs.Sorted.{sorted};
-ghost use Rattle.sh_parameter.specs.Marked.{text_of};
+ghost use Rattle.sh_split.specs.Marked.{text_of};
 ghost use Rattle.sh_expand.specs.Fields.{With_fields, or_as_was, has_pattern, named, all_names};
 ghost use Rattle.sh_vars.specs.declared.env.Env.{Env};
 ghost use Rattle.sh_expand.specs.Turns.{fields_left, all_left, looks, named_talk, IsShorter};
 
+use crate::glob::{Component, Glob, Globbing};
 use crate::pieces::{components, has_pattern};
 use rk_base::{Bytes, NoMemory, WordList, sort_texts};
 use rk_calls::{Answer, Call};
-use sh_glob::{Component, Glob, Globbing, PathList};
-use sh_parameter::text_of;
-use sh_split::Field;
+use sh_pattern::PathList;
+use sh_split::{Field, text_of};
 use sh_vars::Env;
 use std::alloc::Global;
 use std::collections::VecDeque;

@@ -4,17 +4,15 @@ ghost use Rattle.rk_base.specs.Text.{Text};
 ghost use Rattle.sh_ast.specs.Parameters.{spelling};
 ghost use Rattle.sh_ast.specs.Words.{part, parts};
 ghost use Rattle.sh_vars.specs.declared.env.Env.{Env};
-ghost use Rattle.sh_parameter.specs.Values.{values, value, counts};
+ghost use Rattle.sh_expand.specs.Values.{values, value, counts};
 ghost use Rattle.sh_expand.specs.Expands.{Body, Ended, Failed, is_quoted, literal_marks, unset, got, unmeasured, measured, assigning, taken, not_set, expand, expand_part, expand_word, expand_text};
 ghost use Rattle.sh_expand.specs.Acting.{Does, word_of, parts_in, used_by, acted_size, size, size_part, size_word};
 
 use crate::acts::{Acted, Then, take};
+use crate::parameters::{counts, is_apart, separator, value, values};
 use rk_base::{Bytes, NoMemory, WordList};
 use sh_ast::{Condition, Parameter, Part, Parts, Quoting, Removal, Substitute};
-use sh_parameter::{
-    counts, is_apart, joined, put_all, put_given, put_literal, separator, value, values,
-};
-use sh_split::Mark;
+use sh_split::{Mark, joined, put_all, put_given, put_literal};
 use sh_vars::Env;
 use std::alloc::Global;
 use std::rc::Rc;

@@ -1,13 +1,12 @@
 // The components of a field.
 ghost use Rattle.std.specs.Prelude.{◌≡◌, ◌++◌, ◌∷◌, [], IfOk, OnOk};
-ghost use Rattle.sh_parameter.specs.Marked.{pattern_of};
+ghost use Rattle.sh_split.specs.Marked.{pattern_of};
 ghost use Rattle.sh_expand.specs.Fields.{component_of, is_slash_mark, components_from, components, is_pattern, has_pattern};
 
+use crate::glob::Component;
 use rk_base::NoMemory;
-use sh_glob::Component;
-use sh_parameter::pattern_of;
 use sh_pattern::{has_special, unquoted};
-use sh_split::Mark;
+use sh_split::{Mark, pattern_of};
 use std::alloc::Global;
 use std::collections::VecDeque;
 

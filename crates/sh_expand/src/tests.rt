@@ -1,6 +1,7 @@
 // Tables of words in the modes, over a few directories. The expected texts are those of dash and bash, where these agree
 // with the standard.
 mod bytes;
+mod globs;
 mod listings;
 mod notation;
 mod operators;
@@ -12,3 +13,4 @@ mod splitting;
 mod substitutions;
 mod table;
 mod values;
+mod worth;

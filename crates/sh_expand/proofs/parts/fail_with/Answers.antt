@@ -1,4 +1,4 @@
-use Rattle.std.proofs.Common.{refl, ◌∙◌}
+use Rattle.std.proofs.Common.{refl}
 use Rattle.sh_expand.proofs.parts.fail_with.Goals as goal
 
 pub returns-in_ok-parameter-in-Some-clause-does : goal.returns-in_ok-parameter-in-Some-clause-does

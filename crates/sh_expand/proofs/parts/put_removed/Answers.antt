@@ -1,6 +1,6 @@
 use Rattle.std.proofs.Common.{◌≡◌, refl, sym, ◌∙◌}
 use Rattle.std.specs.Prelude.{Some}
-use Rattle.sh_parameter.specs.Values.{values}
+use Rattle.sh_expand.specs.Values.{values}
 use Rattle.sh_expand.proofs.parts.put_removed.Goals as goal
 
 pub returns-in_ok-pattern-in-Some-clause-does : goal.returns-in_ok-pattern-in-Some-clause-does

@@ -1,3 +1,0 @@
-pub mod Globbing
-pub mod Stages
-pub mod Told
