@@ -1,7 +1,4 @@
-mod Owed
-mod Fewer
-mod Chosen
 mod Turning
-mod Existing
-pub mod Whole
+mod Whole
 mod Sourced
+mod Lines

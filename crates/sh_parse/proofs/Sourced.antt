@@ -14,9 +14,10 @@ use Rattle.sh_lex.specs.declared.taken.Taken.{Taken}
 use Rattle.sh_lex.specs.declared.cursor.Stop.TheVariants as lex_stop_is
 use Rattle.sh_token.proofs.Modes.{found_by_itself}
 use Rattle.sh_token.proofs.Sizes.{may_be_empty, Shrinks, shorter}
-use Rattle.sh_parse.specs.Tokens.{StandsThere, Took}
+use Rattle.sh_tree.specs.TextReader.{StandsThere}
+use Rattle.sh_tree.proofs.Turning.{lexed_there}
+use Rattle.sh_parse.specs.Tokens.{Took}
 use Rattle.sh_parse.specs.declared.source.Stop.TheVariants as stop
-use Rattle.sh_parse.proofs.Turning.{lexed_there}
 
 -- what stands there in a mode stands there by itself
 pub found_there : (m : Mode) (p : Place) (r : Look) → r ≡ look m p → IfSome r (λ x. StandsThere x.0 x.1 p)

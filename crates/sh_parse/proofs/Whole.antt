@@ -1,133 +1,26 @@
--- From what is read to scripts and faults.
-use Rattle.std.proofs.Common.{arith, ◌≡◌, ◌<◌, ◌≤◌, ℕ, List, [], ◌∷◌, true, false, refl, sym, ap, ◌∙◌, subst, ◌⊎◌, inl, inr, append-nil, length}
-use Rattle.std.proofs.lemmas.Bool.{cases_lt}
-use Rattle.sh_rules.specs.Grammar.{Want, Parses, no_parses, leaves_all}
-use Rattle.sh_rules.specs.Reading.{ReadsAll, Halt, Blocked, Over}
-use Rattle.sh_rules.specs.Checked.{FirstAll, Checked, ModesAgree}
-use Rattle.sh_rules.proofs.Keeps.{Consistent, Inv}
-use Rattle.sh_rules.proofs.Stopping.{stops_all}
-use Rattle.sh_rules.proofs.Complete.{sound_all, reads_all, once_all}
-use Rattle.sh_rules.proofs.Once.{begun, stops_once, whole_stops_not}
-use Rattle.sh_rules.specs.declared.kind.Kind.{Kind}
-use Rattle.sh_rules.specs.declared.kind.Kind.TheVariants as k
-use Rattle.sh_rules.specs.declared.kind.Mode.{Mode}
-use Rattle.sh_rules.specs.Parts.{Part}
-use Rattle.sh_rules.specs.Parts as p
-use Rattle.sh_rules.specs.Rules.{Rule, Token, shell, script}
-use Rattle.sh_rules.specs.LookAhead.{sets}
-use Rattle.sh_rules.proofs.Tables.{checked, productive}
+-- From what is read to what is answered.
+use Rattle.std.proofs.Common.{◌≡◌, ◌≤◌, ℕ, List, true, false, subst, length}
+use Rattle.std.specs.Prelude.{Result, Ok, Err}
+use Rattle.sh_rules.specs.Reading.{Halt, Blocked, Over}
+use Rattle.sh_rules.specs.Rules.{Token}
+use Rattle.sh_ast.specs.Commands as c
 use Rattle.sh_ast.specs.Commands.{CommandsTree}
 use Rattle.sh_grammar.specs.Marks.{Mark}
 use Rattle.sh_token.specs.Places.{Place, begin}
-use Rattle.sh_token.specs.Steps.{lex, over}
 use Rattle.sh_token.specs.declared.fault.ScriptFault.{ScriptFault}
-use Rattle.sh_token.specs.declared.fault.Why.TheVariants.{Long}
-use Rattle.sh_token.specs.Faults.{fault, told, fault_of}
+use Rattle.sh_token.specs.Faults.{told, fault_of}
 use Rattle.sh_token.proofs.Modes.{modes_agree}
-use Rattle.sh_token.proofs.Sizes.{shorter}
-use Rattle.sh_parse.specs.Turns.{text_reader, IsRead, IsStuck, StopsBy}
+use Rattle.sh_tree.specs.Folds.{script_marked}
+use Rattle.sh_tree.specs.Outcomes.{IsRead, IsStuck}
+use Rattle.sh_tree.specs.Scripts.{longest, IsScript, IsFaulty}
+use Rattle.sh_tree.proofs.Whole.{Agrees, one_script, one_fault, not_both, script_read, fault_read}
+use Rattle.sh_parse.specs.Turns.{StopsBy}
+use Rattle.sh_parse.specs.Answering.{Tells, IsAnswer, IsOnlyScript, IsOnlyFault}
 use Rattle.sh_parse.specs.declared.source.Stop.{Stop}
 use Rattle.sh_parse.specs.declared.source.Stop.TheVariants as stop
-use Rattle.sh_tree.proofs.FoldLemmas.{script_by_marks}
-use Rattle.sh_tree.specs.Folds.{script_of, script_marked}
-use Rattle.std.specs.Prelude.{Result, Ok, Err}
-use Rattle.sh_ast.specs.Commands as c
 use Rattle.sh_parse.specs.declared.script.Script.{Script}
 use Rattle.sh_parse.specs.declared.script.ReadErr.{ReadErr}
 use Rattle.sh_parse.specs.declared.script.ReadErr.TheVariants as e
-use Rattle.sh_parse.specs.Answering.{Tells, IsAnswer, IsOnlyScript, IsOnlyFault}
-use Rattle.sh_parse.specs.Scripts.{longest, Spells, StopsAt, IsScript, IsFaulty}
-use Rattle.sh_parse.proofs.Existing.{Shortens, ComesToAnEnd, each_ends}
-
--- All that is asked of the lexer.
-abbrev pub Agrees : Type 0
-Agrees = ModesAgree shell text_reader sets
-
-ok : Checked Kind Part Rule Token Mode Place shell text_reader sets
-ok = checked Place lex over
-
-consistent : (agree : ModesAgree shell text_reader sets) → Consistent Kind Part Rule Token Mode Place shell text_reader sets ok agree script
-consistent agree = ((λ j h. by_end j h), (λ h. h.0), tt)
-  where
-    by_end : (j : Kind) → FirstAll sets (Want k.End ∷ []) j → sets.follow p.opt_list j ≡ true
-    by_end j (inl e) = subst (λ j. sets.follow p.opt_list j ≡ true) e refl
-    by_end j (inr h) = absurd h.0
-
-pub spells : Agrees → (qs : Parses Rule Token) (a b : Place) → ReadsAll shell text_reader qs script a b → Spells qs a b
-unfolding Spells
-spells agree qs a b h = sound_all Kind Part Rule Token Mode Place shell text_reader sets ok agree qs script a b h
-
-pub stuck_stops : Agrees → (a m : Place) (h : Halt Token) → IsStuck a m h → StopsAt a m h
-unfolding IsStuck StopsAt
-stuck_stops agree a m h x =
-    stops_all Kind Part Rule Token Mode Place shell text_reader sets ok agree productive script a [] x.0 script [] a m h x.1
-    (subst (λ α. Inv Kind Part Rule Token Mode Place shell text_reader sets ok agree script a [] α a) (sym (append-nil script))
-    (begun Kind Part Rule Token Mode Place shell text_reader sets ok agree productive script a (consistent agree)))
-
-pub one_stop : Agrees → (a m n : Place) (h i : Halt Token) → StopsAt a m h → StopsAt a n i → (m ≡ n) × (h ≡ i)
-unfolding StopsAt
-one_stop agree a m n h i x y = stops_once Kind Part Rule Token Mode Place shell text_reader sets ok agree productive script a m n h i (consistent agree) x y
-
-pub no_both : Agrees → (qs : Parses Rule Token) (a b m : Place) (h : Halt Token) → Spells qs a b → StopsAt a m h → ⊥
-unfolding StopsAt Spells
-no_both agree qs a b m h s x = whole_stops_not Kind Part Rule Token Mode Place shell text_reader sets ok agree productive script a (leaves_all qs) b m h (consistent agree) s.1 (qs, s.0, refl) x
-
-reads : Agrees → (qs : Parses Rule Token) (a b : Place) → Spells qs a b → ReadsAll shell text_reader qs script a b
-unfolding Spells
-reads agree qs a b h = reads_all Kind Part Rule Token Mode Place shell text_reader sets ok agree qs script no_parses [] a b b h.0 tt (consistent agree) h.1 refl
-
-one_tree : Agrees → (qs xs : Parses Rule Token) (a b c : Place) → Spells qs a b → Spells xs a c → qs ≡ xs
-one_tree agree qs xs a b c h k = (once_all Kind Part Rule Token Mode Place shell text_reader sets ok agree qs xs script a b c (reads agree qs a b h) (reads agree xs a c k)).0
-
-not_both_lengths : (n m : ℕ) → n ≤ m → m < n → ⊥
-not_both_lengths n m a b = omega (arith, a, b)
-
--- a text is one script at most
-pub one_script : Agrees → (text : List ℕ) (s t : CommandsTree) → IsScript text s → IsScript text t → s ≡ t
-unfolding IsScript
-one_script agree text s t x y = sym x.1.3 ∙ ap script_of (one_tree agree x.1.0 y.1.0 (begin text) x.1.1 y.1.1 x.1.2 y.1.2) ∙ y.1.3
-
--- it has one fault at most
-pub one_fault : Agrees → (text : List ℕ) (f g : ScriptFault) → IsFaulty text f → IsFaulty text g → f ≡ g
-unfolding IsFaulty
-one_fault agree text f g (inl x) (inl y) = x.1 ∙ sym y.1
-one_fault agree text f g (inl x) (inr y) = absurd (not_both_lengths (length text) longest y.0 x.0)
-one_fault agree text f g (inr x) (inl y) = absurd (not_both_lengths (length text) longest x.0 y.0)
-one_fault agree text f g (inr x) (inr y) =
-    let o = one_stop agree (begin text) x.1.0 y.1.0 x.1.1 y.1.1 x.1.2 y.1.2 in
-    x.1.3 ∙ ap (λ p. fault_of p x.1.1) o.0 ∙ ap (fault_of y.1.0) o.1 ∙ sym y.1.3
-
--- and not both
-pub not_both : Agrees → (text : List ℕ) (s : CommandsTree) (f : ScriptFault) → IsScript text s → IsFaulty text f → ⊥
-unfolding IsScript IsFaulty
-not_both agree text s f x (inl y) = not_both_lengths (length text) longest x.0 y.0
-not_both agree text s f x (inr y) = no_both agree x.1.0 (begin text) x.1.1 y.1.0 y.1.1 x.1.2 y.1.2
-
--- what was read, by its marks
-pub script_read : Agrees → (text : List ℕ) (q : Place) (marks : List Mark) (s : CommandsTree) → length text ≤ longest → IsRead (begin text) q marks → s ≡ script_marked marks → IsScript text s
-unfolding IsScript IsRead
-script_read agree text q marks s l r e = (l, (r.0, q, spells agree r.0 (begin text) q r.1, sym (script_by_marks r.0) ∙ ap script_marked r.2 ∙ sym e))
-
-pub fault_read : Agrees → (text : List ℕ) (m : Place) (h : Halt Token) (f : ScriptFault) → length text ≤ longest → IsStuck (begin text) m h → f ≡ fault_of m h → IsFaulty text f
-unfolding IsFaulty
-fault_read agree text m h f l s e = inr (l, (m, h, stuck_stops agree (begin text) m h s, e))
-
-pub too_long : (text : List ℕ) → longest < length text → IsFaulty text (fault longest Long)
-unfolding IsFaulty
-too_long text l = inl (l, refl)
-
--- EACH TEXT IS A SCRIPT OR FAULTY
-pub some_answer : Agrees → Shortens → (text : List ℕ) → ((s : CommandsTree) × IsScript text s) ⊎ ((f : ScriptFault) × IsFaulty text f)
-unfolding ComesToAnEnd
-some_answer agree short text = by_length (cases_lt longest (length text))
-  where
-    by_end : length text ≤ longest → ((q : Place) × (marks : List Mark) × IsRead (begin text) q marks) ⊎ ((m : Place) × (h : Halt Token) × IsStuck (begin text) m h) → ((s : CommandsTree) × IsScript text s) ⊎ ((f : ScriptFault) × IsFaulty text f)
-    by_end l (inl x) = inl (script_marked x.1, script_read agree text x.0 x.1 (script_marked x.1) l x.2 refl)
-    by_end l (inr x) = inr (fault_of x.0 x.1, fault_read agree text x.0 x.1 (fault_of x.0 x.1) l x.2 refl)
-
-    by_length : (longest < length text) ⊎ (length text ≤ longest) → ((s : CommandsTree) × IsScript text s) ⊎ ((f : ScriptFault) × IsFaulty text f)
-    by_length (inr l) = by_end l (each_ends short (begin text))
-    by_length (inl l) = inr (fault longest Long, too_long text l)
 
 -- by what was answered
 pub only_script : Agrees → (text : List ℕ) (s : CommandsTree) (r : Result Script ReadErr) → IsScript text s → IsAnswer text r → IsOnlyScript s r
@@ -163,15 +56,3 @@ the_only_script text s r h a = only_script modes_agree text s r h a
 
 pub the_only_fault : (text : List ℕ) (f : ScriptFault) (r : Result Script ReadErr) → IsFaulty text f → IsAnswer text r → IsOnlyFault f r
 the_only_fault text f r h a = only_fault modes_agree text f r h a
-
-pub some : (text : List ℕ) → ((s : CommandsTree) × IsScript text s) ⊎ ((f : ScriptFault) × IsFaulty text f)
-some text = some_answer modes_agree shorter text
-
-pub one_script_there : (text : List ℕ) (s t : CommandsTree) → IsScript text s → IsScript text t → s ≡ t
-one_script_there = one_script modes_agree
-
-pub one_fault_there : (text : List ℕ) (f g : ScriptFault) → IsFaulty text f → IsFaulty text g → f ≡ g
-one_fault_there = one_fault modes_agree
-
-pub not_both_there : (text : List ℕ) (s : CommandsTree) (f : ScriptFault) → IsScript text s → IsFaulty text f → ⊥
-not_both_there = not_both modes_agree

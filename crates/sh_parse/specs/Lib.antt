@@ -1,5 +1,4 @@
 pub mod Tokens
-pub mod Owing
 pub mod Turns
-pub mod Scripts
 pub mod Answering
+pub mod Readings

@@ -1,17 +1,11 @@
--- What looking for a token and taking one comes to.
-use Rattle.std.specs.Prelude.{◌≡◌, ℕ, List, Some, Result, Ok, Err, true, false}
+-- What taking a token comes to.
+use Rattle.std.specs.Prelude.{◌≡◌, ℕ, List, Result, Ok, Err, true, false}
 use Rattle.sh_rules.specs.declared.kind.Kind.{Kind}
-use Rattle.sh_rules.specs.LookAhead.{mode_of}
 use Rattle.sh_token.specs.Places.{Place}
-use Rattle.sh_token.specs.Lexemes.{look}
 use Rattle.sh_token.specs.Effects.{effect_of}
 use Rattle.sh_token.specs.Steps.{over, after, token_of}
 use Rattle.sh_parse.specs.declared.source.Stop.{Stop}
 use Rattle.sh_parse.specs.declared.source.Stop.TheVariants as stop
-
--- a token of a kind and of so many bytes stands there, and is found by itself
-abbrev pub StandsThere : Kind → ℕ → Place → Type 0
-StandsThere kind length p = look (mode_of kind) p ≡ Some (kind, length)
 
 -- a token is taken, or it opens a level too many
 abbrev pub Took : Kind → ℕ → Place → Place → Result (List ℕ) Stop → Type 0

@@ -1,12 +1,14 @@
 //! Scripts, read whole: a text is a script and has one tree, or it has one fault.
 #![tactic(auto)]
 
+mod reader;
 mod reading;
 mod script;
 mod source;
 mod text;
 mod todo;
 
+pub use reader::{Read, read_text};
 pub use script::{LONGEST, ReadErr, Script, one_script_or_fault, read_script};
 
 #[cfg(test)]

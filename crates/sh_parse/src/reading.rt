@@ -10,8 +10,9 @@ ghost use Rattle.sh_rules.specs.Rules.{spelling as spelling_lem};
 ghost use Rattle.sh_grammar.specs.Named.{part_named, rule_named, symbol_named};
 ghost use Rattle.sh_grammar.specs.Marks.{mark_named, node as node_mark, leaf as leaf_mark};
 ghost use Rattle.sh_token.specs.Lexemes.{look as look_lem};
-ghost use Rattle.sh_parse.specs.Tokens.{StandsThere};
-ghost use Rattle.sh_parse.specs.Turns.{Ahead, NotOf, HaltsAt, Turns, IsRead, StopsBy};
+ghost use Rattle.sh_tree.specs.TextReader.{StandsThere, NotOf, HaltsAt};
+ghost use Rattle.sh_tree.specs.Outcomes.{IsRead};
+ghost use Rattle.sh_parse.specs.Turns.{Ahead, Turns, StopsBy};
 
 use crate::source::{Source, Stop};
 use crate::todo::{Marks, Todo, push_all};
@@ -150,7 +151,7 @@ fn turn<S: Source>(
 }
 
 /// Reads a script from where the source stands to the end of the text: its marks. On an error the source stands where reading stopped.
-#[tactic(auto, using(crate::proofs::Owed::owed_first, crate::proofs::Turning::owes_on, crate::proofs::Turning::stops_there, crate::proofs::Turning::whole_read))]
+#[tactic(auto, using(sh_tree::proofs::Owed::owed_first, crate::proofs::Turning::owes_on, crate::proofs::Turning::stops_there, sh_tree::proofs::Turning::whole_read))]
 pub fn read_marks<S: Source>(alloc: Global, s: &mut S) -> Result<Vec<Mark>, Stop>
     ensures { MatchResult result (λ marks. IsRead (S.place s.old) (S.place s.new) (map mark_named marks.items)) (λ e. StopsBy (S.place s.old) (S.place s.new) e) }
 {

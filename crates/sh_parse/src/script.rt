@@ -3,7 +3,7 @@ ghost use Rattle.std.specs.Prelude.{◌≡◌, ◌≤◌, ◌⊎◌, List, ℕ, 
 ghost use Rattle.sh_ast.specs.Commands as c;
 ghost use Rattle.sh_token.specs.declared.fault.ScriptFault as faults;
 ghost use Rattle.sh_token.specs.Faults.{told};
-ghost use Rattle.sh_parse.specs.Scripts.{IsScript, IsFaulty, longest};
+ghost use Rattle.sh_tree.specs.Scripts.{IsScript, IsFaulty, longest};
 ghost use Rattle.sh_parse.specs.Answering.{IsAnswer, IsFaultTold, Tells, IsOnlyScript, IsOnlyFault};
 
 use crate::reading::read_marks;

@@ -1,6 +1,6 @@
 // Texts that are no scripts, and their faults.
-use crate::read_script;
 use crate::told::told;
+use crate::{Read, read_script, read_text};
 use rk_base::NoMemory;
 use std::alloc::Global;
 use std::test::Fail;
@@ -222,5 +222,23 @@ fn counts_bytes(rt: HostRuntime) -> Result<(), Fail> {
         told(alloc, text.as_slice())?.as_slice(),
         b"long 1048576".as_slice()
     );
+    Ok(())
+}
+
+#[test]
+fn reads_commands_or_words(rt: HostRuntime) -> Result<(), Fail> {
+    let alloc = rt.alloc();
+    let rows: [(&str, &str); 4] = [
+        ("a\n", ""),
+        ("a\n)", "line 2: syntax error"),
+        ("'a", "line 1: unclosed"),
+        ("\n\na &", "line 3: & is not in this profile"),
+    ];
+    for (text, wanted) in rows {
+        match read_text(alloc, text.as_bytes())? {
+            Read::Script(_) => assert_eq!(rt; wanted, "", "{text}"),
+            Read::Fault(words) => assert_eq!(rt; words.as_slice(), wanted.as_bytes(), "{text}"),
+        }
+    }
     Ok(())
 }

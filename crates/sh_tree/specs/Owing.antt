@@ -1,5 +1,5 @@
 -- What is still to be read, and what reading of it comes to.
-use Rattle.std.specs.Prelude.{◌≡◌, ℕ, ◌+◌, ◌*◌, List, [], ◌∷◌, ◌++◌, Bool, true, false}
+use Rattle.std.specs.Prelude.{◌≡◌, ◌<◌, ℕ, ◌+◌, ◌*◌, List, [], ◌∷◌, ◌++◌, Bool, true, false}
 use Rattle.sh_rules.specs.Grammar.{Symbol, Want, Do, Parses}
 use Rattle.sh_rules.specs.Reading.{Reader, ReadsAll, Halt, Stops, StuckAll}
 use Rattle.sh_rules.specs.declared.kind.Kind.{Kind}
@@ -7,8 +7,10 @@ use Rattle.sh_rules.specs.declared.kind.Mode.{Mode}
 use Rattle.sh_rules.specs.Parts as p
 use Rattle.sh_rules.specs.Parts.{Part}
 use Rattle.sh_rules.specs.Rules.{Rule, Token, shell, script}
-use Rattle.sh_token.proofs.Sizes.{may_be_empty}
 use Rattle.sh_grammar.specs.Marks.{Mark, flat_all}
+use Rattle.sh_token.specs.Places.{Place, size}
+use Rattle.sh_token.proofs.Sizes.{may_be_empty}
+use Rattle.sh_tree.specs.TextReader.{text_reader}
 
 -- Whatever reading of the symbols from here comes to, reading of a script from its start comes to: the marks that were left,
 -- and those that are still to come, are of one tree; and where it stops, reading of the script stops.
@@ -16,6 +18,10 @@ unfoldable pub Owes : {P : Type 0} → Reader Kind Part Rule Token Mode P → P 
 Owes {P = P} l start todo marks here =
     ((xs : Parses Rule Token) (q : P) → ReadsAll shell l xs todo here q → (qs : Parses Rule Token) × ReadsAll shell l qs script start q × (flat_all qs ≡ marks ++ flat_all xs)) ×
     ((x : Stops Rule Token) (m : P) (h : Halt Token) → StuckAll shell l x todo here m h → (y : Stops Rule Token) × StuckAll shell l y script start m h)
+
+-- what was owed is owed
+unfoldable pub Keeps : List (Symbol Kind Part) → List Mark → Place → List (Symbol Kind Part) → List Mark → Place → Type 0
+Keeps todo marks p todo' marks' p' = (start : Place) → Owes text_reader start todo marks p → Owes text_reader start todo' marks' p'
 
 -- How many turns are left at most. A part that may stand first in a rule has a rank, higher than those that stand first in its own;
 -- the others, and tokens without bytes, have the highest.
@@ -53,3 +59,6 @@ weights (s ∷ ss) = weight s + weights ss
 
 unfoldable pub turns_left : ℕ → List (Symbol Kind Part) → ℕ
 turns_left size todo = 256 * size + weights todo + 32 * first_rank todo
+
+abbrev pub Fewer : List (Symbol Kind Part) → Place → List (Symbol Kind Part) → Place → Type 0
+Fewer todo p todo' p' = turns_left (size p') todo' < turns_left (size p) todo

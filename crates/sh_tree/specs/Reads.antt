@@ -1,15 +1,18 @@
 -- What a text reads as (XCU 2.10): the script that it is, or its fault in words.
-use Rattle.std.specs.Prelude.{ℕ, ◌+◌, ◌==◌, List, [], ◌∷◌, ◌++◌, take, codes, if◌then◌else◌, ◌⊎◌}
+use Rattle.std.specs.Prelude.{ℕ, ◌+◌, ◌==◌, [], ◌∷◌, ◌++◌, take, codes, if◌then◌else◌, ◌⊎◌}
 use Rattle.std.proofs.Common.{inl, inr}
 use Rattle.std.specs.Fmt.{decimal}
 use Rattle.rk_base.specs.Text.{Text}
 use Rattle.sh_ast.specs.Commands.{CommandsTree}
-use Rattle.sh_lex.specs.declared.fault.ScriptFault.{ScriptFault}
-use Rattle.sh_lex.specs.declared.fault.Why.{Why}
-use Rattle.sh_lex.specs.declared.fault.Why.TheVariants.{Syntax, Unclosed, Deep, Long, NotInProfile}
-use Rattle.sh_parse.specs.Scripts.{IsScript, IsFaulty}
-use Rattle.sh_parse.proofs.Whole.{some}
-use Rattle.sh_eval.specs.Eval.{Reading, Script, Faulty}
+use Rattle.sh_token.specs.declared.fault.ScriptFault.{ScriptFault}
+use Rattle.sh_token.specs.declared.fault.Why.{Why}
+use Rattle.sh_token.specs.declared.fault.Why.TheVariants.{Syntax, Unclosed, Deep, Long, NotInProfile}
+use Rattle.sh_tree.specs.Scripts.{IsScript, IsFaulty}
+
+-- What a text reads as: commands, or the words that tell its fault.
+pub data Reading : Type 0 where
+  Script : (commands : CommandsTree) → Reading
+  Faulty : (words : Text) → Reading
 
 abbrev pub newlines : Text → ℕ
 newlines [] = 0
@@ -36,7 +39,3 @@ One_of text = ((s : CommandsTree) × IsScript text s) ⊎ ((f : ScriptFault) × 
 abbrev pub read_as : (text : Text) → One_of text → Reading
 read_as text (inl s) = Script s.0
 read_as text (inr f) = Faulty (fault_words text f.0)
-
--- a text is one script or has one fault, and no other
-unfoldable pub reads : Text → Reading
-reads text = read_as text (some text)

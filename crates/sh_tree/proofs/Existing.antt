@@ -17,12 +17,13 @@ use Rattle.sh_token.specs.Tokens.{Look}
 use Rattle.sh_token.specs.Effects.{effect_of}
 use Rattle.sh_token.specs.Steps.{lex, over, after, token_of}
 use Rattle.sh_token.proofs.Sizes.{may_be_empty, Shrinks}
-use Rattle.sh_parse.specs.Owing.{Owes, turns_left}
-use Rattle.sh_parse.specs.Turns.{text_reader, NotOf, HaltsAt, Keeps, IsRead, IsStuck}
-use Rattle.sh_parse.proofs.Owed.{owed_first}
-use Rattle.sh_parse.proofs.Fewer.{chosen_fewer}
-use Rattle.sh_parse.proofs.Chosen.{chosen_part}
-use Rattle.sh_parse.proofs.Turning.{lexed_there, keeps_taken, fewer_taken, halts_deep, halts_want, keeps_chosen, halts_none, halts_unwanted, whole_read, whole_stuck}
+use Rattle.sh_tree.specs.TextReader.{text_reader, NotOf, HaltsAt}
+use Rattle.sh_tree.specs.Owing.{Owes, Keeps, turns_left}
+use Rattle.sh_tree.specs.Outcomes.{IsRead, IsStuck}
+use Rattle.sh_tree.proofs.Owed.{owed_first}
+use Rattle.sh_tree.proofs.Fewer.{chosen_fewer}
+use Rattle.sh_tree.proofs.Chosen.{chosen_part}
+use Rattle.sh_tree.proofs.Turning.{lexed_there, keeps_taken, fewer_taken, halts_deep, halts_want, keeps_chosen, halts_none, halts_unwanted, whole_read, whole_stuck}
 
 -- a token leaves a smaller place
 abbrev pub Shortens : Type 0

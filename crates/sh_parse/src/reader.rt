@@ -1,13 +1,13 @@
 // Texts as scripts, and their faults in words (XCU 2.10).
 ghost use Rattle.std.specs.Prelude.{◌≡◌, ◌++◌, ◌+◌, ◌==◌, if◌then◌else◌, take, IfOk, OnOk};
-ghost use Rattle.sh_eval.specs.Readings.{reading_of};
-ghost use Rattle.sh_eval.specs.Reads.{newlines, line_of, why_words, fault_words, reads};
+ghost use Rattle.sh_tree.specs.Reads.{newlines, line_of, why_words, fault_words};
+ghost use Rattle.sh_tree.proofs.ReadAs.{reads};
+ghost use Rattle.sh_parse.specs.Readings.{reading_of};
 
-use crate::numbers::behind;
+use crate::script::{ReadErr, read_script};
 use rk_base::{Bytes, NoMemory};
 use sh_ast::CommandList;
 use sh_lex::{ScriptFault, Why};
-use sh_parse::{ReadErr, read_script};
 use std::alloc::Global;
 use std::rc::Rc;
 
@@ -16,6 +16,16 @@ use std::rc::Rc;
 pub enum Read {
     Script(Rc<CommandList>),
     Fault(Bytes),
+}
+
+// The number behind this one. No memory holds more than there are numbers.
+fn behind(at: usize) -> Result<usize, NoMemory>
+    ensures { IfOk result (λ next. next ≡ at + 1) }
+{
+    match at.checked_add(1) {
+        Some(next) => Ok(next),
+        None => Err(NoMemory),
+    }
 }
 
 // One byte more was seen.
@@ -86,7 +96,7 @@ fn words_of(alloc: Global, text: &[u8], fault: &ScriptFault) -> Result<Bytes, No
 }
 
 /// The commands of a text, or the words of its fault.
-pub(crate) fn read_text(alloc: Global, text: &[u8]) -> Result<Read, NoMemory>
+pub fn read_text(alloc: Global, text: &[u8]) -> Result<Read, NoMemory>
     ensures { IfOk result (λ r. reading_of r ≡ reads text.now) }
 {
     match read_script(alloc, text) {

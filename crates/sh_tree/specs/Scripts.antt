@@ -4,12 +4,12 @@ use Rattle.sh_rules.specs.Grammar.{Parses, leaves_all, AreParses}
 use Rattle.sh_rules.specs.Reading.{Spelled, Halt, IsStop}
 use Rattle.sh_rules.specs.Rules.{Rule, Token, shell, script}
 use Rattle.sh_ast.specs.Commands.{CommandsTree}
-use Rattle.sh_tree.specs.Folds.{script_of}
 use Rattle.sh_token.specs.Places.{Place, begin}
 use Rattle.sh_token.specs.declared.fault.Why.TheVariants.{Long}
 use Rattle.sh_token.specs.declared.fault.ScriptFault.{ScriptFault}
 use Rattle.sh_token.specs.Faults.{fault, fault_of}
-use Rattle.sh_parse.specs.Turns.{text_reader}
+use Rattle.sh_tree.specs.Folds.{script_of}
+use Rattle.sh_tree.specs.TextReader.{text_reader}
 
 -- the most bytes that a script may have
 abbrev pub longest : ℕ

@@ -2,9 +2,9 @@ use Rattle.std.proofs.Common.{◌∙◌, ap, subst}
 use Rattle.sh_ast.specs.Commands.{commands}
 use Rattle.sh_parse.specs.declared.script.ReadErr.{ReadErr}
 use Rattle.sh_parse.specs.Answering.{IsFaultTold}
-use Rattle.sh_eval.specs.Eval.{Faulty}
-use Rattle.sh_eval.proofs.ReadAs.{script_read, fault_read}
-use Rattle.sh_eval.proofs.reader.read_text.Goals as goal
+use Rattle.sh_tree.specs.Reads.{Faulty}
+use Rattle.sh_tree.proofs.ReadAs.{script_read, fault_read}
+use Rattle.sh_parse.proofs.reader.read_text.Goals as goal
 
 pub returns-in-Ok : goal.returns-in-Ok
 returns-in-Ok c = script_read c.args.text.now (commands c.in-Ok.script.commands.value) c.in-Ok.ensures.script

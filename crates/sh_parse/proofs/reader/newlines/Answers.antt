@@ -1,6 +1,5 @@
-use Rattle.std.proofs.Common.{arith}
-use Rattle.sh_eval.proofs.ReadAs.{lines_next, lines_done}
-use Rattle.sh_eval.proofs.reader.newlines.Goals as goal
+use Rattle.sh_parse.proofs.Lines.{lines_next, lines_done}
+use Rattle.sh_parse.proofs.reader.newlines.Goals as goal
 
 pub returns : goal.returns
 returns c = lines_done c.text.n c.args.text.now c.text.b-index c.text-test.false c.text.invariant
