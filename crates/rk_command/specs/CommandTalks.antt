@@ -8,8 +8,8 @@ use Rattle.rk_command.specs.First.{says_or, copy_or, file_or, grep_or, select_or
 use Rattle.rk_command.specs.UnknownTalk.{is_unknown}
 use Rattle.sh_builtin.specs.Commands.{builtin_command}
 use Rattle.sh_builtin.specs.Laws.{talk-builtin_command}
-use Rattle.sh_eval.specs.Reads.{reads}
-use Rattle.sh_eval.specs.StartLaws.{shell-talk}
+use Rattle.sh_tree.proofs.ReadAs.{reads}
+use Rattle.sh_simple.specs.StartLaws.{shell-talk}
 use Rattle.ut_args.specs.Usage.{talk-complains}
 use Rattle.ut_copy.specs.Utilities.{copy_utility, talk-copy_utility}
 use Rattle.ut_files.specs.Utilities.{file_utility, talk-file_utility}

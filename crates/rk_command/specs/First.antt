@@ -5,8 +5,8 @@ use Rattle.rk_calls.specs.Keys.{KeyValue, takes_variables}
 use Rattle.rk_calls.specs.Talk.{Says, pay}
 use Rattle.rk_command.specs.UnknownTalk.{is_unknown}
 use Rattle.sh_builtin.specs.Commands.{builtin_command}
-use Rattle.sh_eval.specs.Reads.{reads}
-use Rattle.sh_eval.specs.Starts.{shell_says}
+use Rattle.sh_tree.proofs.ReadAs.{reads}
+use Rattle.sh_simple.specs.Starts.{shell_says}
 use Rattle.ut_copy.specs.Utilities.{copy_utility}
 use Rattle.ut_files.specs.Utilities.{file_utility}
 use Rattle.ut_grep.specs.Starts.{grep_utility}

@@ -13,23 +13,23 @@ use Rattle.sh_ast.specs.declared.command.Branches.{Branches}
 use Rattle.sh_ast.specs.declared.command.CommandList.{CommandList}
 use Rattle.sh_ast.specs.declared.command.Connector.{Connector}
 use Rattle.sh_ast.specs.declared.command.Connectors.{Connectors}
-use Rattle.sh_eval.specs.declared.control.Around.TheVariants as around
-use Rattle.sh_eval.specs.declared.control.Control.TheVariants as control
-use Rattle.sh_eval.specs.declared.control.Undo.TheVariants as undo
-use Rattle.sh_eval.specs.declared.control.Wait.TheVariants as wait
-use Rattle.sh_eval.specs.declared.flow.Flow.TheVariants.{Normal}
-use Rattle.sh_eval.specs.declared.flow.Place.{Place}
-use Rattle.sh_eval.specs.declared.state.SavedState.{SavedState}
-use Rattle.sh_eval.specs.Compound.{BranchMeant, if_means, stages_mean, with_input, links_mean, takes}
-use Rattle.sh_eval.specs.Eval.{command_in, commands_in}
-use Rattle.sh_eval.specs.Flows.{Next, Go_on, Means, asks, and_then, by_status, ignoring}
+use Rattle.sh_simple.specs.declared.control.Around.TheVariants as around
+use Rattle.sh_simple.specs.declared.control.Control.TheVariants as control
+use Rattle.sh_simple.specs.declared.control.Undo.TheVariants as undo
+use Rattle.sh_simple.specs.declared.control.Wait.TheVariants as wait
+use Rattle.sh_simple.specs.declared.flow.Flow.TheVariants.{Normal}
+use Rattle.sh_simple.specs.declared.flow.Place.{Place}
+use Rattle.sh_simple.specs.declared.state.SavedState.{SavedState}
+use Rattle.sh_simple.specs.Compound.{BranchMeant, if_means, stages_mean, with_input, links_mean, takes}
+use Rattle.sh_simple.specs.Eval.{command_in, commands_in}
+use Rattle.sh_simple.specs.Flows.{Next, Go_on, Means, asks, and_then, by_status, ignoring}
 use Rattle.sh_eval.specs.Leaving.{linked}
-use Rattle.sh_eval.specs.Run.{run}
-use Rattle.sh_eval.specs.Stack.{branches_from, commands_from, first_of, whole, surrounded, undone, waiting, resumed}
-use Rattle.sh_eval.specs.State.{Shell, with_slot, back}
-use Rattle.sh_eval.specs.Views.{back_to}
-use Rattle.sh_eval.proofs.Folding.{branch_is}
-use Rattle.sh_eval.proofs.Places.{branches_some, branches_none, branch_meant, commands_some, commands_none}
+use Rattle.sh_simple.specs.Run.{run}
+use Rattle.sh_simple.specs.Stack.{branches_from, commands_from, first_of, whole, surrounded, undone, waiting, resumed}
+use Rattle.sh_simple.specs.State.{Shell, with_slot, back}
+use Rattle.sh_simple.specs.Views.{back_to}
+use Rattle.sh_simple.proofs.Folding.{branch_is}
+use Rattle.sh_simple.proofs.Places.{branches_some, branches_none, branch_meant, commands_some, commands_none}
 
 pub if_begun : (bs rest : Rc Branches Global) (d : Branches) (x : Branch) (c b o : Rc CommandList Global) (at : ℕ) (pl : Place) (k k' : Next) (e : Shell) (p : ℕ) → d ≡ bs.value → Some (tree.branch x) ≡ branch_at (tree.branches d) at → rest.value ≡ bs.value → c.value ≡ (out-Branch x).condition.value → b.value ≡ (out-Branch x).body.value → k' ≡ surrounded (around.Choose pl b rest (at + 1) o) k → if_means (branches_from bs.value at) (whole o.value) pl e k p ≡ whole c.value (ignoring pl) e k' p
 if_begun bs rest d x c b o at pl k k' e p hd is hr hc hb hk =

@@ -15,23 +15,23 @@ use Rattle.sh_ast.specs.declared.command.LoopKind.{LoopKind}
 use Rattle.sh_ast.specs.declared.command.Word.{Word}
 use Rattle.sh_ast.specs.declared.command.Words.{Words}
 use Rattle.sh_vars.specs.Held.{is_readonly}
-use Rattle.sh_eval.specs.declared.control.Around.TheVariants as around
-use Rattle.sh_eval.specs.declared.control.Each.{Each}
-use Rattle.sh_eval.specs.declared.control.Then.TheVariants as then
-use Rattle.sh_eval.specs.declared.control.Undo.TheVariants as undo
-use Rattle.sh_eval.specs.declared.flow.Flow.TheVariants.{Normal, Exits}
-use Rattle.sh_eval.specs.declared.flow.Place.{Place}
-use Rattle.sh_eval.specs.declared.state.SavedState.{SavedState}
-use Rattle.sh_eval.specs.Compound.{subshell_means, if_means, for_each, for_fields, for_means, case_means}
-use Rattle.sh_eval.specs.Eval.{for_in, items_in, word_in, is_until}
-use Rattle.sh_eval.specs.Flows.{Next, Go_on, ends, tells, sh}
-use Rattle.sh_eval.specs.Run.{run}
-use Rattle.sh_eval.specs.Simple.{Round}
-use Rattle.sh_eval.specs.Stack.{branches_from, fielding, whole, each_body, giving_to, giving, surrounded, undone}
-use Rattle.sh_eval.specs.State.{Shell, with_status, back}
-use Rattle.sh_eval.specs.Trees.{for_words_of, given_if}
-use Rattle.sh_eval.specs.Views.{back_to}
-use Rattle.sh_eval.specs.Words.{assigns}
+use Rattle.sh_simple.specs.declared.control.Around.TheVariants as around
+use Rattle.sh_simple.specs.declared.control.Each.{Each}
+use Rattle.sh_simple.specs.declared.control.Then.TheVariants as then
+use Rattle.sh_simple.specs.declared.control.Undo.TheVariants as undo
+use Rattle.sh_simple.specs.declared.flow.Flow.TheVariants.{Normal, Exits}
+use Rattle.sh_simple.specs.declared.flow.Place.{Place}
+use Rattle.sh_simple.specs.declared.state.SavedState.{SavedState}
+use Rattle.sh_simple.specs.Compound.{subshell_means, if_means, for_each, for_fields, for_means, case_means}
+use Rattle.sh_simple.specs.Eval.{for_in, items_in, word_in, is_until}
+use Rattle.sh_simple.specs.Flows.{Next, Go_on, ends, tells, sh}
+use Rattle.sh_simple.specs.Run.{run}
+use Rattle.sh_simple.specs.Simple.{Round}
+use Rattle.sh_simple.specs.Stack.{branches_from, fielding, whole, each_body, giving_to, giving, surrounded, undone}
+use Rattle.sh_simple.specs.State.{Shell, with_status, back}
+use Rattle.sh_simple.specs.Trees.{for_words_of, given_if}
+use Rattle.sh_simple.specs.Views.{back_to}
+use Rattle.sh_simple.specs.Words.{assigns}
 use Rattle.sh_eval.proofs.Branching.{get_drop, get_none}
 
 pub subshell_entered : (l0 : CommandList) (l : Rc CommandList Global) (saved : SavedState) (pl : Place) (k k1 k2 : Next) (e : Shell) (p : ℕ) → l.value ≡ l0 → ((x : Shell) → back_to saved x ≡ back e x) → k1 ≡ surrounded (around.Watch pl) k → k2 ≡ undone (undo.Subshell saved) k1 → subshell_means (whole l0) pl e k p ≡ whole l.value pl e k2 p
@@ -75,14 +75,6 @@ for_words o ws0 ws name0 name fields b0 b pl k e p ho hw hn hf hb =
     ∙ ap (λ (n : Text). for_means n (for_in run (tree.in_words (tree.words ws.value))) (whole b0) pl e k p) (sym hn)
     ∙ ap (λ (l : CommandList). for_means name (for_in run (tree.in_words (tree.words ws.value))) (whole l) pl e k p) (sym hb)
     ∙ ap (λ (fs : List Text). fielding (record { words = ws; at = 0; fields = fs; ran = false; then = then.For name b }) pl k e p) (sym hf)
-
-pub fields_over : (name : Text) (fields : List Text) (b : CommandList) (pl : Place) (k : Next) (e : Shell) (p : ℕ) → length fields ≡ 0 → for_fields name fields (whole b) pl k e p ≡ k Normal (with_status 0 e) p
-fields_over name [] b pl k e p h = refl
-fields_over name (f ∷ fs) b pl k e p h = cc
-
-pub fields_left : (name : Text) (fields : List Text) (b : CommandList) (pl : Place) (k : Next) (e : Shell) (p : ℕ) → 1 ≤ length fields → for_fields name fields (whole b) pl k e p ≡ for_each name fields (whole b) pl k e p
-fields_left name [] b pl k e p h = absurd (omega arith)
-fields_left name (f ∷ fs) b pl k e p h = refl
 
 -- a field is paid for
 paid_each : (each : Each) (f : Text) (pl : Place) (k : Next) (e : Shell) (p : ℕ) → drop each.at each.fields ≡ f ∷ drop (each.at + 1) each.fields → for_each each.name (drop each.at each.fields) (whole each.body.value) pl k e p ≡ pay 1 (giving each pl k e) p

@@ -14,26 +14,26 @@ use Rattle.sh_ast.specs.declared.command.Connectors.{Connectors}
 use Rattle.sh_ast.specs.declared.command.Redirects.{Redirects}
 use Rattle.sh_ast.specs.declared.command.SimpleCommand.{SimpleCommand, out-SimpleCommand}
 use Rattle.sh_ast.specs.declared.command.Words.{Words}
-use Rattle.sh_eval.specs.declared.control.Around.TheVariants as around
-use Rattle.sh_eval.specs.declared.control.Control.{Control}
-use Rattle.sh_eval.specs.declared.control.Control.TheVariants as control
-use Rattle.sh_eval.specs.declared.control.Inside.TheVariants as inside
-use Rattle.sh_eval.specs.declared.control.Made.TheVariants as made
-use Rattle.sh_eval.specs.declared.control.Then.TheVariants as then
-use Rattle.sh_eval.specs.declared.control.Wordy.TheVariants as wordy
-use Rattle.sh_eval.specs.declared.flow.Flow.TheVariants.{Normal}
-use Rattle.sh_eval.specs.declared.flow.Place.{Place}
-use Rattle.sh_eval.specs.Compound.{seq_all, and_or_means, links_mean, piped_means, pipeline_means, stages_mean, compound_means, define_means}
-use Rattle.sh_eval.specs.Eval.{command_in, commands_in, compound_in, redirects_in, simple_in, whole_in}
-use Rattle.sh_eval.specs.Flows.{Next, Means, and_then, ignoring}
-use Rattle.sh_eval.specs.Run.{run}
-use Rattle.sh_eval.specs.Simple.{redirects_and_works}
-use Rattle.sh_eval.specs.Stack.{Goes, commands_from, words_from, assigns_from, redirects_from, then_means, first_of, whole, surrounded, resumed}
-use Rattle.sh_eval.specs.State.{Shell, with_status, define, function_tree}
-use Rattle.sh_eval.specs.Trees.{is_one, cleared}
-use Rattle.sh_eval.specs.Words.{expand_words}
-use Rattle.sh_eval.proofs.Folding.{simple_is}
-use Rattle.sh_eval.proofs.Places.{commands_some, commands_none}
+use Rattle.sh_simple.specs.declared.control.Around.TheVariants as around
+use Rattle.sh_simple.specs.declared.control.Control.{Control}
+use Rattle.sh_simple.specs.declared.control.Control.TheVariants as control
+use Rattle.sh_simple.specs.declared.control.Inside.TheVariants as inside
+use Rattle.sh_simple.specs.declared.control.Made.TheVariants as made
+use Rattle.sh_simple.specs.declared.control.Then.TheVariants as then
+use Rattle.sh_simple.specs.declared.control.Wordy.TheVariants as wordy
+use Rattle.sh_simple.specs.declared.flow.Flow.TheVariants.{Normal}
+use Rattle.sh_simple.specs.declared.flow.Place.{Place}
+use Rattle.sh_simple.specs.Compound.{seq_all, and_or_means, links_mean, piped_means, pipeline_means, stages_mean, compound_means, define_means}
+use Rattle.sh_simple.specs.Eval.{command_in, commands_in, compound_in, redirects_in, simple_in, whole_in}
+use Rattle.sh_simple.specs.Flows.{Next, Means, and_then, ignoring}
+use Rattle.sh_simple.specs.Run.{run}
+use Rattle.sh_simple.specs.Simple.{redirects_and_works}
+use Rattle.sh_simple.specs.Stack.{Goes, commands_from, words_from, assigns_from, redirects_from, then_means, first_of, whole, surrounded, resumed}
+use Rattle.sh_simple.specs.State.{Shell, with_status, define, function_tree}
+use Rattle.sh_simple.specs.Trees.{is_one, cleared}
+use Rattle.sh_simple.specs.Words.{expand_words}
+use Rattle.sh_simple.proofs.Folding.{simple_is}
+use Rattle.sh_simple.proofs.Places.{commands_some, commands_none}
 
 pub simple_entered : (c : SimpleCommand) (r : Rc SimpleCommand Global) (ws : Rc Words Global) (fields : List Text) (pl : Place) (k : Next) (e : Shell) (p : ℕ) → r.value ≡ c → ws.value ≡ (out-SimpleCommand c).words.value → fields ≡ [] → simple_in run (tree.simple_command c) pl e k p ≡ pay 1 (resumed (control.Wordy (wordy.Words pl (record { words = ws; at = 0; fields = fields; ran = false; then = then.Simple r }))) k Go e) p
 simple_entered c r ws fields pl k e p hr hw hf =

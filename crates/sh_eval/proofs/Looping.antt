@@ -9,19 +9,19 @@ use Rattle.sh_ast.specs.Commands as tree
 use Rattle.sh_ast.specs.declared.command.CommandList.{CommandList}
 use Rattle.sh_ast.specs.declared.command.LoopKind.{LoopKind}
 use Rattle.sh_ast.specs.declared.command.LoopKind.TheVariants.{While, Until}
-use Rattle.sh_eval.specs.declared.control.Around.TheVariants as around
-use Rattle.sh_eval.specs.declared.control.Control.TheVariants as control
-use Rattle.sh_eval.specs.declared.control.Each.{Each}
-use Rattle.sh_eval.specs.declared.control.Loop.{Loop}
-use Rattle.sh_eval.specs.declared.flow.Flow.TheVariants.{Normal}
-use Rattle.sh_eval.specs.declared.flow.Place.{Place}
-use Rattle.sh_eval.specs.Compound.{turns_round, after_body}
-use Rattle.sh_eval.specs.Eval.{is_until}
-use Rattle.sh_eval.specs.Flows.{Next, Go_on, by_status, ends, deeper}
+use Rattle.sh_simple.specs.declared.control.Around.TheVariants as around
+use Rattle.sh_simple.specs.declared.control.Control.TheVariants as control
+use Rattle.sh_simple.specs.declared.control.Each.{Each}
+use Rattle.sh_simple.specs.declared.control.Loop.{Loop}
+use Rattle.sh_simple.specs.declared.flow.Flow.TheVariants.{Normal}
+use Rattle.sh_simple.specs.declared.flow.Place.{Place}
+use Rattle.sh_simple.specs.Compound.{turns_round, after_body}
+use Rattle.sh_simple.specs.Eval.{is_until}
+use Rattle.sh_simple.specs.Flows.{Next, Go_on, by_status, ends, deeper}
 use Rattle.sh_eval.specs.Leaving.{goes_on, entered}
-use Rattle.sh_eval.specs.Run.{run}
-use Rattle.sh_eval.specs.Stack.{each_body, looping, whole, surrounded, resumed}
-use Rattle.sh_eval.specs.State.{Shell}
+use Rattle.sh_simple.specs.Run.{run}
+use Rattle.sh_simple.specs.Stack.{each_body, looping, whole, surrounded, resumed}
+use Rattle.sh_simple.specs.State.{Shell}
 
 pub each_entered : (each : Each) (b : Place) (body : Rc CommandList Global) (pl : Place) (k k' : Next) (e : Shell) (p : ℕ) → body.value ≡ each.body.value → b ≡ deeper pl → k' ≡ surrounded (around.Each pl (record each { at = each.at + 1 })) k → each_body each pl k e p ≡ resumed (control.Whole b body) k' Go e p
 each_entered each b body pl k k' e p hc hb hk =

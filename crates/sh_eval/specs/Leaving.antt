@@ -3,13 +3,13 @@ use Rattle.std.specs.Prelude.{ℕ, ◌==◌, not, List, [], ◌∷◌, Bool, tru
 use Rattle.sh_ast.specs.Commands as tree
 use Rattle.sh_ast.specs.declared.command.LoopKind.{LoopKind}
 use Rattle.sh_ast.specs.declared.command.LoopKind.TheVariants.{While, Until}
-use Rattle.sh_eval.specs.declared.control.Loop.{Loop}
-use Rattle.sh_eval.specs.declared.flow.Flow.TheVariants.{Normal}
-use Rattle.sh_eval.specs.declared.flow.Place.{Place}
-use Rattle.sh_eval.specs.Compound.{turns_round, after_body, place_before}
-use Rattle.sh_eval.specs.Flows.{Next, Go_on, Means, ends, deeper}
-use Rattle.sh_eval.specs.Run.{run}
-use Rattle.sh_eval.specs.Stack.{looping, whole}
+use Rattle.sh_simple.specs.declared.control.Loop.{Loop}
+use Rattle.sh_simple.specs.declared.flow.Flow.TheVariants.{Normal}
+use Rattle.sh_simple.specs.declared.flow.Place.{Place}
+use Rattle.sh_simple.specs.Compound.{turns_round, after_body, place_before}
+use Rattle.sh_simple.specs.Flows.{Next, Go_on, Means, ends, deeper}
+use Rattle.sh_simple.specs.Run.{run}
+use Rattle.sh_simple.specs.Stack.{looping, whole}
 
 -- whether the status of its condition lets a loop go on
 abbrev pub goes_on : LoopKind → ℕ → Bool

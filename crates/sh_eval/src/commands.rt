@@ -2,25 +2,27 @@
 ghost use Rattle.std.specs.Prelude.{◌≡◌, IfOk};
 ghost use Rattle.rk_calls.specs.Talk.{pay};
 ghost use Rattle.sh_ast.specs.Commands as tree;
-ghost use Rattle.sh_eval.specs.Flows.{Next};
-ghost use Rattle.sh_eval.specs.Eval.{command_in, commands_in, compound_in, redirects_in, simple_in};
-ghost use Rattle.sh_eval.specs.Compound.{define_means, pipeline_means, piped_means, and_or_means, compound_means, seq_all};
-ghost use Rattle.sh_eval.specs.Trees.{is_one, cleared};
-ghost use Rattle.sh_eval.specs.Run.{run};
-ghost use Rattle.sh_eval.specs.Stack.{Steps, Goes, IsStep, context, commands_from, first_of, whole};
-ghost use Rattle.sh_eval.specs.State.{Shell, function_tree};
-ghost use Rattle.sh_eval.specs.declared.flow.Place.{Place as Places};
-ghost use Rattle.sh_eval.specs.Views.{shell_of};
+ghost use Rattle.sh_simple.specs.Flows.{Next};
+ghost use Rattle.sh_simple.specs.Eval.{command_in, commands_in, compound_in, redirects_in, simple_in};
+ghost use Rattle.sh_simple.specs.Compound.{define_means, pipeline_means, piped_means, and_or_means, compound_means, seq_all};
+ghost use Rattle.sh_simple.specs.Trees.{is_one, cleared};
+ghost use Rattle.sh_simple.specs.Run.{run};
+ghost use Rattle.sh_simple.specs.Stack.{Steps, Goes, IsStep, context, commands_from, first_of, whole};
+ghost use Rattle.sh_simple.specs.State.{Shell, function_tree};
+ghost use Rattle.sh_simple.specs.declared.flow.Place.{Place as Places};
+ghost use Rattle.sh_simple.specs.Views.{shell_of};
 
-use crate::control::{Acted, Around, Control, Fielding, Frame, Inside, Made, Making, Then, Wordy};
-use crate::flow::{Flow, Place};
-use crate::numbers::behind;
-use crate::stack::put_around;
-use crate::state::{Callee, Function, State};
-use crate::steps::{free, paid};
 use rk_base::{Bytes, NoMemory, WordList};
 use rk_calls::Answer;
 use sh_ast::{Command, CommandList, Compound, Connectors, Redirects, SimpleCommand};
+use sh_simple::control::{
+    Acted, Around, Control, Fielding, Frame, Inside, Made, Making, Then, Wordy,
+};
+use sh_simple::flow::{Flow, Place};
+use sh_simple::numbers::behind;
+use sh_simple::stack::put_around;
+use sh_simple::state::{Callee, Function, State};
+use sh_simple::steps::{free, paid};
 use std::alloc::Global;
 use std::rc::Rc;
 

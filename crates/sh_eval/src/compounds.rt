@@ -3,31 +3,31 @@ ghost use Rattle.std.specs.Prelude.{◌≡◌, ◌+◌, ℕ, IfOk, OnOk, drop, n
 ghost use Rattle.rk_base.specs.Text.{Text};
 ghost use Rattle.sh_ast.specs.Commands as tree;
 ghost use Rattle.sh_vars.specs.Held.{assigned, is_readonly};
-ghost use Rattle.sh_eval.specs.Flows.{Next, deeper};
-ghost use Rattle.sh_eval.specs.Compound.{for_each, for_fields, for_means, if_means, case_means, subshell_means, stages_mean, with_input};
-ghost use Rattle.sh_eval.specs.Eval.{compound_in, for_in, items_in, word_in, is_until};
-ghost use Rattle.sh_eval.specs.Run.{run};
-ghost use Rattle.sh_eval.specs.Simple.{Round};
-ghost use Rattle.sh_eval.specs.Stack.{Steps, Goes, IsStep, context, branches_from, commands_from, first_of, whole, casing, looping, each_body, giving};
-ghost use Rattle.sh_eval.specs.State.{Shell, with_held, with_slot, back};
-ghost use Rattle.sh_eval.specs.Views.{shell_of};
-ghost use Rattle.sh_eval.specs.Trees.{for_words_of, given_if};
+ghost use Rattle.sh_simple.specs.Flows.{Next, deeper};
+ghost use Rattle.sh_simple.specs.Compound.{for_each, for_fields, for_means, if_means, case_means, subshell_means, stages_mean, with_input};
+ghost use Rattle.sh_simple.specs.Eval.{compound_in, for_in, items_in, word_in, is_until};
+ghost use Rattle.sh_simple.specs.Run.{run};
+ghost use Rattle.sh_simple.specs.Simple.{Round};
+ghost use Rattle.sh_simple.specs.Stack.{Steps, Goes, IsStep, context, branches_from, commands_from, first_of, whole, casing, looping, each_body, giving};
+ghost use Rattle.sh_simple.specs.State.{Shell, with_held, with_slot, back};
+ghost use Rattle.sh_simple.specs.Views.{shell_of};
+ghost use Rattle.sh_simple.specs.Trees.{for_words_of, given_if};
 
-use crate::control::{
-    Acted, Aim, Around, Casing, Control, Each, Fielding, Frame, Inside, Loop, Then, Undo, Wait,
-    Wordy,
-};
-use crate::flow::{Flow, Place};
-use crate::items::item_at;
-use crate::numbers::behind;
-use crate::stack::{put_around, put_undo};
-use crate::state::State;
-use crate::steps::{end, free, paid, refuse};
-use crate::words::begin;
 use rk_base::{Bytes, NoMemory, WordList};
 use rk_calls::{Answer, Call, Turn};
 use sh_ast::{Branches, CaseItems, CommandList, Compound, LoopKind, Word, Words};
 use sh_expand::Mode;
+use sh_simple::control::{
+    Acted, Aim, Around, Casing, Control, Each, Fielding, Frame, Inside, Loop, Then, Undo, Wait,
+    Wordy,
+};
+use sh_simple::flow::{Flow, Place};
+use sh_simple::items::item_at;
+use sh_simple::numbers::behind;
+use sh_simple::stack::{put_around, put_undo};
+use sh_simple::state::State;
+use sh_simple::steps::{end, free, paid, refuse};
+use sh_simple::words::{begin, over_fields};
 use sh_vars::VarErr;
 use std::alloc::Global;
 use std::rc::Rc;
@@ -82,31 +82,6 @@ fn act_for(
             )))
         }
     }
-}
-
-/// A `for` over these fields; without one the status is 0.
-pub(crate) fn over_fields(
-    place: Place,
-    name: Bytes,
-    fields: WordList,
-    body: Rc<CommandList>,
-    state: &mut State,
-) -> Control
-    ensures { (k : Next) → Goes (for_fields name fields (whole body.value) place k (shell_of state.old)) k (shell_of state.new) result }
-{
-    if fields.len() == 0 {
-        state.env.status = 0;
-        return Control::Leave(Flow::Normal);
-    }
-    Control::Inside(Inside::Each(
-        place,
-        Each {
-            name,
-            fields,
-            at: 0,
-            body,
-        },
-    ))
 }
 
 fn act_case(

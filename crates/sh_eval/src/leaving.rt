@@ -1,26 +1,27 @@
 // What a frame that is left leads to.
 ghost use Rattle.std.specs.Prelude.{◌≡◌, ◌==◌, ◌+◌, IfOk, Bool, true, not, drop, if◌then◌else◌};
 ghost use Rattle.sh_ast.specs.Commands as tree;
-ghost use Rattle.sh_eval.specs.declared.control.Around.TheVariants as arounds;
-ghost use Rattle.sh_eval.specs.declared.control.Undo.TheVariants as undos;
-ghost use Rattle.sh_eval.specs.declared.flow.Flow.{Flow as Flows};
-ghost use Rattle.sh_eval.specs.Flows.{Next, and_then, leave, returned};
-ghost use Rattle.sh_eval.specs.Compound.{takes, links_mean};
+ghost use Rattle.sh_simple.specs.declared.control.Around.TheVariants as arounds;
+ghost use Rattle.sh_simple.specs.declared.control.Undo.TheVariants as undos;
+ghost use Rattle.sh_simple.specs.declared.flow.Flow.{Flow as Flows};
+ghost use Rattle.sh_simple.specs.Flows.{Next, and_then, leave, returned};
+ghost use Rattle.sh_simple.specs.Compound.{takes, links_mean};
 ghost use Rattle.sh_eval.specs.Leaving.{goes_on, entered, linked};
-ghost use Rattle.sh_eval.specs.Run.{run};
-ghost use Rattle.sh_eval.specs.Stack.{Goes, context, surrounded, undone, commands_from, whole, looping, resumed};
-ghost use Rattle.sh_eval.specs.State.{Shell};
-ghost use Rattle.sh_eval.specs.Views.{shell_of};
+ghost use Rattle.sh_simple.specs.Run.{run};
+ghost use Rattle.sh_simple.specs.Stack.{Goes, context, surrounded, undone, commands_from, whole, looping, resumed};
+ghost use Rattle.sh_simple.specs.State.{Shell};
+ghost use Rattle.sh_simple.specs.Views.{shell_of};
 
 use crate::compounds::deeper;
-use crate::control::{Around, Control, Each, Frame, Inside, Loop, Undo, Wordy};
-use crate::flow::{Flow, Place};
-use crate::items::item_at;
-use crate::numbers::behind;
-use crate::stack::put_around;
-use crate::state::State;
 use rk_base::{NoMemory, WordList};
 use sh_ast::{Branches, CommandList, Connector, Connectors, LoopKind};
+use sh_simple::control::{Around, Control, Each, Frame, Inside, Loop, Undo, Wordy};
+use sh_simple::flow::{Flow, Place};
+use sh_simple::items::item_at;
+use sh_simple::numbers::behind;
+use sh_simple::stack::put_around;
+use sh_simple::state::State;
+use sh_simple::undoing::{put_back, put_back_variables};
 use std::rc::Rc;
 
 // After a command of a list.
@@ -344,11 +345,11 @@ pub(crate) fn leave_undo(frame: Undo, flow: Flow, state: &mut State) -> Result<C
 {
     match frame {
         Undo::Redirected(redirects, before) => {
-            crate::undoing::put_back(&redirects, &before, &mut state.descriptors);
+            put_back(&redirects, &before, &mut state.descriptors);
             Ok(Control::Leave(flow))
         }
         Undo::Assigned(assignments, before) => {
-            crate::undoing::put_back_variables(&assignments, &before, &mut state.env.vars)?;
+            put_back_variables(&assignments, &before, &mut state.env.vars)?;
             Ok(Control::Leave(flow))
         }
         Undo::Function(positional) => {

@@ -2,22 +2,23 @@
 ghost use Rattle.std.specs.Prelude.{◌≡◌, IfOk, OnOk};
 ghost use Rattle.rk_base.specs.Text.{Text};
 ghost use Rattle.sh_vars.specs.Held.{assigned, given};
-ghost use Rattle.sh_eval.specs.Eval.{over};
+ghost use Rattle.sh_simple.specs.Eval.{over};
 ghost use Rattle.sh_eval.specs.Machine.{evaluator_says};
-ghost use Rattle.sh_eval.specs.Reads.{reads};
-ghost use Rattle.sh_eval.specs.Run.{run};
-ghost use Rattle.sh_eval.specs.Starting.{NoneReadonly, start_of, shell_talk};
-ghost use Rattle.sh_eval.specs.Starts.{all_given, first_variables, first_shell, starts, by_argv, shell_says, runs_command};
-ghost use Rattle.sh_eval.specs.Views.{shell_of};
+ghost use Rattle.sh_tree.proofs.ReadAs.{reads};
+ghost use Rattle.sh_simple.specs.Run.{run};
+ghost use Rattle.sh_eval.specs.Starting.{NoneReadonly, shell_talk};
+ghost use Rattle.sh_special.specs.Invocation.{start_of};
+ghost use Rattle.sh_simple.specs.Starts.{all_given, first_variables, first_shell, starts, by_argv, shell_says, runs_command};
+ghost use Rattle.sh_simple.specs.Views.{shell_of};
 
 use crate::begins::outermost;
-use crate::control::{Begin, Control, Wordy};
 use crate::machine::Evaluator;
-use crate::starting::{Start, copies, misused, options};
-use crate::state::State;
 use rk_base::{Bytes, NoMemory, Path, Var, WordList};
 use rk_calls::{Answer, Key, Machine, Turn};
 use sh_redirect::Descriptors;
+use sh_simple::control::{Begin, Control, Wordy};
+use sh_simple::state::State;
+use sh_special::{Start, copies, misused, read_options};
 use sh_vars::{Env, VarErr, Vars};
 use std::alloc::Global;
 
@@ -157,7 +158,7 @@ fn by_argv(alloc: Global, argv: &[Bytes], vars: &[Var], wd: &Path) -> Result<Eva
         }
         [word, words @ ..] => {
             if word.as_slice() == b"sh".as_slice() {
-                let start = options(alloc, false, words)?;
+                let start = read_options(alloc, false, words)?;
                 return begun(alloc, start, vars, wd);
             }
             of_command(alloc, word, words, vars, wd)

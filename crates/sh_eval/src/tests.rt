@@ -2,13 +2,13 @@
 mod world;
 
 use crate::begins::outermost;
-use crate::control::Control;
 use crate::machine::Evaluator;
-use crate::reader::{Read, read_text};
-use crate::state::State;
 use rk_base::{Bytes, NoMemory, Path, WordList};
 use rk_calls::{Answer, Turn};
+use sh_parse::{Read, read_text};
 use sh_redirect::Descriptors;
+use sh_simple::control::Control;
+use sh_simple::state::State;
 use sh_vars::{Env, Vars};
 use std::alloc::Global;
 use std::test::Fail;

@@ -1,4 +1,5 @@
 pub mod Changes
+pub mod Invocation
 pub mod Lines
 pub mod Orders
 pub mod Settings

@@ -3,6 +3,7 @@
 
 mod changes;
 mod declaration;
+mod invocation;
 mod name;
 mod options;
 mod order;
@@ -11,6 +12,7 @@ mod texts;
 
 pub use changes::{declare_all, set_options, shift, unset_all};
 pub use declaration::{Declaration, DeclarationList};
+pub use invocation::{Start, copies, misused, read_options};
 pub use options::Options;
 pub use order::Order;
 pub use ordering::order_of;

@@ -1,5 +1,5 @@
 use Rattle.std.proofs.Common.{◌∙◌}
-use Rattle.sh_eval.specs.Stack.{context}
+use Rattle.sh_simple.specs.Stack.{context}
 use Rattle.sh_eval.proofs.Entered.{one_entered, more_entered}
 use Rattle.sh_eval.proofs.commands.act_and_or.Goals as goal
 

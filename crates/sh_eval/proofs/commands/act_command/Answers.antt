@@ -1,11 +1,11 @@
 use Rattle.std.proofs.Common.{ap, ◌∙◌}
 use Rattle.sh_ast.specs.Commands as tree
 use Rattle.sh_ast.specs.declared.command.Command.{Command}
-use Rattle.sh_eval.specs.Eval.{command_in}
-use Rattle.sh_eval.specs.Run.{run}
-use Rattle.sh_eval.specs.Stack.{context}
-use Rattle.sh_eval.specs.Views.{shell_of}
-use Rattle.sh_eval.proofs.Folding.{a_simple_is, a_compound_is, a_function_is, a_pipeline_is, an_and_or_is}
+use Rattle.sh_simple.specs.Eval.{command_in}
+use Rattle.sh_simple.specs.Run.{run}
+use Rattle.sh_simple.specs.Stack.{context}
+use Rattle.sh_simple.specs.Views.{shell_of}
+use Rattle.sh_simple.proofs.Folding.{a_simple_is, a_compound_is, a_function_is, a_pipeline_is, an_and_or_is}
 use Rattle.sh_eval.proofs.commands.act_command.Goals as goal
 
 pub returns-in_ok-acted-in-Simple-clause-talk : goal.returns-in_ok-acted-in-Simple-clause-talk

@@ -1,5 +1,5 @@
 use Rattle.std.proofs.Common.{◌∙◌}
-use Rattle.sh_eval.specs.Views.{shell_of}
+use Rattle.sh_simple.specs.Views.{shell_of}
 use Rattle.sh_eval.proofs.Entered.{function_defined}
 use Rattle.sh_eval.proofs.commands.act_function.Goals as goal
 

@@ -1,9 +1,9 @@
 use Rattle.std.proofs.Common.{Bool, ap, ◌∙◌}
 use Rattle.sh_ast.specs.Commands as tree
-use Rattle.sh_eval.specs.Compound.{pipeline_means}
-use Rattle.sh_eval.specs.Eval.{commands_in}
-use Rattle.sh_eval.specs.Run.{run}
-use Rattle.sh_eval.specs.Stack.{context}
+use Rattle.sh_simple.specs.Compound.{pipeline_means}
+use Rattle.sh_simple.specs.Eval.{commands_in}
+use Rattle.sh_simple.specs.Run.{run}
+use Rattle.sh_simple.specs.Stack.{context}
 use Rattle.sh_eval.proofs.Entered.{bang_entered, plain_entered}
 use Rattle.sh_eval.proofs.commands.act_pipeline.Goals as goal
 

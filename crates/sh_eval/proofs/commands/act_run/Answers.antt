@@ -1,8 +1,8 @@
 use Rattle.std.proofs.Common.{ap, ◌∙◌}
 use Rattle.sh_ast.specs.Commands as tree
-use Rattle.sh_eval.specs.declared.control.Around.TheVariants as around
-use Rattle.sh_eval.specs.Stack.{context, surrounded}
-use Rattle.sh_eval.specs.Views.{shell_of}
+use Rattle.sh_simple.specs.declared.control.Around.TheVariants as around
+use Rattle.sh_simple.specs.Stack.{context, surrounded}
+use Rattle.sh_simple.specs.Views.{shell_of}
 use Rattle.sh_eval.proofs.Entered.{run_begun, run_ended}
 use Rattle.sh_eval.proofs.commands.act_run.Goals as goal
 

@@ -1,6 +1,6 @@
 use Rattle.std.proofs.Common.{◌∙◌}
-use Rattle.sh_eval.specs.Stack.{context}
-use Rattle.sh_eval.specs.Views.{shell_of}
+use Rattle.sh_simple.specs.Stack.{context}
+use Rattle.sh_simple.specs.Views.{shell_of}
 use Rattle.sh_eval.proofs.Entered.{whole_begun}
 use Rattle.sh_eval.proofs.commands.act_whole.Goals as goal
 

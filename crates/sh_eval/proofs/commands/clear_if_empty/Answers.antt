@@ -1,5 +1,5 @@
 use Rattle.sh_ast.specs.Commands as tree
-use Rattle.sh_eval.specs.Views.{shell_of}
+use Rattle.sh_simple.specs.Views.{shell_of}
 use Rattle.sh_eval.proofs.Entered.{cleared_some, cleared_none}
 use Rattle.sh_eval.proofs.commands.clear_if_empty.Goals as goal
 

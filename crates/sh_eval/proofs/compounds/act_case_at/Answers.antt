@@ -1,7 +1,7 @@
 use Rattle.std.proofs.Common.{sym, ap, ◌∙◌}
-use Rattle.sh_eval.specs.Stack.{casing}
-use Rattle.sh_eval.specs.Views.{shell_of}
-use Rattle.sh_eval.proofs.Cases.{items_over, patterns_over, pattern_begun}
+use Rattle.sh_simple.specs.Stack.{casing}
+use Rattle.sh_simple.specs.Views.{shell_of}
+use Rattle.sh_simple.proofs.Cases.{items_over, patterns_over, pattern_begun}
 use Rattle.sh_eval.proofs.compounds.act_case_at.Goals as goal
 
 pub returns-in-None-clause-talk : goal.returns-in-None-clause-talk

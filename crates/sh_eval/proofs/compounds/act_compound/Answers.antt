@@ -1,11 +1,11 @@
 use Rattle.std.proofs.Common.{ap, ◌∙◌}
 use Rattle.sh_ast.specs.Commands as tree
 use Rattle.sh_ast.specs.declared.command.Compound.{Compound}
-use Rattle.sh_eval.specs.Eval.{compound_in}
-use Rattle.sh_eval.specs.Run.{run}
-use Rattle.sh_eval.specs.Stack.{context}
-use Rattle.sh_eval.specs.Views.{shell_of}
-use Rattle.sh_eval.proofs.Folding.{a_group_is, a_subshell_is, a_for_is, a_case_is, an_if_is, a_loop_is}
+use Rattle.sh_simple.specs.Eval.{compound_in}
+use Rattle.sh_simple.specs.Run.{run}
+use Rattle.sh_simple.specs.Stack.{context}
+use Rattle.sh_simple.specs.Views.{shell_of}
+use Rattle.sh_simple.proofs.Folding.{a_group_is, a_subshell_is, a_for_is, a_case_is, an_if_is, a_loop_is}
 use Rattle.sh_eval.proofs.ByKind.{group_entered, if_entered}
 use Rattle.sh_eval.proofs.compounds.act_compound.Goals as goal
 

@@ -1,5 +1,5 @@
 use Rattle.std.proofs.Common.{◌∙◌}
-use Rattle.sh_eval.specs.Views.{shell_of}
+use Rattle.sh_simple.specs.Views.{shell_of}
 use Rattle.sh_eval.proofs.ByKind.{for_parameters, for_words}
 use Rattle.sh_eval.proofs.compounds.act_for.Goals as goal
 

@@ -1,6 +1,6 @@
 use Rattle.std.proofs.Common.{ap, ◌∙◌}
-use Rattle.sh_eval.specs.declared.control.Around.TheVariants as around
-use Rattle.sh_eval.specs.Stack.{context, surrounded}
+use Rattle.sh_simple.specs.declared.control.Around.TheVariants as around
+use Rattle.sh_simple.specs.Stack.{context, surrounded}
 use Rattle.sh_eval.proofs.Branching.{if_begun, if_over}
 use Rattle.sh_eval.proofs.compounds.act_if.Goals as goal
 

@@ -1,6 +1,6 @@
 use Rattle.std.proofs.Common.{◌∙◌}
-use Rattle.sh_eval.specs.Stack.{context}
-use Rattle.sh_eval.proofs.Calling.{round_entered}
+use Rattle.sh_simple.specs.Stack.{context}
+use Rattle.sh_simple.proofs.Calling.{round_entered}
 use Rattle.sh_eval.proofs.compounds.act_round.Goals as goal
 
 pub returns-clause-talk : goal.returns-clause-talk

@@ -1,5 +1,5 @@
-use Rattle.sh_eval.specs.Stack.{context}
-use Rattle.sh_eval.specs.Views.{shell_of}
+use Rattle.sh_simple.specs.Stack.{context}
+use Rattle.sh_simple.specs.Views.{shell_of}
 use Rattle.sh_eval.proofs.ByKind.{subshell_entered}
 use Rattle.sh_eval.proofs.compounds.act_subshell.Goals as goal
 

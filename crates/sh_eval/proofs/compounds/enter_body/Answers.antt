@@ -1,6 +1,6 @@
 use Rattle.std.proofs.Common.{ap, ◌∙◌}
-use Rattle.sh_eval.specs.declared.control.Around.TheVariants as around
-use Rattle.sh_eval.specs.Stack.{context, surrounded}
+use Rattle.sh_simple.specs.declared.control.Around.TheVariants as around
+use Rattle.sh_simple.specs.Stack.{context, surrounded}
 use Rattle.sh_eval.proofs.Looping.{each_entered}
 use Rattle.sh_eval.proofs.compounds.enter_body.Goals as goal
 

@@ -1,5 +1,5 @@
-use Rattle.sh_eval.specs.Stack.{context}
-use Rattle.sh_eval.specs.Views.{shell_of}
+use Rattle.sh_simple.specs.Stack.{context}
+use Rattle.sh_simple.specs.Views.{shell_of}
 use Rattle.sh_eval.proofs.Looping.{loop_entered, loop_over}
 use Rattle.sh_eval.proofs.leaving.enter_body.Goals as goal
 

@@ -1,8 +1,8 @@
 use Rattle.std.proofs.Common.{ap, ◌∙◌}
-use Rattle.sh_eval.specs.declared.control.Around.{Around}
-use Rattle.sh_eval.specs.Stack.{context, surrounded}
-use Rattle.sh_eval.specs.Views.{shell_of}
-use Rattle.sh_eval.proofs.Undone.{stage_back}
+use Rattle.sh_simple.specs.declared.control.Around.{Around}
+use Rattle.sh_simple.specs.Stack.{context, surrounded}
+use Rattle.sh_simple.specs.Views.{shell_of}
+use Rattle.sh_simple.proofs.Undone.{stage_back}
 use Rattle.sh_eval.proofs.leaving.leave_around.Goals as goal
 
 pub returns-in-Rest : goal.returns-in-Rest

@@ -1,8 +1,8 @@
 use Rattle.std.proofs.Common.{ap, ◌∙◌}
-use Rattle.sh_eval.specs.declared.control.Around.TheVariants as around
-use Rattle.sh_eval.specs.declared.flow.Flow.{Flow}
-use Rattle.sh_eval.specs.Stack.{context, surrounded}
-use Rattle.sh_eval.specs.Views.{shell_of}
+use Rattle.sh_simple.specs.declared.control.Around.TheVariants as around
+use Rattle.sh_simple.specs.declared.flow.Flow.{Flow}
+use Rattle.sh_simple.specs.Stack.{context, surrounded}
+use Rattle.sh_simple.specs.Views.{shell_of}
 use Rattle.sh_eval.proofs.leaving.leave_condition.Goals as goal
 
 pub returns-in_ok-control-in-Normal : goal.returns-in_ok-control-in-Normal

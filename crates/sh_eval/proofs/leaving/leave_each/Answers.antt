@@ -1,8 +1,8 @@
 use Rattle.std.proofs.Common.{ap, ◌∙◌}
-use Rattle.sh_eval.specs.declared.control.Around.TheVariants as around
-use Rattle.sh_eval.specs.declared.flow.Flow.{Flow}
-use Rattle.sh_eval.specs.declared.flow.Flow.TheVariants.{Continues}
-use Rattle.sh_eval.specs.Stack.{surrounded}
+use Rattle.sh_simple.specs.declared.control.Around.TheVariants as around
+use Rattle.sh_simple.specs.declared.flow.Flow.{Flow}
+use Rattle.sh_simple.specs.declared.flow.Flow.TheVariants.{Continues}
+use Rattle.sh_simple.specs.Stack.{surrounded}
 use Rattle.sh_eval.proofs.leaving.leave_each.Goals as goal
 
 pub returns-in-Normal : goal.returns-in-Normal

@@ -1,8 +1,8 @@
 use Rattle.std.proofs.Common.{ap, ◌∙◌}
-use Rattle.sh_eval.specs.declared.control.Undo.{Undo}
-use Rattle.sh_eval.specs.Stack.{undone}
-use Rattle.sh_eval.specs.Views.{shell_of}
-use Rattle.sh_eval.proofs.Undone.{descriptors_back, variables_back, positional_back, shell_back, word_back}
+use Rattle.sh_simple.specs.declared.control.Undo.{Undo}
+use Rattle.sh_simple.specs.Stack.{undone}
+use Rattle.sh_simple.specs.Views.{shell_of}
+use Rattle.sh_simple.proofs.Undone.{descriptors_back, variables_back, positional_back, shell_back, word_back}
 use Rattle.sh_eval.proofs.leaving.leave_undo.Goals as goal
 
 pub returns-in-Redirected : goal.returns-in-Redirected

@@ -1,6 +1,6 @@
 use Rattle.std.proofs.Common.{Bool, ap, ◌∙◌}
 use Rattle.sh_eval.specs.Leaving.{linked}
-use Rattle.sh_eval.specs.Stack.{commands_from}
+use Rattle.sh_simple.specs.Stack.{commands_from}
 use Rattle.sh_eval.proofs.leaving.link.Goals as goal
 
 pub returns-then-taken : goal.returns-then-taken

@@ -2,10 +2,10 @@ use Rattle.std.proofs.Common.{◌≡◌, List, Some, None, sym, ap, subst, ◌�
 use Rattle.std.specs.List.{slice_get}
 use Rattle.sh_ast.specs.declared.command.Connector.{Connector}
 use Rattle.sh_ast.specs.declared.command.Connectors.{Connectors}
-use Rattle.sh_eval.specs.declared.control.Around.TheVariants as around
+use Rattle.sh_simple.specs.declared.control.Around.TheVariants as around
 use Rattle.sh_eval.specs.Leaving.{linked}
-use Rattle.sh_eval.specs.Stack.{commands_from, context, surrounded}
-use Rattle.sh_eval.specs.Views.{shell_of}
+use Rattle.sh_simple.specs.Stack.{commands_from, context, surrounded}
+use Rattle.sh_simple.specs.Views.{shell_of}
 use Rattle.sh_eval.proofs.Branching.{links_so, links_over}
 use Rattle.sh_eval.proofs.leaving.links.Goals as goal
 

@@ -1,5 +1,0 @@
-use Rattle.sh_eval.specs.Laws.{run-is}
-use Rattle.sh_eval.proofs.laws.what_is_evaluated_again_means_its_job.Goals as goal
-
-pub returns : goal.returns
-returns c = run-is

@@ -1,5 +1,0 @@
-use Rattle.std.proofs.Common.{◌≡◌, take}
-use Rattle.sh_eval.proofs.starting.copies.Given as goal
-
-abbrev pub invariant-words : goal.invariant-words
-invariant-words l = l.list.items ≡ take l.word-index l.words

@@ -1,8 +1,0 @@
-use Rattle.std.proofs.Common.{ap}
-use Rattle.sh_special.specs.Lines.{usage_line}
-use Rattle.sh_eval.specs.Starts.{Misused}
-use Rattle.sh_eval.proofs.starting.misused.Goals as goal
-
-pub returns : goal.returns
-unfolding usage_line
-returns c = ap Misused c.in_ok-line.ensures

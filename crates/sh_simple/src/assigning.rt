@@ -1,0 +1,52 @@
+// Assignments, one after another, and then what the command does.
+ghost use Rattle.std.specs.Prelude.{IfOk};
+ghost use Rattle.sh_simple.specs.Stack.{Steps, IsStep, context, assigning};
+ghost use Rattle.sh_simple.specs.Views.{shell_of};
+
+use crate::control::{Acted, Aim, Assigning, Frame};
+use crate::flow::Place;
+use crate::launching::work;
+use crate::numbers::behind;
+use crate::state::State;
+use crate::steps::free;
+use crate::words::begin;
+use rk_base::NoMemory;
+use sh_expand::Mode;
+use std::alloc::Global;
+
+/// The next of the assignments, or what the command does.
+pub fn next_assign(
+    alloc: Global,
+    place: Place,
+    left: Assigning,
+    stack: &mut Vec<Frame>,
+    state: &mut State,
+) -> Result<Acted, NoMemory>
+    ensures talk { IfOk result (Steps (assigning left left.ran place (context stack.old.items) (shell_of state.old)) (context stack.new.items) (shell_of state.new)) }
+    ensures costly { IfOk result (λ t. IsStep t.turn) }
+{
+    let assignments = left.assignments.clone()?;
+    match assignments.get(left.at) {
+        Some(assignment) => {
+            let name = assignment.name.copy()?;
+            let value = assignment.value.clone()?;
+            let next = behind(left.at)?;
+            let mut left = left;
+            left.at = next;
+            let aim = Aim::Value(left, name, state.env.next);
+            let control = begin(alloc, value, Mode::Value, place, aim)?;
+            Ok(free(control))
+        }
+        None => {
+            let Assigning {
+                assignments: _,
+                at: _,
+                exported: _,
+                ran,
+                doing,
+            } = left;
+            let acted = work(alloc, doing, ran, place, stack, state)?;
+            Ok(acted)
+        }
+    }
+}

@@ -1,0 +1,109 @@
+// An expander's turns, and the bodies of its substitutions (XCU 2.6.3).
+ghost use Rattle.std.specs.Prelude.{◌≡◌, IfOk};
+ghost use Rattle.sh_ast.specs.Commands as tree;
+ghost use Rattle.sh_simple.specs.Eval.{word_in};
+ghost use Rattle.sh_simple.specs.Flows.{Next};
+ghost use Rattle.sh_simple.specs.Run.{run};
+ghost use Rattle.sh_simple.specs.Stack.{Steps, Goes, IsStep, context, wording, whole};
+ghost use Rattle.sh_simple.specs.State.{Shell, with_env};
+ghost use Rattle.sh_simple.specs.Trees.{IsBody};
+ghost use Rattle.sh_simple.specs.Views.{shell_of};
+ghost use Rattle.sh_simple.specs.Words.{body_at, in_subshell};
+ghost use Rattle.rk_calls.specs.declared.answer.Answer.TheVariants as answers;
+
+use crate::control::{Acted, Control, Frame, Undo, Wait, Wording, Wordy};
+use crate::stack::put_undo;
+use crate::state::State;
+use crate::steps::free;
+use rk_base::NoMemory;
+use rk_calls::{Answer, Turn};
+use sh_ast::{CommandList, Word};
+use sh_expand::{ExpandFault, Expanding};
+use std::alloc::Global;
+use std::rc::Rc;
+
+// The body of a substitution.
+fn body_of(alloc: Global, word: &Word, number: u64) -> Result<Rc<CommandList>, NoMemory>
+    ensures { IfOk result (λ b. IsBody (word_in run (tree.word word.now)).bodies number (whole b.value)) }
+{
+    match word.body(number as usize) {
+        Some(body) => {
+            let body = body.clone()?;
+            Ok(body)
+        }
+        None => {
+            let none = CommandList {
+                items: Vec::new(alloc),
+            };
+            let body = Rc::new(alloc, none)?;
+            Ok(body)
+        }
+    }
+}
+
+// A substitution's body begins in a subshell, with 1 on the pipe that was made last.
+fn enter_body(
+    alloc: Global,
+    w: Wording,
+    number: u64,
+    stack: &mut Vec<Frame>,
+    state: &mut State,
+) -> Result<Control, NoMemory>
+    ensures { IfOk result (Goes (in_subshell (body_at (word_in run (tree.word w.word.value)).bodies number) w.place (shell_of state.old) state.old.env (λ env. wording w (context stack.old.items) answers.Go (with_env env (shell_of state.old)))) (context stack.new.items) (shell_of state.new)) }
+{
+    let body = body_of(alloc, &w.word, number)?;
+    let saved = state.save(alloc)?;
+    let place = w.place;
+    put_undo(stack, Undo::Substitution(w, saved))?;
+    let write_end = state.env.next.saturating_sub(1);
+    state.descriptors.set(1, Some(write_end));
+    Ok(Control::Whole(place, body))
+}
+
+/// An expander's next turn, with the answer that was heard.
+pub fn act_expand(
+    alloc: Global,
+    w: Wording,
+    answer: Answer,
+    stack: &mut Vec<Frame>,
+    state: &mut State,
+) -> Result<Acted, NoMemory>
+    ensures talk { IfOk result (Steps (wording w (context stack.old.items) answer (shell_of state.old)) (context stack.new.items) (shell_of state.new)) }
+    ensures costly { IfOk result (λ t. IsStep t.turn) }
+{
+    let mut w = w;
+    let wants = w.expander.resume(&mut state.env, answer)?;
+    match wants {
+        Expanding::Ask(call, cost) => Ok(Acted {
+            turn: Turn::Ask(call, cost),
+            control: Control::Wordy(Wordy::Expand(w)),
+        }),
+        Expanding::More(cost) => Ok(Acted {
+            turn: Turn::More(cost),
+            control: Control::Wordy(Wordy::Expand(w)),
+        }),
+        Expanding::Body(number) => {
+            let control = enter_body(alloc, w, number, stack, state)?;
+            Ok(free(control))
+        }
+        Expanding::Done(expanded, cost) => {
+            let Wording {
+                expander: _,
+                word: _,
+                place,
+                aim,
+            } = w;
+            Ok(Acted {
+                turn: Turn::More(cost),
+                control: Control::Wordy(Wordy::Deliver(place, aim, expanded)),
+            })
+        }
+        Expanding::Fault(fault, cost) => {
+            let ExpandFault { parameter, message } = fault;
+            Ok(Acted {
+                turn: Turn::More(cost),
+                control: Control::Waits(Wait::Fails(parameter, message)),
+            })
+        }
+    }
+}

@@ -1,0 +1,48 @@
+// What a simple command is, by its fields.
+ghost use Rattle.std.specs.Prelude.{◌≡◌, IfOk};
+ghost use Rattle.sh_simple.specs.Simple.{kind_of, called_kind};
+ghost use Rattle.sh_simple.specs.Stack.{kind_of_code};
+ghost use Rattle.sh_simple.specs.State.{function_named};
+ghost use Rattle.sh_simple.specs.Views.{rows_of};
+
+use crate::control::Kind;
+use crate::state::{Function, copy_callee, function_named};
+use rk_base::{NoMemory, WordList};
+use sh_builtin::is_builtin;
+use sh_special::order_of;
+use std::alloc::Global;
+
+fn called_kind(name: &[u8], functions: &[Function]) -> Result<Kind, NoMemory>
+    ensures { IfOk result (λ k. kind_of_code k ≡ called_kind name.now (function_named name.now (rows_of functions.now))) }
+{
+    match function_named(functions, name) {
+        Some(callee) => {
+            let callee = copy_callee(callee)?;
+            Ok(Kind::Calls(callee))
+        }
+        None => {
+            if is_builtin(name) {
+                Ok(Kind::Builtin)
+            } else {
+                Ok(Kind::Launches)
+            }
+        }
+    }
+}
+
+/// A special builtin stands before a function, a function before a builtin, and any other name is launched (XCU 2.9.1).
+pub(crate) fn kind_of(
+    alloc: Global,
+    fields: &WordList,
+    functions: &[Function],
+) -> Result<Kind, NoMemory>
+    ensures { IfOk result (λ k. kind_of_code k ≡ kind_of fields.now (rows_of functions.now)) }
+{
+    match fields.as_slice() {
+        [] => Ok(Kind::Bare),
+        [name, ..] => match order_of(alloc, fields)? {
+            Some(order) => Ok(Kind::Special(order)),
+            None => called_kind(name.as_slice(), functions),
+        },
+    }
+}

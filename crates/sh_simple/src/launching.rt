@@ -1,0 +1,195 @@
+// Commands that are launched, functions that are called, and builtins.
+ghost use Rattle.std.specs.Prelude.{◌≡◌, ℕ, IfOk, drop};
+ghost use Rattle.sh_redirect.specs.Descriptors.{slot};
+ghost use Rattle.sh_simple.specs.Flows.{Next, ends};
+ghost use Rattle.sh_simple.specs.Launching.{through};
+ghost use Rattle.sh_simple.specs.Run.{run};
+ghost use Rattle.sh_simple.specs.Simple.{launches, calls, behind_first, status_if, works};
+ghost use Rattle.sh_simple.specs.Stack.{Steps, IsStep, context, building, kind_of_code};
+ghost use Rattle.sh_simple.specs.Views.{shell_of, function_of};
+ghost use Rattle.rk_calls.specs.declared.answer.Answer.TheVariants as answers;
+ghost use Rattle.rk_base.specs.declared.errno.Errno.TheVariants.{BadRef};
+
+use crate::control::{Acted, Control, Doing, Frame, Inside, Kind, Undo, Wait};
+use crate::flow::{Flow, Place};
+use crate::special::obey;
+use crate::stack::put_undo;
+use crate::state::{Callee, State};
+use crate::steps::{end, free, paid};
+use rk_base::{Bytes, Errno, NoMemory, WordList};
+use rk_calls::{Answer, Call, Key, Turn};
+use sh_builtin::Builtin;
+use sh_redirect::Descriptors;
+use std::alloc::Global;
+
+/// A command is launched, and then it ends so with the command's status.
+pub(crate) fn launch(
+    alloc: Global,
+    fields: WordList,
+    flow: Flow,
+    state: &State,
+) -> Result<Acted, NoMemory>
+    ensures talk { IfOk result (λ t. (k : Next) → Steps (launches fields (λ n. ends flow n k) (shell_of state.now)) k (shell_of state.now) t) }
+    ensures costly { IfOk result (λ t. IsStep t.turn) }
+{
+    if fields.len() == 0 {
+        return Err(NoMemory);
+    }
+    let wd = state.env.wd.copy()?;
+    let vars = state.env.vars.exported()?;
+    let map = state.descriptors.refmap(alloc)?;
+    let key = Key::new(fields, wd, vars);
+    Ok(Acted {
+        turn: Turn::Ask(Call::Launch(key, map), 1),
+        control: Control::Waits(Wait::Launched(flow)),
+    })
+}
+
+// The fields behind the first.
+fn behind_first(alloc: Global, fields: &[Bytes]) -> Result<WordList, NoMemory>
+    ensures { IfOk result (λ ws. ws ≡ behind_first fields.now) }
+{
+    let mut words = Vec::new(alloc);
+    match fields {
+        [] => {}
+        [_, rest @ ..] => {
+            'rest: for word in rest {
+                let word = word.copy()?;
+                words.push(word)?;
+            }
+        }
+    }
+    Ok(WordList::new(words))
+}
+
+// A function is called.
+fn call(
+    alloc: Global,
+    callee: Callee,
+    fields: &WordList,
+    place: Place,
+    stack: &mut Vec<Frame>,
+    state: &mut State,
+) -> Result<Acted, NoMemory>
+    ensures talk { IfOk result (Steps (calls run (function_of callee) fields.now place (shell_of state.old) (context stack.old.items)) (context stack.new.items) (shell_of state.new)) }
+    ensures costly { IfOk result (λ t. IsStep t.turn) }
+{
+    let positional = state.env.vars.positional().copy()?;
+    let words = behind_first(alloc, fields.as_slice())?;
+    put_undo(stack, Undo::Function(positional))?;
+    state.env.vars.set_positional(words);
+    let inside = Place {
+        loops: 0,
+        returns: true,
+        ..place
+    };
+    Ok(paid(Control::Inside(Inside::Called(inside, callee))))
+}
+
+// Without a command the status is that of the last substitution, or 0.
+fn status_if(ran: bool, status: u8) -> u8
+    ensures { result ≡ status_if ran status }
+{
+    if ran { status } else { 0 }
+}
+
+/// What a simple command does, once its assignments were made.
+pub(crate) fn work(
+    alloc: Global,
+    doing: Doing,
+    ran: bool,
+    place: Place,
+    stack: &mut Vec<Frame>,
+    state: &mut State,
+) -> Result<Acted, NoMemory>
+    ensures talk { IfOk result (Steps (works run (kind_of_code doing.kind) doing.fields ran place (context stack.old.items) (shell_of state.old)) (context stack.new.items) (shell_of state.new)) }
+    ensures costly { IfOk result (λ t. IsStep t.turn) }
+{
+    let Doing { kind, fields } = doing;
+    match kind {
+        Kind::Bare => {
+            let status = status_if(ran, state.env.status);
+            Ok(end(Flow::Normal, status, state))
+        }
+        Kind::Special(order) => {
+            let acted = obey(alloc, order, place, state)?;
+            Ok(acted)
+        }
+        Kind::Calls(callee) => {
+            let acted = call(alloc, callee, &fields, place, stack, state)?;
+            Ok(acted)
+        }
+        Kind::Builtin => {
+            let builtin = Builtin::start(alloc, &fields)?;
+            Ok(free(Control::Waits(Wait::Builtin(builtin))))
+        }
+        Kind::Launches => {
+            let acted = launch(alloc, fields, Flow::Normal, state)?;
+            Ok(acted)
+        }
+    }
+}
+
+// A call of a builtin names a descriptor as the shell does; none where the map lacks it.
+fn through(call: Call, descriptors: &Descriptors) -> Option<Call>
+    ensures { result ≡ through call descriptors.now }
+{
+    match call {
+        Call::Write(d, bytes) => match slot(descriptors, d) {
+            None => None,
+            Some(n) => Some(Call::Write(n, bytes)),
+        },
+        Call::ReadLine(d) => match slot(descriptors, d) {
+            None => None,
+            Some(n) => Some(Call::ReadLine(n)),
+        },
+        call => Some(call),
+    }
+}
+
+fn slot(descriptors: &Descriptors, d: u64) -> Option<u64>
+    ensures { result ≡ slot descriptors.now d }
+{
+    match descriptors.slots.get(d as usize) {
+        Some(n) => *n,
+        None => None,
+    }
+}
+
+/// A builtin goes on with the answer that was heard.
+pub fn go_on(builtin: Builtin, answer: Answer, state: &mut State) -> Result<Acted, NoMemory>
+    ensures talk { IfOk result (λ t. (k : Next) → Steps (building builtin k answer (shell_of state.old)) k (shell_of state.new) t) }
+    ensures costly { IfOk result (λ t. IsStep t.turn) }
+{
+    let mut builtin = builtin;
+    let turn = builtin.resume(&mut state.env, answer)?;
+    match turn {
+        Turn::Ask(call, cost) => match through(call, &state.descriptors) {
+            Some(call) => Ok(Acted {
+                turn: Turn::Ask(call, cost),
+                control: Control::Waits(Wait::Builtin(builtin)),
+            }),
+            None => Ok(free(Control::Waits(Wait::Lacks(builtin)))),
+        },
+        Turn::More(cost) => Ok(Acted {
+            turn: Turn::More(cost),
+            control: Control::Waits(Wait::Builtin(builtin)),
+        }),
+        Turn::Exit(status, cost) => {
+            state.env.status = status;
+            Ok(Acted {
+                turn: Turn::More(cost),
+                control: Control::Leave(Flow::Normal),
+            })
+        }
+    }
+}
+
+/// The same where its call named a descriptor that the map lacks.
+pub fn go_on_without(builtin: Builtin, state: &mut State) -> Result<Acted, NoMemory>
+    ensures talk { IfOk result (λ t. (k : Next) → Steps (building builtin k (answers.No BadRef) (shell_of state.old)) k (shell_of state.new) t) }
+    ensures costly { IfOk result (λ t. IsStep t.turn) }
+{
+    let acted = go_on(builtin, Answer::No(Errno::BadRef), state)?;
+    Ok(acted)
+}

@@ -1,0 +1,352 @@
+// Expansion of words, and what it is for.
+ghost use Rattle.std.specs.Prelude.{◌≡◌, ◌++◌, ◌||◌, ℕ, IfOk, OnOk, not};
+ghost use Rattle.sh_ast.specs.Commands as tree;
+ghost use Rattle.sh_vars.specs.Held.{is_readonly};
+ghost use Rattle.sh_expand.specs.declared.mode.Expanded.TheVariants.{Value};
+ghost use Rattle.sh_simple.specs.declared.control.Aim.TheVariants as aims;
+ghost use Rattle.sh_simple.specs.Compound.{for_fields};
+ghost use Rattle.sh_simple.specs.Eval.{word_in};
+ghost use Rattle.sh_simple.specs.Flows.{Next};
+ghost use Rattle.sh_simple.specs.Run.{run};
+ghost use Rattle.sh_simple.specs.Stack.{Steps, Goes, IsStep, aimed, fielding, then_means, whole};
+ghost use Rattle.sh_simple.specs.State.{Shell, set_variable, took};
+ghost use Rattle.sh_simple.specs.Trees.{set_if};
+ghost use Rattle.sh_simple.specs.Views.{shell_of};
+ghost use Rattle.sh_simple.specs.Words.{fields_of, value_of, expand_word};
+
+use crate::control::{
+    Acted, Aim, Assigning, Casing, Control, Doing, Each, Fielding, Frame, Inside, Made, Making,
+    Then, Wait, Wording, Wordy,
+};
+use crate::flow::{Flow, Place};
+use crate::kinds::kind_of;
+use crate::numbers::behind;
+use crate::state::State;
+use crate::steps::{free, refuse};
+use rk_base::{Bytes, NoMemory, WordList};
+use sh_ast::{CaseItems, CommandList, Word};
+use sh_expand::{Expanded, Expander, Mode};
+use sh_pattern::matches;
+use sh_redirect::{Redirect, Redirecting};
+use sh_vars::{VarErr, Vars};
+use std::alloc::Global;
+use std::rc::Rc;
+
+/// Expansion of a word begins.
+pub fn begin(
+    alloc: Global,
+    word: Rc<Word>,
+    mode: Mode,
+    place: Place,
+    aim: Aim,
+) -> Result<Control, NoMemory>
+    ensures { IfOk result (λ c. (k : Next) (e : Shell) → Goes (expand_word mode (word_in run (tree.word word.value)) place (aimed aim place k) k e) k e c) }
+{
+    let expander = Expander::start(alloc, &word, mode)?;
+    Ok(Control::Wordy(Wordy::Expand(Wording {
+        expander,
+        word,
+        place,
+        aim,
+    })))
+}
+
+// What is done once words have given their fields.
+fn then(
+    alloc: Global,
+    place: Place,
+    then: Then,
+    fields: WordList,
+    ran: bool,
+    state: &mut State,
+) -> Result<Control, NoMemory>
+    ensures { IfOk result (λ c. (k : Next) → Goes (then_means then place k fields ran (shell_of state.old)) k (shell_of state.new) c) }
+{
+    match then {
+        Then::Simple(command) => {
+            let kind = kind_of(alloc, &fields, state.functions.as_slice())?;
+            let redirects = command.redirects.clone()?;
+            let assignments = command.assignments.clone()?;
+            Ok(Control::Wordy(Wordy::Make(
+                place,
+                Making {
+                    redirects,
+                    at: 0,
+                    before: state.descriptors,
+                    ran,
+                    made: Made::Simple(assignments, Doing { kind, fields }),
+                },
+            )))
+        }
+        Then::For(name, body) => Ok(over_fields(place, name, fields, body, state)),
+    }
+}
+
+/// The next of the words.
+pub fn next_word(
+    alloc: Global,
+    place: Place,
+    left: Fielding,
+    state: &mut State,
+) -> Result<Control, NoMemory>
+    ensures { IfOk result (λ c. (k : Next) → Goes (fielding left place k (shell_of state.old)) k (shell_of state.new) c) }
+{
+    let words = left.words.clone()?;
+    match words.get(left.at) {
+        Some(word) => {
+            let word = word.clone()?;
+            let next = behind(left.at)?;
+            let mut left = left;
+            left.at = next;
+            let aim = Aim::Fields(left, state.env.next);
+            let control = begin(alloc, word, Mode::Fields, place, aim)?;
+            Ok(control)
+        }
+        None => {
+            let Fielding {
+                words: _,
+                at: _,
+                fields,
+                ran,
+                then: aim,
+            } = left;
+            let control = then(alloc, place, aim, fields, ran, state)?;
+            Ok(control)
+        }
+    }
+}
+
+// The fields that a word gave.
+fn fields_of(alloc: Global, expanded: Expanded) -> Result<WordList, NoMemory>
+    ensures { IfOk result (λ ws. ws ≡ fields_of expanded) }
+{
+    match expanded {
+        Expanded::Fields(fields) => Ok(fields),
+        Expanded::Value(value) => {
+            let mut words = Vec::new(alloc);
+            words.push(value)?;
+            Ok(WordList::new(words))
+        }
+    }
+}
+
+// The value that a word gave.
+fn value_of(alloc: Global, expanded: Expanded) -> Result<Bytes, NoMemory>
+    ensures { IfOk result (λ v. v ≡ value_of expanded) }
+{
+    match expanded {
+        Expanded::Fields(_) => Bytes::from_slice(alloc, b""),
+        Expanded::Value(value) => Ok(value),
+    }
+}
+
+// Words more, at the end.
+fn push_all(fields: &mut WordList, more: &[Bytes]) -> Result<(), NoMemory>
+    ensures { OnOk result (fields.new ≡ fields.old ++ more.now) }
+{
+    'more: for word in more {
+        let word = word.copy()?;
+        fields.push(word)?;
+    }
+    Ok(())
+}
+
+// Whether a substitution took place so far, or in the word before which the next local number was this.
+fn ran_since(ran: bool, next: u64, state: &State) -> bool
+    ensures { result ≡ (ran || took next (shell_of state.now)) }
+{
+    ran || state.env.next != next
+}
+
+// One of several words gave these fields.
+fn take_fields(
+    alloc: Global,
+    place: Place,
+    left: Fielding,
+    next: u64,
+    expanded: Expanded,
+    state: &State,
+) -> Result<Control, NoMemory>
+    ensures { IfOk result (λ c. (k : Next) → Goes (aimed (aims.Fields left next) place k expanded (shell_of state.now)) k (shell_of state.now) c) }
+{
+    let more = fields_of(alloc, expanded)?;
+    let Fielding {
+        words,
+        at,
+        fields,
+        ran,
+        then,
+    } = left;
+    let ran = ran_since(ran, next, state);
+    let mut fields = fields;
+    push_all(&mut fields, more.as_slice())?;
+    Ok(Control::Wordy(Wordy::Words(
+        place,
+        Fielding {
+            words,
+            at,
+            fields,
+            ran,
+            then,
+        },
+    )))
+}
+
+// The operand of a redirection was expanded.
+fn redirect(
+    alloc: Global,
+    place: Place,
+    left: Making,
+    descriptor: u8,
+    kind: Redirect,
+    next: u64,
+    operand: Bytes,
+    state: &State,
+) -> Control
+    ensures { (k : Next) → Goes (aimed (aims.Operand left descriptor kind next) place k (Value operand) (shell_of state.now)) k (shell_of state.now) result }
+{
+    let mut left = left;
+    left.ran = ran_since(left.ran, next, state);
+    let redirecting = Redirecting::start(alloc, kind, descriptor, operand);
+    Control::Waits(Wait::Redirects(place, left, redirecting))
+}
+
+fn set(vars: &mut Vars, exported: bool, name: &[u8], value: &[u8]) -> Result<bool, NoMemory>
+    ensures answer { IfOk result (λ done. done ≡ not (is_readonly vars.old name.now)) }
+    ensures vars { IfOk result (λ done. vars.new ≡ set_if done exported name.now value.now vars.old) }
+{
+    match vars.set(name, value) {
+        Ok(()) => {
+            if exported {
+                vars.export(name)?;
+            }
+            Ok(true)
+        }
+        Err(VarErr::Readonly) => Ok(false),
+        Err(VarErr::NoMemory) => Err(NoMemory),
+    }
+}
+
+// The value of an assignment was expanded.
+fn assign(
+    alloc: Global,
+    place: Place,
+    left: Assigning,
+    name: &Bytes,
+    next: u64,
+    value: &Bytes,
+    state: &mut State,
+) -> Result<Acted, NoMemory>
+    ensures talk { IfOk result (λ t. (k : Next) → Steps (aimed (aims.Value left name.now next) place k (Value value.now) (shell_of state.old)) k (shell_of state.new) t) }
+    ensures costly { IfOk result (λ t. IsStep t.turn) }
+{
+    let mut left = left;
+    left.ran = ran_since(left.ran, next, state);
+    if !set(
+        &mut state.env.vars,
+        left.exported,
+        name.as_slice(),
+        value.as_slice(),
+    )? {
+        let acted = refuse(alloc, name.as_slice(), b"readonly", Flow::Exits, 1, state)?;
+        return Ok(acted);
+    }
+    Ok(free(Control::Wordy(Wordy::Assign(place, left))))
+}
+
+// The word of a `case` was expanded.
+fn look(place: Place, items: Rc<CaseItems>, value: Bytes) -> Control
+    ensures { (k : Next) (e : Shell) → Goes (aimed (aims.Subject items) place k (Value value) e) k e result }
+{
+    Control::Inside(Inside::Case(
+        place,
+        Casing {
+            items,
+            at: 0,
+            pattern: 0,
+            value,
+        },
+    ))
+}
+
+// A pattern was expanded.
+fn match_pattern(place: Place, casing: Casing, pattern: &Bytes) -> Result<Control, NoMemory>
+    ensures { IfOk result (λ c. (k : Next) (e : Shell) → Goes (aimed (aims.Pattern casing) place k (Value pattern.now) e) k e c) }
+{
+    if matches(pattern.as_slice(), casing.value.as_slice()) {
+        let items = casing.items.clone()?;
+        match items.get(casing.at) {
+            Some(item) => {
+                let body = item.body.clone()?;
+                return Ok(Control::Whole(place, body));
+            }
+            None => return Ok(Control::Leave(Flow::Normal)),
+        }
+    }
+    let next = behind(casing.pattern)?;
+    let mut casing = casing;
+    casing.pattern = next;
+    Ok(Control::Inside(Inside::Case(place, casing)))
+}
+
+/// What a word gave is used as it was meant.
+pub fn deliver(
+    alloc: Global,
+    place: Place,
+    aim: Aim,
+    expanded: Expanded,
+    state: &mut State,
+) -> Result<Acted, NoMemory>
+    ensures talk { IfOk result (λ t. (k : Next) → Steps (aimed aim place k expanded (shell_of state.old)) k (shell_of state.new) t) }
+    ensures costly { IfOk result (λ t. IsStep t.turn) }
+{
+    match aim {
+        Aim::Fields(left, next) => {
+            let control = take_fields(alloc, place, left, next, expanded, state)?;
+            Ok(free(control))
+        }
+        Aim::Operand(left, descriptor, kind, next) => {
+            let operand = value_of(alloc, expanded)?;
+            Ok(free(redirect(alloc, place, left, descriptor, kind, next, operand, state)))
+        }
+        Aim::Value(left, name, next) => {
+            let value = value_of(alloc, expanded)?;
+            let acted = assign(alloc, place, left, &name, next, &value, state)?;
+            Ok(acted)
+        }
+        Aim::Subject(items) => {
+            let value = value_of(alloc, expanded)?;
+            Ok(free(look(place, items, value)))
+        }
+        Aim::Pattern(casing) => {
+            let pattern = value_of(alloc, expanded)?;
+            let control = match_pattern(place, casing, &pattern)?;
+            Ok(free(control))
+        }
+    }
+}
+
+/// A `for` over these fields; without one the status is 0.
+pub fn over_fields(
+    place: Place,
+    name: Bytes,
+    fields: WordList,
+    body: Rc<CommandList>,
+    state: &mut State,
+) -> Control
+    ensures { (k : Next) → Goes (for_fields name fields (whole body.value) place k (shell_of state.old)) k (shell_of state.new) result }
+{
+    if fields.len() == 0 {
+        state.env.status = 0;
+        return Control::Leave(Flow::Normal);
+    }
+    Control::Inside(Inside::Each(
+        place,
+        Each {
+            name,
+            fields,
+            at: 0,
+            body,
+        },
+    ))
+}
