@@ -4,13 +4,16 @@
 
 mod activity;
 mod build;
+mod costs;
 mod hearing;
+mod paying;
 mod ran;
 mod script;
 mod stop;
 mod turns;
 
 pub use build::{Built, build_with};
+pub use paying::paid;
 pub use ran::{Cause, Ran, RanList};
 pub use script::script_key;
 pub use stop::Stop;

@@ -19,7 +19,7 @@ use rk_database::db_file;
 use rk_folder::{MemFolder, MemSink, Sink, SinkErr, Standing};
 use rk_gen::{Figures, Start, Workload, generate, summary};
 use rk_made::{change, start_folder};
-use rk_paid::paid;
+use rk_replay::paid;
 use rk_words::{DEFAULT_STEPS, Request};
 use std::alloc::Global;
 use std::sync::ledger::Ledger;

@@ -1,6 +1,6 @@
 use Rattle.std.proofs.Common.{◌∙◌}
-use Rattle.rk_paid.proofs.PaidLemmas.{ran-found, ran-missing}
-use Rattle.rk_paid.proofs.turns.ran.Goals as goal
+use Rattle.rk_replay.proofs.PaidLemmas.{ran-found, ran-missing}
+use Rattle.rk_replay.proofs.paying.ran.Goals as goal
 
 pub returns-in-None : goal.returns-in-None
 returns-in-None c = ran-missing c.args.old.now c.args.rec.now c.in-None.ensures
