@@ -1,7 +1,7 @@
 -- What each answer says of the folder, the output and the counts.
 use Rattle.std.specs.Prelude.{◌≡◌, ◌⊎◌, ◌≤◌, ◌+◌, ℕ, Bool, true, take, length, List, Option, Some, None, IfSome, IsSome, option_map, Result, Ok, Err}
 use Rattle.rk_base.specs.Text.{Text}
-use Rattle.rk_check.specs.Started.{started}
+use Rattle.rk_runs.specs.Started.{started}
 use Rattle.rk_folder.specs.Counts.{Rose}
 use Rattle.rk_folder.specs.Hidden.{db_file}
 use Rattle.rk_folder.specs.Import.{state_of}

@@ -12,7 +12,7 @@ use Rattle.tr_record.specs.declared.steps.Step.{Step}
 use Rattle.std.proofs.Common.{get_or}
 use Rattle.std.proofs.lemmas.List.{get_or_default}
 use Rattle.rk_runs.specs.Spoken.{step_at, no_step}
-use Rattle.rk_check.specs.Differences.{IsFirstDifference, AnswerAlike}
+use Rattle.rk_runs.specs.Differences.{IsFirstDifference, AnswerAlike}
 use Rattle.rk_replay.specs.declared.ran.Cause.{Cause}
 use Rattle.rk_replay.specs.declared.ran.Cause.TheVariants.{Differs}
 use Rattle.rk_replay.specs.Answers.{number_of, same_flag, same_kind, same_answer}

@@ -8,8 +8,8 @@ use Rattle.tr_record.specs.declared.steps.Step.{Step}
 use Rattle.tr_record.specs.Rec.{rec_at, fresh_rec, no_key, found}
 use Rattle.rk_runs.specs.Lasting.{AllLast}
 use Rattle.rk_runs.specs.Spoken.{IsSpoken, AreSpoken}
-use Rattle.rk_check.specs.Differences.{AnswerAlike}
-use Rattle.rk_check.specs.Laws.{spoken-alike}
+use Rattle.rk_runs.specs.Differences.{AnswerAlike}
+use Rattle.rk_runs.specs.CheckLaws.{spoken-alike}
 use Rattle.rk_replay.specs.declared.ran.Cause.{Cause}
 use Rattle.rk_replay.specs.declared.ran.Cause.TheVariants.{Differs}
 use Rattle.rk_replay.specs.Answers.{same_answer}

@@ -15,8 +15,8 @@ use Rattle.tr_record.specs.Rec.{rec_at, begun, stepped, ended, with_step, count_
 use Rattle.rk_runs.specs.declared.active.Active.{Active}
 use Rattle.rk_runs.specs.declared.active.Frame.{Frame}
 use Rattle.rk_base.specs.Paid.{Paid}
-use Rattle.rk_check.specs.Started.{started}
-use Rattle.rk_check.specs.Laws.{started-adds}
+use Rattle.rk_runs.specs.Started.{started}
+use Rattle.rk_runs.specs.CheckLaws.{started-adds}
 use Rattle.rk_runs.specs.Own.{total}
 use Rattle.rk_runs.specs.Purse.{left}
 use Rattle.rk_runs.specs.Run.{step}

@@ -17,7 +17,7 @@ use Rattle.rk_runs.specs.Following.{Follows-at, Follows-last, Follows-take, foll
 use Rattle.rk_runs.specs.Lasting.{AllLast, asks-enough, asks-short, ends-enough, ends-short, Lasts-follow}
 use Rattle.rk_runs.specs.Running.{paid}
 use Rattle.rk_runs.specs.Spoken.{follow, Follows, step_at, no_step, AreSpoken}
-use Rattle.rk_check.specs.Fed.{waits_at}
+use Rattle.rk_runs.specs.Fed.{waits_at}
 use Rattle.rk_replay.specs.Activities.{IsNext}
 
 -- the step that the code reads

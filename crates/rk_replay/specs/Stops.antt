@@ -6,8 +6,8 @@ use Rattle.rk_calls.specs.Keys.{KeyValue}
 use Rattle.tr_record.specs.declared.records.Record.{Record}
 use Rattle.tr_record.specs.Rec.{rec_at}
 use Rattle.rk_runs.specs.Spoken.{AreSpoken, IsWrongStep}
-use Rattle.rk_check.specs.declared.check.CheckErr.{CheckErr}
-use Rattle.rk_check.specs.declared.check.CheckErr.TheVariants as check
+use Rattle.rk_runs.specs.declared.check.CheckErr.{CheckErr}
+use Rattle.rk_runs.specs.declared.check.CheckErr.TheVariants as check
 use Rattle.rk_replay.specs.declared.stop.Stop.{Stop}
 use Rattle.rk_replay.specs.declared.stop.Stop.TheVariants.{Spent, Forged, Stopped}
 

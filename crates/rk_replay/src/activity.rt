@@ -6,16 +6,15 @@ ghost use Rattle.rk_calls.specs.declared.answer.Answer.{Answer};
 ghost use Rattle.tr_record.specs.Rec.{rec_at, begun, count_of};
 ghost use Rattle.rk_runs.specs.Own.{steps_cost};
 ghost use Rattle.rk_runs.specs.Spoken.{follow, Follows, step_at};
-ghost use Rattle.rk_check.specs.Fed.{waits_at};
-ghost use Rattle.rk_check.specs.Started.{started};
+ghost use Rattle.rk_runs.specs.Fed.{waits_at};
+ghost use Rattle.rk_runs.specs.Started.{started};
 ghost use Rattle.rk_replay.specs.Activities.{stands, waits, IsReady, IsWaiting, IsLaunched, made, Takes, given_up, counted, so_far, exit_counted};
 ghost use Rattle.rk_replay.specs.Stops.{IsForged};
 ghost use Rattle.rk_replay.specs.declared.activity.Activity.TheVariants.{Replays};
 
 use rk_base::{NoMemory, Steps};
 use rk_calls::{Answer, Key, Machine, Maker, Refs, same_answer};
-use rk_check::{CheckErr, feed};
-use rk_runs::Active;
+use rk_runs::{Active, CheckErr, feed};
 use std::sync::ledger::Ledger;
 use tr_record::{Step, Table};
 

@@ -2,7 +2,7 @@
 ghost use Rattle.std.specs.Prelude.{◌≡◌, ◌+◌, ◌≤◌, length, IfOk, IfErr, IfSome};
 ghost use Rattle.std.specs.Option.{IsSomeAnd};
 ghost use Rattle.rk_calls.specs.Refs.{top_refs};
-ghost use Rattle.rk_check.specs.Started.{started};
+ghost use Rattle.rk_runs.specs.Started.{started};
 ghost use Rattle.rk_runs.specs.Own.{total};
 ghost use Rattle.rk_runs.specs.Purse.{left};
 ghost use Rattle.rk_runs.specs.Run.{game, fresh, Done, Spent};
@@ -17,8 +17,7 @@ use crate::stop::Stop;
 use crate::turns::{answer_call, launch_below, resume};
 use rk_base::{Budget, NoMemory, Steps};
 use rk_calls::{Answer, Answerer, Call, Key, Machine, Maker, Refs, Spoke};
-use rk_check::check_with;
-use rk_runs::{Frame, pay};
+use rk_runs::{Frame, check_with, pay};
 use std::alloc::Global;
 use std::sync::ledger::Ledger;
 use tr_record::Table;

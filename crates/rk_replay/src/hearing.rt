@@ -9,7 +9,7 @@ ghost use Rattle.rk_replay.specs.Stops.{IsForged};
 
 use crate::activity::{Activity, machine_of};
 use rk_calls::{Answer, Machine, Maker, Spoke, advance};
-use rk_check::CheckErr;
+use rk_runs::CheckErr;
 use tr_record::Table;
 
 /// The next call of a record, or its exit, where the purse meets it.

@@ -6,7 +6,7 @@ ghost use Rattle.rk_replay.specs.Ran.{first_difference, cause_of, ran_for, ran_o
 
 use rk_base::NoMemory;
 use rk_calls::{Answer, Key};
-use rk_check::first_difference;
+use rk_runs::first_difference;
 use std::alloc::Global;
 use std::marker::Model;
 use tr_record::{Record, Table};

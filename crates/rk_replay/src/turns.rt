@@ -7,7 +7,7 @@ ghost use Rattle.rk_calls.specs.declared.answer.Answer.TheVariants.{Go, Joined};
 ghost use Rattle.rk_calls.specs.declared.call.Call.TheVariants.{Launch};
 ghost use Rattle.tr_record.specs.Rec.{rec_at, begun, stepped, count_of};
 ghost use Rattle.rk_runs.specs.Run.{step};
-ghost use Rattle.rk_check.specs.Started.{started};
+ghost use Rattle.rk_runs.specs.Started.{started};
 ghost use Rattle.rk_replay.specs.Activities.{stands, waits, IsWaiting, IsLaunched, made, Takes, given_up, counted};
 ghost use Rattle.rk_replay.specs.Stops.{Stops, IsForged};
 
@@ -15,8 +15,7 @@ use crate::activity::{Activity, begin, settle};
 use crate::stop::Stop;
 use rk_base::{NoMemory, Steps};
 use rk_calls::{Answer, Answerer, Call, Key, Machine, Maker, RefMap};
-use rk_check::CheckErr;
-use rk_runs::{Active, Frame, ask, join};
+use rk_runs::{Active, CheckErr, Frame, ask, join};
 use std::mem;
 use std::sync::ledger::Ledger;
 use tr_record::Table;

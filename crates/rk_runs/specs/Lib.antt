@@ -1,8 +1,14 @@
+pub mod CheckLaws
+pub mod Checked
+pub mod Differences
+pub mod Fed
 pub mod Following
 pub mod Freshing
 pub mod Going
 pub mod Lasting
 pub mod Laws
+pub mod Over
+pub mod OverLaws
 pub mod Own
 pub mod Places
 pub mod Purse
@@ -11,4 +17,6 @@ pub mod Run
 pub mod Running
 pub mod Speaking
 pub mod Spoken
+pub mod Started
 pub mod Totals
+pub mod Toy

@@ -4,6 +4,9 @@ use Rattle.rk_base.specs.Text.{Text}
 use Rattle.rk_words.specs.Asked.{IfBuild, IfGen, IfQuery, request_of}
 use Rattle.rk_words.specs.declared.requests.Request.TheVariants.{Build, Check, Trace, Forget, Gen}
 use Rattle.rk_words.specs.declared.requests.Request.{Request}
+use Rattle.rk_build.proofs.TellLemmas.{ended-then}
+use Rattle.rk_build.specs.Outcomes.{IfEnded}
+use Rattle.rk_build.specs.declared.outcome.Outcome.{Outcome}
 use Rattle.rk_top.specs.Asks.{Asks, AsksBuild, AsksQuery}
 
 pub asks : (words : List Text) (P : Request → Type 0) (request : Request) → request_of words ≡ Some request → P request → Asks words P
@@ -100,3 +103,7 @@ no-build request it P same h = subst (λ (r : Request). IfBuild r P) (sym same) 
 
 pub a-query : (request it : Request) (P : Type 0) → request ≡ it → IfQuery it P → IfQuery request P
 a-query request it P same h = subst (λ (r : Request). IfQuery r P) (sym same) h
+
+-- an end of the request that was asked for
+pub asks-ended : (words : List Text) (P : Request → ℕ → ℕ → ℕ → Type 0) (outcome : Outcome) (request : Request) → request_of words ≡ Some request → IfEnded outcome (P request) → IfEnded outcome (λ status launched ran. Asks words (λ request. P request status launched ran))
+asks-ended words P outcome request asked h = ended-then (P request) (λ status launched ran. Asks words (λ r. P r status launched ran)) outcome (λ status launched ran p. asks words (λ r. P r status launched ran) request asked p) h

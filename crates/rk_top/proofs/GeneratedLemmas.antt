@@ -24,19 +24,19 @@ use Rattle.rk_replay.specs.Ran.{ran_total}
 use Rattle.rk_runs.specs.Run.{Outcome as Run, Done, Spent}
 use Rattle.rk_runs.specs.Spoken.{AreSpoken}
 use Rattle.rk_tree.specs.Entries.{Entries}
-use Rattle.rk_top.specs.Fresh.{held_after}
+use Rattle.rk_build.specs.Fresh.{held_after}
 use Rattle.rk_top.specs.Generated.{ComesTo, Generates, IsBuilt, IsLine, Reaches, Stage, edit_after, edited_stage, line_of_stage, plain_build, workload_after}
-use Rattle.rk_top.specs.Kept.{AreRows, IsTable, Keeping, state_in}
-use Rattle.rk_top.specs.Checks.{TellsForged}
-use Rattle.rk_top.specs.Outcomes.{EndsSo, FolderCounts, IsLeft, IsNext, IsNoFault, IsTally, Leaves}
-use Rattle.rk_top.specs.Run.{fresh_run, ran_count}
-use Rattle.rk_top.specs.Sessions.{IsWell}
-use Rattle.rk_top.specs.declared.outcome.Outcome.{Outcome}
-use Rattle.rk_top.specs.declared.outcome.Outcome.TheVariants as out
-use Rattle.rk_top.specs.declared.stop.Refusal.TheVariants as refusal
-use Rattle.rk_top.specs.Telling.{IsNamed, IsTold}
-use Rattle.rk_top.proofs.SettledLemmas.{forged-clash, refused-kept}
-use Rattle.rk_top.proofs.TellLemmas.{as_told}
+use Rattle.rk_build.specs.Kept.{AreRows, IsTable, Keeping, state_in}
+use Rattle.rk_build.specs.Checks.{TellsForged}
+use Rattle.rk_build.specs.Outcomes.{EndsSo, FolderCounts, IsLeft, IsNext, IsNoFault, IsTally, Leaves}
+use Rattle.rk_build.specs.Run.{fresh_run, ran_count}
+use Rattle.rk_build.specs.Sessions.{IsWell}
+use Rattle.rk_build.specs.declared.outcome.Outcome.{Outcome}
+use Rattle.rk_build.specs.declared.outcome.Outcome.TheVariants as out
+use Rattle.rk_build.specs.declared.stop.Refusal.TheVariants as refusal
+use Rattle.rk_build.specs.Telling.{IsNamed, IsTold}
+use Rattle.rk_build.proofs.SettledLemmas.{forged-clash, refused-kept}
+use Rattle.rk_build.proofs.TellLemmas.{as_told}
 
 -- what is told twice of a folder is told of the same entries and records
 one-kept : (held : Held) (P Q : Entries → List Record → Type 0) (k : Keeping false held P) → Keeping false held Q → Q (with_rows (snapshot_of held) k.rows) k.old

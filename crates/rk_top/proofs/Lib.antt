@@ -1,15 +1,3 @@
 pub mod AskLemmas
-pub mod BuildLemmas
-pub mod BuiltLemmas
-pub mod FoundLemmas
 pub mod GeneratedLemmas
-pub mod KeptLemmas
-pub mod PrepareLemmas
-pub mod ReadBackLemmas
-pub mod RunLemmas
-pub mod SessionLemmas
-pub mod SettledLemmas
-pub mod TellLemmas
-pub mod TextsLemmas
-pub mod CheckLemmas
 pub mod QueryLemmas

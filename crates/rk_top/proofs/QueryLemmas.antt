@@ -12,13 +12,13 @@ use Rattle.rk_database.specs.declared.stop.Stop.TheVariants as stop
 use Rattle.rk_folder.specs.Told.{Held}
 use Rattle.rk_words.specs.declared.requests.Request.{Request}
 use Rattle.rk_words.specs.declared.requests.Request.TheVariants as request
-use Rattle.rk_top.specs.Outcomes.{Counted, Counts, IsNoFault}
+use Rattle.rk_build.specs.Outcomes.{Counted, Counts, IsNoFault}
 use Rattle.rk_top.specs.Queries.{IsAnswer, Queried, outcome_of_answer}
-use Rattle.rk_top.specs.Telling.{IsNamed, IsTold}
-use Rattle.rk_top.specs.declared.outcome.Outcome.{Outcome}
-use Rattle.rk_top.specs.declared.outcome.Outcome.TheVariants as out
-use Rattle.rk_top.proofs.BuildLemmas.{counts-same}
-use Rattle.rk_top.proofs.TellLemmas.{as_told}
+use Rattle.rk_build.specs.Telling.{IsNamed, IsTold}
+use Rattle.rk_build.specs.declared.outcome.Outcome.{Outcome}
+use Rattle.rk_build.specs.declared.outcome.Outcome.TheVariants as out
+use Rattle.rk_build.proofs.BuildLemmas.{counts-same}
+use Rattle.rk_build.proofs.TellLemmas.{as_told}
 
 pub query-no-fault : (answer : Result Said Stop) → IsNoStop answer → IsNoFault (outcome_of_answer answer)
 query-no-fault (Ok said.Done) h = tt

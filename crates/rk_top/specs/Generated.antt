@@ -18,14 +18,14 @@ use Rattle.rk_replay.specs.Ran.{ran_total}
 use Rattle.rk_runs.specs.Run.{Outcome as Run, Done, Spent}
 use Rattle.rk_words.specs.declared.requests.Request.{Request}
 use Rattle.rk_words.specs.declared.requests.Request.TheVariants.{Build}
-use Rattle.rk_top.specs.Fresh.{held_after}
-use Rattle.rk_top.specs.Kept.{Keeping, state_in}
-use Rattle.rk_top.specs.Outcomes.{IsNext}
-use Rattle.rk_top.specs.Run.{fresh_run, ran_count}
-use Rattle.rk_top.specs.Texts.{Front}
+use Rattle.rk_build.specs.Fresh.{held_after}
+use Rattle.rk_build.specs.Kept.{Keeping, state_in}
+use Rattle.rk_build.specs.Outcomes.{IsNext}
+use Rattle.rk_build.specs.Run.{fresh_run, ran_count}
+use Rattle.rk_build.specs.Texts.{Front}
 use Rattle.rk_top.specs.declared.generate.Session.{Session}
-use Rattle.rk_top.specs.declared.outcome.Outcome.{Outcome}
-use Rattle.rk_top.specs.declared.outcome.Outcome.TheVariants as out
+use Rattle.rk_build.specs.declared.outcome.Outcome.{Outcome}
+use Rattle.rk_build.specs.declared.outcome.Outcome.TheVariants as out
 
 -- a build with the default budget, of which nothing else is asked
 abbrev pub plain_build : Request

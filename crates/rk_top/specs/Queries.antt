@@ -12,9 +12,9 @@ use Rattle.rk_database.specs.declared.stop.Stop.TheVariants as stop
 use Rattle.rk_folder.specs.Told.{Held}
 use Rattle.rk_words.specs.declared.requests.Request.{Request}
 use Rattle.rk_words.specs.declared.requests.Request.TheVariants as request
-use Rattle.rk_top.specs.declared.outcome.Outcome.{Outcome}
-use Rattle.rk_top.specs.declared.outcome.Outcome.TheVariants as out
-use Rattle.rk_top.specs.declared.outcome.StateFile.TheVariants as file
+use Rattle.rk_build.specs.declared.outcome.Outcome.{Outcome}
+use Rattle.rk_build.specs.declared.outcome.Outcome.TheVariants as out
+use Rattle.rk_build.specs.declared.outcome.StateFile.TheVariants as file
 
 abbrev pub outcome_of_refused : Stop → Outcome
 outcome_of_refused (stop.Special path) = out.Special path

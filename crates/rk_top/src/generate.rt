@@ -1,20 +1,18 @@
 // A made workload: a session of builds and edits over a folder in memory, and the line that tells it.
 ghost use Rattle.std.specs.Prelude.{◌≡◌, ◌+◌, ◌<◌, ◌≤◌, ◌^◌, ℕ, IfOk, OnOk, Some, true};
-ghost use Rattle.rk_command.specs.First.{first_talk};
+ghost use Rattle.rk_top.specs.First.{first_talk};
 ghost use Rattle.rk_folder.specs.Memory.{held_by, is_steady};
 ghost use Rattle.rk_folder.specs.Told.{bytes_in, standing};
 ghost use Rattle.rk_gen.specs.Edits.{edited};
 ghost use Rattle.rk_top.specs.Generated.{Generates, IsBuilt, IsLine, Reaches, digest_of, edited_stage, last_digest, line_of_stage, stage_of};
-ghost use Rattle.rk_top.specs.Kept.{IsTable, state_in};
-ghost use Rattle.rk_top.specs.Outcomes.{Counted, IsNoFault};
-ghost use Rattle.rk_top.specs.Sessions.{IsWell};
+ghost use Rattle.rk_build.specs.Kept.{IsTable, state_in};
+ghost use Rattle.rk_build.specs.Outcomes.{Counted, IsNoFault};
+ghost use Rattle.rk_build.specs.Sessions.{IsWell};
 
-use crate::Outcome;
-use crate::kept::table_in;
-use crate::top::build_in;
 use rk_base::{Bytes, NoMemory, Path, Steps};
+use rk_build::{Outcome, build_in, table_in};
 use rk_calls::Maker;
-use rk_command::Commands;
+use crate::commands::Commands;
 use rk_database::db_file;
 use rk_folder::{MemFolder, MemSink, Sink, SinkErr, Standing};
 use rk_gen::{Figures, Start, Workload, generate, summary};

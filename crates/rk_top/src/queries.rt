@@ -1,12 +1,12 @@
 // What is asked of the database alone.
 ghost use Rattle.std.specs.Prelude.{◌≡◌, ℕ, true};
-ghost use Rattle.rk_command.specs.First.{first_talk};
+ghost use Rattle.rk_top.specs.First.{first_talk};
 ghost use Rattle.rk_words.specs.declared.requests.Request.TheVariants as request;
-ghost use Rattle.rk_top.specs.Outcomes.{Counted, IsNoFault};
+ghost use Rattle.rk_build.specs.Outcomes.{Counted, IsNoFault};
 ghost use Rattle.rk_top.specs.Queries.{Queried, outcome_of_answer, outcome_of_refused};
 
-use crate::{Outcome, StateFile};
-use rk_command::Commands;
+use rk_build::{Outcome, StateFile};
+use crate::commands::Commands;
 use rk_database::{Said, check, forget, trace};
 use rk_folder::{Folder, Sink};
 use std::alloc::Global;

@@ -4,12 +4,12 @@ use Rattle.rk_base.specs.Text.{Text}
 use Rattle.rk_base.specs.declared.kind.Kind.{Kind}
 use Rattle.rk_calls.specs.declared.answer.Answer.{Answer}
 use Rattle.rk_calls.specs.declared.answer.Answer.TheVariants as answer
-use Rattle.sh_simple.specs.Flows.{Next}
-use Rattle.sh_simple.specs.Run.{run}
-use Rattle.sh_simple.specs.Stack.{Steps}
-use Rattle.sh_simple.specs.Starts.{fails, is_directory, has_x, looked, runs_script}
-use Rattle.sh_simple.specs.State.{Shell}
-use Rattle.sh_simple.specs.declared.control.Acted.{Acted}
+use Rattle.sh_means.specs.Flows.{Next}
+use Rattle.sh_means.specs.Run.{run}
+use Rattle.sh_means.specs.Stack.{Steps}
+use Rattle.sh_means.specs.Starts.{fails, is_directory, has_x, looked, runs_script}
+use Rattle.sh_means.specs.State.{Shell}
+use Rattle.sh_means.specs.declared.control.Acted.{Acted}
 
 -- a directory isn't run
 pub found_directory : (file : Text) (k : Next) (kind : Kind) (mode : ℕ) (empty : Bool) (e : Shell) (p : ℕ) → is_directory kind ≡ true → looked run file k (answer.Stat kind mode empty) e p ≡ fails file (codes "is a directory") 126 k e p

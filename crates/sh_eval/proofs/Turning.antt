@@ -8,8 +8,8 @@ use Rattle.rk_calls.specs.declared.turn.Turn.{Turn}
 use Rattle.rk_calls.specs.declared.turn.Turn.TheVariants.{Ask, More, Exit}
 use Rattle.sh_eval.specs.declared.machine.Evaluator.{Evaluator}
 use Rattle.sh_eval.specs.Machine.{IsFree, steps_on, evaluator_says}
-use Rattle.sh_simple.specs.Stack.{IsStep, context, stepped}
-use Rattle.sh_simple.specs.Views.{shell_of}
+use Rattle.sh_means.specs.Stack.{IsStep, context, stepped}
+use Rattle.sh_means.specs.Views.{shell_of}
 
 pub stepped_after : (t : Turn) (x : Evaluator) (p : ℕ) → stepped t x.control (context x.stack.items) (shell_of x.state) p ≡ after t (evaluator_says x) p
 stepped_after (Ask call c) x p = refl

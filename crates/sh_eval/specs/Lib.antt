@@ -1,3 +1,2 @@
-pub mod Leaving
 pub mod Machine
 pub mod Starting

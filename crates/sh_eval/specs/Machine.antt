@@ -6,9 +6,9 @@ use Rattle.rk_calls.specs.declared.turn.Turn.{Turn}
 use Rattle.rk_calls.specs.declared.turn.Turn.TheVariants as turn
 use Rattle.rk_calls.specs.Talk.{Says}
 use Rattle.sh_eval.specs.declared.machine.Evaluator.{Evaluator}
-use Rattle.sh_simple.specs.Stack.{context, resumed}
-use Rattle.sh_simple.specs.State.{heard}
-use Rattle.sh_simple.specs.Views.{shell_of}
+use Rattle.sh_means.specs.Stack.{context, resumed}
+use Rattle.sh_means.specs.State.{heard}
+use Rattle.sh_means.specs.Views.{shell_of}
 
 -- how many local numbers an answer gives
 abbrev pub gives : Answer → ℕ

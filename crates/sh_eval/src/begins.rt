@@ -2,19 +2,19 @@
 ghost use Rattle.std.specs.Prelude.{◌≡◌, Bool, IfOk};
 ghost use Rattle.rk_calls.specs.Brought.{brought};
 ghost use Rattle.rk_calls.specs.declared.answer.Answer.TheVariants as answer;
-ghost use Rattle.sh_simple.specs.Begins.{begins};
-ghost use Rattle.sh_simple.specs.Flows.{Next, outermost};
-ghost use Rattle.sh_simple.specs.Run.{run};
-ghost use Rattle.sh_simple.specs.Stack.{Steps, IsStep};
-ghost use Rattle.sh_simple.specs.Starts.{fails, is_directory, has_x, looked, runs_script, runs_command, script_opened, script_read};
-ghost use Rattle.sh_simple.specs.Views.{shell_of};
+ghost use Rattle.sh_means.specs.Begins.{begins};
+ghost use Rattle.sh_means.specs.Flows.{Next, outermost};
+ghost use Rattle.sh_means.specs.Run.{run};
+ghost use Rattle.sh_means.specs.Stack.{Steps, IsStep};
+ghost use Rattle.sh_means.specs.Starts.{fails, is_directory, has_x, looked, runs_script, runs_command, script_opened, script_read};
+ghost use Rattle.sh_means.specs.Views.{shell_of};
 
 use rk_base::{Bytes, Kind, NoMemory};
 use rk_calls::{Answer, Call, How, Turn, absolute, brought};
-use sh_simple::control::{Acted, Begin, Control, Wordy};
-use sh_simple::flow::{Flow, Place};
-use sh_simple::state::State;
-use sh_simple::steps::{free, refuse, tell};
+use sh_means::control::{Acted, Begin, Control, Wordy};
+use sh_means::flow::{Flow, Place};
+use sh_means::state::State;
+use sh_means::steps::{free, refuse, tell};
 use std::alloc::Global;
 
 /// The place of a whole script.

@@ -2,9 +2,6 @@
 #![tactic(auto)]
 
 mod begins;
-mod commands;
-mod compounds;
-mod leaving;
 mod machine;
 mod reading;
 mod shell;

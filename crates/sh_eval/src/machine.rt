@@ -1,31 +1,31 @@
 // The machine that evaluates commands.
 ghost use Rattle.std.specs.Prelude.{◌≡◌, ◌↔◌, ℕ, IsTrue, IfOk, OnOk};
-ghost use Rattle.sh_simple.specs.Eval.{over};
+ghost use Rattle.sh_means.specs.Eval.{over};
 ghost use Rattle.sh_eval.specs.Machine.{IsFree, gives, steps_on, evaluator_says};
-ghost use Rattle.sh_simple.specs.Stack.{Steps, IsStep, context, insiding, wordily, waiting, resumed};
-ghost use Rattle.sh_simple.specs.State.{heard};
-ghost use Rattle.sh_simple.specs.Views.{shell_of};
+ghost use Rattle.sh_means.specs.Stack.{Steps, IsStep, context, insiding, wordily, waiting, resumed};
+ghost use Rattle.sh_means.specs.State.{heard};
+ghost use Rattle.sh_means.specs.Views.{shell_of};
 ghost use Rattle.rk_calls.specs.Costly.{IsCostly};
 ghost use Rattle.rk_calls.specs.Talk.{after};
 
 use crate::begins::act_begin;
-use crate::commands::{act_compound as act_redirected, act_one, act_run, act_whole};
-use crate::compounds::{
-    act_case_at, act_compound, act_each, act_gives, act_if, act_round, act_stage, act_stages,
-};
-use crate::leaving::{leave_around, leave_undo};
 use crate::reading::{act_text, opened, read};
 use rk_base::NoMemory;
 use rk_calls::{Answer, Turn, joined};
+use sh_compound::commands::{act_compound as act_redirected, act_one, act_run, act_whole};
+use sh_compound::compounds::{
+    act_case_at, act_compound, act_each, act_gives, act_if, act_round, act_stage, act_stages,
+};
+use sh_compound::leaving::{leave_around, leave_undo};
+use sh_means::control::{Acted, Control, Frame, Inside, Wait, Wordy};
+use sh_means::flow::Flow;
+use sh_means::stack::pop;
+use sh_means::state::State;
+use sh_means::steps::{end, free, refuse};
 use sh_simple::assigning::next_assign;
-use sh_simple::control::{Acted, Control, Frame, Inside, Wait, Wordy};
 use sh_simple::expanding::act_expand;
-use sh_simple::flow::Flow;
 use sh_simple::launching::{go_on as go_on_builtin, go_on_without};
 use sh_simple::making::{go_on as go_on_redirect, next_redirect};
-use sh_simple::stack::pop;
-use sh_simple::state::State;
-use sh_simple::steps::{end, free, refuse};
 use sh_simple::words::{deliver, next_word};
 use std::alloc::Global;
 use std::mem;

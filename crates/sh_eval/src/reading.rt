@@ -1,20 +1,20 @@
 // Texts that are read at run time.
 ghost use Rattle.std.specs.Prelude.{IfOk};
 ghost use Rattle.rk_calls.specs.Brought.{brought};
-ghost use Rattle.sh_simple.specs.Flows.{Next};
-ghost use Rattle.sh_simple.specs.Run.{run};
-ghost use Rattle.sh_simple.specs.Simple.{Reads, dot_opened, dot_read};
-ghost use Rattle.sh_simple.specs.Stack.{Steps, IsStep, context};
-ghost use Rattle.sh_simple.specs.Views.{shell_of};
+ghost use Rattle.sh_means.specs.Flows.{Next};
+ghost use Rattle.sh_means.specs.Run.{run};
+ghost use Rattle.sh_means.specs.Simple.{Reads, dot_opened, dot_read};
+ghost use Rattle.sh_means.specs.Stack.{Steps, IsStep, context};
+ghost use Rattle.sh_means.specs.Views.{shell_of};
 
 use rk_base::{Bytes, NoMemory};
 use rk_calls::{Answer, Call, Turn, brought};
+use sh_means::control::{Acted, Control, Frame, Undo, Wait, Wordy};
+use sh_means::flow::{Flow, Place};
+use sh_means::stack::put_undo;
+use sh_means::state::State;
+use sh_means::steps::{free, refuse};
 use sh_parse::{Read, read_text};
-use sh_simple::control::{Acted, Control, Frame, Undo, Wait, Wordy};
-use sh_simple::flow::{Flow, Place};
-use sh_simple::stack::put_undo;
-use sh_simple::state::State;
-use sh_simple::steps::{free, refuse};
 use std::alloc::Global;
 
 /// A text is evaluated; a fault of syntax ends the shell with status 2.

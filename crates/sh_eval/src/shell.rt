@@ -2,22 +2,22 @@
 ghost use Rattle.std.specs.Prelude.{◌≡◌, IfOk, OnOk};
 ghost use Rattle.rk_base.specs.Text.{Text};
 ghost use Rattle.sh_vars.specs.Held.{assigned, given};
-ghost use Rattle.sh_simple.specs.Eval.{over};
+ghost use Rattle.sh_means.specs.Eval.{over};
 ghost use Rattle.sh_eval.specs.Machine.{evaluator_says};
 ghost use Rattle.sh_tree.proofs.ReadAs.{reads};
-ghost use Rattle.sh_simple.specs.Run.{run};
+ghost use Rattle.sh_means.specs.Run.{run};
 ghost use Rattle.sh_eval.specs.Starting.{NoneReadonly, shell_talk};
 ghost use Rattle.sh_special.specs.Invocation.{start_of};
-ghost use Rattle.sh_simple.specs.Starts.{all_given, first_variables, first_shell, starts, by_argv, shell_says, runs_command};
-ghost use Rattle.sh_simple.specs.Views.{shell_of};
+ghost use Rattle.sh_means.specs.Starts.{all_given, first_variables, first_shell, starts, by_argv, shell_says, runs_command};
+ghost use Rattle.sh_means.specs.Views.{shell_of};
 
 use crate::begins::outermost;
 use crate::machine::Evaluator;
 use rk_base::{Bytes, NoMemory, Path, Var, WordList};
 use rk_calls::{Answer, Key, Machine, Turn};
+use sh_means::control::{Begin, Control, Wordy};
+use sh_means::state::State;
 use sh_redirect::Descriptors;
-use sh_simple::control::{Begin, Control, Wordy};
-use sh_simple::state::State;
 use sh_special::{Start, copies, misused, read_options};
 use sh_vars::{Env, VarErr, Vars};
 use std::alloc::Global;

@@ -1,15 +1,4 @@
-pub mod Stacks
-pub mod Places
-pub mod Folding
-pub mod Begun
-pub mod Calling
 pub mod Hearing
 pub mod Substituted
-pub mod Cases
 pub mod Redirected
 pub mod Refused
-pub mod Named
-pub mod Delivered
-pub mod Fields
-pub mod Copied
-pub mod Undone

@@ -21,16 +21,16 @@ use Rattle.sh_redirect.specs.Stages.{redirecting_does, after}
 use Rattle.sh_builtin.specs.declared.builtin.Builtin.{Builtin}
 use Rattle.sh_builtin.specs.Doing as doing
 use Rattle.sh_builtin.specs.Stages.{builtin_does}
-use Rattle.sh_simple.specs.declared.control.Control.TheVariants as control
-use Rattle.sh_simple.specs.declared.control.Making.{Making}
-use Rattle.sh_simple.specs.declared.control.Wait.TheVariants as wait
-use Rattle.sh_simple.specs.declared.flow.Flow.TheVariants.{Normal}
-use Rattle.sh_simple.specs.declared.flow.Place.{Place}
-use Rattle.sh_simple.specs.Flows.{Next, ends}
+use Rattle.sh_means.specs.declared.control.Control.TheVariants as control
+use Rattle.sh_means.specs.declared.control.Making.{Making}
+use Rattle.sh_means.specs.declared.control.Wait.TheVariants as wait
+use Rattle.sh_means.specs.declared.flow.Flow.TheVariants.{Normal}
+use Rattle.sh_means.specs.declared.flow.Place.{Place}
+use Rattle.sh_means.specs.Flows.{Next, ends}
 use Rattle.sh_simple.specs.Launching.{through}
-use Rattle.sh_simple.specs.Stack.{making, when_refused, redirecting, building, stepped, resumed}
-use Rattle.sh_simple.specs.State.{Shell, with_env}
-use Rattle.sh_simple.specs.Words.{moved, redirect_to}
+use Rattle.sh_means.specs.Stack.{making, when_refused, redirecting, building, stepped, resumed}
+use Rattle.sh_means.specs.State.{Shell, with_env}
+use Rattle.sh_means.specs.Words.{moved, redirect_to}
 use Rattle.sh_simple.proofs.Hearing.{redirection_heard, by_call, through_is}
 
 all_heard : (λ (a : Answer) (env : Env). redirection.heard a env) ≡ counted

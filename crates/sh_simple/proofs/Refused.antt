@@ -1,18 +1,18 @@
 -- A refused redirection, and where that leads.
 use Rattle.std.proofs.Common.{◌≡◌, ℕ, List, refl, sym, ap, ◌∙◌}
 use Rattle.sh_redirect.specs.declared.descriptors.Descriptors.{Descriptors}
-use Rattle.sh_simple.specs.declared.control.Around.TheVariants as around
-use Rattle.sh_simple.specs.declared.control.Made.{Made}
-use Rattle.sh_simple.specs.declared.control.Made.TheVariants.{Simple, Compound}
-use Rattle.sh_simple.specs.declared.control.Making.{Making}
-use Rattle.sh_simple.specs.declared.control.Undo.TheVariants as undo
-use Rattle.sh_simple.specs.declared.flow.Flow.{Flow}
-use Rattle.sh_simple.specs.declared.flow.Place.{Place}
-use Rattle.sh_simple.specs.Flows.{Next, ends, watched}
+use Rattle.sh_means.specs.declared.control.Around.TheVariants as around
+use Rattle.sh_means.specs.declared.control.Made.{Made}
+use Rattle.sh_means.specs.declared.control.Made.TheVariants.{Simple, Compound}
+use Rattle.sh_means.specs.declared.control.Making.{Making}
+use Rattle.sh_means.specs.declared.control.Undo.TheVariants as undo
+use Rattle.sh_means.specs.declared.flow.Flow.{Flow}
+use Rattle.sh_means.specs.declared.flow.Place.{Place}
+use Rattle.sh_means.specs.Flows.{Next, ends, watched}
 use Rattle.sh_simple.specs.Making.{made_flow}
-use Rattle.sh_simple.specs.Stack.{redirects_from, refused_go, when_refused, surrounded, undone}
-use Rattle.sh_simple.specs.State.{Shell}
-use Rattle.sh_simple.specs.Words.{named, unredirected}
+use Rattle.sh_means.specs.Stack.{redirects_from, refused_go, when_refused, surrounded, undone}
+use Rattle.sh_means.specs.State.{Shell}
+use Rattle.sh_means.specs.Words.{named, unredirected}
 
 refused_is : (m : Made) (ds : List ℕ) (before : Descriptors) (pl : Place) (k : Next) (e : Shell) (p : ℕ) → refused_go m ds before pl k e p ≡ ends (made_flow m) 1 (unredirected ds before (watched pl k)) e p
 refused_is (Simple as' doing) ds before pl k e p = refl

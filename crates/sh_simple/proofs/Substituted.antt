@@ -16,18 +16,18 @@ use Rattle.sh_expand.specs.declared.expander.Expanding.TheVariants.{Body as Want
 use Rattle.sh_expand.specs.Expands.{Body, Failed}
 use Rattle.sh_expand.specs.Means.{With_expanded}
 use Rattle.sh_expand.specs.Turns.{expander_says, after_turn}
-use Rattle.sh_simple.specs.declared.control.Control.TheVariants as control
-use Rattle.sh_simple.specs.declared.control.Undo.TheVariants as undo
-use Rattle.sh_simple.specs.declared.control.Wording.{Wording}
-use Rattle.sh_simple.specs.declared.state.SavedState.{SavedState}
-use Rattle.sh_simple.specs.Eval.{word_in, bodies_in, whole_in}
-use Rattle.sh_simple.specs.Flows.{Next, Means}
-use Rattle.sh_simple.specs.Run.{run}
-use Rattle.sh_simple.specs.Stack.{aimed, wording, undone, resumed, whole}
-use Rattle.sh_simple.specs.State.{Shell, with_env, with_slot, back}
-use Rattle.sh_simple.specs.Views.{back_to}
-use Rattle.sh_simple.specs.Words.{body_at, bodies_at, in_subshell, faults}
-use Rattle.sh_simple.proofs.Places.{body_some, body_none}
+use Rattle.sh_means.specs.declared.control.Control.TheVariants as control
+use Rattle.sh_means.specs.declared.control.Undo.TheVariants as undo
+use Rattle.sh_means.specs.declared.control.Wording.{Wording}
+use Rattle.sh_means.specs.declared.state.SavedState.{SavedState}
+use Rattle.sh_means.specs.Eval.{word_in, bodies_in, whole_in}
+use Rattle.sh_means.specs.Flows.{Next, Means}
+use Rattle.sh_means.specs.Run.{run}
+use Rattle.sh_means.specs.Stack.{aimed, wording, undone, resumed, whole}
+use Rattle.sh_means.specs.State.{Shell, with_env, with_slot, back}
+use Rattle.sh_means.specs.Views.{back_to}
+use Rattle.sh_means.specs.Words.{body_at, bodies_at, in_subshell, faults}
+use Rattle.sh_means.proofs.Places.{body_some, body_none}
 
 pub sub_entered : (w : Wording) (i : ℕ) (body : Rc CommandList Global) (saved : SavedState) (E : Shell) (k k' : Next) (p : ℕ) → body_at (word_in run (tree.word w.word.value)).bodies i ≡ whole body.value → ((e : Shell) → back_to saved e ≡ back E e) → k' ≡ undone (undo.Substitution w saved) k → in_subshell (body_at (word_in run (tree.word w.word.value)).bodies i) w.place E E.env (λ env. wording w k Go (with_env env E)) p ≡ resumed (control.Whole w.place body) k' Go (with_slot 1 (Some (E.env.next - 1)) E) p
 sub_entered w i body saved E k k' p hb hs hk =

@@ -1,10 +1,10 @@
 -- What a refused redirection ends.
-use Rattle.sh_simple.specs.declared.control.Made.{Made}
-use Rattle.sh_simple.specs.declared.control.Made.TheVariants.{Simple, Compound}
-use Rattle.sh_simple.specs.declared.flow.Flow.{Flow}
-use Rattle.sh_simple.specs.declared.flow.Flow.TheVariants.{Normal}
-use Rattle.sh_simple.specs.Simple.{refusal_flow}
-use Rattle.sh_simple.specs.Stack.{kind_of_code}
+use Rattle.sh_means.specs.declared.control.Made.{Made}
+use Rattle.sh_means.specs.declared.control.Made.TheVariants.{Simple, Compound}
+use Rattle.sh_means.specs.declared.flow.Flow.{Flow}
+use Rattle.sh_means.specs.declared.flow.Flow.TheVariants.{Normal}
+use Rattle.sh_means.specs.Simple.{refusal_flow}
+use Rattle.sh_means.specs.Stack.{kind_of_code}
 
 abbrev pub made_flow : Made → Flow
 made_flow (Simple as' doing) = refusal_flow (kind_of_code doing.kind)

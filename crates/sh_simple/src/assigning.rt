@@ -1,17 +1,17 @@
 // Assignments, one after another, and then what the command does.
 ghost use Rattle.std.specs.Prelude.{IfOk};
-ghost use Rattle.sh_simple.specs.Stack.{Steps, IsStep, context, assigning};
-ghost use Rattle.sh_simple.specs.Views.{shell_of};
+ghost use Rattle.sh_means.specs.Stack.{Steps, IsStep, context, assigning};
+ghost use Rattle.sh_means.specs.Views.{shell_of};
 
-use crate::control::{Acted, Aim, Assigning, Frame};
-use crate::flow::Place;
 use crate::launching::work;
-use crate::numbers::behind;
-use crate::state::State;
-use crate::steps::free;
-use crate::words::begin;
 use rk_base::NoMemory;
 use sh_expand::Mode;
+use sh_means::control::{Acted, Aim, Assigning, Frame};
+use sh_means::expansion::begin;
+use sh_means::flow::Place;
+use sh_means::numbers::behind;
+use sh_means::state::State;
+use sh_means::steps::free;
 use std::alloc::Global;
 
 /// The next of the assignments, or what the command does.

@@ -1,24 +1,24 @@
 // An expander's turns, and the bodies of its substitutions (XCU 2.6.3).
 ghost use Rattle.std.specs.Prelude.{◌≡◌, IfOk};
 ghost use Rattle.sh_ast.specs.Commands as tree;
-ghost use Rattle.sh_simple.specs.Eval.{word_in};
-ghost use Rattle.sh_simple.specs.Flows.{Next};
-ghost use Rattle.sh_simple.specs.Run.{run};
-ghost use Rattle.sh_simple.specs.Stack.{Steps, Goes, IsStep, context, wording, whole};
-ghost use Rattle.sh_simple.specs.State.{Shell, with_env};
-ghost use Rattle.sh_simple.specs.Trees.{IsBody};
-ghost use Rattle.sh_simple.specs.Views.{shell_of};
-ghost use Rattle.sh_simple.specs.Words.{body_at, in_subshell};
+ghost use Rattle.sh_means.specs.Eval.{word_in};
+ghost use Rattle.sh_means.specs.Flows.{Next};
+ghost use Rattle.sh_means.specs.Run.{run};
+ghost use Rattle.sh_means.specs.Stack.{Steps, Goes, IsStep, context, wording, whole};
+ghost use Rattle.sh_means.specs.State.{Shell, with_env};
+ghost use Rattle.sh_means.specs.Trees.{IsBody};
+ghost use Rattle.sh_means.specs.Views.{shell_of};
+ghost use Rattle.sh_means.specs.Words.{body_at, in_subshell};
 ghost use Rattle.rk_calls.specs.declared.answer.Answer.TheVariants as answers;
 
-use crate::control::{Acted, Control, Frame, Undo, Wait, Wording, Wordy};
-use crate::stack::put_undo;
-use crate::state::State;
-use crate::steps::free;
 use rk_base::NoMemory;
 use rk_calls::{Answer, Turn};
 use sh_ast::{CommandList, Word};
 use sh_expand::{ExpandFault, Expanding};
+use sh_means::control::{Acted, Control, Frame, Undo, Wait, Wording, Wordy};
+use sh_means::stack::put_undo;
+use sh_means::state::State;
+use sh_means::steps::free;
 use std::alloc::Global;
 use std::rc::Rc;
 

@@ -1,14 +1,14 @@
 // What a simple command is, by its fields.
 ghost use Rattle.std.specs.Prelude.{◌≡◌, IfOk};
-ghost use Rattle.sh_simple.specs.Simple.{kind_of, called_kind};
-ghost use Rattle.sh_simple.specs.Stack.{kind_of_code};
-ghost use Rattle.sh_simple.specs.State.{function_named};
-ghost use Rattle.sh_simple.specs.Views.{rows_of};
+ghost use Rattle.sh_means.specs.Simple.{kind_of, called_kind};
+ghost use Rattle.sh_means.specs.Stack.{kind_of_code};
+ghost use Rattle.sh_means.specs.State.{function_named};
+ghost use Rattle.sh_means.specs.Views.{rows_of};
 
-use crate::control::Kind;
-use crate::state::{Function, copy_callee, function_named};
 use rk_base::{NoMemory, WordList};
 use sh_builtin::is_builtin;
+use sh_means::control::Kind;
+use sh_means::state::{Function, copy_callee, function_named};
 use sh_special::order_of;
 use std::alloc::Global;
 

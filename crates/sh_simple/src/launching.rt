@@ -1,24 +1,24 @@
 // Commands that are launched, functions that are called, and builtins.
 ghost use Rattle.std.specs.Prelude.{◌≡◌, ℕ, IfOk, drop};
 ghost use Rattle.sh_redirect.specs.Descriptors.{slot};
-ghost use Rattle.sh_simple.specs.Flows.{Next, ends};
+ghost use Rattle.sh_means.specs.Flows.{Next, ends};
 ghost use Rattle.sh_simple.specs.Launching.{through};
-ghost use Rattle.sh_simple.specs.Run.{run};
-ghost use Rattle.sh_simple.specs.Simple.{launches, calls, behind_first, status_if, works};
-ghost use Rattle.sh_simple.specs.Stack.{Steps, IsStep, context, building, kind_of_code};
-ghost use Rattle.sh_simple.specs.Views.{shell_of, function_of};
+ghost use Rattle.sh_means.specs.Run.{run};
+ghost use Rattle.sh_means.specs.Simple.{launches, calls, behind_first, status_if, works};
+ghost use Rattle.sh_means.specs.Stack.{Steps, IsStep, context, building, kind_of_code};
+ghost use Rattle.sh_means.specs.Views.{shell_of, function_of};
 ghost use Rattle.rk_calls.specs.declared.answer.Answer.TheVariants as answers;
 ghost use Rattle.rk_base.specs.declared.errno.Errno.TheVariants.{BadRef};
 
-use crate::control::{Acted, Control, Doing, Frame, Inside, Kind, Undo, Wait};
-use crate::flow::{Flow, Place};
 use crate::special::obey;
-use crate::stack::put_undo;
-use crate::state::{Callee, State};
-use crate::steps::{end, free, paid};
 use rk_base::{Bytes, Errno, NoMemory, WordList};
 use rk_calls::{Answer, Call, Key, Turn};
 use sh_builtin::Builtin;
+use sh_means::control::{Acted, Control, Doing, Frame, Inside, Kind, Undo, Wait};
+use sh_means::flow::{Flow, Place};
+use sh_means::stack::put_undo;
+use sh_means::state::{Callee, State};
+use sh_means::steps::{end, free, paid};
 use sh_redirect::Descriptors;
 use std::alloc::Global;
 

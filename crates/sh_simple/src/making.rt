@@ -1,26 +1,26 @@
 // Redirections, one after another, and what they are made for.
 ghost use Rattle.std.specs.Prelude.{◌≡◌, IfOk, OnOk, true};
-ghost use Rattle.sh_simple.specs.Flows.{Next};
+ghost use Rattle.sh_means.specs.Flows.{Next};
 ghost use Rattle.sh_simple.specs.Making.{made_flow};
-ghost use Rattle.sh_simple.specs.Simple.{unless_kept, for_its_time};
-ghost use Rattle.sh_simple.specs.Stack.{Steps, Goes, IsStep, context, making, made_go, when_made, when_refused, redirecting, redirects_from, assigns_from};
-ghost use Rattle.sh_simple.specs.declared.control.Made.TheVariants as mades;
-ghost use Rattle.sh_simple.specs.Views.{shell_of};
-ghost use Rattle.sh_simple.specs.Words.{named, names, redirect_kind};
+ghost use Rattle.sh_means.specs.Simple.{unless_kept, for_its_time};
+ghost use Rattle.sh_means.specs.Stack.{Steps, Goes, IsStep, context, making, made_go, when_made, when_refused, redirecting, redirects_from, assigns_from};
+ghost use Rattle.sh_means.specs.declared.control.Made.TheVariants as mades;
+ghost use Rattle.sh_means.specs.Views.{shell_of};
+ghost use Rattle.sh_means.specs.Words.{named, names, redirect_kind};
 
-use crate::control::{
-    Acted, Aim, Around, Assigning, Control, Doing, Frame, Inside, Made, Making, Undo, Wait, Wordy,
-};
-use crate::flow::{Flow, Place};
-use crate::numbers::behind;
-use crate::stack::{put_around, put_undo};
-use crate::state::State;
-use crate::steps::{end, free};
-use crate::words::begin;
 use rk_base::NoMemory;
 use rk_calls::{Answer, Turn};
 use sh_ast::{Assignments, RedirectOperator, Redirects};
 use sh_expand::Mode;
+use sh_means::control::{
+    Acted, Aim, Around, Assigning, Control, Doing, Frame, Inside, Made, Making, Undo, Wait, Wordy,
+};
+use sh_means::expansion::begin;
+use sh_means::flow::{Flow, Place};
+use sh_means::numbers::behind;
+use sh_means::stack::{put_around, put_undo};
+use sh_means::state::State;
+use sh_means::steps::{end, free};
 use sh_redirect::{Descriptors, Redirect, Redirecting};
 use sh_vars::Vars;
 use std::alloc::Global;

@@ -1,18 +1,18 @@
 // What special builtins do (XCU 2.14).
 ghost use Rattle.std.specs.Prelude.{◌≡◌, IfOk, codes};
-ghost use Rattle.sh_simple.specs.Flows.{Next, break_of, continue_of, return_flow};
-ghost use Rattle.sh_simple.specs.Run.{run};
-ghost use Rattle.sh_simple.specs.Simple.{or_last, errs, unless_barred, sets, shifts, dots, obeys};
-ghost use Rattle.sh_simple.specs.Stack.{Steps, IsStep};
-ghost use Rattle.sh_simple.specs.Views.{shell_of};
+ghost use Rattle.sh_means.specs.Flows.{Next, break_of, continue_of, return_flow};
+ghost use Rattle.sh_means.specs.Run.{run};
+ghost use Rattle.sh_means.specs.Simple.{or_last, errs, unless_barred, sets, shifts, dots, obeys};
+ghost use Rattle.sh_means.specs.Stack.{Steps, IsStep};
+ghost use Rattle.sh_means.specs.Views.{shell_of};
 
-use crate::control::{Acted, Control, Wait, Wordy};
-use crate::flow::{Flow, Place};
 use crate::launching::launch;
-use crate::state::State;
-use crate::steps::{end, free, refuse, tell};
 use rk_base::{Bytes, NoMemory, WordList};
 use rk_calls::{Call, How, Turn, absolute};
+use sh_means::control::{Acted, Control, Wait, Wordy};
+use sh_means::flow::{Flow, Place};
+use sh_means::state::State;
+use sh_means::steps::{end, free, refuse, tell};
 use sh_special::{Options, Order, declare_all, set_options, shift, unset_all};
 use std::alloc::Global;
 

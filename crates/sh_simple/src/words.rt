@@ -1,55 +1,32 @@
 // Expansion of words, and what it is for.
-ghost use Rattle.std.specs.Prelude.{◌≡◌, ◌++◌, ◌||◌, ℕ, IfOk, OnOk, not};
-ghost use Rattle.sh_ast.specs.Commands as tree;
+ghost use Rattle.std.specs.Prelude.{◌≡◌, ◌++◌, ◌||◌, IfOk, OnOk, not};
 ghost use Rattle.sh_vars.specs.Held.{is_readonly};
 ghost use Rattle.sh_expand.specs.declared.mode.Expanded.TheVariants.{Value};
-ghost use Rattle.sh_simple.specs.declared.control.Aim.TheVariants as aims;
-ghost use Rattle.sh_simple.specs.Compound.{for_fields};
-ghost use Rattle.sh_simple.specs.Eval.{word_in};
-ghost use Rattle.sh_simple.specs.Flows.{Next};
-ghost use Rattle.sh_simple.specs.Run.{run};
-ghost use Rattle.sh_simple.specs.Stack.{Steps, Goes, IsStep, aimed, fielding, then_means, whole};
-ghost use Rattle.sh_simple.specs.State.{Shell, set_variable, took};
-ghost use Rattle.sh_simple.specs.Trees.{set_if};
-ghost use Rattle.sh_simple.specs.Views.{shell_of};
-ghost use Rattle.sh_simple.specs.Words.{fields_of, value_of, expand_word};
+ghost use Rattle.sh_means.specs.declared.control.Aim.TheVariants as aims;
+ghost use Rattle.sh_means.specs.Flows.{Next};
+ghost use Rattle.sh_means.specs.Stack.{Steps, Goes, IsStep, aimed, fielding, then_means};
+ghost use Rattle.sh_means.specs.State.{Shell, took};
+ghost use Rattle.sh_means.specs.Trees.{set_if};
+ghost use Rattle.sh_means.specs.Views.{shell_of};
+ghost use Rattle.sh_means.specs.Words.{fields_of, value_of};
 
-use crate::control::{
-    Acted, Aim, Assigning, Casing, Control, Doing, Each, Fielding, Frame, Inside, Made, Making,
-    Then, Wait, Wording, Wordy,
-};
-use crate::flow::{Flow, Place};
 use crate::kinds::kind_of;
-use crate::numbers::behind;
-use crate::state::State;
-use crate::steps::{free, refuse};
 use rk_base::{Bytes, NoMemory, WordList};
-use sh_ast::{CaseItems, CommandList, Word};
-use sh_expand::{Expanded, Expander, Mode};
+use sh_ast::CaseItems;
+use sh_expand::{Expanded, Mode};
+use sh_means::control::{
+    Acted, Aim, Assigning, Casing, Control, Doing, Fielding, Inside, Made, Making, Then, Wait,
+    Wordy,
+};
+use sh_means::flow::{Flow, Place};
+use sh_means::numbers::behind;
+use sh_means::state::State;
+use sh_means::steps::{free, refuse};
 use sh_pattern::matches;
 use sh_redirect::{Redirect, Redirecting};
 use sh_vars::{VarErr, Vars};
 use std::alloc::Global;
 use std::rc::Rc;
-
-/// Expansion of a word begins.
-pub fn begin(
-    alloc: Global,
-    word: Rc<Word>,
-    mode: Mode,
-    place: Place,
-    aim: Aim,
-) -> Result<Control, NoMemory>
-    ensures { IfOk result (λ c. (k : Next) (e : Shell) → Goes (expand_word mode (word_in run (tree.word word.value)) place (aimed aim place k) k e) k e c) }
-{
-    let expander = Expander::start(alloc, &word, mode)?;
-    Ok(Control::Wordy(Wordy::Expand(Wording {
-        expander,
-        word,
-        place,
-        aim,
-    })))
-}
 
 // What is done once words have given their fields.
 fn then(
@@ -324,29 +301,4 @@ pub fn deliver(
             Ok(free(control))
         }
     }
-}
-
-/// A `for` over these fields; without one the status is 0.
-pub fn over_fields(
-    place: Place,
-    name: Bytes,
-    fields: WordList,
-    body: Rc<CommandList>,
-    state: &mut State,
-) -> Control
-    ensures { (k : Next) → Goes (for_fields name fields (whole body.value) place k (shell_of state.old)) k (shell_of state.new) result }
-{
-    if fields.len() == 0 {
-        state.env.status = 0;
-        return Control::Leave(Flow::Normal);
-    }
-    Control::Inside(Inside::Each(
-        place,
-        Each {
-            name,
-            fields,
-            at: 0,
-            body,
-        },
-    ))
 }

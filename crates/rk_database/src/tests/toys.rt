@@ -13,7 +13,7 @@ pub(crate) struct Toy {
 }
 
 impl Machine for Toy {
-    ghost use Rattle.rk_check.specs.Toy.{toy_talk};
+    ghost use Rattle.rk_runs.specs.Toy.{toy_talk};
 
     ghost talk = { λ s a. toy_talk s.has_asked a };
 
@@ -38,7 +38,7 @@ pub(crate) struct Toys {
 impl Maker for Toys {
     type Made = Toy;
 
-    ghost use Rattle.rk_check.specs.Toy.{toy_says, toy_command};
+    ghost use Rattle.rk_runs.specs.Toy.{toy_says, toy_command};
 
     ghost first = { λ key. toy_says };
 

@@ -5,7 +5,7 @@ ghost use Rattle.rk_words.specs.Asked.{turns};
 use super::{at, folder_of};
 use crate::build_in;
 use rk_base::Steps;
-use rk_command::Commands;
+use crate::commands::Commands;
 use rk_folder::{MemFolder, MemSink};
 use rk_words::{DEFAULT_STEPS, Request};
 use std::alloc::Global;

@@ -1,6 +1,6 @@
 use Rattle.std.proofs.Common.{◌≡◌, ◌+◌, ◌*◌, ◌≤◌, length}
 use Rattle.rk_calls.specs.Refs.{top_refs}
-use Rattle.rk_check.specs.Started.{started}
+use Rattle.rk_runs.specs.Started.{started}
 use Rattle.rk_runs.specs.Own.{total}
 use Rattle.rk_runs.specs.Purse.{left}
 use Rattle.rk_runs.specs.Run.{game, fresh}

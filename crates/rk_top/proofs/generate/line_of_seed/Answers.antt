@@ -1,4 +1,4 @@
-use Rattle.rk_command.specs.First.{first_talk}
+use Rattle.rk_top.specs.First.{first_talk}
 use Rattle.rk_top.specs.Generated.{stage_of}
 use Rattle.rk_top.proofs.GeneratedLemmas.{told-line}
 use Rattle.rk_top.proofs.generate.line_of_seed.Goals as goal

@@ -1,10 +1,10 @@
 use Rattle.std.proofs.Common.{refl, map, string_bytes}
-use Rattle.rk_command.specs.First.{first_talk}
-use Rattle.rk_top.specs.Fresh.{output_of}
+use Rattle.rk_top.specs.First.{first_talk}
+use Rattle.rk_build.specs.Fresh.{output_of}
 use Rattle.rk_top.proofs.AskLemmas.{asks-then, builds-then, gens-then, queries-then}
 use Rattle.rk_top.proofs.GeneratedLemmas.{line-generates}
 use Rattle.rk_top.proofs.QueryLemmas.{line-queried}
-use Rattle.rk_top.proofs.TellLemmas.{line-gains, told-gains, told-errors, line-leaves, line-ticked, line-faults, line-special, line-damaged, line-forged, line-ended, line-no-fault, line-settles, mid-still, steady-same}
+use Rattle.rk_build.proofs.TellLemmas.{line-gains, told-gains, told-errors, line-leaves, line-ticked, line-faults, line-special, line-damaged, line-forged, line-ended, line-no-fault, line-settles, mid-still, steady-same}
 use Rattle.rk_top.proofs.top.rkr.Goals as goal
 
 pub returns-clause-queried : goal.returns-clause-queried

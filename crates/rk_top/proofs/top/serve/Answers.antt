@@ -1,9 +1,9 @@
 use Rattle.std.proofs.Common.{refl, subst, sym}
-use Rattle.rk_command.specs.First.{first_talk}
+use Rattle.rk_top.specs.First.{first_talk}
 use Rattle.rk_words.specs.declared.requests.Request.{Request}
 use Rattle.rk_top.specs.Queries.{Queried}
 use Rattle.rk_top.proofs.AskLemmas.{a-query, if-build, no-build}
-use Rattle.rk_top.proofs.TellLemmas.{ended-any, ended-then}
+use Rattle.rk_build.proofs.TellLemmas.{ended-any, ended-then}
 use Rattle.rk_top.proofs.top.serve.Goals as goal
 
 pub returns-in-Build-clause-folder : goal.returns-in-Build-clause-folder

@@ -1,10 +1,9 @@
 use Rattle.std.proofs.Common.{arith, inl, map, refl, string_bytes}
-use Rattle.rk_command.specs.First.{first_talk}
+use Rattle.rk_top.specs.First.{first_talk}
 use Rattle.rk_words.specs.Asked.{IfBuild}
-use Rattle.rk_top.specs.Outcomes.{Checked, HasStatus, Tallies}
+use Rattle.rk_build.specs.Outcomes.{Checked, HasStatus, Tallies}
 use Rattle.rk_top.proofs.QueryLemmas.{unread-queried}
-use Rattle.rk_top.proofs.AskLemmas.{asks, asks-any, build-then, builds-any, gens-any, queries-any, unasked}
-use Rattle.rk_top.proofs.TellLemmas.{asks-ended}
+use Rattle.rk_top.proofs.AskLemmas.{asks, asks-ended, asks-any, build-then, builds-any, gens-any, queries-any, unasked}
 use Rattle.rk_top.proofs.top.work.Goals as goal
 
 pub returns-in-Ok-clause-folder : goal.returns-in-Ok-clause-folder

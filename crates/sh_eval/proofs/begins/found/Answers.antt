@@ -1,5 +1,5 @@
 use Rattle.std.proofs.Common.{◌∙◌, sym}
-use Rattle.sh_simple.specs.Views.{shell_of}
+use Rattle.sh_means.specs.Views.{shell_of}
 use Rattle.sh_eval.proofs.Found.{found_directory}
 use Rattle.sh_eval.proofs.begins.found.Goals as goal
 

@@ -1,4 +1,4 @@
-use Rattle.sh_simple.specs.Views.{shell_of}
+use Rattle.sh_means.specs.Views.{shell_of}
 use Rattle.sh_eval.proofs.Found.{looked_up}
 use Rattle.sh_eval.proofs.begins.looked.Goals as goal
 

@@ -1,8 +1,8 @@
 use Rattle.std.proofs.Common.{sym, ap, ◌∙◌}
 use Rattle.sh_ast.specs.declared.command.CommandList.{CommandList}
-use Rattle.sh_simple.specs.declared.control.Control.{Control}
-use Rattle.sh_simple.specs.Stack.{context, resumed, first_of, commands_from}
-use Rattle.sh_simple.specs.Views.{shell_of}
+use Rattle.sh_means.specs.declared.control.Control.{Control}
+use Rattle.sh_means.specs.Stack.{context, resumed, first_of, commands_from}
+use Rattle.sh_means.specs.Views.{shell_of}
 use Rattle.sh_eval.proofs.machine.act.Goals as goal
 
 pub returns-in_ok-acted-in-Run-clause-talk : goal.returns-in_ok-acted-in-Run-clause-talk

@@ -1,11 +1,11 @@
 use Rattle.std.proofs.Common.{sym, ap, ◌∙◌}
 use Rattle.sh_ast.specs.Commands as tree
 use Rattle.sh_ast.specs.declared.command.Compound.{Compound}
-use Rattle.sh_simple.specs.declared.control.Inside.{Inside}
-use Rattle.sh_simple.specs.Eval.{compound_in}
-use Rattle.sh_simple.specs.Run.{run}
-use Rattle.sh_simple.specs.Stack.{context, insiding}
-use Rattle.sh_simple.specs.Views.{shell_of}
+use Rattle.sh_means.specs.declared.control.Inside.{Inside}
+use Rattle.sh_means.specs.Eval.{compound_in}
+use Rattle.sh_means.specs.Run.{run}
+use Rattle.sh_means.specs.Stack.{context, insiding}
+use Rattle.sh_means.specs.Views.{shell_of}
 use Rattle.sh_eval.proofs.machine.act_inside.Goals as goal
 
 pub returns-in_ok-control-in-Compound-clause-talk : goal.returns-in_ok-control-in-Compound-clause-talk

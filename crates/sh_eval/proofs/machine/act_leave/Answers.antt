@@ -1,8 +1,8 @@
 use Rattle.std.proofs.Common.{ap, ◌∙◌}
-use Rattle.sh_simple.specs.declared.control.Frame.{Frame}
-use Rattle.sh_simple.specs.Flows.{Next}
-use Rattle.sh_simple.specs.Stack.{context, above}
-use Rattle.sh_simple.specs.Views.{shell_of}
+use Rattle.sh_means.specs.declared.control.Frame.{Frame}
+use Rattle.sh_means.specs.Flows.{Next}
+use Rattle.sh_means.specs.Stack.{context, above}
+use Rattle.sh_means.specs.Views.{shell_of}
 use Rattle.sh_eval.proofs.machine.act_leave.Goals as goal
 
 pub returns-in-None-clause-talk : goal.returns-in-None-clause-talk

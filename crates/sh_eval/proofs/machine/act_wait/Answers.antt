@@ -1,10 +1,10 @@
 use Rattle.std.proofs.Common.{ℕ, sym, ap, ◌∙◌}
 use Rattle.rk_base.specs.Text.{Text}
-use Rattle.sh_simple.specs.declared.control.Wait.{Wait}
-use Rattle.sh_simple.specs.Flows.{ends}
-use Rattle.sh_simple.specs.Stack.{context, waiting}
-use Rattle.sh_simple.specs.Views.{shell_of}
-use Rattle.sh_simple.specs.Words.{faults}
+use Rattle.sh_means.specs.declared.control.Wait.{Wait}
+use Rattle.sh_means.specs.Flows.{ends}
+use Rattle.sh_means.specs.Stack.{context, waiting}
+use Rattle.sh_means.specs.Views.{shell_of}
+use Rattle.sh_means.specs.Words.{faults}
 use Rattle.sh_eval.proofs.machine.act_wait.Goals as goal
 
 pub returns-in-Told-clause-talk : goal.returns-in-Told-clause-talk

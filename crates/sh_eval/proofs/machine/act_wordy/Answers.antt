@@ -1,7 +1,7 @@
 use Rattle.std.proofs.Common.{ap, ◌∙◌}
-use Rattle.sh_simple.specs.declared.control.Wordy.{Wordy}
-use Rattle.sh_simple.specs.Stack.{context, wordily}
-use Rattle.sh_simple.specs.Views.{shell_of}
+use Rattle.sh_means.specs.declared.control.Wordy.{Wordy}
+use Rattle.sh_means.specs.Stack.{context, wordily}
+use Rattle.sh_means.specs.Views.{shell_of}
 use Rattle.sh_eval.proofs.machine.act_wordy.Goals as goal
 
 pub returns-in_ok-control-in-Words-clause-talk : goal.returns-in_ok-control-in-Words-clause-talk

@@ -2,8 +2,8 @@ use Rattle.std.proofs.Common.{refl, ap, sym, ◌∙◌}
 use Rattle.sh_ast.specs.Commands as tree
 use Rattle.sh_tree.proofs.ReadAs.{reads}
 use Rattle.sh_parse.specs.Readings.{reading_of}
-use Rattle.sh_simple.specs.Views.{shell_of}
-use Rattle.sh_simple.proofs.Calling.{text_run, text_faulty, told_words}
+use Rattle.sh_means.specs.Views.{shell_of}
+use Rattle.sh_means.proofs.Calling.{text_run, text_faulty, told_words}
 use Rattle.sh_eval.proofs.reading.act_text.Goals as goal
 
 pub returns-in-Script-clause-talk : goal.returns-in-Script-clause-talk

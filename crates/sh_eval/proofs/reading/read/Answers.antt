@@ -1,8 +1,8 @@
 use Rattle.std.proofs.Common.{sym, ◌∙◌}
 use Rattle.rk_calls.specs.Brought.{brought}
-use Rattle.sh_simple.specs.Stack.{context}
-use Rattle.sh_simple.specs.Views.{shell_of}
-use Rattle.sh_simple.proofs.Calling.{script_read}
+use Rattle.sh_means.specs.Stack.{context}
+use Rattle.sh_means.specs.Views.{shell_of}
+use Rattle.sh_means.proofs.Calling.{script_read}
 use Rattle.sh_eval.proofs.reading.read.Goals as goal
 
 pub returns-in_ok-put_undo-in-Ok-clause-talk : goal.returns-in_ok-put_undo-in-Ok-clause-talk

@@ -1,9 +1,9 @@
 use Rattle.std.proofs.Common.{subst, ◌∙◌}
 use Rattle.sh_expand.specs.declared.mode.Mode.TheVariants as mode
-use Rattle.sh_simple.specs.declared.control.Aim.TheVariants as aim
-use Rattle.sh_simple.specs.Stack.{context}
-use Rattle.sh_simple.specs.Views.{shell_of}
-use Rattle.sh_simple.proofs.Begun.{Begins, assign_begun, assigns_over}
+use Rattle.sh_means.specs.declared.control.Aim.TheVariants as aim
+use Rattle.sh_means.specs.Stack.{context}
+use Rattle.sh_means.specs.Views.{shell_of}
+use Rattle.sh_means.proofs.Begun.{Begins, assign_begun, assigns_over}
 use Rattle.sh_simple.proofs.assigning.next_assign.Goals as goal
 
 pub returns-in_ok-control-in-Some-clause-talk : goal.returns-in_ok-control-in-Some-clause-talk

@@ -1,6 +1,6 @@
 use Rattle.std.proofs.Common.{◌∙◌}
-use Rattle.sh_simple.specs.Stack.{context}
-use Rattle.sh_simple.specs.Views.{shell_of}
+use Rattle.sh_means.specs.Stack.{context}
+use Rattle.sh_means.specs.Views.{shell_of}
 use Rattle.sh_simple.proofs.Substituted.{body_stepped}
 use Rattle.sh_simple.proofs.expanding.act_expand.Goals as goal
 

@@ -4,12 +4,12 @@ use Rattle.sh_ast.specs.Commands as tree
 use Rattle.sh_ast.specs.declared.command.Word.{Word}
 use Rattle.sh_redirect.specs.declared.descriptors.Descriptors.{Descriptors}
 use Rattle.sh_redirect.specs.Descriptors.{set_slot}
-use Rattle.sh_simple.specs.declared.control.Control.TheVariants.{Whole}
-use Rattle.sh_simple.specs.Eval.{word_in}
-use Rattle.sh_simple.specs.Run.{run}
-use Rattle.sh_simple.specs.Stack.{context, resumed}
-use Rattle.sh_simple.specs.Words.{body_at}
-use Rattle.sh_simple.specs.Views.{shell_of}
+use Rattle.sh_means.specs.declared.control.Control.TheVariants.{Whole}
+use Rattle.sh_means.specs.Eval.{word_in}
+use Rattle.sh_means.specs.Run.{run}
+use Rattle.sh_means.specs.Stack.{context, resumed}
+use Rattle.sh_means.specs.Words.{body_at}
+use Rattle.sh_means.specs.Views.{shell_of}
 use Rattle.sh_simple.proofs.Substituted.{sub_entered}
 use Rattle.sh_simple.proofs.expanding.enter_body.Goals as goal
 

@@ -1,11 +1,11 @@
 use Rattle.std.proofs.Common.{List, ap, ◌∙◌}
 use Rattle.rk_base.specs.Text.{Text}
 use Rattle.sh_vars.specs.Held.{Held}
-use Rattle.sh_simple.specs.Simple.{behind_first}
-use Rattle.sh_simple.specs.State.{with_held}
-use Rattle.sh_simple.specs.Stack.{context}
-use Rattle.sh_simple.specs.Views.{shell_of}
-use Rattle.sh_simple.proofs.Calling.{called}
+use Rattle.sh_means.specs.Simple.{behind_first}
+use Rattle.sh_means.specs.State.{with_held}
+use Rattle.sh_means.specs.Stack.{context}
+use Rattle.sh_means.specs.Views.{shell_of}
+use Rattle.sh_means.proofs.Calling.{called}
 use Rattle.sh_simple.proofs.launching.call.Goals as goal
 
 pub returns-clause-talk : goal.returns-clause-talk

@@ -1,5 +1,5 @@
 use Rattle.std.proofs.Common.{◌∙◌}
-use Rattle.sh_simple.specs.Views.{shell_of}
+use Rattle.sh_means.specs.Views.{shell_of}
 use Rattle.sh_simple.proofs.Redirected.{builtin_asks, builtin_lacks}
 use Rattle.sh_simple.proofs.launching.go_on.Goals as goal
 

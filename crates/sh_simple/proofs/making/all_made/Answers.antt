@@ -1,12 +1,12 @@
 use Rattle.std.proofs.Common.{sym, ap, ◌∙◌}
 use Rattle.sh_ast.specs.Commands as tree
-use Rattle.sh_simple.specs.declared.control.Made.{Made}
-use Rattle.sh_simple.specs.Eval.{compound_in}
-use Rattle.sh_simple.specs.Flows.{Next}
-use Rattle.sh_simple.specs.Run.{run}
-use Rattle.sh_simple.specs.Stack.{context, redirects_from, made_go}
-use Rattle.sh_simple.specs.Views.{shell_of}
-use Rattle.sh_simple.specs.Words.{named}
+use Rattle.sh_means.specs.declared.control.Made.{Made}
+use Rattle.sh_means.specs.Eval.{compound_in}
+use Rattle.sh_means.specs.Flows.{Next}
+use Rattle.sh_means.specs.Run.{run}
+use Rattle.sh_means.specs.Stack.{context, redirects_from, made_go}
+use Rattle.sh_means.specs.Views.{shell_of}
+use Rattle.sh_means.specs.Words.{named}
 use Rattle.sh_simple.proofs.making.all_made.Goals as goal
 
 pub returns-in_ok-control-in-Simple : goal.returns-in_ok-control-in-Simple

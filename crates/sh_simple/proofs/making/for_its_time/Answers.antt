@@ -1,7 +1,7 @@
 use Rattle.std.proofs.Common.{Bool, sym, ap, ◌∙◌}
-use Rattle.sh_simple.specs.Simple.{for_its_time}
-use Rattle.sh_simple.specs.Stack.{assigns_from, context}
-use Rattle.sh_simple.specs.Words.{names}
+use Rattle.sh_means.specs.Simple.{for_its_time}
+use Rattle.sh_means.specs.Stack.{assigns_from, context}
+use Rattle.sh_means.specs.Words.{names}
 use Rattle.sh_simple.proofs.making.for_its_time.Goals as goal
 
 pub returns-then-plain : goal.returns-then-plain

@@ -1,6 +1,6 @@
 use Rattle.std.proofs.Common.{◌∙◌}
-use Rattle.sh_simple.specs.Stack.{context}
-use Rattle.sh_simple.specs.Views.{shell_of}
+use Rattle.sh_means.specs.Stack.{context}
+use Rattle.sh_means.specs.Views.{shell_of}
 use Rattle.sh_simple.proofs.Redirected.{redirect_asks, redirect_made, redirect_refused}
 use Rattle.sh_simple.proofs.making.go_on.Goals as goal
 

@@ -1,9 +1,9 @@
 use Rattle.std.proofs.Common.{Bool, ap, ◌∙◌}
-use Rattle.sh_simple.specs.Simple.{unless_kept}
-use Rattle.sh_simple.specs.Stack.{context, redirects_from}
-use Rattle.sh_simple.specs.Views.{shell_of}
-use Rattle.sh_simple.specs.Words.{named}
-use Rattle.sh_simple.proofs.Begun.{made_done}
+use Rattle.sh_means.specs.Simple.{unless_kept}
+use Rattle.sh_means.specs.Stack.{context, redirects_from}
+use Rattle.sh_means.specs.Views.{shell_of}
+use Rattle.sh_means.specs.Words.{named}
+use Rattle.sh_means.proofs.Begun.{made_done}
 use Rattle.sh_simple.proofs.making.made_simple.Goals as goal
 
 pub returns : goal.returns

@@ -1,10 +1,10 @@
 use Rattle.std.proofs.Common.{subst, ◌∙◌}
 use Rattle.sh_ast.specs.declared.command.Redirect.{out-Redirect}
 use Rattle.sh_expand.specs.declared.mode.Mode.TheVariants as mode
-use Rattle.sh_simple.specs.declared.control.Aim.TheVariants as aim
-use Rattle.sh_simple.specs.Stack.{context}
-use Rattle.sh_simple.specs.Views.{shell_of}
-use Rattle.sh_simple.proofs.Begun.{Begins, redirect_begun, redirects_over}
+use Rattle.sh_means.specs.declared.control.Aim.TheVariants as aim
+use Rattle.sh_means.specs.Stack.{context}
+use Rattle.sh_means.specs.Views.{shell_of}
+use Rattle.sh_means.proofs.Begun.{Begins, redirect_begun, redirects_over}
 use Rattle.sh_simple.proofs.making.next_redirect.Goals as goal
 
 pub returns-in-Some : goal.returns-in-Some

@@ -1,5 +1,5 @@
-use Rattle.sh_simple.specs.Stack.{context}
-use Rattle.sh_simple.proofs.Undone.{time_over, time_kept}
+use Rattle.sh_means.specs.Stack.{context}
+use Rattle.sh_means.proofs.Undone.{time_over, time_kept}
 use Rattle.sh_simple.proofs.making.put_back_later.Goals as goal
 
 pub returns-in-None : goal.returns-in-None

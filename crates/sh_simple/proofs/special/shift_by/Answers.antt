@@ -1,11 +1,11 @@
 use Rattle.std.proofs.Common.{◌≡◌, ℕ, Bool, false, drop, codes, if◌then◌else◌, sym, ap, ◌∙◌}
 use Rattle.sh_vars.specs.Held.{Held}
 use Rattle.sh_special.specs.Changes.{has_shift, shifted}
-use Rattle.sh_simple.specs.declared.flow.Flow.TheVariants.{Normal}
-use Rattle.sh_simple.specs.Flows.{Next, ends}
-use Rattle.sh_simple.specs.Simple.{errs, shifts}
-use Rattle.sh_simple.specs.State.{Shell, with_held}
-use Rattle.sh_simple.specs.Views.{shell_of}
+use Rattle.sh_means.specs.declared.flow.Flow.TheVariants.{Normal}
+use Rattle.sh_means.specs.Flows.{Next, ends}
+use Rattle.sh_means.specs.Simple.{errs, shifts}
+use Rattle.sh_means.specs.State.{Shell, with_held}
+use Rattle.sh_means.specs.Views.{shell_of}
 use Rattle.sh_simple.proofs.special.shift_by.Goals as goal
 
 -- where there are fewer parameters nothing is shifted

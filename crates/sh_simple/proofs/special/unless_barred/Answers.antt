@@ -1,7 +1,7 @@
 use Rattle.std.proofs.Common.{Option, codes, sym, ap, ◌∙◌}
 use Rattle.rk_base.specs.Text.{Text}
-use Rattle.sh_simple.specs.Simple.{errs, unless_barred}
-use Rattle.sh_simple.specs.Views.{shell_of}
+use Rattle.sh_means.specs.Simple.{errs, unless_barred}
+use Rattle.sh_means.specs.Views.{shell_of}
 use Rattle.sh_simple.proofs.special.unless_barred.Goals as goal
 
 pub returns-in_ok-acted-in-Some-clause-talk : goal.returns-in_ok-acted-in-Some-clause-talk

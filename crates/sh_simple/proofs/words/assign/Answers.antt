@@ -2,13 +2,13 @@ use Rattle.std.proofs.Common.{◌≡◌, ℕ, ◌||◌, Bool, true, false, not, 
 use Rattle.rk_base.specs.Text.{Text}
 use Rattle.rk_calls.specs.Lines.{error_line}
 use Rattle.sh_vars.specs.Held.{Held, is_readonly}
-use Rattle.sh_simple.specs.declared.flow.Flow.TheVariants.{Exits}
-use Rattle.sh_simple.specs.Flows.{Next, Go_on, tells, ends, sh}
-use Rattle.sh_simple.specs.Stack.{assigning}
-use Rattle.sh_simple.specs.State.{Shell, with_held, set_variable, took}
-use Rattle.sh_simple.specs.Trees.{set_if}
-use Rattle.sh_simple.specs.Views.{shell_of}
-use Rattle.sh_simple.specs.Words.{assigns}
+use Rattle.sh_means.specs.declared.flow.Flow.TheVariants.{Exits}
+use Rattle.sh_means.specs.Flows.{Next, Go_on, tells, ends, sh}
+use Rattle.sh_means.specs.Stack.{assigning}
+use Rattle.sh_means.specs.State.{Shell, with_held, set_variable, took}
+use Rattle.sh_means.specs.Trees.{set_if}
+use Rattle.sh_means.specs.Views.{shell_of}
+use Rattle.sh_means.specs.Words.{assigns}
 use Rattle.sh_simple.proofs.words.assign.Goals as goal
 
 opposite : (b done : Bool) → done ≡ not b → b ≡ not done

@@ -1,9 +1,9 @@
 use Rattle.std.proofs.Common.{ap, ◌∙◌}
-use Rattle.sh_simple.specs.declared.control.Aim.{Aim}
-use Rattle.sh_simple.specs.declared.control.Aim.TheVariants as aim
-use Rattle.sh_simple.specs.Stack.{aimed}
-use Rattle.sh_simple.specs.Views.{shell_of}
-use Rattle.sh_simple.proofs.Delivered.{same_value}
+use Rattle.sh_means.specs.declared.control.Aim.{Aim}
+use Rattle.sh_means.specs.declared.control.Aim.TheVariants as aim
+use Rattle.sh_means.specs.Stack.{aimed}
+use Rattle.sh_means.specs.Views.{shell_of}
+use Rattle.sh_means.proofs.Delivered.{same_value}
 use Rattle.sh_simple.proofs.words.deliver.Goals as goal
 
 pub returns-in_ok-operand-in-Operand-clause-talk : goal.returns-in_ok-operand-in-Operand-clause-talk

@@ -1,8 +1,8 @@
 use Rattle.std.proofs.Common.{◌≡◌, ◌+◌, Bool, if◌then◌else◌, sym, ap, ◌∙◌}
 use Rattle.rk_base.specs.Text.{Text}
 use Rattle.sh_pattern.specs.Decided.{is_matched}
-use Rattle.sh_simple.specs.Stack.{items_from, case_body, casing}
-use Rattle.sh_simple.proofs.Cases.{body_matched, none_matched}
+use Rattle.sh_means.specs.Stack.{items_from, case_body, casing}
+use Rattle.sh_means.proofs.Cases.{body_matched, none_matched}
 use Rattle.sh_simple.proofs.words.match_pattern.Goals as goal
 
 decided : (pattern text pattern' text' : Text) (b : Bool) → b ≡ is_matched pattern' text' → pattern' ≡ pattern → text' ≡ text → is_matched pattern text ≡ b

@@ -1,8 +1,8 @@
 use Rattle.std.proofs.Common.{subst, ◌∙◌}
 use Rattle.sh_expand.specs.declared.mode.Mode.TheVariants as mode
-use Rattle.sh_simple.specs.declared.control.Aim.TheVariants as aim
-use Rattle.sh_simple.specs.Views.{shell_of}
-use Rattle.sh_simple.proofs.Begun.{Begins, word_begun, words_over}
+use Rattle.sh_means.specs.declared.control.Aim.TheVariants as aim
+use Rattle.sh_means.specs.Views.{shell_of}
+use Rattle.sh_means.proofs.Begun.{Begins, word_begun, words_over}
 use Rattle.sh_simple.proofs.words.next_word.Goals as goal
 
 pub returns-in_ok-control-in-Some : goal.returns-in_ok-control-in-Some

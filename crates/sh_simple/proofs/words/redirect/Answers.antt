@@ -1,4 +1,4 @@
-use Rattle.sh_simple.specs.Views.{shell_of}
+use Rattle.sh_means.specs.Views.{shell_of}
 use Rattle.sh_simple.proofs.Redirected.{redirect_begun}
 use Rattle.sh_simple.proofs.words.redirect.Goals as goal
 

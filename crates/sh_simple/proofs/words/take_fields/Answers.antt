@@ -1,7 +1,7 @@
 use Rattle.std.proofs.Common.{List, ap, ◌∙◌, ◌++◌}
 use Rattle.rk_base.specs.Text.{Text}
-use Rattle.sh_simple.specs.Views.{shell_of}
-use Rattle.sh_simple.proofs.Delivered.{fields_taken}
+use Rattle.sh_means.specs.Views.{shell_of}
+use Rattle.sh_means.proofs.Delivered.{fields_taken}
 use Rattle.sh_simple.proofs.words.take_fields.Goals as goal
 
 pub returns : goal.returns

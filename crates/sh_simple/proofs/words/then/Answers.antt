@@ -6,18 +6,18 @@ use Rattle.rk_calls.specs.Talk.{Says}
 use Rattle.sh_ast.specs.declared.command.Assignments.{Assignments}
 use Rattle.sh_ast.specs.declared.command.Redirects.{Redirects}
 use Rattle.sh_ast.specs.declared.command.SimpleCommand.{SimpleCommand, out-SimpleCommand}
-use Rattle.sh_simple.specs.declared.control.Kind as code
-use Rattle.sh_simple.specs.declared.control.Made.TheVariants as made
-use Rattle.sh_simple.specs.declared.control.Then.{Then}
-use Rattle.sh_simple.specs.declared.flow.Place.{Place}
-use Rattle.sh_simple.specs.declared.state.Function.{Function}
-use Rattle.sh_simple.specs.Flows.{Next}
-use Rattle.sh_simple.specs.Run.{run}
-use Rattle.sh_simple.specs.Simple.{Kind, kind_of, made_simple, refused_simple}
-use Rattle.sh_simple.specs.Stack.{then_means, making, redirects_from, assigns_from, kind_of_code}
-use Rattle.sh_simple.specs.State.{Shell}
-use Rattle.sh_simple.specs.Views.{shell_of, rows_of}
-use Rattle.sh_simple.specs.Words.{redirect_all, named}
+use Rattle.sh_means.specs.declared.control.Kind as code
+use Rattle.sh_means.specs.declared.control.Made.TheVariants as made
+use Rattle.sh_means.specs.declared.control.Then.{Then}
+use Rattle.sh_means.specs.declared.flow.Place.{Place}
+use Rattle.sh_means.specs.declared.state.Function.{Function}
+use Rattle.sh_means.specs.Flows.{Next}
+use Rattle.sh_means.specs.Run.{run}
+use Rattle.sh_means.specs.Simple.{Kind, kind_of, made_simple, refused_simple}
+use Rattle.sh_means.specs.Stack.{then_means, making, redirects_from, assigns_from, kind_of_code}
+use Rattle.sh_means.specs.State.{Shell}
+use Rattle.sh_means.specs.Views.{shell_of, rows_of}
+use Rattle.sh_means.specs.Words.{redirect_all, named}
 use Rattle.sh_simple.proofs.words.then.Goals as goal
 
 -- the redirections of a simple command with these fields, as a kind

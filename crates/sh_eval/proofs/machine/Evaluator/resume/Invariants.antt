@@ -1,7 +1,7 @@
 use Rattle.std.proofs.Common.{◌≡◌, ℕ}
 use Rattle.rk_calls.specs.Talk.{after}
 use Rattle.sh_eval.specs.Machine.{evaluator_says}
-use Rattle.sh_simple.specs.Stack.{IsStep}
+use Rattle.sh_means.specs.Stack.{IsStep}
 use Rattle.sh_eval.proofs.machine.Evaluator.resume.Given as goal
 
 abbrev pub invariant-free : goal.invariant-free

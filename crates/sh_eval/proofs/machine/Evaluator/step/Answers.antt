@@ -1,7 +1,7 @@
 use Rattle.std.proofs.Common.{sym, ap, ◌∙◌}
-use Rattle.sh_simple.specs.declared.control.Control.{Control}
-use Rattle.sh_simple.specs.Stack.{context, resumed, stepped}
-use Rattle.sh_simple.specs.Views.{shell_of}
+use Rattle.sh_means.specs.declared.control.Control.{Control}
+use Rattle.sh_means.specs.Stack.{context, resumed, stepped}
+use Rattle.sh_means.specs.Views.{shell_of}
 use Rattle.sh_eval.proofs.Turning.{stepped_after}
 use Rattle.sh_eval.proofs.machine.Evaluator.step.Goals as goal
 

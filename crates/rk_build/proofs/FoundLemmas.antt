@@ -1,0 +1,49 @@
+-- What a build finds in a folder.
+use Rattle.std.proofs.Common.{◌≡◌, Bool, Option, Some, None, Ok, Err, ap, subst}
+use Rattle.rk_folder.specs.Told.{Held}
+use Rattle.rk_install.specs.Imported.{holding_of}
+use Rattle.rk_install.specs.declared.holding.Holding.{Holding}
+use Rattle.rk_words.specs.declared.requests.Request.{Request}
+use Rattle.rk_words.specs.Asked.{is_fresh}
+use Rattle.rk_build.specs.Kept.{IsKept, ReadsState, state_in, decoded}
+use Rattle.rk_build.specs.Stages.{LooksSo, FindsSo}
+use Rattle.rk_build.specs.declared.found.Found.{Found}
+use Rattle.rk_build.specs.declared.stop.Refusal.TheVariants as refusal
+use Rattle.rk_build.specs.declared.stop.Stop.{Stop}
+use Rattle.rk_build.specs.declared.stop.Stop.TheVariants as stop
+
+state-same : (held : Held) (holding : Holding) → holding ≡ holding_of held → holding.state ≡ state_in held
+state-same held holding same = ap (λ (h : Holding). h.state) same
+
+-- the look failed
+pub look-stops : (request : Request) (told : Option Held) (e : Stop) → LooksSo told (Err e) → FindsSo request told (Err e)
+look-stops request None (stop.Refused (refusal.Special path)) look = tt
+look-stops request (Some held) (stop.Refused (refusal.Special path)) look = look
+look-stops request told (stop.Refused (refusal.Damaged file damage)) look = absurd look
+look-stops request told (stop.Forged rec step) look = absurd look
+look-stops request told stop.Spent look = absurd look
+look-stops request told stop.ReadFault look = tt
+look-stops request told stop.WriteFault look = absurd look
+look-stops request told stop.NoMemory look = tt
+
+-- a state file is damaged
+kept-stops : (request : Request) (told : Option Held) (holding : Holding) (e : Stop) → LooksSo told (Ok holding) → ReadsState (decoded (is_fresh request) holding.state) (Err e) → FindsSo request told (Err e)
+kept-stops request told holding (stop.Refused (refusal.Special path)) look kept = absurd kept
+kept-stops request None holding (stop.Refused (refusal.Damaged file damage)) look kept = tt
+kept-stops request (Some held) holding (stop.Refused (refusal.Damaged file damage)) look kept =
+    (look.0, subst (λ s. ReadsState (decoded (is_fresh request) s) (Err (stop.Refused (refusal.Damaged file damage)))) (state-same held holding look.1) kept)
+kept-stops request told holding (stop.Forged rec step) look kept = absurd kept
+kept-stops request told holding stop.Spent look kept = absurd kept
+kept-stops request told holding stop.ReadFault look kept = absurd kept
+kept-stops request told holding stop.WriteFault look kept = absurd kept
+kept-stops request told holding stop.NoMemory look kept = tt
+
+-- by a test of whether the build begins afresh
+pub kept-stops-so : (request : Request) (told : Option Held) (holding : Holding) (e : Stop) (fresh : Bool) → LooksSo told (Ok holding) → fresh ≡ is_fresh request → ReadsState (decoded fresh holding.state) (Err e) → FindsSo request told (Err e)
+kept-stops-so request told holding e fresh look same kept = kept-stops request told holding e look (subst (λ (b : Bool). ReadsState (decoded b holding.state) (Err e)) same kept)
+
+-- all was found
+pub is_found : (request : Request) (told : Option Held) (found : Found) → LooksSo told (Ok found.holding) → ReadsState (decoded (is_fresh request) found.holding.state) (Ok (record { attrs = found.attrs; old = found.old })) → FindsSo request told (Ok found)
+is_found request None found look kept = tt
+is_found request (Some held) found look kept =
+    (look.0, look.1, subst (λ s. IsKept (decoded (is_fresh request) s) found.attrs found.old) (state-same held found.holding look.1) kept)

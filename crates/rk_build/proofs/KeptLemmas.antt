@@ -1,0 +1,135 @@
+-- A folder that holds what a run leaves: the next build finds the very entries that the run left, and its records.
+use Rattle.std.proofs.Common.{◌≡◌, List, [], ◌∷◌, Bool, true, false, ◌&&◌, ◌||◌, Option, Some, None, option_map, cond, refl, sym, ap, subst, ◌∙◌}
+use Rattle.std.specs.FinMap.{get}
+use Rattle.std.specs.List.{list_all}
+use Rattle.rk_base.specs.Text.{Text, is_within, same_text}
+use Rattle.rk_base.proofs.CanonicalLemmas.{both}
+use Rattle.rk_base.proofs.WithinLemmas.{same_is}
+use Rattle.tr_record.specs.declared.records.Record.{Record}
+use Rattle.tr_codec.specs.Attrs.{are_rows}
+use Rattle.tr_codec.specs.Fits.{Fits}
+use Rattle.tr_codec.specs.Spelling.{db_spelling}
+use Rattle.tr_codec.specs.declared.rows.AttrRow.{AttrRow}
+use Rattle.tr_codec.proofs.RowLemmas.{one_attrs}
+use Rattle.tr_codec.proofs.SealLemmas.{one_table}
+use Rattle.rk_tree.specs.Copies.{snapshot_of as entries_of}
+use Rattle.rk_tree.specs.Entries.{IsWholeSnapshot}
+use Rattle.rk_tree.specs.Node.{Node}
+use Rattle.rk_tree.specs.Node as entry
+use Rattle.rk_kernel.specs.World.{World}
+use Rattle.rk_folder.specs.Listing.{IsFirst}
+use Rattle.rk_folder.specs.Told.{Held, standing, bytes_in, is_dir, is_odd}
+use Rattle.rk_folder.specs.Specials.{first_special, is_fault, is_hidden_fault, is_special, is_other_than_dir, is_other_than_file}
+use Rattle.rk_folder.specs.Whole.{IsWhole}
+use Rattle.rk_folder.specs.declared.folder.Standing.TheVariants.{File}
+use Rattle.rk_folder.proofs.FirstLemmas.{first_special-is}
+use Rattle.rk_install.specs.Attributes.{attrs_of}
+use Rattle.rk_install.specs.Holdings.{IsAfter, dir_where, placed, hidden_dir, attrs_file, db_file}
+use Rattle.rk_install.specs.declared.holding.Holding.{Holding}
+use Rattle.rk_install.proofs.AttributesLemmas.{attrs_are, built-held}
+use Rattle.rk_install.proofs.SeenLemmas.{odd-within}
+use Rattle.rk_build.specs.Fresh.{AreInMemory, IsInMemory, attrs_bytes, held_after}
+use Rattle.rk_build.specs.Kept.{AreRows, IsTable, state_in}
+use Rattle.rk_build.specs.Outcomes.{IsNext}
+
+-- Nothing of it is special.
+
+clash : (b : Bool) → b ≡ true → b ≡ false → ⊥
+clash b t f = cc
+
+never_both : (x a : Bool) → (x ≡ true → a ≡ false) → (x && a) ≡ false
+never_both true a h = h refl
+never_both false a h = refl
+
+never_either : (x y a : Bool) → (x ≡ true → a ≡ false) → (y ≡ true → a ≡ false) → ((x || y) && a) ≡ false
+never_either true y a h g = h refl
+never_either false y a h g = never_both y a g
+
+neither : (x y : Bool) → x ≡ false → y ≡ false → (x || y) ≡ false
+neither x y h g = cc
+
+placed_plain : (o : Option Node) → is_special (placed o) ≡ false
+placed_plain None = refl
+placed_plain (Some (entry.File mode bytes)) = refl
+placed_plain (Some (entry.Dir mode)) = refl
+placed_plain (Some (entry.Link text)) = refl
+
+file_plain : (o : Option Text) → is_other_than_file (option_map File o) ≡ false
+file_plain None = refl
+file_plain (Some bytes) = refl
+
+none_odd : (q : Text) (odd : List Text) → list_all (λ dir. is_within hidden_dir dir) odd ≡ true → is_within hidden_dir q ≡ false → is_odd q odd ≡ false
+none_odd q [] all out = refl
+none_odd q (dir ∷ odd) all out =
+    let a = both (is_within hidden_dir dir) (list_all (λ d. is_within hidden_dir d) odd) all in
+    neither (same_text dir q) (is_odd q odd)
+    (elim (same_text dir q) as (λ (b : Bool). same_text dir q ≡ b → b ≡ false) [
+      | true ↦ λ e. absurd (clash (is_within hidden_dir dir) a.0 (ap (is_within hidden_dir) (same_is dir q e) ∙ out))
+      | false ↦ λ e. refl
+    ] refl)
+    (none_odd q odd a.1 out)
+
+none_first : (test : Text → Bool) (o : Option Text) → ((q : Text) → test q ≡ false) → IsFirst test o → o ≡ None
+none_first test None none first = refl
+none_first test (Some p) none first = absurd (clash (test p) first.0 (none p))
+
+module _ (held after : Held) (holding : Holding) (whole : IsWhole held) (plain : first_special held ≡ None) (is : IsAfter held after holding) (rkr : holding.rkr ≡ true) where
+  no_fault_outside : (q : Text) → is_within hidden_dir q ≡ false → is_fault after q ≡ false
+  unfolding is_fault
+  no_fault_outside q out =
+      ap (λ (b : Bool). cond b (is_hidden_fault q (standing after q)) (is_special (standing after q) || (is_dir (standing after q) && is_odd q after.odd))) out
+      ∙ neither (is_special (standing after q)) (is_dir (standing after q) && is_odd q after.odd)
+      (ap is_special (is.holds.outside q out) ∙ placed_plain (get holding.entries q))
+      (never_both (is_dir (standing after q)) (is_odd q after.odd) (λ d. ap (is_odd q) is.same_else.odd ∙ none_odd q held.odd (odd-within held whole plain) out))
+
+  dir_there : is_other_than_dir (standing after hidden_dir) ≡ false
+  dir_there = ap is_other_than_dir (is.holds.rkr ∙ ap dir_where rkr)
+
+  hidden_well : (q : Text) → is_hidden_fault q (standing after q) ≡ false
+  hidden_well q =
+      neither (same_text q hidden_dir && is_other_than_dir (standing after q)) ((same_text q attrs_file || same_text q db_file) && is_other_than_file (standing after q))
+      (never_both (same_text q hidden_dir) (is_other_than_dir (standing after q)) (λ e. ap (λ (t : Text). is_other_than_dir (standing after t)) (same_is q hidden_dir e) ∙ dir_there))
+      (never_either (same_text q attrs_file) (same_text q db_file) (is_other_than_file (standing after q))
+      (λ e. ap (λ (t : Text). is_other_than_file (standing after t)) (same_is q attrs_file e) ∙ ap is_other_than_file is.holds.attrs ∙ file_plain holding.state.attrs)
+      (λ e. ap (λ (t : Text). is_other_than_file (standing after t)) (same_is q db_file e) ∙ ap is_other_than_file is.holds.db ∙ file_plain holding.state.db))
+
+  no_fault_inside : (q : Text) → is_within hidden_dir q ≡ true → is_fault after q ≡ false
+  unfolding is_fault
+  no_fault_inside q inside =
+      ap (λ (b : Bool). cond b (is_hidden_fault q (standing after q)) (is_special (standing after q) || (is_dir (standing after q) && is_odd q after.odd))) inside
+      ∙ hidden_well q
+
+  no_fault : (q : Text) → is_fault after q ≡ false
+  no_fault q = (elim (is_within hidden_dir q) as (λ (b : Bool). is_within hidden_dir q ≡ b → is_fault after q ≡ false) [
+    | true ↦ λ e. no_fault_inside q e
+    | false ↦ λ e. no_fault_outside q e
+  ]) refl
+
+  pub after-plain : first_special after ≡ None
+  after-plain = none_first (is_fault after) (first_special after) no_fault (first_special-is after)
+
+-- Its state files are well.
+
+bytes_held : (o : Option Text) → bytes_in (option_map File o) ≡ o
+bytes_held None = refl
+bytes_held (Some bytes) = refl
+
+rows-kept : (rows : List (Text × AttrRow)) → are_rows rows ≡ true → IsInMemory (attrs_bytes rows) → AreRows (attrs_bytes rows) rows
+rows-kept [] are small = (refl, λ other spells. sym spells)
+rows-kept (row ∷ rows) are small = ((are, refl), λ other spells. one_attrs (row ∷ rows) other are spells.0 small spells.1)
+
+table-kept : (table : List Record) → Fits table → IsInMemory (Some (db_spelling table)) → IsTable (Some (db_spelling table)) table
+table-kept table fits small = ((fits, refl), λ other spells. one_table table other fits spells.0 small spells.1)
+
+pub finds-next : (held after : Held) (world : World) (table : List Record) → IsWhole held → first_special held ≡ None → IsAfter held after (held_after world table) → IsWholeSnapshot (entries_of world.tree) → Fits table → AreInMemory world table → IsNext world table after
+finds-next held after world table whole plain is entries fits small =
+    let rows = attrs_of (entries_of world.tree) in
+    let attrs : (state_in after).attrs ≡ attrs_bytes rows = ap bytes_in is.holds.attrs ∙ bytes_held (attrs_bytes rows) in
+    let db : (state_in after).db ≡ Some (db_spelling table) = ap bytes_in is.holds.db ∙ bytes_held (Some (db_spelling table)) in
+    record {
+      plain = after-plain held after (held_after world table) whole plain is refl;
+      rows = rows;
+      old = table;
+      kept = (subst (λ (o : Option Text). AreRows o rows) (sym attrs) (rows-kept rows (attrs_are (entries_of world.tree) entries) small.0), subst (λ (o : Option Text). IsTable o table) (sym db) (table-kept table fits small.1));
+      so = (built-held after (held_after world table) is.holds entries, refl);
+    }

@@ -1,0 +1,12 @@
+pub mod BuildLemmas
+pub mod BuiltLemmas
+pub mod CheckLemmas
+pub mod FoundLemmas
+pub mod KeptLemmas
+pub mod PrepareLemmas
+pub mod ReadBackLemmas
+pub mod RunLemmas
+pub mod SessionLemmas
+pub mod SettledLemmas
+pub mod TellLemmas
+pub mod TextsLemmas

@@ -1,0 +1,47 @@
+-- The run that was made is the fresh run.
+use Rattle.std.proofs.Common.{◌≡◌, ℕ, List, [], sym, ap, subst, ◌∙◌, arith}
+use Rattle.rk_base.specs.Paid.{Paid}
+use Rattle.rk_calls.specs.Keys.{KeyValue}
+use Rattle.rk_calls.specs.Refs.{top_refs}
+use Rattle.rk_calls.specs.Talk.{Says}
+use Rattle.rk_tree.specs.Entries.{Entries}
+use Rattle.rk_tree.specs.Hierarchy.{Hierarchy}
+use Rattle.rk_tree.specs.Copies.{tree_of}
+use Rattle.rk_tree.specs.Rows.{map_of}
+use Rattle.rk_tree.specs.Node.{Node}
+use Rattle.rk_tree.proofs.RowsLemmas.{get-found, puts, puts-map_of, same_maps}
+use Rattle.rk_base.specs.Text.{Text}
+use Rattle.std.specs.FinMap.{empty, entries, entries_sorted, get-entries}
+use Rattle.rk_kernel.specs.World.{World, fresh as fresh_of}
+use Rattle.rk_kernel.specs.Do.{answered}
+use Rattle.rk_runs.specs.Purse.{left}
+use Rattle.rk_runs.specs.Run.{Outcome, game, fresh}
+use Rattle.rk_runs.specs.Spoken.{AreSpoken}
+use Rattle.tr_record.specs.declared.records.Record.{Record}
+use Rattle.rk_replay.specs.Stops.{Stops}
+use Rattle.rk_replay.specs.declared.stop.Stop.{Stop}
+use Rattle.rk_replay.specs.declared.stop.Stop.TheVariants as stop
+use Rattle.rk_replay.specs.Script.{script_key}
+use Rattle.rk_words.specs.Asked.{turns}
+use Rattle.rk_words.specs.declared.requests.Request.{Request}
+use Rattle.rk_build.specs.Run.{fresh_run}
+
+pub fresh_run-is : (first : KeyValue → Says) (request : Request) (entries : Entries) (key : KeyValue) (budget : Paid) (tree : Hierarchy) (world : World) (o : Outcome World) → budget.limit ≡ turns request → budget.used ≡ 0 → key ≡ script_key → tree ≡ tree_of entries → world ≡ fresh_of tree → fresh (game first answered) (left budget) key top_refs world ≡ o → fresh_run first request entries ≡ o
+unfolding fresh_run
+fresh_run-is first request entries key budget tree world o limit used is_key is_tree is_world run =
+    let turned : left budget ≡ turns request = omega arith in
+    let here : world ≡ fresh_of (tree_of entries) = is_world ∙ ap fresh_of is_tree in
+    sym (ap (λ (n : ℕ). fresh (game first answered) n script_key top_refs (fresh_of (tree_of entries))) turned)
+    ∙ sym (ap (λ (w : World). fresh (game first answered) (left budget) script_key top_refs w) here)
+    ∙ sym (ap (λ (k : KeyValue). fresh (game first answered) (left budget) k top_refs world) is_key)
+    ∙ run
+
+-- where the build's budget was spent
+pub spent-is : {S : Type 0} (first : KeyValue → Says) (old : List Record) (spent : Type 0) (stopped : S → Type 0) (e : Stop S) → e ≡ stop.Spent → Stops first old spent stopped e → AreSpoken first old × spent
+spent-is first old spent stopped e is stops = subst (Stops first old spent stopped) is stops
+
+-- what is put in turn is the whole
+pub copied : (copy it : Entries) (left : List (Text × Node)) → puts copy left ≡ puts empty (entries it) → left ≡ [] → copy ≡ it
+copied copy it left so_far done =
+    sym (ap (λ (rows : List (Text × Node)). puts copy rows) done) ∙ so_far ∙ puts-map_of (entries it) (entries_sorted it)
+    ∙ same_maps (map_of (entries it)) it (λ q. get-found (entries it) q ∙ sym (get-entries it q))

@@ -1,0 +1,57 @@
+-- Sessions stay well, since each record of a fresh run is what its command says.
+use Rattle.std.proofs.Common.{◌≡◌, ℕ, List, [], ◌∷◌, Option, None, refl, sym, subst}
+use Rattle.rk_calls.specs.Keys.{KeyValue}
+use Rattle.rk_calls.specs.Talk.{Says}
+use Rattle.rk_calls.specs.Refs.{top_refs}
+use Rattle.tr_record.specs.declared.records.Record.{Record}
+use Rattle.rk_folder.specs.Hidden.{attrs_file, db_file}
+use Rattle.rk_folder.specs.Told.{Held, bytes_in}
+use Rattle.rk_folder.specs.Whole.{IsWhole}
+use Rattle.rk_folder.specs.Specials.{first_special}
+use Rattle.rk_folder.specs.declared.folder.Standing.{Standing}
+use Rattle.rk_install.proofs.HiddenLemmas.{attrs_hidden, db_hidden}
+use Rattle.rk_kernel.specs.World.{World, fresh_world}
+use Rattle.rk_kernel.specs.Do.{answered}
+use Rattle.rk_kernel.specs.Fitting.{answered-fits}
+use Rattle.rk_runs.specs.Lasting.{AllLast}
+use Rattle.rk_runs.specs.Run.{Outcome as Run, Done, Spent, game}
+use Rattle.rk_runs.specs.Speaking.{fresh-spoken}
+use Rattle.rk_runs.specs.Spoken.{AreSpoken}
+use Rattle.rk_replay.specs.Script.{script_key}
+use Rattle.rk_tree.specs.Entries.{Entries}
+use Rattle.rk_words.specs.Asked.{turns}
+use Rattle.rk_words.specs.declared.requests.Request.{Request}
+use Rattle.rk_build.specs.Kept.{AreRows, IsTable}
+use Rattle.rk_build.specs.Run.{fresh_run}
+use Rattle.rk_build.specs.Sessions.{Item, Edit, Build, Edits, Builds, Becomes, Session, IsWell}
+use Rattle.rk_build.proofs.KeptLemmas.{finds-next}
+
+pub fresh-records : (first : KeyValue → Says) (request : Request) (entries : Entries) (world : World) (status left : ℕ) (table : List Record) → AllLast first → fresh_run first request entries ≡ Done world status left table → AreSpoken first table
+unfolding fresh_run
+fresh-records first request entries world status left table lasts e =
+    fresh-spoken (game first answered) lasts answered-fits (turns request) script_key top_refs (fresh_world entries) world status left table e
+
+edited : (first : KeyValue → Says) (held to : Held) → Edits held to → IsWell first held → IsWell first to
+edited first held to e k = record {
+  plain = e.plain;
+  rows = k.rows;
+  old = k.old;
+  kept = (subst (λ (o : Option Standing). AreRows (bytes_in o) k.rows) (sym (e.hidden attrs_file attrs_hidden)) k.kept.0, subst (λ (o : Option Standing). IsTable (bytes_in o) k.old) (sym (e.hidden db_file db_hidden)) k.kept.1);
+  so = k.so;
+}
+
+built : (first : KeyValue → Says) (held to : Held) (run : Run World) → IsWhole held → first_special held ≡ None → IsWell first held → ((world : World) (status left : ℕ) (table : List Record) → run ≡ Done world status left table → AreSpoken first table) → Builds run held to → IsWell first to
+built first held to (Done world status left table) whole plain well spoken goes =
+    let n = finds-next held to world table whole plain goes.is_after goes.entries goes.fits goes.memory in
+    record { plain = n.plain; rows = n.rows; old = n.old; kept = n.kept; so = subst (AreSpoken first) (sym n.so.1) (spoken world status left table refl) }
+built first held to Spent whole plain well spoken goes = subst (IsWell first) (sym goes) well
+
+becomes : (first : KeyValue → Says) (held : Held) (item : Item) (to : Held) → AllLast first → IsWhole held → IsWell first held → Becomes first held item to → IsWell first to
+becomes first held (Edit it) to lasts whole well b = subst (IsWell first) (sym b.0) (edited first held it b.1 well)
+becomes first held (Build request) to lasts whole well b =
+    built first held to _ whole b.plain well (λ world status left table e. fresh-records first request _ world status left table lasts e) b.so
+
+pub stays-well : (first : KeyValue → Says) (held last : Held) (items : List Item) → AllLast first → IsWhole held → IsWell first held → Session first held items last → IsWell first last
+stays-well first held last [] lasts whole well s = subst (IsWell first) (sym s) well
+stays-well first held last (item ∷ items) lasts whole well s =
+    stays-well first s.0 last items lasts s.1.1 (becomes first held item s.0 lasts whole well s.1.0) s.1.2

@@ -1,0 +1,47 @@
+-- What the fresh run leaves.
+use Rattle.std.specs.Prelude.{◌<◌, ◌^◌, List, [], ◌∷◌, ◌++◌, length, true, Option, Some, None}
+use Rattle.rk_base.specs.Text.{Text}
+use Rattle.tr_record.specs.declared.records.Record.{Record}
+use Rattle.tr_codec.specs.Attrs.{attrs_spelling}
+use Rattle.tr_codec.specs.Spelling.{db_spelling}
+use Rattle.tr_codec.specs.declared.rows.AttrRow.{AttrRow}
+use Rattle.rk_tree.specs.Copies.{snapshot_of as entries_of}
+use Rattle.rk_kernel.specs.World.{World}
+use Rattle.rk_runs.specs.Run.{Outcome, Done, Spent}
+use Rattle.rk_words.specs.declared.requests.Request.{Request}
+use Rattle.rk_replay.specs.Ran.{ran_of}
+use Rattle.rk_build.specs.Explained.{explanation}
+use Rattle.rk_install.specs.Attributes.{attrs_of}
+use Rattle.rk_install.specs.declared.holding.Holding.{Holding}
+
+-- a text of a run that was asked for, over the records of an old table
+abbrev pub RunText : Type 0
+RunText = Request → List Record → Outcome World → Text
+
+-- the output of a run that ended
+abbrev pub output_of : RunText
+output_of request old (Done world status left table) = world.out
+output_of request old Spent = []
+
+-- its error text, and where they are asked for the lines of what ran over the old table, and why
+abbrev pub error_text_of : RunText
+error_text_of request old (Done world status left table) = world.err ++ explanation request (ran_of old table) (length table)
+error_text_of request old Spent = []
+
+-- attrs as it is to stand: the spelling of rows, or nothing where there are none
+abbrev pub attrs_bytes : List (Text × AttrRow) → Option Text
+attrs_bytes [] = None
+attrs_bytes (row ∷ rows) = Some (attrs_spelling (row ∷ rows))
+
+-- what a folder is to hold after a run: the entries of the final tree, the rows that it doesn't keep itself, and the trace
+abbrev pub held_after : World → List Record → Holding
+held_after world table = record { entries = entries_of world.tree; rkr = true; state = record { db = Some (db_spelling table); attrs = attrs_bytes (attrs_of (entries_of world.tree)) } }
+
+-- fewer than 2^64 bytes, as all bytes in memory are
+abbrev pub IsInMemory : Option Text → Type 0
+IsInMemory None = Unit {0}
+IsInMemory (Some bytes) = length bytes < 2 ^ 64
+
+-- both state files of what a run leaves
+abbrev pub AreInMemory : World → List Record → Type 0
+AreInMemory world table = IsInMemory (held_after world table).state.attrs × IsInMemory (held_after world table).state.db

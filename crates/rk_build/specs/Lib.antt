@@ -1,0 +1,12 @@
+pub mod Checks
+pub mod Explained
+pub mod Fresh
+pub mod Kept
+pub mod Laws
+pub mod Lines
+pub mod Outcomes
+pub mod Run
+pub mod Sessions
+pub mod Stages
+pub mod Telling
+pub mod Texts

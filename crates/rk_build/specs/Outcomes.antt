@@ -1,0 +1,288 @@
+-- What each outcome says of the folder, the sinks, the counts of faults, the count of turns and the count of starts.
+use Rattle.std.specs.Prelude.{◌≡◌, true, false, ◌⊎◌, ◌≤◌, ◌+◌, ℕ, List, length, Option, Some, IfSome, Result, Ok, Err}
+use Rattle.rk_base.specs.Text.{Text}
+use Rattle.rk_calls.specs.Keys.{KeyValue}
+use Rattle.rk_calls.specs.Talk.{Says}
+use Rattle.rk_runs.specs.Started.{started}
+use Rattle.rk_folder.specs.Told.{Held}
+use Rattle.rk_folder.specs.Counts.{Rose}
+use Rattle.rk_folder.specs.Sinks.{with_bytes}
+use Rattle.rk_install.specs.Changes.{Partly}
+use Rattle.rk_install.specs.Holdings.{IsAfter}
+use Rattle.rk_install.specs.Imported.{holding_of}
+use Rattle.rk_install.specs.Planned.{planned}
+use Rattle.rk_install.specs.declared.installation.InstallErr.{InstallErr}
+use Rattle.rk_install.specs.declared.installation.InstallErr.TheVariants as install
+use Rattle.tr_codec.specs.Fits.{Fits}
+use Rattle.tr_codec.specs.declared.fault.Damage.{Damage}
+use Rattle.tr_record.specs.declared.records.Record.{Record}
+use Rattle.rk_tree.specs.Copies.{snapshot_of as entries_of}
+use Rattle.rk_tree.specs.Entries.{Entries}
+use Rattle.rk_kernel.specs.World.{World}
+use Rattle.rk_runs.specs.Run.{Outcome as Run, Done, Spent}
+use Rattle.rk_runs.specs.Spoken.{AreSpoken}
+use Rattle.rk_replay.specs.Ran.{ran_total}
+use Rattle.rk_words.specs.Asked.{checks, is_fresh, turns}
+use Rattle.rk_words.specs.declared.requests.Request.{Request}
+use Rattle.rk_build.specs.Fresh.{RunText, error_text_of, held_after}
+use Rattle.rk_build.specs.Kept.{Keeping, Refuses}
+use Rattle.rk_build.specs.Checks.{ChecksWhole, TellsForged, checked_count}
+use Rattle.rk_build.specs.Run.{fresh_run, ran_count}
+use Rattle.rk_build.specs.Telling.{SinkState, IsPut, PutsLine, Put}
+use Rattle.rk_build.specs.Texts.{Front}
+use Rattle.rk_build.specs.declared.build.Ended.{Ended}
+use Rattle.rk_build.specs.declared.outcome.StateFile.{StateFile}
+use Rattle.rk_build.specs.declared.stop.Refusal.{Refusal}
+use Rattle.rk_build.specs.declared.stop.Refusal.TheVariants as refusal
+use Rattle.rk_build.specs.declared.stop.Stop.{Stop}
+use Rattle.rk_build.specs.declared.stop.Stop.TheVariants as stop
+use Rattle.rk_build.specs.declared.outcome.Outcome.{Outcome}
+use Rattle.rk_build.specs.declared.outcome.Outcome.TheVariants as out
+
+abbrev pub outcome_of_refusal : Refusal → Outcome
+outcome_of_refusal (refusal.Special path) = out.Special path
+outcome_of_refusal (refusal.Damaged file damage) = out.Damaged file damage
+
+abbrev pub outcome_of_stop : Stop → Outcome
+outcome_of_stop (stop.Refused refusal) = outcome_of_refusal refusal
+outcome_of_stop (stop.Forged rec step) = out.Forged rec step
+outcome_of_stop stop.Spent = out.Spent
+outcome_of_stop stop.ReadFault = out.ReadFault
+outcome_of_stop stop.WriteFault = out.WriteFault
+outcome_of_stop stop.NoMemory = out.NoMemory
+
+abbrev pub outcome_of : Result Ended Stop → Outcome
+outcome_of (Ok e) = out.Ended e.status e.launched (length e.ran)
+outcome_of (Err e) = outcome_of_stop e
+
+-- For one outcome.
+
+abbrev pub IfEnded : Outcome → (ℕ → ℕ → ℕ → Type 0) → Type 0
+IfEnded (out.Ended status launched ran) P = P status launched ran
+IfEnded other P = Unit {0}
+
+abbrev pub IfSpecial : Outcome → (Text → Type 0) → Type 0
+IfSpecial (out.Special path) P = P path
+IfSpecial other P = Unit {0}
+
+abbrev pub IfDamaged : Outcome → (StateFile → Damage → Type 0) → Type 0
+IfDamaged (out.Damaged file damage) P = P file damage
+IfDamaged other P = Unit {0}
+
+abbrev pub IfForged : Outcome → (ℕ → ℕ → Type 0) → Type 0
+IfForged (out.Forged rec step) P = P rec step
+IfForged other P = Unit {0}
+
+-- The counts of faults, and the folder's count of calls that had no memory.
+pub record Counts : Type 0 where
+  pub reads : ℕ
+  pub writes : ℕ
+  pub puts : ℕ
+  pub error_puts : ℕ
+
+-- The folder.
+
+-- it holds what the run leaves, its trace included, and all else as before
+pub record Installed (world : World) (table : List Record) (held : Held) (new : Option Held) : Type 0 where
+  pub after : Held
+  pub told : new ≡ Some after
+  pub is_after : IsAfter held after (held_after world table)
+
+-- a build that finds it begins with the very tree that the run left, and with its records
+abbrev pub IsNext : World → List Record → Held → Type 0
+IsNext world table after = Keeping false after (λ entries old. (entries ≡ entries_of world.tree) × (old ≡ table))
+
+-- what was installed, of which the records are spoken and can be read back
+pub record LeavesRun (first : KeyValue → Says) (world : World) (table : List Record) (held : Held) (new : Option Held) : Type 0 where
+  pub spoken : AreSpoken first table
+  pub fits : Fits table
+  pub installed : Installed world table held new
+  pub next : IsNext world table installed.after
+
+abbrev pub EndsSo : (KeyValue → Says) → Run World → Held → Option Held → Type 0
+EndsSo first (Done world exit left table) held new = LeavesRun first world table held new
+EndsSo first Spent held new = ⊥
+
+-- what a run leaves
+abbrev pub IsLeft : Run World → World → List Record → Type 0
+IsLeft (Done world status left table) w t = (w ≡ world) × (t ≡ table)
+IsLeft Spent w t = ⊥
+
+-- Some of the calls that lead to what is to be left were made, and the next one failed and left its damage; over
+-- spoken records it is what the fresh run leaves.
+pub record PartlyInstalled (first : KeyValue → Says) (request : Request) (entries : Entries) (old : List Record) (held : Held) (new : Option Held) (e : InstallErr) : Type 0 where
+  pub world : World
+  pub table : List Record
+  pub is_left : AreSpoken first old → IsLeft (fresh_run first request entries) world table
+  pub part : Partly (planned (holding_of held) (held_after world table)) (Some held) new e
+
+-- it is as before; or the folder's own count of such failures rose, and it is partly installed
+abbrev pub StoppedAt : (KeyValue → Says) → Request → Option Held → Option Held → ℕ → ℕ → InstallErr → Type 0
+StoppedAt first request told new before now e =
+    (new ≡ told) ⊎ (Rose before now × IfSome told (λ held. Keeping (is_fresh request) held (λ entries old. PartlyInstalled first request entries old held new e)))
+
+-- the folder's counts of failed changes, and of calls that had no memory
+pub record FolderCounts : Type 0 where
+  pub writes : ℕ
+  pub memory : ℕ
+
+abbrev pub Leaves : (KeyValue → Says) → Request → Option Held → Option Held → FolderCounts → FolderCounts → Outcome → Type 0
+Leaves first request told new before now (out.Ended status launched ran) = IfSome told (λ held. Keeping (is_fresh request) held (λ entries old. AreSpoken first old → EndsSo first (fresh_run first request entries) held new))
+Leaves first request told new before now (out.Special path) = (new ≡ told) × IfSome told (λ held. Refuses (is_fresh request) held (refusal.Special path))
+Leaves first request told new before now (out.Damaged file damage) = (new ≡ told) × IfSome told (λ held. Refuses (is_fresh request) held (refusal.Damaged file damage))
+Leaves first request told new before now (out.Forged rec step) = (new ≡ told) × IfSome told (λ held. Keeping (is_fresh request) held (λ entries old. TellsForged first request old rec step))
+Leaves first request told new before now out.Spent = (new ≡ told) × IfSome told (λ held. Keeping (is_fresh request) held (λ entries old. AreSpoken first old × (fresh_run first request entries ≡ Spent)))
+Leaves first request told new before now (out.Said status) = ⊥
+Leaves first request told new before now out.WriteFault = StoppedAt first request told new before.writes now.writes install.WriteFault
+Leaves first request told new before now out.NoMemory = StoppedAt first request told new before.memory now.memory install.NoMemory
+Leaves first request told new before now other = new ≡ told
+
+-- The end.
+
+-- the run ends with this status
+abbrev pub EndsWith : Run World → ℕ → Type 0
+EndsWith (Done world exit left table) status = status ≡ exit
+EndsWith Spent status = ⊥
+
+-- the status is the fresh run's, over records that are spoken
+abbrev pub HasStatus : (KeyValue → Says) → Request → Option Held → ℕ → Type 0
+HasStatus first request told status =
+    IfSome told (λ held. Keeping (is_fresh request) held (λ entries old. AreSpoken first old → EndsWith (fresh_run first request entries) status))
+
+-- Whatever the records: what was installed has so many records, and so many of them ran over those that were kept, which
+-- paid so many turns. Over spoken ones it is what the fresh run leaves.
+pub record IsTally (first : KeyValue → Says) (request : Request) (entries : Entries) (old : List Record) (held : Held) (new : Option Held) (all some before now : ℕ) : Type 0 where
+  pub world : World
+  pub table : List Record
+  pub is_left : AreSpoken first old → IsLeft (fresh_run first request entries) world table
+  pub installed : Installed world table held new
+  pub launched : all ≡ length table
+  pub ran : some ≡ ran_count old table
+  pub paid : now ≡ before + ran_total old table
+
+abbrev pub Tallies : (KeyValue → Says) → Request → Option Held → Option Held → ℕ → ℕ → ℕ → ℕ → Type 0
+Tallies first request told new before now launched ran =
+    IfSome told (λ held. Keeping (is_fresh request) held (λ entries old. IsTally first request entries old held new launched ran before now))
+
+-- The sinks: a text of the run by what the folder held, all over an end, a front over a stop that came late, and
+-- nothing over the others.
+
+-- over spoken records it is the fresh run's text, of which a front went out
+pub record HaltsIn (first : KeyValue → Says) (request : Request) (text : RunText) (entries : Entries) (kept : List Record) (old new : Option Text) : Type 0 where
+  pub it : Text
+  pub is_text : AreSpoken first kept → it ≡ text request kept (fresh_run first request entries)
+  pub front : Front it old new
+
+-- nothing, or a front of a text
+abbrev pub Halts : (KeyValue → Says) → Request → RunText → Option Held → Option Text → Option Text → Type 0
+Halts first request text told old new =
+    (new ≡ old) ⊎ IfSome told (λ held. Keeping (is_fresh request) held (λ entries kept. HaltsIn first request text entries kept old new))
+
+abbrev pub Gains : (KeyValue → Says) → Request → RunText → Option Held → Option Text → Option Text → Outcome → Type 0
+Gains first request text told old new (out.Ended status launched ran) = IfSome told (λ held. Keeping (is_fresh request) held (λ entries kept. AreSpoken first kept → new ≡ with_bytes (text request kept (fresh_run first request entries)) old))
+Gains first request text told old new out.WriteFault = Halts first request text told old new
+Gains first request text told old new out.NoMemory = Halts first request text told old new
+Gains first request text told old new other = new ≡ old
+
+-- over spoken records it is the fresh run's error text, of which all went out, or a front where the put failed or had no memory
+pub record HaltsErrorsIn (first : KeyValue → Says) (request : Request) (entries : Entries) (kept : List Record) (old new : SinkState) : Type 0 where
+  pub it : Text
+  pub is_text : AreSpoken first kept → it ≡ error_text_of request kept (fresh_run first request entries)
+  pub put : PutsLine it old new
+
+-- nothing was put, or such a text
+abbrev pub HaltsErrors : (KeyValue → Says) → Request → Option Held → SinkState → SinkState → Type 0
+HaltsErrors first request told old new =
+    (new ≡ old) ⊎ IfSome told (λ held. Keeping (is_fresh request) held (λ entries kept. HaltsErrorsIn first request entries kept old new))
+
+-- what the error text's sink gains before the outcome's line
+abbrev pub GainsErrors : (KeyValue → Says) → Request → Option Held → SinkState → SinkState → Outcome → Type 0
+GainsErrors first request told old new (out.Ended status launched ran) = IfSome told (λ held. Keeping (is_fresh request) held (λ entries kept. AreSpoken first kept → IsPut (error_text_of request kept (fresh_run first request entries)) old new))
+GainsErrors first request told old new out.WriteFault = HaltsErrors first request told old new
+GainsErrors first request told old new out.NoMemory = HaltsErrors first request told old new
+GainsErrors first request told old new other = new ≡ old
+
+-- the counts of the error text's sink before the outcome's line: faults rise only over a write fault, wants of memory only
+-- over want of memory
+abbrev pub ErrorsCounted : SinkState → SinkState → Outcome → Type 0
+ErrorsCounted before now out.WriteFault = (before.faults ≤ now.faults) × (now.memory ≡ before.memory)
+ErrorsCounted before now out.NoMemory = (now.faults ≡ before.faults) × (before.memory ≤ now.memory)
+ErrorsCounted before now other = (now.faults ≡ before.faults) × (now.memory ≡ before.memory)
+
+-- the run's error text, and then the outcome's own line
+pub record GainsLine (first : KeyValue → Says) (request : Request) (told : Option Held) (old new : SinkState) (outcome : Outcome) : Type 0 where
+  pub worked : SinkState
+  pub text : GainsErrors first request told old worked outcome
+  pub counted : ErrorsCounted old worked outcome
+  pub line : Put outcome worked new
+
+-- The counts of faults.
+
+abbrev pub Counted : Counts → Counts → Outcome → Type 0
+Counted before now out.ReadFault = Rose before.reads now.reads × (now.writes ≡ before.writes) × (now.puts ≡ before.puts) × (now.error_puts ≡ before.error_puts)
+Counted before now out.WriteFault = (now.reads ≡ before.reads) × (Rose before.writes now.writes ⊎ Rose before.puts now.puts ⊎ Rose before.error_puts now.error_puts)
+Counted before now other = now ≡ before
+
+-- The outcome's own line, which is put last.
+
+-- elsewhere a put of the line may be one more fault of the error text's sink
+abbrev pub AfterLine : Counts → Counts → Outcome → Type 0
+AfterLine before now (out.Ended status launched ran) = now ≡ before
+AfterLine before now (out.Said status) = now ≡ before
+AfterLine before now other = (now.reads ≡ before.reads) × (now.writes ≡ before.writes) × (now.puts ≡ before.puts) × (before.error_puts ≤ now.error_puts)
+
+-- the faults of the work, and then of the line
+abbrev pub Faults : Counts → Counts → Outcome → Type 0
+Faults before now outcome = (worked : Counts) × Counted before worked outcome × AfterLine worked now outcome
+
+-- none of them rose
+abbrev pub NoneRose : Counts → Counts → Type 0
+NoneRose before now = now ≡ before
+
+-- it is no fault of reading or writing
+abbrev pub IsNoFault : Outcome → Type 0
+IsNoFault out.ReadFault = ⊥
+IsNoFault out.WriteFault = ⊥
+IsNoFault other = Unit {0}
+
+-- The count of turns: none are paid for a folder that is refused, or where a record is found forged by the check of all, and
+-- no more than are asked for elsewhere.
+
+abbrev pub Ticked : Request → ℕ → ℕ → Outcome → Type 0
+Ticked request before now out.Usage = now ≡ before
+Ticked request before now (out.Special path) = now ≡ before
+Ticked request before now (out.Damaged file damage) = now ≡ before
+Ticked request before now (out.Forged rec step) = (now ≤ before + turns request) × (checks request ≡ true → now ≡ before)
+Ticked request before now other = now ≤ before + turns request
+
+-- The count of starts: one for each record that is checked, then one for each command that ran; none where the folder is
+-- refused.
+
+-- so many records are checked: none where that isn't asked for
+abbrev pub ChecksMany : Request → Option Held → ℕ → Type 0
+ChecksMany request told many =
+    (checks request ≡ false → many ≡ 0) × IfSome told (λ held. Keeping (is_fresh request) held (λ entries old. many ≡ checked_count (checks request) old))
+
+abbrev pub StartsBoth : Request → Option Held → ℕ → ℕ → ℕ → Type 0
+StartsBoth request told before now ran = (many : ℕ) × (ChecksMany request told many × (now ≡ started ran (started many before)))
+
+abbrev pub Started : Request → Option Held → ℕ → ℕ → Outcome → Type 0
+Started request told before now (out.Ended status launched ran) = StartsBoth request told before now ran
+Started request told before now out.Usage = now ≡ before
+Started request told before now (out.Special path) = now ≡ before
+Started request told before now (out.Damaged file damage) = now ≡ before
+Started request told before now other = Unit {0}
+
+-- where every record is to be checked, each is spoken
+abbrev pub Checked : (KeyValue → Says) → Request → Option Held → Type 0
+Checked first request told = IfSome told (λ held. Keeping (is_fresh request) held (λ entries old. ChecksWhole first (checks request) old))
+
+-- an outcome that what a folder holds calls for, or want of memory (`Laws.antt` has that it calls for one alone)
+abbrev pub Settles : (KeyValue → Says) → Request → Held → Outcome → Type 0
+Settles first request held (out.Ended status launched ran) = Keeping (is_fresh request) held (λ entries old. AreSpoken first old → EndsWith (fresh_run first request entries) status)
+Settles first request held (out.Special path) = Refuses (is_fresh request) held (refusal.Special path)
+Settles first request held (out.Damaged file damage) = Refuses (is_fresh request) held (refusal.Damaged file damage)
+Settles first request held (out.Forged rec step) = Keeping (is_fresh request) held (λ entries old. TellsForged first request old rec step)
+Settles first request held out.Spent = Keeping (is_fresh request) held (λ entries old. AreSpoken first old × (fresh_run first request entries ≡ Spent))
+Settles first request held out.NoMemory = Unit {0}
+Settles first request held other = ⊥

@@ -1,0 +1,117 @@
+-- What each stage of a build tells.
+use Rattle.std.specs.Prelude.{◌≡◌, ◌≤◌, ◌+◌, ◌++◌, ℕ, length, Bool, true, List, Option, Some, None, IfSome, option_map, Result, Ok, Err}
+use Rattle.rk_calls.specs.Keys.{KeyValue}
+use Rattle.rk_calls.specs.Talk.{Says}
+use Rattle.rk_folder.specs.Told.{Held}
+use Rattle.rk_folder.specs.Counts.{Rose}
+use Rattle.rk_folder.specs.Import.{snapshot_of}
+use Rattle.rk_folder.specs.Attributes.{with_rows}
+use Rattle.rk_folder.specs.Specials.{first_special}
+use Rattle.rk_folder.specs.declared.importing.ImportErr.{ImportErr}
+use Rattle.rk_folder.specs.declared.importing.ImportErr.TheVariants as import
+use Rattle.rk_install.specs.Changes.{AllowsAll, Partly, after_all}
+use Rattle.rk_install.specs.Holdings.{IsAfter}
+use Rattle.rk_install.specs.Imported.{holding_of}
+use Rattle.rk_install.specs.Planned.{planned}
+use Rattle.rk_install.specs.declared.holding.Holding.{Holding}
+use Rattle.rk_install.specs.declared.ops.Op.{Op}
+use Rattle.rk_install.specs.declared.installation.InstallErr.TheVariants as install
+use Rattle.tr_codec.specs.Fits.{Fits}
+use Rattle.tr_codec.specs.declared.rows.AttrRow.{AttrRow}
+use Rattle.tr_record.specs.declared.records.Record.{Record}
+use Rattle.rk_base.specs.Text.{Text}
+use Rattle.rk_runs.specs.Run.{Spent}
+use Rattle.rk_runs.specs.Spoken.{AreSpoken}
+use Rattle.rk_words.specs.Asked.{checks, is_fresh, turns}
+use Rattle.rk_words.specs.declared.requests.Request.{Request}
+use Rattle.rk_build.specs.Checks.{ChecksWhole, TellsForged}
+use Rattle.rk_build.specs.Run.{IsRun, fresh_run}
+use Rattle.rk_build.specs.Explained.{explanation}
+use Rattle.rk_build.specs.Fresh.{held_after}
+use Rattle.rk_build.specs.Kept.{IsKept, Keeping, Refuses, state_in, decoded}
+use Rattle.rk_build.specs.Outcomes.{IsNext, StartsBoth}
+use Rattle.rk_build.specs.Texts.{IsNoFault}
+use Rattle.rk_build.specs.declared.stop.Refusal.TheVariants as refusal
+use Rattle.rk_build.specs.declared.found.Found.{Found}
+use Rattle.rk_build.specs.declared.prepare.Prepared.{Prepared}
+use Rattle.rk_build.specs.declared.stop.Stop.{Stop}
+use Rattle.rk_build.specs.declared.stop.Stop.TheVariants as stop
+
+abbrev pub stop_of : ImportErr → Stop
+stop_of (import.Special path) = stop.Refused (refusal.Special path)
+stop_of import.ReadFault = stop.ReadFault
+stop_of import.NoMemory = stop.NoMemory
+
+-- nothing is special and this is what the folder holds, or this is the first special path
+abbrev pub LooksSo : Option Held → Result Holding Stop → Type 0
+LooksSo told (Ok holding) = IfSome told (λ held. (first_special held ≡ None) × (holding ≡ holding_of held))
+LooksSo told (Err (stop.Refused (refusal.Special path))) = IfSome told (λ held. first_special held ≡ Some path)
+LooksSo told (Err stop.ReadFault) = Unit {0}
+LooksSo told (Err stop.NoMemory) = Unit {0}
+LooksSo told (Err other) = ⊥
+
+-- a read fault only where the count rose
+abbrev pub ReadsCounted : {T : Type 0} → ℕ → ℕ → Result T Stop → Type 0
+ReadsCounted before now (Err stop.ReadFault) = Rose before now
+ReadsCounted before now other = now ≡ before
+
+-- a steady folder stays steady, and then nothing is a fault
+abbrev pub Steadily : {T : Type 0} → Bool → Bool → Result T Stop → Type 0
+Steadily before now result = (now ≡ before) × (before ≡ true → IsNoFault result)
+
+-- nothing is special, this is what the folder holds, and these are the records and the rows that it keeps; or why it is
+-- refused
+abbrev pub FindsSo : Request → Option Held → Result Found Stop → Type 0
+FindsSo request told (Ok found) = IfSome told (λ held. (first_special held ≡ None) × (found.holding ≡ holding_of held) × IsKept (decoded (is_fresh request) (state_in held)) found.attrs found.old)
+FindsSo request told (Err (stop.Refused refusal)) = IfSome told (λ held. Refuses (is_fresh request) held refusal)
+FindsSo request told (Err stop.ReadFault) = Unit {0}
+FindsSo request told (Err stop.NoMemory) = Unit {0}
+FindsSo request told (Err other) = ⊥
+
+-- the planned calls lead on, or some were made and the next one failed
+abbrev pub InstallsSo : {T : Type 0} → List Op → Option Held → Option Held → Result T Stop → Type 0
+InstallsSo ops old new (Ok it) = new ≡ option_map (after_all ops) old
+InstallsSo ops old new (Err stop.WriteFault) = Partly ops old new install.WriteFault
+InstallsSo ops old new (Err stop.NoMemory) = Partly ops old new install.NoMemory
+InstallsSo ops old new (Err other) = ⊥
+
+-- a write fault only where the count rose
+abbrev pub WritesCounted : {T : Type 0} → ℕ → ℕ → Result T Stop → Type 0
+WritesCounted before now (Err stop.WriteFault) = Rose before now
+WritesCounted before now other = now ≡ before
+
+-- want of memory only where the count of it rose
+abbrev pub MemoryRose : {T : Type 0} → ℕ → ℕ → Result T Stop → Type 0
+MemoryRose before now (Err stop.NoMemory) = Rose before now
+MemoryRose before now other = now ≡ before
+
+-- The run on what the folder holds with its rows, over the records that it keeps, has ended so, and the plan leads to what
+-- it leaves; over spoken records what it leaves has a spelling, and the next build finds just that.
+pub record IsPrepared (first : KeyValue → Says) (request : Request) (held : Held) (before now : ℕ) (p : Prepared) : Type 0 where
+  pub plain : first_special held ≡ None
+  pub rows : List (Text × AttrRow)
+  pub old : List Record
+  pub kept : IsKept (decoded (is_fresh request) (state_in held)) rows old
+  pub checked : ChecksWhole first (checks request) old
+  pub run : IsRun first request (with_rows (snapshot_of held) rows) old before now p.finished
+  pub text : p.error_text ≡ p.finished.world.err ++ explanation request p.finished.ran (length p.finished.table)
+  pub plan : p.plan ≡ planned (holding_of held) (held_after p.finished.world p.finished.table)
+  pub allowed : AllowsAll p.plan held
+  pub leads : IsAfter held (after_all p.plan held) (held_after p.finished.world p.finished.table)
+  pub fits : AreSpoken first old → Fits p.finished.table
+  pub next : AreSpoken first old → IsNext p.finished.world p.finished.table (after_all p.plan held)
+
+abbrev pub PreparesSo : (KeyValue → Says) → Request → Option Held → ℕ → ℕ → Result Prepared Stop → Type 0
+PreparesSo first request told before now (Ok p) = IfSome told (λ held. IsPrepared first request held before now p) × (now ≤ before + turns request)
+PreparesSo first request told before now (Err (stop.Refused refusal)) = IfSome told (λ held. Refuses (is_fresh request) held refusal) × (now ≡ before)
+PreparesSo first request told before now (Err (stop.Forged rec step)) = IfSome told (λ held. Keeping (is_fresh request) held (λ entries old. TellsForged first request old rec step)) × (now ≤ before + turns request) × (checks request ≡ true → now ≡ before)
+PreparesSo first request told before now (Err stop.Spent) = IfSome told (λ held. Keeping (is_fresh request) held (λ entries old. AreSpoken first old × (fresh_run first request entries ≡ Spent))) × (now ≤ before + turns request)
+PreparesSo first request told before now (Err stop.ReadFault) = now ≤ before + turns request
+PreparesSo first request told before now (Err stop.NoMemory) = now ≤ before + turns request
+PreparesSo first request told before now (Err stop.WriteFault) = ⊥
+
+-- a machine was started for each record that is checked and then for each command that ran, and none where the folder is refused
+abbrev pub StartsSo : {T : Type 0} → (T → ℕ) → Request → Option Held → ℕ → ℕ → Result T Stop → Type 0
+StartsSo ran request told before now (Ok it) = StartsBoth request told before now (ran it)
+StartsSo ran request told before now (Err (stop.Refused refusal)) = now ≡ before
+StartsSo ran request told before now (Err other) = Unit {0}

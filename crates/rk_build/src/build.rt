@@ -1,0 +1,85 @@
+// The build, once the words are read.
+ghost use Rattle.std.specs.Prelude.{◌≡◌, ◌<◌, ◌≤◌, Ok, length, IfOk, true};
+ghost use Rattle.rk_install.specs.Changes.{MayRun};
+ghost use Rattle.rk_words.specs.Asked.{turns};
+ghost use Rattle.rk_build.specs.Outcomes.{Checked, outcome_of, Leaves, HasStatus, Tallies, Gains, GainsErrors, ErrorsCounted, Counted, Ticked};
+ghost use Rattle.rk_build.specs.Stages.{StartsSo, InstallsSo, WritesCounted, MemoryRose, Steadily};
+ghost use Rattle.rk_build.specs.Fresh.{output_of};
+ghost use Rattle.rk_build.specs.Texts.{IsNoFault};
+
+use crate::prepare::{Prepared, prepare};
+use crate::stop::Stop;
+use crate::texts::put_texts;
+use rk_base::Steps;
+use rk_calls::Maker;
+use rk_folder::{Folder, Sink};
+use rk_install::{InstallErr, Plan, install};
+use rk_replay::RanList;
+use rk_words::Request;
+use std::alloc::Global;
+use std::sync::ledger::Ledger;
+
+/// A build that ended: the script's status, how many commands were launched, and those of them that ran, with why.
+#[derive(Debug, Drop)]
+pub(crate) struct Ended {
+    pub status: u8,
+    pub launched: u64,
+    pub ran: RanList,
+}
+
+// Makes the planned calls.
+fn carry_out<F: Folder>(alloc: Global, folder: &mut F, plan: &Plan) -> Result<(), Stop>
+    requires { MayRun (F.told folder.old) plan.now }
+    ensures held { InstallsSo plan.now (F.told folder.old) (F.told folder.new) result }
+    ensures writes { WritesCounted (F.write_faults folder.old) (F.write_faults folder.new) result }
+    ensures memory { MemoryRose (F.memory_failures folder.old) (F.memory_failures folder.new) result }
+    ensures steady { Steadily (F.steady folder.old) (F.steady folder.new) result }
+    ensures reads { F.read_faults folder.new ≡ F.read_faults folder.old }
+{
+    match install(alloc, folder, plan) {
+        Ok(()) => Ok(()),
+        Err(InstallErr::WriteFault) => Err(Stop::WriteFault),
+        Err(InstallErr::NoMemory) => Err(Stop::NoMemory),
+    }
+}
+
+/// Runs the script on what the folder holds, puts its texts out and installs what it leaves.
+pub(crate) fn build<M: Maker, F: Folder, O: Sink, E: Sink, L: Ledger>(
+    alloc: Global,
+    maker: &mut M,
+    request: &Request,
+    folder: &mut F,
+    out: &mut O,
+    err: &mut E,
+    live: &mut Steps<L>,
+) -> Result<Ended, Stop>
+    requires { 0 < turns request.now }
+    ensures folder { Leaves M.first request.now (F.told folder.old) (F.told folder.new) (record { writes = F.write_faults folder.old; memory = F.memory_failures folder.old }) (record { writes = F.write_faults folder.new; memory = F.memory_failures folder.new }) (outcome_of result) }
+    ensures status { IfOk result (λ e. HasStatus M.first request.now (F.told folder.old) e.status) }
+    ensures tally { IfOk result (λ e. Tallies M.first request.now (F.told folder.old) (F.told folder.new) live.old live.new e.launched (length e.ran)) }
+    ensures checked { IfOk result (λ _. Checked M.first request.now (F.told folder.old)) }
+    ensures output { Gains M.first request.now output_of (F.told folder.old) (O.so_far out.old) (O.so_far out.new) (outcome_of result) }
+    ensures errors { GainsErrors M.first request.now (F.told folder.old) (record { so_far = E.so_far err.old; faults = E.faults err.old; memory = E.memory_failures err.old }) (record { so_far = E.so_far err.new; faults = E.faults err.new; memory = E.memory_failures err.new }) (outcome_of result) }
+    ensures error_counts { ErrorsCounted (record { so_far = E.so_far err.old; faults = E.faults err.old; memory = E.memory_failures err.old }) (record { so_far = E.so_far err.new; faults = E.faults err.new; memory = E.memory_failures err.new }) (outcome_of result) }
+    ensures counts { Counted (record { reads = F.read_faults folder.old; writes = F.write_faults folder.old; puts = O.faults out.old; error_puts = E.faults err.old })
+        (record { reads = F.read_faults folder.new; writes = F.write_faults folder.new; puts = O.faults out.new; error_puts = E.faults err.new }) (outcome_of result) }
+    ensures steady { F.steady folder.old ≡ true → O.steady out.old ≡ true → E.steady err.old ≡ true → (E.steady err.new ≡ true) × IsNoFault result }
+    ensures folder_steady { F.steady folder.new ≡ F.steady folder.old }
+    ensures live { Ticked request.now live.old live.new (outcome_of result) }
+    ensures rises { live.old ≤ live.new }
+    ensures starts { StartsSo (λ e. length e.ran) request.now (F.told folder.old) (M.starts maker.old) (M.starts maker.new) result }
+{
+    let Prepared {
+        finished,
+        plan,
+        error_text,
+    } = prepare(alloc, maker, request, folder, live)?;
+    put_texts(out, err, finished.world.out(), error_text.as_slice())?;
+    carry_out(alloc, folder, &plan)?;
+    let launched = finished.table.len() as u64;
+    Ok(Ended {
+        status: finished.status,
+        launched,
+        ran: finished.ran,
+    })
+}

@@ -1,0 +1,26 @@
+// Every record, checked before the script runs.
+ghost use Rattle.std.specs.Prelude.{◌≡◌};
+ghost use Rattle.rk_words.specs.Asked.{checks};
+ghost use Rattle.rk_build.specs.Checks.{ChecksSo, StartsChecked};
+
+use crate::options::checks;
+use crate::stop::Stop;
+use rk_calls::Maker;
+use rk_runs::{CheckErr, check_with};
+use rk_words::Request;
+use tr_record::Table;
+
+/// Checks every record of the old table, where that is asked for.
+pub(crate) fn check_old<M: Maker>(maker: &mut M, request: &Request, old: &Table) -> Result<(), Stop>
+    ensures checked { ChecksSo M.first (checks request.now) old.now result }
+    ensures starts { StartsChecked (checks request.now) old.now (M.starts maker.old) (M.starts maker.new) result }
+{
+    if !checks(request) {
+        return Ok(());
+    }
+    match check_with(maker, old) {
+        Ok(()) => Ok(()),
+        Err(CheckErr::Forged { rec, step }) => Err(Stop::Forged { rec, step }),
+        Err(CheckErr::NoMemory) => Err(Stop::NoMemory),
+    }
+}

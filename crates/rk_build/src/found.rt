@@ -1,0 +1,47 @@
+// What a build finds in a folder.
+ghost use Rattle.std.specs.Prelude.{◌≡◌, IfOk, OnOk};
+ghost use Rattle.rk_tree.specs.Entries.{IsWholeSnapshot};
+ghost use Rattle.rk_build.specs.Stages.{FindsSo, ReadsCounted, Steadily};
+
+use crate::kept::{KeptState, kept};
+use crate::look::look;
+use crate::options::is_fresh;
+use crate::stop::Stop;
+use rk_folder::Folder;
+use rk_install::Holding;
+use rk_words::Request;
+use std::alloc::Global;
+use tr_codec::Attrs;
+use tr_record::Table;
+
+/// What the folder holds, and the rows of attributes and the records that its state files keep.
+#[derive(Drop)]
+pub(crate) struct Found {
+    pub holding: Holding,
+    pub attrs: Attrs,
+    pub old: Table,
+}
+
+/// Lists and reads the folder, and reads what its state files keep; of a build that begins afresh the database isn't
+/// decoded, and there are no records.
+pub(crate) fn find<F: Folder>(
+    alloc: Global,
+    request: &Request,
+    folder: &mut F,
+) -> Result<Found, Stop>
+    ensures held { F.told folder.new ≡ F.told folder.old }
+    ensures writes { F.write_faults folder.new ≡ F.write_faults folder.old }
+    ensures reads { ReadsCounted (F.read_faults folder.old) (F.read_faults folder.new) result }
+    ensures memory { OnOk result (F.memory_failures folder.new ≡ F.memory_failures folder.old) }
+    ensures steady { Steadily (F.steady folder.old) (F.steady folder.new) result }
+    ensures finds { FindsSo request.now (F.told folder.old) result }
+    ensures whole { IfOk result (λ found. IsWholeSnapshot found.holding.entries) }
+{
+    let holding = look(alloc, folder)?;
+    let KeptState { attrs, old } = kept(alloc, is_fresh(request), &holding.state)?;
+    Ok(Found {
+        holding,
+        attrs,
+        old,
+    })
+}

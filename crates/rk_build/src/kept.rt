@@ -1,0 +1,72 @@
+// What the state files keep.
+ghost use Rattle.std.specs.Prelude.{◌≡◌, None, if◌then◌else◌};
+ghost use Rattle.rk_build.specs.Kept.{decoded, ReadsAttrs, ReadsDb, ReadsState};
+ghost use Rattle.rk_build.specs.declared.stop.Refusal.TheVariants as refusal;
+ghost use Rattle.rk_build.specs.declared.stop.Stop.TheVariants as stop;
+
+use crate::outcome::StateFile;
+use crate::stop::{Refusal, Stop};
+use rk_base::Bytes;
+use rk_folder::State;
+use std::alloc::Global;
+use tr_codec::{Attrs, CodecErr, Damage, read_attrs, read_db};
+use tr_record::Table;
+
+/// The rows of attributes and the records.
+#[derive(Drop)]
+pub(crate) struct KeptState {
+    pub attrs: Attrs,
+    pub old: Table,
+}
+
+fn damaged(file: StateFile, damage: Damage) -> Stop
+    ensures { result ≡ stop.Refused (refusal.Damaged file damage) }
+{
+    Stop::Refused(Refusal::Damaged(file, damage))
+}
+
+fn attrs_in(alloc: Global, attrs: &Option<Bytes>) -> Result<Attrs, Stop>
+    ensures { ReadsAttrs attrs.now result }
+{
+    match attrs {
+        None => Ok(Attrs::new(alloc)),
+        Some(bytes) => match read_attrs(alloc, bytes.as_slice()) {
+            Ok(attrs) => Ok(attrs),
+            Err(CodecErr::Damaged(damage)) => Err(damaged(StateFile::Attrs, damage)),
+            Err(CodecErr::NoMemory) => Err(Stop::NoMemory),
+        },
+    }
+}
+
+/// The records of the database, none where it is absent. It answers `Damaged` or `NoMemory`.
+pub fn table_in(alloc: Global, db: &Option<Bytes>) -> Result<Table, Stop>
+    ensures { ReadsDb db.now result }
+{
+    match db {
+        None => Ok(Table::new(alloc)),
+        Some(bytes) => match read_db(alloc, bytes.as_slice()) {
+            Ok(table) => Ok(table),
+            Err(CodecErr::Damaged(damage)) => Err(damaged(StateFile::Db, damage)),
+            Err(CodecErr::NoMemory) => Err(Stop::NoMemory),
+        },
+    }
+}
+
+// The records of the database; none, and it isn't decoded, where the build begins afresh.
+fn old_table(alloc: Global, fresh: bool, db: &Option<Bytes>) -> Result<Table, Stop>
+    ensures { ReadsDb (if fresh then None else db.now) result }
+{
+    if fresh {
+        return Ok(Table::new(alloc));
+    }
+    table_in(alloc, db)
+}
+
+/// Reads the state files that are decoded, attrs before the database, and gives what they keep.
+pub(crate) fn kept(alloc: Global, fresh: bool, state: &State) -> Result<KeptState, Stop>
+    ensures { ReadsState (decoded fresh state.now) result }
+{
+    let attrs = attrs_in(alloc, &state.attrs)?;
+    let old = old_table(alloc, fresh, &state.db)?;
+    Ok(KeptState { attrs, old })
+}

@@ -1,0 +1,42 @@
+// What the folder holds.
+ghost use Rattle.std.specs.Prelude.{◌≡◌, IfOk, OnOk};
+ghost use Rattle.rk_tree.specs.Entries.{IsWholeSnapshot};
+ghost use Rattle.rk_build.specs.Stages.{LooksSo, ReadsCounted, Steadily, stop_of};
+
+use crate::stop::{Refusal, Stop};
+use rk_folder::{Folder, Hidden, ImportErr, Imported, import};
+use rk_install::Holding;
+use std::alloc::Global;
+
+fn stop_of(e: ImportErr) -> Stop
+    ensures { result ≡ stop_of e }
+{
+    match e {
+        ImportErr::Special(path) => Stop::Refused(Refusal::Special(path)),
+        ImportErr::ReadFault => Stop::ReadFault,
+        ImportErr::NoMemory => Stop::NoMemory,
+    }
+}
+
+/// Lists and reads the folder.
+pub(crate) fn look<F: Folder>(alloc: Global, folder: &mut F) -> Result<Holding, Stop>
+    ensures held { F.told folder.new ≡ F.told folder.old }
+    ensures writes { F.write_faults folder.new ≡ F.write_faults folder.old }
+    ensures reads { ReadsCounted (F.read_faults folder.old) (F.read_faults folder.new) result }
+    ensures memory { OnOk result (F.memory_failures folder.new ≡ F.memory_failures folder.old) }
+    ensures steady { Steadily (F.steady folder.old) (F.steady folder.new) result }
+    ensures look { LooksSo (F.told folder.old) result }
+    ensures whole { IfOk result (λ holding. IsWholeSnapshot holding.entries) }
+{
+    match import(alloc, folder) {
+        Ok(Imported { entries, hidden }) => {
+            let Hidden { rkr, state } = hidden;
+            Ok(Holding {
+                entries,
+                rkr,
+                state,
+            })
+        }
+        Err(e) => Err(stop_of(e)),
+    }
+}

@@ -1,0 +1,108 @@
+// What is to be done once the script has run.
+ghost use Rattle.std.specs.Prelude.{◌≡◌, ◌<◌, ◌≤◌, ◌^◌, IfOk, OnOk, length};
+ghost use Rattle.rk_tree.specs.Entries.{IsWholeSnapshot};
+ghost use Rattle.rk_install.specs.Attributes.{attrs_of};
+ghost use Rattle.rk_install.specs.Holdings.{IsBuilt};
+ghost use Rattle.std.specs.List.{AllByRecursion};
+ghost use Rattle.tr_codec.specs.Fits.{Fits};
+ghost use Rattle.tr_codec.specs.Sound.{IsSound};
+ghost use Rattle.rk_words.specs.Asked.{turns};
+ghost use Rattle.rk_build.specs.Stages.{StartsSo, PreparesSo, ReadsCounted, Steadily};
+ghost use Rattle.rk_build.specs.Fresh.{IsInMemory, attrs_bytes, held_after};
+
+use crate::checked::check_old;
+use crate::explain::error_text;
+use crate::found::{Found, find};
+use crate::run::{Finished, run};
+use crate::stop::Stop;
+use rk_base::{Bytes, NoMemory, Steps};
+use rk_calls::Maker;
+use rk_folder::{Folder, State};
+use rk_install::{Holding, Plan, attrs_of, plan};
+use rk_tree::Snapshot;
+use rk_words::Request;
+use std::alloc::Global;
+use std::sync::ledger::Ledger;
+use tr_codec::{write_attrs, write_db};
+use tr_record::Table;
+
+/// A run that ended, and the calls that lead the folder to what it leaves.
+#[derive(Drop)]
+pub(crate) struct Prepared {
+    pub finished: Finished,
+    pub plan: Plan,
+    /// The run's error text and, where they are asked for, the lines of what ran and why.
+    pub error_text: Bytes,
+}
+
+// attrs as it is to stand beside these entries; nothing where they have no rows.
+fn attrs_bytes(alloc: Global, entries: &Snapshot) -> Result<Option<Bytes>, NoMemory>
+    requires { IsWholeSnapshot entries.now }
+    ensures bytes { IfOk result (λ bytes. bytes ≡ attrs_bytes (attrs_of entries.now)) }
+    ensures memory { IfOk result IsInMemory }
+{
+    let attrs = attrs_of(alloc, entries)?;
+    match attrs.as_slice() {
+        [] => Ok(None),
+        [_, ..] => {
+            let bytes = write_attrs(alloc, &attrs)?;
+            Ok(Some(bytes))
+        }
+    }
+}
+
+// What the folder is to hold after the run.
+fn held_after(alloc: Global, finished: &Finished) -> Result<Holding, NoMemory>
+    ensures holding { IfOk result (λ holding. holding ≡ held_after finished.now.world finished.now.table) }
+    ensures built { IfOk result IsBuilt }
+    ensures memory { IfOk result (λ holding. IsInMemory holding.state.attrs × IsInMemory holding.state.db) }
+    ensures fits { OnOk result (AllByRecursion IsSound finished.now.table → Fits finished.now.table) }
+{
+    let entries = finished.world.snapshot()?;
+    let attrs = attrs_bytes(alloc, &entries)?;
+    let db = write_db(alloc, &finished.table)?;
+    Ok(Holding {
+        entries,
+        rkr: true,
+        state: State {
+            db: Some(db),
+            attrs,
+        },
+    })
+}
+
+/// Looks at the folder, reads its state files, runs the script on what it holds, where no record answers for it, and
+/// plans what leads to what the run leaves; with the error text that is to be put.
+pub(crate) fn prepare<M: Maker, F: Folder, L: Ledger>(
+    alloc: Global,
+    maker: &mut M,
+    request: &Request,
+    folder: &mut F,
+    live: &mut Steps<L>,
+) -> Result<Prepared, Stop>
+    requires { 0 < turns request.now }
+    ensures held { F.told folder.new ≡ F.told folder.old }
+    ensures writes { F.write_faults folder.new ≡ F.write_faults folder.old }
+    ensures reads { ReadsCounted (F.read_faults folder.old) (F.read_faults folder.new) result }
+    ensures memory { OnOk result (F.memory_failures folder.new ≡ F.memory_failures folder.old) }
+    ensures steady { Steadily (F.steady folder.old) (F.steady folder.new) result }
+    ensures prepares { PreparesSo M.first request.now (F.told folder.old) live.old live.new result }
+    ensures rises { live.old ≤ live.new }
+    ensures starts { StartsSo (λ p. length p.finished.ran) request.now (F.told folder.old) (M.starts maker.old) (M.starts maker.new) result }
+{
+    let Found {
+        holding: before,
+        attrs,
+        old,
+    } = find(alloc, request, folder)?;
+    check_old(maker, request, &old)?;
+    let finished = run(alloc, maker, request, &before.entries, &attrs, &old, live)?;
+    let after = held_after(alloc, &finished)?;
+    let plan = plan(alloc, &before, &after)?;
+    let error_text = error_text(alloc, request, &finished)?;
+    Ok(Prepared {
+        finished,
+        plan,
+        error_text,
+    })
+}

@@ -1,0 +1,88 @@
+// The run of the script.
+ghost use Rattle.std.specs.Prelude.{◌≡◌, ◌+◌, ◌<◌, ◌≤◌, ◌^◌, IfOk, length};
+ghost use Rattle.rk_runs.specs.Started.{started};
+ghost use Rattle.rk_tree.specs.Entries.{IsWholeSnapshot};
+ghost use Rattle.rk_folder.specs.Attributes.{with_rows};
+ghost use Rattle.rk_words.specs.Asked.{turns};
+ghost use Rattle.rk_build.specs.Run.{Runs};
+
+use crate::options::turns;
+use crate::stop::Stop;
+use rk_base::{Budget, NoMemory, Steps};
+use rk_calls::Maker;
+use rk_folder::tree_of;
+use rk_kernel::World;
+use rk_replay::{Built, RanList, build_with, script_key};
+use rk_tree::Snapshot;
+use rk_words::Request;
+use std::alloc::Global;
+use std::sync::ledger::Ledger;
+use tr_codec::Attrs;
+use tr_record::Table;
+
+/// A run that ended: the world that it left, the script's status, the records of its commands, and those of them that ran,
+/// each with why.
+#[derive(Drop)]
+pub(crate) struct Finished {
+    pub world: World,
+    pub status: u8,
+    pub table: Table,
+    pub ran: RanList,
+}
+
+// A budget of the turns that are asked for, of which nothing is paid yet.
+fn budget(request: &Request) -> Budget
+    requires { 0 < turns request.now }
+    ensures limit { result.limit ≡ turns request.now }
+    ensures used { result.used ≡ 0 }
+    ensures few { turns request.now < 2 ^ 32 }
+{
+    Budget::new(turns(request)).unwrap()
+}
+
+fn copy_of(alloc: Global, entries: &Snapshot) -> Result<Snapshot, NoMemory>
+    ensures { IfOk result (λ copy. copy ≡ entries.now) }
+{
+    let mut copy = Snapshot::new(alloc);
+    for (path, it) in entries.rows() {
+        copy.put(path.copy()?, it.entry().copy()?)?;
+    }
+    Ok(copy)
+}
+
+/// Runs the script, by the machines of the maker, on a tree of these entries with these rows, within the turns that are asked
+/// for. The commands of the old table whose answers still hold don't run.
+#[tactic(auto, unfolding(crate::specs::Run::fresh_run))]
+pub(crate) fn run<M: Maker, L: Ledger>(
+    alloc: Global,
+    maker: &mut M,
+    request: &Request,
+    entries: &Snapshot,
+    attrs: &Attrs,
+    old: &Table,
+    live: &mut Steps<L>,
+) -> Result<Finished, Stop>
+    requires whole { IsWholeSnapshot entries.now }
+    requires some { 0 < turns request.now }
+    ensures runs { Runs M.first request.now (with_rows entries.now attrs.now) old.now live.old live.new result }
+    ensures at_least { live.old ≤ live.new }
+    ensures at_most { live.new ≤ live.old + turns request.now }
+    ensures starts { IfOk result (λ f. M.starts maker.new ≡ started (length f.ran) (M.starts maker.old)) }
+{
+    let copy = copy_of(alloc, entries)?;
+    let tree = tree_of(alloc, copy, attrs)?;
+    let mut world = World::new(alloc, tree)?;
+    let key = script_key(alloc)?;
+    let mut budget = budget(request);
+    match build_with(alloc, maker, &mut world, &key, old, &mut budget, live) {
+        Ok(Built { status, table, ran }) => Ok(Finished {
+            world,
+            status,
+            table,
+            ran,
+        }),
+        Err(rk_replay::Stop::Forged { rec, step }) => Err(Stop::Forged { rec, step }),
+        Err(rk_replay::Stop::Spent) => Err(Stop::Spent),
+        Err(rk_replay::Stop::Stopped(_)) => Err(Stop::NoMemory),
+    }
+}

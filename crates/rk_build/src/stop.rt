@@ -1,0 +1,33 @@
+// Why the work stopped.
+ghost use Rattle.std.specs.Prelude.{◌≡◌};
+ghost use Rattle.rk_build.specs.declared.stop.Stop.TheVariants as stop;
+
+use crate::outcome::StateFile;
+use rk_base::{NoMemory, Path};
+use tr_codec::Damage;
+
+/// Why a folder is refused as it stands.
+#[derive(Debug, Drop)]
+pub enum Refusal {
+    Special(Path),
+    Damaged(StateFile, Damage),
+}
+
+/// Why the work stopped before its end.
+#[derive(Debug, Drop)]
+pub enum Stop {
+    Refused(Refusal),
+    Forged { rec: u64, step: u64 },
+    Spent,
+    ReadFault,
+    WriteFault,
+    NoMemory,
+}
+
+impl From<NoMemory> for Stop {
+    ghost from_gives = { λ _ e. e ≡ stop.NoMemory };
+
+    fn from(_: NoMemory) -> Stop {
+        Stop::NoMemory
+    }
+}

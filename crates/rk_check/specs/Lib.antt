@@ -1,8 +1,0 @@
-pub mod Checked
-pub mod Differences
-pub mod Fed
-pub mod Laws
-pub mod Over
-pub mod OverLaws
-pub mod Started
-pub mod Toy

@@ -1,4 +1,0 @@
-pub mod CommandTalks
-pub mod First
-pub mod Running
-pub mod UnknownTalk

@@ -1,5 +1,0 @@
-use Rattle.rk_top.proofs.TextsLemmas.{put-line}
-use Rattle.rk_top.proofs.lines.put_line.Goals as goal
-
-pub returns-clause-puts : goal.returns-clause-puts
-returns-clause-puts g c = put-line _ _ _ _ c.put.ensures.put c.put.ensures.cause c.put.ensures.memory

@@ -1,0 +1,222 @@
+// The command of a key.
+ghost use Rattle.std.specs.Prelude.{◌≡◌, IfOk};
+ghost use Rattle.std.specs.List.{list_any};
+ghost use Rattle.rk_base.specs.Text.{is_slash};
+ghost use Rattle.rk_calls.specs.Keys.{takes_variables};
+ghost use Rattle.rk_top.specs.First.{says_of, named_of, copy_or, file_or, grep_or, select_or, plain_or, utility_or, builtin_or, first_talk};
+ghost use Rattle.rk_top.specs.Running.{running_talk, command_talk};
+ghost use Rattle.rk_top.specs.UnknownTalk.{is_unknown};
+
+use rk_base::{Bytes, NoMemory, Path, WordList};
+use rk_calls::{Answer, Key, Machine, Turn};
+use sh_builtin::BuiltinCommand;
+use sh_eval::Shell;
+use std::alloc::Global;
+use ut_args::Complaint;
+use ut_copy::CopyUtility;
+use ut_files::FileUtility;
+use ut_grep::GrepUtility;
+use ut_plain::PlainUtility;
+use ut_select::SelectUtility;
+use ut_text::TextUtility;
+
+#[derive(Drop)]
+enum Running {
+    Complains(Complaint),
+    Shells(Shell),
+    Builtins(BuiltinCommand),
+    Texts(TextUtility),
+    Plain(PlainUtility),
+    Selects(SelectUtility),
+    Greps(GrepUtility),
+    Files(FileUtility),
+    Copies(CopyUtility),
+}
+
+/// The command of a key, as a machine (XCU 2.9.1): a shell where the first word is `sh` or has a slash, else the builtin or
+/// the utility of that name, else an unknown name.
+#[derive(Drop)]
+pub struct Command {
+    /// Whether it has paid for its start.
+    paid: bool,
+    running: Running,
+}
+
+// A name that is no command's: `sh: NAME: not found`, and status 127.
+fn unknown(alloc: Global, name: &[u8]) -> Result<Running, NoMemory>
+    ensures { IfOk result (λ r. running_talk r Answer.Go ≡ is_unknown name.now) }
+{
+    let complaint = Complaint::of_operand(alloc, b"sh", name, b"not found", 127)?;
+    Ok(Running::Complains(complaint))
+}
+
+// A utility that copies or moves, or an unknown name.
+fn copy_utility(alloc: Global, wd: &Path, argv: &WordList, name: &[u8]) -> Result<Running, NoMemory>
+    ensures { IfOk result (λ r. running_talk r Answer.Go ≡ copy_or wd.now argv.now (is_unknown name.now)) }
+{
+    let found = ut_copy::start(alloc, wd, argv)?;
+    match found {
+        Some(utility) => Ok(Running::Copies(utility)),
+        None => unknown(alloc, name),
+    }
+}
+
+// A file utility, one that copies, or an unknown name.
+fn file_utility(alloc: Global, wd: &Path, argv: &WordList, name: &[u8]) -> Result<Running, NoMemory>
+    ensures { IfOk result (λ r. running_talk r Answer.Go ≡ file_or wd.now argv.now (is_unknown name.now)) }
+{
+    let found = ut_files::start(alloc, wd, argv)?;
+    match found {
+        Some(utility) => Ok(Running::Files(utility)),
+        None => copy_utility(alloc, wd, argv, name),
+    }
+}
+
+// `grep`, a file utility, or an unknown name.
+fn grep_utility(alloc: Global, wd: &Path, argv: &WordList, name: &[u8]) -> Result<Running, NoMemory>
+    ensures { IfOk result (λ r. running_talk r Answer.Go ≡ grep_or wd.now argv.now (is_unknown name.now)) }
+{
+    let found = GrepUtility::start(alloc, wd, argv)?;
+    match found {
+        Some(utility) => Ok(Running::Greps(utility)),
+        None => file_utility(alloc, wd, argv, name),
+    }
+}
+
+// `sort`, `cut` or `tr`, `grep`, a file utility, or an unknown name.
+fn select_utility(
+    alloc: Global,
+    wd: &Path,
+    argv: &WordList,
+    name: &[u8],
+) -> Result<Running, NoMemory>
+    ensures { IfOk result (λ r. running_talk r Answer.Go ≡ select_or wd.now argv.now (is_unknown name.now)) }
+{
+    let found = SelectUtility::start(alloc, wd, argv)?;
+    match found {
+        Some(utility) => Ok(Running::Selects(utility)),
+        None => grep_utility(alloc, wd, argv, name),
+    }
+}
+
+// `basename`, `dirname` or `tee`, a utility after these, or an unknown name.
+fn plain_utility(
+    alloc: Global,
+    wd: &Path,
+    argv: &WordList,
+    name: &[u8],
+) -> Result<Running, NoMemory>
+    ensures { IfOk result (λ r. running_talk r Answer.Go ≡ plain_or wd.now argv.now (is_unknown name.now)) }
+{
+    let found = PlainUtility::start(alloc, wd, argv)?;
+    match found {
+        Some(utility) => Ok(Running::Plain(utility)),
+        None => select_utility(alloc, wd, argv, name),
+    }
+}
+
+// A utility, or an unknown name.
+fn utility(alloc: Global, wd: &Path, argv: &WordList, name: &[u8]) -> Result<Running, NoMemory>
+    ensures { IfOk result (λ r. running_talk r Answer.Go ≡ utility_or wd.now argv.now (is_unknown name.now)) }
+{
+    let found = TextUtility::start(alloc, wd, argv)?;
+    match found {
+        Some(utility) => Ok(Running::Texts(utility)),
+        None => plain_utility(alloc, wd, argv, name),
+    }
+}
+
+// A builtin, a utility, or an unknown name.
+fn builtin(alloc: Global, wd: &Path, argv: &WordList, name: &[u8]) -> Result<Running, NoMemory>
+    ensures { IfOk result (λ r. running_talk r Answer.Go ≡ builtin_or wd.now argv.now (is_unknown name.now)) }
+{
+    let found = BuiltinCommand::start(alloc, wd, argv)?;
+    match found {
+        Some(builtin) => Ok(Running::Builtins(builtin)),
+        None => utility(alloc, wd, argv, name),
+    }
+}
+
+// The builtin or the utility of a first word, or an unknown name.
+fn named(alloc: Global, wd: &Path, argv: &WordList) -> Result<Running, NoMemory>
+    ensures { IfOk result (λ r. running_talk r Answer.Go ≡ named_of wd.now argv.now) }
+{
+    match argv.as_slice() {
+        [] => unknown(alloc, b""),
+        [name, ..] => builtin(alloc, wd, argv, name.as_slice()),
+    }
+}
+
+// Whether the first word is `sh` or has a slash.
+fn is_shell(argv: &[Bytes]) -> bool
+    ensures { result ≡ takes_variables argv.now }
+{
+    match argv {
+        [] => false,
+        [word, ..] => word.as_slice() == b"sh".as_slice() || has_slash(word.as_slice()),
+    }
+}
+
+fn has_slash(word: &[u8]) -> bool
+    ensures { result ≡ list_any is_slash word.now }
+{
+    word.iter().any(|b| *b == b'/')
+}
+
+fn machine_of(alloc: Global, key: &Key) -> Result<Running, NoMemory>
+    ensures { IfOk result (λ r. running_talk r Answer.Go ≡ says_of key.now) }
+{
+    if is_shell(key.argv().as_slice()) {
+        let shell = Shell::start(alloc, key)?;
+        return Ok(Running::Shells(shell));
+    }
+    named(alloc, key.wd(), key.argv())
+}
+
+impl Command {
+    /// The command of a key, before its first turn.
+    #[tactic(auto, unfolding(crate::specs::First::first_talk))]
+    pub fn start(alloc: Global, key: &Key) -> Result<Command, NoMemory>
+        ensures { IfOk result (λ c. command_talk c Answer.Go ≡ first_talk key.now) }
+    {
+        let running = machine_of(alloc, key)?;
+        Ok(Command {
+            paid: false,
+            running,
+        })
+    }
+}
+
+impl Machine for Running {
+    ghost use Rattle.rk_top.specs.Running.{running_talk};
+
+    ghost talk = { running_talk };
+
+    fn resume(&mut self, answer: Answer) -> Result<Turn, NoMemory> {
+        match self {
+            Running::Complains(machine) => machine.resume(answer),
+            Running::Shells(machine) => machine.resume(answer),
+            Running::Builtins(machine) => machine.resume(answer),
+            Running::Texts(machine) => machine.resume(answer),
+            Running::Plain(machine) => machine.resume(answer),
+            Running::Selects(machine) => machine.resume(answer),
+            Running::Greps(machine) => machine.resume(answer),
+            Running::Files(machine) => machine.resume(answer),
+            Running::Copies(machine) => machine.resume(answer),
+        }
+    }
+}
+
+impl Machine for Command {
+    ghost use Rattle.rk_top.specs.Running.{command_talk};
+
+    ghost talk = { command_talk };
+
+    fn resume(&mut self, answer: Answer) -> Result<Turn, NoMemory> {
+        if !self.paid {
+            self.paid = true;
+            return Ok(Turn::More(1));
+        }
+        self.running.resume(answer)
+    }
+}

@@ -1,0 +1,5 @@
+pub mod Branching
+pub mod ByKind
+pub mod Entered
+pub mod Looping
+pub mod Named

@@ -1,0 +1,22 @@
+use Rattle.std.proofs.Common.{sym, ap, ◌∙◌}
+use Rattle.sh_means.specs.Stack.{casing}
+use Rattle.sh_means.specs.Views.{shell_of}
+use Rattle.sh_means.proofs.Cases.{items_over, patterns_over, pattern_begun}
+use Rattle.sh_compound.proofs.compounds.act_case_at.Goals as goal
+
+pub returns-in-None-clause-talk : goal.returns-in-None-clause-talk
+returns-in-None-clause-talk c =
+    λ k p. items_over c.args.left c.deref.result.now c.args.place k (shell_of c.args.state.now) p (c.deref.ensures ∙ c.in_ok-items.ensures.cases) c.in-None.ensures ∙ c.end.ensures.talk k p
+
+pub returns-in-None-get-clause-talk : goal.returns-in-None-get-clause-talk
+returns-in-None-get-clause-talk c =
+    let e = shell_of c.args.state.now in
+    λ k p. patterns_over c.args.left c.deref.result.now c.in-Some.item.now c.deref-in-Some.result.now c.args.place k e p (c.deref.ensures ∙ c.in_ok-items.ensures.cases) c.in-Some.ensures c.deref-in-Some.ensures c.in-None-get.ensures
+    ∙ ap (λ n. casing (record c.args.left { at = n; pattern = 0 }) 0 c.args.place k e p) (sym c.in_ok-next-in-None-get.ensures)
+    ∙ c.free.ensures.talk k e p
+
+pub returns-clause-talk : goal.returns-clause-talk
+returns-clause-talk c =
+    let e = shell_of c.args.state.now in
+    λ k p. pattern_begun c.args.left c.deref.result.now c.in-Some.item.now c.deref-in-Some.result.now c.in-Some-get.word.now.value c.in_ok-word-in-Some-get.word c.in_ok-control-in-Some-get.control c.args.place k e p (c.deref.ensures ∙ c.in_ok-items.ensures.cases) c.in-Some.ensures c.deref-in-Some.ensures c.in-Some-get.ensures c.in_ok-word-in-Some-get.ensures.cases c.in_ok-control-in-Some-get.ensures
+    ∙ c.free-in-Some-get.ensures.talk k e p

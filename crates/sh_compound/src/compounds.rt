@@ -1,0 +1,390 @@
+// Compound commands, once their redirections were made.
+ghost use Rattle.std.specs.Prelude.{◌≡◌, ◌+◌, ℕ, IfOk, OnOk, drop, not, Some};
+ghost use Rattle.rk_base.specs.Text.{Text};
+ghost use Rattle.sh_ast.specs.Commands as tree;
+ghost use Rattle.sh_vars.specs.Held.{assigned, is_readonly};
+ghost use Rattle.sh_means.specs.Flows.{Next, deeper};
+ghost use Rattle.sh_means.specs.Compound.{for_each, for_fields, for_means, if_means, case_means, subshell_means, stages_mean, with_input};
+ghost use Rattle.sh_means.specs.Eval.{compound_in, for_in, items_in, word_in, is_until};
+ghost use Rattle.sh_means.specs.Run.{run};
+ghost use Rattle.sh_means.specs.Simple.{Round};
+ghost use Rattle.sh_means.specs.Stack.{Steps, Goes, IsStep, context, branches_from, commands_from, first_of, whole, casing, looping, each_body, giving};
+ghost use Rattle.sh_means.specs.State.{Shell, with_held, with_slot, back};
+ghost use Rattle.sh_means.specs.Views.{shell_of};
+ghost use Rattle.sh_means.specs.Trees.{for_words_of, given_if};
+
+use rk_base::{Bytes, NoMemory, WordList};
+use rk_calls::{Answer, Call, Turn};
+use sh_ast::{Branches, CaseItems, CommandList, Compound, LoopKind, Word, Words};
+use sh_expand::Mode;
+use sh_means::control::{
+    Acted, Aim, Around, Casing, Control, Each, Fielding, Frame, Inside, Loop, Then, Undo, Wait,
+    Wordy,
+};
+use sh_means::expansion::{begin, over_fields};
+use sh_means::flow::{Flow, Place};
+use sh_means::items::item_at;
+use sh_means::numbers::behind;
+use sh_means::stack::{put_around, put_undo};
+use sh_means::state::State;
+use sh_means::steps::{end, free, paid, refuse};
+use sh_vars::VarErr;
+use std::alloc::Global;
+use std::rc::Rc;
+
+// A subshell, after which `set -e` looks at its status.
+fn act_subshell(
+    alloc: Global,
+    place: Place,
+    list: &Rc<CommandList>,
+    stack: &mut Vec<Frame>,
+    state: &State,
+) -> Result<Control, NoMemory>
+    ensures { IfOk result (Goes (subshell_means (whole list.now.value) place (shell_of state.now) (context stack.old.items)) (context stack.new.items) (shell_of state.now)) }
+{
+    let list = list.clone()?;
+    let saved = state.save(alloc)?;
+    put_around(stack, Around::Watch(place))?;
+    put_undo(stack, Undo::Subshell(saved))?;
+    Ok(Control::Whole(place, list))
+}
+
+// The words of a `for`, or the positional parameters.
+fn act_for(
+    alloc: Global,
+    place: Place,
+    name: &Bytes,
+    words: &Option<Rc<Words>>,
+    body: &Rc<CommandList>,
+    state: &mut State,
+) -> Result<Control, NoMemory>
+    ensures { IfOk result (λ c. (k : Next) → Goes (for_means name.now (for_in run (for_words_of words.now)) (whole body.now.value) place (shell_of state.old) k) k (shell_of state.new) c) }
+{
+    let name = name.copy()?;
+    let body = body.clone()?;
+    match words {
+        None => {
+            let fields = state.env.vars.positional().copy()?;
+            Ok(over_fields(place, name, fields, body, state))
+        }
+        Some(words) => {
+            let words = words.clone()?;
+            let fields = WordList::new(Vec::new(alloc));
+            Ok(Control::Wordy(Wordy::Words(
+                place,
+                Fielding {
+                    words,
+                    at: 0,
+                    fields,
+                    ran: false,
+                    then: Then::For(name, body),
+                },
+            )))
+        }
+    }
+}
+
+fn act_case(
+    alloc: Global,
+    place: Place,
+    word: &Rc<Word>,
+    items: &Rc<CaseItems>,
+) -> Result<Control, NoMemory>
+    ensures { IfOk result (λ c. (k : Next) (e : Shell) → Goes (case_means (word_in run (tree.word word.now.value)) (items_in run (tree.case_items items.now.value)) place e k) k e c) }
+{
+    let word = word.clone()?;
+    let items = items.clone()?;
+    let control = begin(alloc, word, Mode::Value, place, Aim::Subject(items))?;
+    Ok(control)
+}
+
+fn act_loop(
+    place: Place,
+    kind: LoopKind,
+    condition: &Rc<CommandList>,
+    body: &Rc<CommandList>,
+) -> Result<Control, NoMemory>
+    ensures { IfOk result (λ c. (k : Next) (e : Shell) → Goes (run (Round 0 (is_until kind) (tree.commands condition.now.value) (tree.commands body.now.value)) place e k) k e c) }
+{
+    let condition = condition.clone()?;
+    let body = body.clone()?;
+    Ok(Control::Inside(Inside::Round(
+        place,
+        0,
+        Loop {
+            kind,
+            condition,
+            body,
+        },
+    )))
+}
+
+/// A compound command.
+pub fn act_compound(
+    alloc: Global,
+    place: Place,
+    body: &Compound,
+    stack: &mut Vec<Frame>,
+    state: &mut State,
+) -> Result<Control, NoMemory>
+    ensures { IfOk result (Goes (compound_in run (tree.compound body.now) place (shell_of state.old) (context stack.old.items)) (context stack.new.items) (shell_of state.new)) }
+{
+    match body {
+        Compound::Group(list) => {
+            let list = list.clone()?;
+            Ok(Control::Whole(place, list))
+        }
+        Compound::Subshell(list) => {
+            let control = act_subshell(alloc, place, list, stack, state)?;
+            Ok(control)
+        }
+        Compound::For(name, words, body) => {
+            let control = act_for(alloc, place, name, words, body, state)?;
+            Ok(control)
+        }
+        Compound::Case(word, items) => {
+            let control = act_case(alloc, place, word, items)?;
+            Ok(control)
+        }
+        Compound::If(branches, otherwise) => {
+            let branches = branches.clone()?;
+            let otherwise = otherwise.clone()?;
+            Ok(Control::Inside(Inside::If(place, branches, 0, otherwise)))
+        }
+        Compound::Loop(kind, condition, body) => {
+            let control = act_loop(place, *kind, condition, body)?;
+            Ok(control)
+        }
+    }
+}
+
+/// The branches of an `if` from a place on.
+pub fn act_if(
+    place: Place,
+    branches: Rc<Branches>,
+    at: usize,
+    otherwise: Rc<CommandList>,
+    stack: &mut Vec<Frame>,
+) -> Result<Control, NoMemory>
+    ensures { IfOk result (λ c. (e : Shell) → Goes (if_means (branches_from branches.value at) (whole otherwise.value) place e (context stack.old.items)) (context stack.new.items) e c) }
+{
+    let rest = branches.clone()?;
+    match branches.get(at) {
+        Some(branch) => {
+            let condition = branch.condition.clone()?;
+            let body = branch.body.clone()?;
+            let next = behind(at)?;
+            put_around(stack, Around::Choose(place, body, rest, next, otherwise))?;
+            let inside = Place {
+                ignores: true,
+                ..place
+            };
+            Ok(Control::Whole(inside, condition))
+        }
+        None => Ok(Control::Whole(place, otherwise)),
+    }
+}
+
+/// A place inside one loop more. No memory holds more loops than there are numbers.
+pub fn deeper(place: Place) -> Result<Place, NoMemory>
+    ensures { IfOk result (λ pl. pl ≡ deeper place) }
+{
+    match place.loops.checked_add(1) {
+        Some(loops) => Ok(Place { loops, ..place }),
+        None => Err(NoMemory),
+    }
+}
+
+/// A round of a loop begins with its condition.
+pub fn act_round(
+    place: Place,
+    last: u8,
+    left: Loop,
+    stack: &mut Vec<Frame>,
+) -> Result<Acted, NoMemory>
+    ensures talk { IfOk result (λ t. (e : Shell) → Steps (run (Round last (looping left) (tree.commands left.condition.value) (tree.commands left.body.value)) place e (context stack.old.items)) (context stack.new.items) e t) }
+    ensures costly { IfOk result (λ t. IsStep t.turn) }
+{
+    let condition = left.condition.clone()?;
+    let below = deeper(place)?;
+    put_around(stack, Around::Condition(place, last, left))?;
+    let inside = Place {
+        ignores: true,
+        ..below
+    };
+    Ok(paid(Control::Whole(inside, condition)))
+}
+
+// The variable of a `for` takes a field. False where it is readonly.
+fn give(state: &mut State, name: &[u8], value: &[u8]) -> Result<bool, NoMemory>
+    ensures answer { IfOk result (λ done. done ≡ not (is_readonly state.old.env.vars name.now)) }
+    ensures state { IfOk result (λ done. shell_of state.new ≡ given_if done name.now value.now (shell_of state.old)) }
+{
+    match state.env.vars.set(name, value) {
+        Ok(()) => Ok(true),
+        Err(VarErr::Readonly) => Ok(false),
+        Err(VarErr::NoMemory) => Err(NoMemory),
+    }
+}
+
+/// A `for` goes on with its next field, which it pays for.
+pub fn act_each(place: Place, each: Each) -> Acted
+    ensures talk { (k : Next) (e : Shell) → Steps (for_each each.name (drop each.at each.fields) (whole each.body.value) place k e) k e result }
+    ensures costly { IsStep result.turn }
+{
+    if each.at < each.fields.len() {
+        paid(Control::Inside(Inside::Gives(place, each)))
+    } else {
+        free(Control::Leave(Flow::Normal))
+    }
+}
+
+// The body of a `for`, above a frame for the fields behind.
+fn enter_body(place: Place, each: Each, stack: &mut Vec<Frame>) -> Result<Control, NoMemory>
+    ensures { IfOk result (λ c. (e : Shell) → Goes (each_body each place (context stack.old.items) e) (context stack.new.items) e c) }
+{
+    let body = each.body.clone()?;
+    let below = deeper(place)?;
+    let next = behind(each.at)?;
+    let mut each = each;
+    each.at = next;
+    put_around(stack, Around::Each(place, each))?;
+    Ok(Control::Whole(below, body))
+}
+
+/// The variable of a `for` takes its next field, and the body is evaluated.
+pub fn act_gives(
+    alloc: Global,
+    place: Place,
+    each: Each,
+    stack: &mut Vec<Frame>,
+    state: &mut State,
+) -> Result<Acted, NoMemory>
+    ensures talk { IfOk result (Steps (giving each place (context stack.old.items) (shell_of state.old)) (context stack.new.items) (shell_of state.new)) }
+    ensures costly { IfOk result (λ t. IsStep t.turn) }
+{
+    let fields = each.fields.as_slice();
+    match item_at(fields, each.at) {
+        None => Ok(free(Control::Leave(Flow::Normal))),
+        Some(field) => {
+            let name = each.name.as_slice();
+            let value = field.as_slice();
+            let done = give(state, name, value)?;
+            if done {
+                let control = enter_body(place, each, stack)?;
+                return Ok(free(control));
+            }
+            let acted = refuse(alloc, name, b"readonly", Flow::Exits, 1, state)?;
+            Ok(acted)
+        }
+    }
+}
+
+/// The next of the patterns of an item, or of the items.
+pub fn act_case_at(
+    alloc: Global,
+    place: Place,
+    left: Casing,
+    state: &mut State,
+) -> Result<Acted, NoMemory>
+    ensures talk { IfOk result (λ t. (k : Next) → Steps (casing left left.pattern place k (shell_of state.old)) k (shell_of state.new) t) }
+    ensures costly { IfOk result (λ t. IsStep t.turn) }
+{
+    let items = left.items.clone()?;
+    match items.get(left.at) {
+        None => Ok(end(Flow::Normal, 0, state)),
+        Some(item) => match item.patterns.get(left.pattern) {
+            None => {
+                let next = behind(left.at)?;
+                let mut left = left;
+                left.at = next;
+                left.pattern = 0;
+                Ok(free(Control::Inside(Inside::Case(place, left))))
+            }
+            Some(word) => {
+                let word = word.clone()?;
+                let control = begin(alloc, word, Mode::Pattern, place, Aim::Pattern(left))?;
+                Ok(free(control))
+            }
+        },
+    }
+}
+
+/// The next of the stages of a pipeline. Each but the last is asked a pipe.
+pub fn act_stages(
+    alloc: Global,
+    place: Place,
+    list: Rc<CommandList>,
+    at: usize,
+    input: Option<u64>,
+    stack: &mut Vec<Frame>,
+    state: &mut State,
+) -> Result<Acted, NoMemory>
+    ensures talk { IfOk result (Steps (stages_mean input (commands_from list.value at) place (context stack.old.items) (shell_of state.old)) (context stack.new.items) (shell_of state.new)) }
+    ensures costly { IfOk result (λ t. IsStep t.turn) }
+{
+    match list.get(at) {
+        None => Ok(free(Control::Leave(Flow::Normal))),
+        Some(_) => {
+            let next = behind(at)?;
+            match list.get(next) {
+                Some(_) => {
+                    let wait = Wait::Stage(place, list, at, input, state.env.next);
+                    Ok(Acted {
+                        turn: Turn::Ask(Call::Pipe, 1),
+                        control: Control::Waits(wait),
+                    })
+                }
+                None => {
+                    let saved = state.save(alloc)?;
+                    put_undo(stack, Undo::Subshell(saved))?;
+                    read_from(input, state);
+                    Ok(free(Control::One(place, list, at)))
+                }
+            }
+        }
+    }
+}
+
+// A stage reads from this number.
+fn read_from(input: Option<u64>, state: &mut State)
+    ensures { shell_of state.new ≡ with_input input (shell_of state.old) }
+{
+    match input {
+        None => {}
+        Some(n) => state.descriptors.set(0, Some(n)),
+    }
+}
+
+/// A stage begins, once the pipe behind it was made.
+pub fn act_stage(
+    alloc: Global,
+    place: Place,
+    list: Rc<CommandList>,
+    at: usize,
+    input: Option<u64>,
+    read_end: u64,
+    stack: &mut Vec<Frame>,
+    state: &mut State,
+) -> Result<Control, NoMemory>
+    ensures { IfOk result (Goes (first_of (commands_from list.value at) place (with_slot 1 (Some (read_end + 1)) (with_input input (shell_of state.old))) (λ f e. stages_mean (Some read_end) (commands_from list.value (at + 1)) place (context stack.old.items) (back (shell_of state.old) e))) (context stack.new.items) (shell_of state.new)) }
+{
+    let saved = state.save(alloc)?;
+    let rest = list.clone()?;
+    let write_end = next_number(read_end)?;
+    let next = behind(at)?;
+    put_around(stack, Around::Stage(place, rest, next, read_end, saved))?;
+    read_from(input, state);
+    state.descriptors.set(1, Some(write_end));
+    Ok(Control::One(place, list, at))
+}
+
+// No memory holds more than there are numbers.
+fn next_number(n: u64) -> Result<u64, NoMemory>
+    ensures { IfOk result (λ m. m ≡ n + 1) }
+{
+    match n.checked_add(1) {
+        Some(n) => Ok(n),
+        None => Err(NoMemory),
+    }
+}

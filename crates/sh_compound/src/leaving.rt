@@ -1,0 +1,369 @@
+// What a frame that is left leads to.
+ghost use Rattle.std.specs.Prelude.{◌≡◌, ◌==◌, ◌+◌, IfOk, Bool, true, not, drop, if◌then◌else◌};
+ghost use Rattle.sh_ast.specs.Commands as tree;
+ghost use Rattle.sh_means.specs.declared.control.Around.TheVariants as arounds;
+ghost use Rattle.sh_means.specs.declared.control.Undo.TheVariants as undos;
+ghost use Rattle.sh_means.specs.declared.flow.Flow.{Flow as Flows};
+ghost use Rattle.sh_means.specs.Flows.{Next, and_then, leave, returned};
+ghost use Rattle.sh_means.specs.Compound.{takes, links_mean};
+ghost use Rattle.sh_compound.specs.Leaving.{goes_on, entered, linked};
+ghost use Rattle.sh_means.specs.Run.{run};
+ghost use Rattle.sh_means.specs.Stack.{Goes, context, surrounded, undone, commands_from, whole, looping, resumed};
+ghost use Rattle.sh_means.specs.State.{Shell};
+ghost use Rattle.sh_means.specs.Views.{shell_of};
+
+use crate::compounds::deeper;
+use crate::undoing::{put_back, put_back_variables};
+use rk_base::{NoMemory, WordList};
+use sh_ast::{Branches, CommandList, Connector, Connectors, LoopKind};
+use sh_means::control::{Around, Control, Each, Frame, Inside, Loop, Undo, Wordy};
+use sh_means::flow::{Flow, Place};
+use sh_means::items::item_at;
+use sh_means::numbers::behind;
+use sh_means::stack::put_around;
+use sh_means::state::State;
+use std::rc::Rc;
+
+// After a command of a list.
+fn leave_rest(place: Place, list: Rc<CommandList>, at: usize, flow: Flow) -> Control
+    ensures { (k : Next) (e : Shell) → Goes (surrounded (arounds.Rest place list at) k flow e) k e result }
+{
+    match flow {
+        Flow::Normal => Control::Run(place, list, at),
+        Flow::Breaks(n) => Control::Leave(Flow::Breaks(n)),
+        Flow::Continues(n) => Control::Leave(Flow::Continues(n)),
+        Flow::Returns => Control::Leave(Flow::Returns),
+        Flow::Exits => Control::Leave(Flow::Exits),
+    }
+}
+
+// Whether the pipeline behind a connector is taken.
+fn takes(connector: Connector, status: u8) -> bool
+    ensures { result ≡ takes connector status }
+{
+    match connector {
+        Connector::And => status == 0,
+        Connector::Or => status != 0,
+    }
+}
+
+// The pipeline at a place of an AND-OR list; only at the last a failing status is not ignored.
+fn enter(place: Place, list: Rc<CommandList>, at: usize) -> Result<Control, NoMemory>
+    ensures { IfOk result (λ c. (k : Next) (e : Shell) → Goes (linked true (commands_from list.value at) place k e) k e c) }
+{
+    let next = behind(at)?;
+    match list.get(next) {
+        Some(_) => {
+            let inside = Place {
+                ignores: true,
+                ..place
+            };
+            Ok(Control::One(inside, list, at))
+        }
+        None => Ok(Control::One(place, list, at)),
+    }
+}
+
+// The pipeline at a place of an AND-OR list is taken, or passed over.
+fn link(place: Place, list: Rc<CommandList>, at: usize, taken: bool) -> Result<Control, NoMemory>
+    ensures { IfOk result (λ c. (k : Next) (e : Shell) → Goes (linked taken (commands_from list.value at) place k e) k e c) }
+{
+    if taken {
+        let control = enter(place, list, at)?;
+        return Ok(control);
+    }
+    Ok(Control::Leave(Flow::Normal))
+}
+
+// After a pipeline of an AND-OR list, by the connector of this number.
+fn links(
+    place: Place,
+    list: Rc<CommandList>,
+    at: usize,
+    connectors: Rc<Connectors>,
+    stack: &mut Vec<Frame>,
+    state: &State,
+) -> Result<Control, NoMemory>
+    ensures { IfOk result (Goes (links_mean (commands_from list.value (at + 1)) (drop at connectors.value.items.items) place (context stack.old.items) (shell_of state.now)) (context stack.new.items) (shell_of state.now)) }
+{
+    let rest = list.clone()?;
+    let later = connectors.clone()?;
+    match item_at(connectors.items.as_slice(), at) {
+        None => Ok(Control::Leave(Flow::Normal)),
+        Some(connector) => {
+            let taken = takes(*connector, state.env.status);
+            let next = behind(at)?;
+            put_around(stack, Around::Links(place, rest, next, later))?;
+            let control = link(place, list, next, taken)?;
+            Ok(control)
+        }
+    }
+}
+
+fn leave_links(
+    place: Place,
+    list: Rc<CommandList>,
+    at: usize,
+    connectors: Rc<Connectors>,
+    flow: Flow,
+    stack: &mut Vec<Frame>,
+    state: &State,
+) -> Result<Control, NoMemory>
+    ensures { IfOk result (Goes (surrounded (arounds.Links place list at connectors) (context stack.old.items) flow (shell_of state.now)) (context stack.new.items) (shell_of state.now)) }
+{
+    match flow {
+        Flow::Normal => {
+            let control = links(place, list, at, connectors, stack, state)?;
+            Ok(control)
+        }
+        Flow::Breaks(n) => Ok(Control::Leave(Flow::Breaks(n))),
+        Flow::Continues(n) => Ok(Control::Leave(Flow::Continues(n))),
+        Flow::Returns => Ok(Control::Leave(Flow::Returns)),
+        Flow::Exits => Ok(Control::Leave(Flow::Exits)),
+    }
+}
+
+// After the condition of a branch.
+fn leave_choose(
+    place: Place,
+    body: Rc<CommandList>,
+    branches: Rc<Branches>,
+    at: usize,
+    otherwise: Rc<CommandList>,
+    flow: Flow,
+    state: &State,
+) -> Control
+    ensures { (k : Next) → Goes (surrounded (arounds.Choose place body branches at otherwise) k flow (shell_of state.now)) k (shell_of state.now) result }
+{
+    match flow {
+        Flow::Normal => {
+            if state.env.status == 0 {
+                Control::Whole(place, body)
+            } else {
+                Control::Inside(Inside::If(place, branches, at, otherwise))
+            }
+        }
+        Flow::Breaks(n) => Control::Leave(Flow::Breaks(n)),
+        Flow::Continues(n) => Control::Leave(Flow::Continues(n)),
+        Flow::Returns => Control::Leave(Flow::Returns),
+        Flow::Exits => Control::Leave(Flow::Exits),
+    }
+}
+
+// One loop less to leave.
+fn leave_loop(n: u64) -> Flow
+    ensures { result ≡ leave n }
+{
+    if n == 0 {
+        Flow::Normal
+    } else {
+        Flow::Breaks(n - 1)
+    }
+}
+
+// After a loop's body.
+fn leave_body(place: Place, left: Loop, flow: Flow, state: &State) -> Control
+    ensures { (k : Next) → Goes (surrounded (arounds.Body place left) k flow (shell_of state.now)) k (shell_of state.now) result }
+{
+    match flow {
+        Flow::Normal => Control::Inside(Inside::Round(place, state.env.status, left)),
+        Flow::Breaks(n) => Control::Leave(leave_loop(n)),
+        Flow::Continues(n) => {
+            if n == 0 {
+                Control::Inside(Inside::Round(place, state.env.status, left))
+            } else {
+                Control::Leave(Flow::Continues(n - 1))
+            }
+        }
+        Flow::Returns => Control::Leave(Flow::Returns),
+        Flow::Exits => Control::Leave(Flow::Exits),
+    }
+}
+
+// After the body of a `for`.
+fn leave_each(place: Place, each: Each, flow: Flow) -> Control
+    ensures { (k : Next) (e : Shell) → Goes (surrounded (arounds.Each place each) k flow e) k e result }
+{
+    match flow {
+        Flow::Normal => Control::Inside(Inside::Each(place, each)),
+        Flow::Breaks(n) => Control::Leave(leave_loop(n)),
+        Flow::Continues(n) => {
+            if n == 0 {
+                Control::Inside(Inside::Each(place, each))
+            } else {
+                Control::Leave(Flow::Continues(n - 1))
+            }
+        }
+        Flow::Returns => Control::Leave(Flow::Returns),
+        Flow::Exits => Control::Leave(Flow::Exits),
+    }
+}
+
+// Whether the status of its condition lets a loop go on.
+fn goes_on(kind: LoopKind, status: u8) -> bool
+    ensures { result ≡ goes_on kind status }
+{
+    match kind {
+        LoopKind::While => status == 0,
+        LoopKind::Until => status != 0,
+    }
+}
+
+// A loop's body begins, above a frame for its next round; or the loop is over.
+fn enter_body(
+    place: Place,
+    last: u8,
+    left: Loop,
+    stack: &mut Vec<Frame>,
+    state: &mut State,
+) -> Result<Control, NoMemory>
+    ensures { IfOk result (Goes (entered left last place (context stack.old.items) (shell_of state.old)) (context stack.new.items) (shell_of state.new)) }
+{
+    if goes_on(left.kind, state.env.status) {
+        let body = left.body.clone()?;
+        let below = deeper(place)?;
+        put_around(stack, Around::Body(place, left))?;
+        return Ok(Control::Whole(below, body));
+    }
+    state.env.status = last;
+    Ok(Control::Leave(Flow::Normal))
+}
+
+// After a loop's condition.
+fn leave_condition(
+    place: Place,
+    last: u8,
+    left: Loop,
+    flow: Flow,
+    stack: &mut Vec<Frame>,
+    state: &mut State,
+) -> Result<Control, NoMemory>
+    ensures { IfOk result (Goes (surrounded (arounds.Condition place last left) (context stack.old.items) flow (shell_of state.old)) (context stack.new.items) (shell_of state.new)) }
+{
+    match flow {
+        Flow::Normal => {
+            let control = enter_body(place, last, left, stack, state)?;
+            Ok(control)
+        }
+        Flow::Breaks(n) => Ok(Control::Leave(leave_loop(n))),
+        Flow::Continues(n) => {
+            if n == 0 {
+                Ok(Control::Inside(Inside::Round(place, state.env.status, left)))
+            } else {
+                Ok(Control::Leave(Flow::Continues(n - 1)))
+            }
+        }
+        Flow::Returns => Ok(Control::Leave(Flow::Returns)),
+        Flow::Exits => Ok(Control::Leave(Flow::Exits)),
+    }
+}
+
+// After a command at which `set -e` looks.
+fn leave_watch(place: Place, flow: Flow, state: &State) -> Control
+    ensures { (k : Next) → Goes (surrounded (arounds.Watch place) k flow (shell_of state.now)) k (shell_of state.now) result }
+{
+    match flow {
+        Flow::Normal => {
+            if state.errexit && (!place.ignores && state.env.status != 0) {
+                Control::Leave(Flow::Exits)
+            } else {
+                Control::Leave(Flow::Normal)
+            }
+        }
+        Flow::Breaks(n) => Control::Leave(Flow::Breaks(n)),
+        Flow::Continues(n) => Control::Leave(Flow::Continues(n)),
+        Flow::Returns => Control::Leave(Flow::Returns),
+        Flow::Exits => Control::Leave(Flow::Exits),
+    }
+}
+
+// After a pipeline with `!`.
+fn leave_invert(flow: Flow, state: &mut State) -> Control
+    ensures { (k : Next) → Goes (surrounded arounds.Invert k flow (shell_of state.old)) k (shell_of state.new) result }
+{
+    match flow {
+        Flow::Normal => {
+            state.env.status = if state.env.status == 0 { 1 } else { 0 };
+            Control::Leave(Flow::Normal)
+        }
+        Flow::Breaks(n) => Control::Leave(Flow::Breaks(n)),
+        Flow::Continues(n) => Control::Leave(Flow::Continues(n)),
+        Flow::Returns => Control::Leave(Flow::Returns),
+        Flow::Exits => Control::Leave(Flow::Exits),
+    }
+}
+
+/// After a command, what is left to do after it.
+pub fn leave_around(
+    frame: Around,
+    flow: Flow,
+    stack: &mut Vec<Frame>,
+    state: &mut State,
+) -> Result<Control, NoMemory>
+    ensures { IfOk result (Goes (surrounded frame (context stack.old.items) flow (shell_of state.old)) (context stack.new.items) (shell_of state.new)) }
+{
+    match frame {
+        Around::Rest(place, list, at) => Ok(leave_rest(place, list, at, flow)),
+        Around::Links(place, list, at, connectors) => {
+            let control = leave_links(place, list, at, connectors, flow, stack, state)?;
+            Ok(control)
+        }
+        Around::Stage(place, list, at, read_end, saved) => {
+            state.come_back(saved);
+            Ok(Control::Inside(Inside::Stages(place, list, at, Some(read_end))))
+        }
+        Around::Watch(place) => Ok(leave_watch(place, flow, state)),
+        Around::Invert => Ok(leave_invert(flow, state)),
+        Around::Condition(place, last, left) => {
+            let control = leave_condition(place, last, left, flow, stack, state)?;
+            Ok(control)
+        }
+        Around::Body(place, left) => Ok(leave_body(place, left, flow, state)),
+        Around::Each(place, each) => Ok(leave_each(place, each, flow)),
+        Around::Choose(place, body, branches, at, otherwise) => Ok(leave_choose(
+            place, body, branches, at, otherwise, flow, state,
+        )),
+    }
+}
+
+// After a function or a dot script.
+fn returned(flow: Flow) -> Control
+    ensures { (k : Next) (e : Shell) → Goes (returned k flow e) k e result }
+{
+    match flow {
+        Flow::Normal => Control::Leave(Flow::Normal),
+        Flow::Breaks(n) => Control::Leave(Flow::Breaks(n)),
+        Flow::Continues(n) => Control::Leave(Flow::Continues(n)),
+        Flow::Returns => Control::Leave(Flow::Normal),
+        Flow::Exits => Control::Leave(Flow::Exits),
+    }
+}
+
+/// After a command, what is undone.
+pub fn leave_undo(frame: Undo, flow: Flow, state: &mut State) -> Result<Control, NoMemory>
+    ensures { IfOk result (λ c. (k : Next) → Goes (undone frame k flow (shell_of state.old)) k (shell_of state.new) c) }
+{
+    match frame {
+        Undo::Redirected(redirects, before) => {
+            put_back(&redirects, &before, &mut state.descriptors);
+            Ok(Control::Leave(flow))
+        }
+        Undo::Assigned(assignments, before) => {
+            put_back_variables(&assignments, &before, &mut state.env.vars)?;
+            Ok(Control::Leave(flow))
+        }
+        Undo::Function(positional) => {
+            state.env.vars.set_positional(positional);
+            Ok(returned(flow))
+        }
+        Undo::Script => Ok(returned(flow)),
+        Undo::Subshell(saved) => {
+            state.come_back(saved);
+            Ok(Control::Leave(Flow::Normal))
+        }
+        Undo::Substitution(wording, saved) => {
+            state.come_back(saved);
+            Ok(Control::Wordy(Wordy::Expand(wording)))
+        }
+    }
+}

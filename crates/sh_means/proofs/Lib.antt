@@ -1,0 +1,10 @@
+pub mod Stacks
+pub mod Places
+pub mod Folding
+pub mod Begun
+pub mod Calling
+pub mod Cases
+pub mod Delivered
+pub mod Fields
+pub mod Copied
+pub mod Undone

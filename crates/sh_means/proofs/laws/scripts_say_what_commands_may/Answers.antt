@@ -1,0 +1,5 @@
+use Rattle.sh_means.specs.Laws.{script-talk}
+use Rattle.sh_means.proofs.laws.scripts_say_what_commands_may.Goals as goal
+
+pub returns : goal.returns
+returns c = script-talk

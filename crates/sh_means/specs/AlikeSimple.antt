@@ -1,0 +1,131 @@
+-- The pass over simple commands, once their turn was paid.
+use Rattle.std.proofs.Common.{ℕ, ◌-◌, ◌<◌, ◌≤◌, List, [], Option, Some, None, Bool, true, false, Result, Ok, Err, codes, subst, arith}
+use Rattle.rk_base.specs.Text.{Text}
+use Rattle.rk_base.specs.Errno.{word}
+use Rattle.rk_base.specs.declared.errno.Errno.{Errno}
+use Rattle.rk_calls.specs.Brought.{brought, joined}
+use Rattle.rk_calls.specs.Lines.{error_line}
+use Rattle.rk_calls.specs.Views.{View, Alike, alike-if, alike-pay}
+use Rattle.sh_vars.specs.Held.{Held}
+use Rattle.sh_redirect.specs.declared.descriptors.Descriptors.{Descriptors}
+use Rattle.sh_redirect.specs.Descriptors.{slot}
+use Rattle.sh_builtin.specs.Laws.{alike-does}
+use Rattle.sh_special.specs.declared.order.Order.{Order}
+use Rattle.sh_special.specs.declared.order.Order.TheVariants as order
+use Rattle.sh_special.specs.Changes.{Changed, declare_all, unset_all, has_shift, shifted}
+use Rattle.sh_means.specs.declared.flow.Flow.TheVariants.{Normal, Exits}
+use Rattle.sh_means.specs.declared.flow.Place.{Place}
+use Rattle.sh_means.specs.State.{FunctionTree, Shell, with_env, with_status, with_held, with_positional}
+use Rattle.sh_means.specs.Flows.{Next, Go_on, sh, ends, returned, watched, in_function, in_script}
+use Rattle.sh_means.specs.Words.{WordMeant, RedirectMeant, AssignMeant, named, redirect_all, unredirected, names, assign_all}
+use Rattle.sh_means.specs.Simple.{Job, Called, Reads, Meaning, Kind, Bare, Special, Calls, Builtin, Launches, kind_of, launches, calls, builds_in, errs, unless_barred, changes, shifts, dot_read, dot_opened, dots, obeys, works, is_plain, for_its_time, assigns_and_works, keeps, unless_kept, refusal_flow, made_simple, refused_simple, redirects_and_works, simple_means}
+use Rattle.sh_means.specs.AlikeFlows.{Each, Below, Goes, SameMeans, lower, asks-alike, tells-alike, ends-alike, returned-alike, watched-alike}
+use Rattle.sh_means.specs.AlikeWords.{SameWord, SameRedirect, SameAssign, expand_words-alike, redirect_all-alike, unredirected-alike, named-same, assign_all-alike, unassigned-alike, names-same, words-down, redirects-down, assigns-down}
+
+module _ (v : View) where
+  -- what is evaluated again, wherever fewer than P turns are left
+  abbrev pub SameAgain : ℕ → Meaning → Meaning → Type 0
+  SameAgain P g h = (j : Job) (pl : Place) (e : Shell) (p : ℕ) (k k' : Next) → p < P → Below v p k k' → Alike v p (g j pl e k) (h j pl e k')
+
+  launches-alike : (P : ℕ) (fields : List Text) (g g' : ℕ → Go_on) → ((n : ℕ) → Goes v P (g n) (g' n)) → Goes v P (launches fields g) (launches fields g')
+  launches-alike P fields g g' h e p le = asks-alike v P _ 1 (λ a. g (joined a)) (λ a. g' (joined a)) tt (λ a. h (joined a)) e p le
+
+  builds_in-alike : (P : ℕ) (fields : List Text) (k k' : Next) → Below v P k k' → Goes v P (builds_in fields k) (builds_in fields k')
+  builds_in-alike P fields k k' hk e p le =
+      alike-does fields v p (slot e.descriptors) (λ status env. ends Normal status k (with_env env e)) (λ status env. ends Normal status k' (with_env env e)) e.env (λ status env q lq. hk Normal (with_status status (with_env env e)) q (omega arith))
+
+  -- Special builtins.
+
+  errs-alike : (P : ℕ) (operand what : Text) (k k' : Next) → Below v P k k' → Goes v P (errs operand what k) (errs operand what k')
+  errs-alike P operand what k k' hk = tells-alike v P (error_line sh operand what) (ends Exits 1 k) (ends Exits 1 k') (ends-alike v P Exits 1 k k' hk)
+
+  unless_barred-alike : (P : ℕ) (o : Option Text) (k k' : Next) → Below v P k k' → Goes v P (unless_barred o k) (unless_barred o k')
+  unless_barred-alike P None k k' hk = ends-alike v P Normal 0 k k' hk
+  unless_barred-alike P (Some name) k k' hk = errs-alike P name (codes "readonly") k k' hk
+
+  changes-alike : (P : ℕ) (changed : Changed) (k k' : Next) → Below v P k k' → Goes v P (changes changed k) (changes changed k')
+  changes-alike P changed k k' hk e p le = unless_barred-alike P changed.barred k k' hk (with_held changed.held e) p le
+
+  shifts-alike : (P n : ℕ) (k k' : Next) → Below v P k k' → Goes v P (shifts n k) (shifts n k')
+  shifts-alike P n k k' hk e p le =
+      alike-if v p (has_shift n e.env.vars) _ _ _ _ (ends-alike v P Normal 0 k k' hk (with_held (shifted n e.env.vars) e) p le) (errs-alike P (codes "shift") (codes "not valid") k k' hk e p le)
+
+  module _ (P : ℕ) (g h : Meaning) (same : SameAgain P g h) where
+    calls-alike : (Q : ℕ) (f : FunctionTree) (fields : List Text) (pl : Place) (k k' : Next) → Q < P → Below v Q k k' → Goes v Q (λ e. calls g f fields pl e k) (λ e. calls h f fields pl e k')
+    calls-alike Q f fields pl k k' lt hk e p le =
+        alike-pay v p 1 _ _ (λ lt'. same (Called f) (in_function pl) _ (p - 1) (λ flow e'. returned k flow (with_positional e.env.vars.positional e')) (λ flow e'. returned k' flow (with_positional e.env.vars.positional e')) (omega arith)
+        (λ flow e' q lq. returned-alike v Q k k' hk flow (with_positional e.env.vars.positional e') q (omega arith)))
+
+    dot_read-alike : (Q : ℕ) (file : Text) (pl : Place) (k k' : Next) (r : Result Text Errno) → Q < P → Below v Q k k' → Goes v Q (dot_read g file pl k r) (dot_read h file pl k' r)
+    dot_read-alike Q file pl k k' (Err errno) lt hk e p le = errs-alike Q file (word errno) k k' hk e p le
+    dot_read-alike Q file pl k k' (Ok text) lt hk e p le = same (Reads file text) (in_script pl) e p (returned k) (returned k') (omega arith) (lower v Q p (returned k) (returned k') le (returned-alike v Q k k' hk))
+
+    dot_opened-alike : (Q : ℕ) (file : Text) (n : ℕ) (pl : Place) (k k' : Next) (r : Result Text Errno) → Q < P → Below v Q k k' → Goes v Q (dot_opened g file n pl k r) (dot_opened h file n pl k' r)
+    dot_opened-alike Q file n pl k k' (Err errno) lt hk e p le = errs-alike Q file (word errno) k k' hk e p le
+    dot_opened-alike Q file n pl k k' (Ok bytes) lt hk e p le =
+        asks-alike v Q _ 1 (λ a. dot_read g file pl k (brought a)) (λ a. dot_read h file pl k' (brought a)) tt (λ a. dot_read-alike Q file pl k k' (brought a) lt hk) e p le
+
+    dots-alike : (Q : ℕ) (file : Text) (pl : Place) (k k' : Next) → Q < P → Below v Q k k' → Goes v Q (dots g file pl k) (dots h file pl k')
+    dots-alike Q file pl k k' lt hk e p le =
+        asks-alike v Q _ 1 (λ a. dot_opened g file e.env.next pl k (brought a)) (λ a. dot_opened h file e.env.next pl k' (brought a)) tt (λ a. dot_opened-alike Q file e.env.next pl k k' (brought a) lt hk) e p le
+
+    obeys-alike : (Q : ℕ) (o : Order) (pl : Place) (k k' : Next) → Q < P → Below v Q k k' → Goes v Q (obeys g o pl k) (obeys h o pl k')
+    obeys-alike Q order.Pass pl k k' lt hk e p le = hk _ _ p le
+    obeys-alike Q (order.Break n) pl k k' lt hk e p le = hk _ _ p le
+    obeys-alike Q (order.Continue n) pl k k' lt hk e p le = hk _ _ p le
+    obeys-alike Q (order.Return n) pl k k' lt hk e p le = hk _ _ p le
+    obeys-alike Q (order.Exit n) pl k k' lt hk e p le = hk _ _ p le
+    obeys-alike Q (order.Eval text) pl k k' lt hk e p le = same (Reads (codes "eval") text) pl e p k k' (omega arith) (lower v Q p k k' le hk)
+    obeys-alike Q (order.Dot file) pl k k' lt hk e p le = dots-alike Q file pl k k' lt hk e p le
+    obeys-alike Q (order.Exec words) pl k k' lt hk e p le = launches-alike Q words (λ n. ends Exits n k) (λ n. ends Exits n k') (λ n. ends-alike v Q Exits n k k' hk) e p le
+    obeys-alike Q order.Keep pl k k' lt hk e p le = hk _ _ p le
+    obeys-alike Q (order.Set options words) pl k k' lt hk e p le = hk _ _ p le
+    obeys-alike Q (order.Declare readonly ds) pl k k' lt hk e p le = changes-alike Q (declare_all readonly ds e.env.vars) k k' hk e p le
+    obeys-alike Q (order.Unset ns) pl k k' lt hk e p le = changes-alike Q (unset_all ns e.env.vars) k k' hk e p le
+    obeys-alike Q (order.Shift n) pl k k' lt hk e p le = shifts-alike Q n k k' hk e p le
+    obeys-alike Q (order.Usage line) pl k k' lt hk e p le = tells-alike v Q line (ends Exits 2 k) (ends Exits 2 k') (ends-alike v Q Exits 2 k k' hk) e p le
+
+    -- The order of a simple command.
+
+    works-alike : (Q : ℕ) (kd : Kind) (fields : List Text) (ran : Bool) (pl : Place) (k k' : Next) → Q < P → Below v Q k k' → Goes v Q (works g kd fields ran pl k) (works h kd fields ran pl k')
+    works-alike Q Bare fields ran pl k k' lt hk e p le = hk _ _ p le
+    works-alike Q (Special o) fields ran pl k k' lt hk e p le = obeys-alike Q o pl k k' lt hk e p le
+    works-alike Q (Calls f) fields ran pl k k' lt hk e p le = calls-alike Q f fields pl k k' lt hk e p le
+    works-alike Q Builtin fields ran pl k k' lt hk e p le = builds_in-alike Q fields k k' hk e p le
+    works-alike Q Launches fields ran pl k k' lt hk e p le = launches-alike Q fields (λ n. ends Normal n k) (λ n. ends Normal n k') (λ n. ends-alike v Q Normal n k k' hk) e p le
+
+    for_its_time-alike : (Q : ℕ) (b : Bool) (ns : List Text) (before : Held) (k k' : Next) → Below v Q k k' → Below v Q (for_its_time b ns before k) (for_its_time b ns before k')
+    for_its_time-alike Q true ns before k k' hk = unassigned-alike v Q ns before k k' hk
+    for_its_time-alike Q false ns before k k' hk = hk
+
+    assigns_and_works-alike : (Q : ℕ) (kd : Kind) (as' bs : List AssignMeant) (fields : List Text) (pl : Place) (k k' : Next) (ran : Bool) → Q < P → Each (SameAssign v Q) as' bs → Below v Q k k' → Goes v Q (assigns_and_works g kd as' fields pl k ran) (assigns_and_works h kd bs fields pl k' ran)
+    assigns_and_works-alike Q kd as' bs fields pl k k' ran lt s hk e p le =
+        subst (λ (ns : List Text). Alike v p (assigns_and_works g kd as' fields pl k ran e) (assign_all bs (is_plain kd) ran pl (λ ran. works h kd fields ran pl (for_its_time (is_plain kd) ns e.env.vars k')) (for_its_time (is_plain kd) ns e.env.vars k') e)) (names-same v Q as' bs s)
+        (let kk : Next = for_its_time (is_plain kd) (names as') e.env.vars k in
+        let kk' : Next = for_its_time (is_plain kd) (names as') e.env.vars k' in
+        let hk' : Below v Q kk kk' = for_its_time-alike Q (is_plain kd) (names as') e.env.vars k k' hk in
+        assign_all-alike v Q as' bs (is_plain kd) ran pl (λ ran. works g kd fields ran pl kk) (λ ran. works h kd fields ran pl kk') kk kk' s (λ r. works-alike Q kd fields r pl kk kk' lt hk') hk' e p le)
+
+    unless_kept-alike : (Q : ℕ) (b : Bool) (ds : List ℕ) (before : Descriptors) (k k' : Next) → Below v Q k k' → Below v Q (unless_kept b ds before k) (unless_kept b ds before k')
+    unless_kept-alike Q true ds before k k' hk = hk
+    unless_kept-alike Q false ds before k k' hk = unredirected-alike v Q ds before k k' hk
+
+    made_simple-alike : (Q : ℕ) (kd : Kind) (as' bs : List AssignMeant) (ds : List ℕ) (before : Descriptors) (fields : List Text) (pl : Place) (k k' : Next) (ran : Bool) → Q < P → Each (SameAssign v Q) as' bs → Below v Q k k' → Goes v Q (made_simple g kd as' ds before fields pl k ran) (made_simple h kd bs ds before fields pl k' ran)
+    made_simple-alike Q kd as' bs ds before fields pl k k' ran lt s hk =
+        assigns_and_works-alike Q kd as' bs fields pl (unless_kept (keeps kd) ds before (watched pl k)) (unless_kept (keeps kd) ds before (watched pl k')) ran lt s (unless_kept-alike Q (keeps kd) ds before (watched pl k) (watched pl k') (watched-alike v Q pl k k' hk))
+
+    refused_simple-alike : (Q : ℕ) (kd : Kind) (ds : List ℕ) (before : Descriptors) (pl : Place) (k k' : Next) → Below v Q k k' → Goes v Q (refused_simple kd ds before pl k) (refused_simple kd ds before pl k')
+    refused_simple-alike Q kd ds before pl k k' hk =
+        ends-alike v Q (refusal_flow kd) 1 (unredirected ds before (watched pl k)) (unredirected ds before (watched pl k')) (unredirected-alike v Q ds before (watched pl k) (watched pl k') (watched-alike v Q pl k k' hk))
+
+    redirects_and_works-alike : (Q : ℕ) (as' bs : List AssignMeant) (rs rs' : List RedirectMeant) (pl : Place) (k k' : Next) (fields : List Text) (ran : Bool) → Q < P → Each (SameAssign v Q) as' bs → Each (SameRedirect v Q) rs rs' → Below v Q k k' → Goes v Q (redirects_and_works g as' rs pl k fields ran) (redirects_and_works h bs rs' pl k' fields ran)
+    redirects_and_works-alike Q as' bs rs rs' pl k k' fields ran lt sa sr hk e p le =
+        let kd = kind_of fields e.functions in
+        subst (λ (ds : List ℕ). Alike v p (redirects_and_works g as' rs pl k fields ran e) (redirect_all rs' ran pl (made_simple h kd bs ds e.descriptors fields pl k') (refused_simple kd ds e.descriptors pl k') k' e)) (named-same v Q rs rs' sr)
+        (redirect_all-alike v Q rs rs' ran pl (made_simple g kd as' (named rs) e.descriptors fields pl k) (made_simple h kd bs (named rs) e.descriptors fields pl k') (refused_simple kd (named rs) e.descriptors pl k) (refused_simple kd (named rs) e.descriptors pl k') k k' sr (λ r. made_simple-alike Q kd as' bs (named rs) e.descriptors fields pl k k' r lt sa hk) (refused_simple-alike Q kd (named rs) e.descriptors pl k k' hk) hk e p le)
+
+    pub simple-alike : (Q : ℕ) (as' bs : List AssignMeant) (ws ws' : List WordMeant) (rs rs' : List RedirectMeant) → Q ≤ P → Each (SameAssign v Q) as' bs → Each (SameWord v Q) ws ws' → Each (SameRedirect v Q) rs rs' → SameMeans v Q (simple_means g as' ws rs) (simple_means h bs ws' rs')
+    simple-alike Q as' bs ws ws' rs rs' leQ sa sw sr pl e p k k' le hk =
+        alike-pay v p 1 _ _ (λ lt. expand_words-alike v (p - 1) ws ws' [] false pl (redirects_and_works g as' rs pl k) (redirects_and_works h bs rs' pl k') k k' (words-down v Q (p - 1) ws ws' (omega arith) sw)
+        (λ fs r. redirects_and_works-alike (p - 1) as' bs rs rs' pl k k' fs r (omega arith) (assigns-down v Q (p - 1) as' bs (omega arith) sa) (redirects-down v Q (p - 1) rs rs' (omega arith) sr) (lower v p (p - 1) k k' (omega arith) hk))
+        (lower v p (p - 1) k k' (omega arith) hk) e (p - 1) (omega arith))

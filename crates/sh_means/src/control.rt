@@ -1,0 +1,293 @@
+// What the machine has still to do.
+ghost use Rattle.std.specs.Prelude.{◌≡◌};
+ghost use Rattle.sh_means.specs.Simple.{refusal_flow, is_plain, keeps};
+ghost use Rattle.sh_means.specs.Stack.{kind_of_code};
+
+use crate::flow::{Flow, Place};
+use crate::state::{Callee, SavedState};
+use rk_base::{Bytes, WordList};
+use rk_calls::Turn;
+use sh_ast::{
+    Assignments, Branches, CaseItems, CommandList, Compound, Connectors, LoopKind, Redirects,
+    SimpleCommand, Word, Words,
+};
+use sh_builtin::Builtin;
+use sh_expand::{Expanded, Expander};
+use sh_redirect::{Descriptors, Redirect, Redirecting};
+use sh_special::Order;
+use sh_vars::Saved;
+use std::rc::Rc;
+
+/// What a simple command is, by its fields.
+#[derive(Drop)]
+pub enum Kind {
+    Bare,
+    Special(Order),
+    Calls(Callee),
+    Builtin,
+    Launches,
+}
+
+impl Kind {
+    /// What a refused redirection ends.
+    pub fn refusal_flow(&self) -> Flow
+        ensures { result ≡ refusal_flow (kind_of_code self.now) }
+    {
+        match self {
+            Kind::Bare => Flow::Normal,
+            Kind::Special(_) => Flow::Exits,
+            Kind::Calls(_) => Flow::Normal,
+            Kind::Builtin => Flow::Normal,
+            Kind::Launches => Flow::Normal,
+        }
+    }
+
+    /// Whether assignments hold for its time alone, and are exported then.
+    pub fn is_plain(&self) -> bool
+        ensures { result ≡ is_plain (kind_of_code self.now) }
+    {
+        match self {
+            Kind::Bare => false,
+            Kind::Special(_) => false,
+            Kind::Calls(_) => true,
+            Kind::Builtin => true,
+            Kind::Launches => true,
+        }
+    }
+
+    /// Whether its redirections stay.
+    pub fn keeps(&self) -> bool
+        ensures { result ≡ keeps (kind_of_code self.now) }
+    {
+        match self {
+            Kind::Bare => false,
+            Kind::Special(order) => order.keeps(),
+            Kind::Calls(_) => false,
+            Kind::Builtin => false,
+            Kind::Launches => false,
+        }
+    }
+}
+
+/// What words are expanded for.
+#[derive(Drop)]
+pub enum Then {
+    Simple(Rc<SimpleCommand>),
+    For(Bytes, Rc<CommandList>),
+}
+
+/// Words from a place on, the fields of those before, and whether a substitution took place.
+#[derive(Drop)]
+pub struct Fielding {
+    pub words: Rc<Words>,
+    pub at: usize,
+    pub fields: WordList,
+    pub ran: bool,
+    pub then: Then,
+}
+
+/// A simple command that has its fields.
+#[derive(Drop)]
+pub struct Doing {
+    pub kind: Kind,
+    pub fields: WordList,
+}
+
+/// What redirections are made for.
+#[derive(Drop)]
+pub enum Made {
+    Simple(Rc<Assignments>, Doing),
+    Compound(Rc<Compound>),
+}
+
+/// Redirections from a place on, the map before all of them, and whether a substitution took place.
+#[derive(Drop)]
+pub struct Making {
+    pub redirects: Rc<Redirects>,
+    pub at: usize,
+    pub before: Descriptors,
+    pub ran: bool,
+    pub made: Made,
+}
+
+/// Assignments from a place on, and whether a substitution took place.
+#[derive(Drop)]
+pub struct Assigning {
+    pub assignments: Rc<Assignments>,
+    pub at: usize,
+    pub exported: bool,
+    pub ran: bool,
+    pub doing: Doing,
+}
+
+/// A `case` at a pattern of an item.
+#[derive(Drop)]
+pub struct Casing {
+    pub items: Rc<CaseItems>,
+    pub at: usize,
+    pub pattern: usize,
+    pub value: Bytes,
+}
+
+/// What a word is expanded for. A number is the next local number before its expansion.
+#[derive(Drop)]
+pub enum Aim {
+    Fields(Fielding, u64),
+    Operand(Making, u8, Redirect, u64),
+    Value(Assigning, Bytes, u64),
+    Subject(Rc<CaseItems>),
+    Pattern(Casing),
+}
+
+/// A word half expanded.
+#[derive(Drop)]
+pub struct Wording {
+    pub expander: Expander,
+    pub word: Rc<Word>,
+    pub place: Place,
+    pub aim: Aim,
+}
+
+/// A `for` at one of its fields.
+#[derive(Drop)]
+pub struct Each {
+    pub name: Bytes,
+    pub fields: WordList,
+    pub at: usize,
+    pub body: Rc<CommandList>,
+}
+
+/// A `while` or an `until`.
+#[derive(Drop)]
+pub struct Loop {
+    pub kind: LoopKind,
+    pub condition: Rc<CommandList>,
+    pub body: Rc<CommandList>,
+}
+
+/// What was begun and has had its turn.
+#[derive(Drop)]
+pub enum Wait {
+    /// A line of error text is written; then it ends so.
+    Told(Flow, u8),
+    /// A command is launched; then it ends so.
+    Launched(Flow),
+    /// The pipe behind a stage is made, whose read end has the last number; and what the stage reads.
+    Stage(Place, Rc<CommandList>, usize, Option<u64>, u64),
+    /// A dot script is opened, and has this number then.
+    Opened(Place, Bytes, u64),
+    /// It is read.
+    Read(Place, Bytes),
+    /// A redirection is made.
+    Redirects(Place, Making, Redirecting),
+    /// An expansion fault is told: a parameter and a message.
+    Fails(Bytes, Bytes),
+    /// A builtin runs.
+    Builtin(Builtin),
+    /// It has named a descriptor that the map lacks.
+    Lacks(Builtin),
+}
+
+/// A part of a compound command that comes next.
+#[derive(Drop)]
+pub enum Inside {
+    Compound(Place, Rc<Compound>),
+    /// The body of a function that was called.
+    Called(Place, Callee),
+    /// The branches of an `if` from a place on.
+    If(Place, Rc<Branches>, usize, Rc<CommandList>),
+    /// A round of a loop whose body last had this status.
+    Round(Place, u8, Loop),
+    Each(Place, Each),
+    /// The variable of a `for` takes the field, which was paid for.
+    Gives(Place, Each),
+    Case(Place, Casing),
+    /// The stages of a pipeline from a place on, the first of which reads from this number.
+    Stages(Place, Rc<CommandList>, usize, Option<u64>),
+}
+
+/// A part of a simple command, or words, that come next.
+#[derive(Drop)]
+pub enum Wordy {
+    Words(Place, Fielding),
+    Expand(Wording),
+    /// What a word gave.
+    Deliver(Place, Aim, Expanded),
+    Make(Place, Making),
+    Assign(Place, Assigning),
+    /// A text under its name.
+    Text(Place, Bytes, Bytes),
+}
+
+/// How the shell of a key begins, before its script is evaluated.
+#[derive(Drop)]
+pub enum Begin {
+    /// The line of a fault of usage.
+    Misused(Bytes),
+    /// A script.
+    Script(Bytes),
+    /// A first word with a slash, which names a script.
+    Command(Bytes),
+    /// It is looked up.
+    Looked(Bytes),
+    /// A script is opened, and has this number then.
+    Opened(Bytes, u64),
+    /// It is read.
+    Read(Bytes),
+}
+
+/// What comes next.
+#[derive(Drop)]
+pub enum Control {
+    Begins(Begin),
+    /// Commands from a place on.
+    Run(Place, Rc<CommandList>, usize),
+    /// A whole list.
+    Whole(Place, Rc<CommandList>),
+    /// One of the commands.
+    One(Place, Rc<CommandList>, usize),
+    Inside(Inside),
+    Wordy(Wordy),
+    Waits(Wait),
+    Leave(Flow),
+}
+
+/// What is left to do after a command, to its list or pipeline.
+#[derive(Drop)]
+pub enum Around {
+    Rest(Place, Rc<CommandList>, usize),
+    Links(Place, Rc<CommandList>, usize, Rc<Connectors>),
+    /// After a stage, whose pipe has this read end.
+    Stage(Place, Rc<CommandList>, usize, u64, SavedState),
+    Watch(Place),
+    Invert,
+    Condition(Place, u8, Loop),
+    Body(Place, Loop),
+    Each(Place, Each),
+    /// After the condition of a branch, at the place behind it.
+    Choose(Place, Rc<CommandList>, Rc<Branches>, usize, Rc<CommandList>),
+}
+
+/// What is undone after a command.
+#[derive(Drop)]
+pub enum Undo {
+    Redirected(Rc<Redirects>, Descriptors),
+    Assigned(Rc<Assignments>, Saved),
+    Function(WordList),
+    Script,
+    Subshell(SavedState),
+    Substitution(Wording, SavedState),
+}
+
+#[derive(Drop)]
+pub enum Frame {
+    Around(Around),
+    Undo(Undo),
+}
+
+/// A turn, which may cost nothing, and what comes after it.
+#[derive(Drop)]
+pub struct Acted {
+    pub turn: Turn,
+    pub control: Control,
+}

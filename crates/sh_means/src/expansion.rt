@@ -1,0 +1,64 @@
+// Where the expansion of a word begins, and a `for` with its fields.
+ghost use Rattle.std.specs.Prelude.{IfOk};
+ghost use Rattle.sh_ast.specs.Commands as tree;
+ghost use Rattle.sh_means.specs.Compound.{for_fields};
+ghost use Rattle.sh_means.specs.Eval.{word_in};
+ghost use Rattle.sh_means.specs.Flows.{Next};
+ghost use Rattle.sh_means.specs.Run.{run};
+ghost use Rattle.sh_means.specs.Stack.{Goes, aimed, whole};
+ghost use Rattle.sh_means.specs.State.{Shell};
+ghost use Rattle.sh_means.specs.Views.{shell_of};
+ghost use Rattle.sh_means.specs.Words.{expand_word};
+
+use crate::control::{Aim, Control, Each, Inside, Wording, Wordy};
+use crate::flow::{Flow, Place};
+use crate::state::State;
+use rk_base::{Bytes, NoMemory, WordList};
+use sh_ast::{CommandList, Word};
+use sh_expand::{Expander, Mode};
+use std::alloc::Global;
+use std::rc::Rc;
+
+/// Expansion of a word begins.
+pub fn begin(
+    alloc: Global,
+    word: Rc<Word>,
+    mode: Mode,
+    place: Place,
+    aim: Aim,
+) -> Result<Control, NoMemory>
+    ensures { IfOk result (λ c. (k : Next) (e : Shell) → Goes (expand_word mode (word_in run (tree.word word.value)) place (aimed aim place k) k e) k e c) }
+{
+    let expander = Expander::start(alloc, &word, mode)?;
+    Ok(Control::Wordy(Wordy::Expand(Wording {
+        expander,
+        word,
+        place,
+        aim,
+    })))
+}
+
+/// A `for` over these fields; without one the status is 0.
+pub fn over_fields(
+    place: Place,
+    name: Bytes,
+    fields: WordList,
+    body: Rc<CommandList>,
+    state: &mut State,
+) -> Control
+    ensures { (k : Next) → Goes (for_fields name fields (whole body.value) place k (shell_of state.old)) k (shell_of state.new) result }
+{
+    if fields.len() == 0 {
+        state.env.status = 0;
+        return Control::Leave(Flow::Normal);
+    }
+    Control::Inside(Inside::Each(
+        place,
+        Each {
+            name,
+            fields,
+            at: 0,
+            body,
+        },
+    ))
+}

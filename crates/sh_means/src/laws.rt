@@ -1,0 +1,20 @@
+// Laws over the definitions alone.
+ghost use Rattle.sh_means.specs.Laws.{EachIsCommandTalk, EachMeansItsJob};
+ghost use Rattle.sh_means.specs.StartLaws.{EachShellIsACommand};
+
+/// Fewer turns only cut what a script says, and a mode in a call that it asks is at most 0777: from any state, at any place,
+/// and however texts read.
+pub fn scripts_say_what_commands_may()
+    ensures { EachIsCommandTalk }
+{}
+
+/// A round of a loop, the body of a function and a text that is read at run time mean what their definitions say, by the
+/// same meaning: the turns that each pays bound how often it is evaluated again.
+pub fn what_is_evaluated_again_means_its_job()
+    ensures { EachMeansItsJob }
+{}
+
+/// The same of the shell of a key: the script that it is given, or that its words name.
+pub fn shells_say_what_commands_may()
+    ensures { EachShellIsACommand }
+{}

@@ -1,0 +1,32 @@
+// The control stack.
+ghost use Rattle.std.specs.Prelude.{◌≡◌, OnOk};
+ghost use Rattle.sh_means.specs.Stack.{context, surrounded, undone, Popped};
+
+use crate::control::{Around, Frame, Undo};
+use rk_base::NoMemory;
+
+/// Puts what is left to do after a command on the stack.
+#[tactic(auto, using(crate::proofs::Stacks::context_push))]
+pub fn put_around(stack: &mut Vec<Frame>, frame: Around) -> Result<(), NoMemory>
+    ensures { OnOk result (context stack.new.items ≡ surrounded frame (context stack.old.items)) }
+{
+    stack.push(Frame::Around(frame))?;
+    Ok(())
+}
+
+/// Puts what is undone after a command on the stack.
+#[tactic(auto, using(crate::proofs::Stacks::context_push))]
+pub fn put_undo(stack: &mut Vec<Frame>, frame: Undo) -> Result<(), NoMemory>
+    ensures { OnOk result (context stack.new.items ≡ undone frame (context stack.old.items)) }
+{
+    stack.push(Frame::Undo(frame))?;
+    Ok(())
+}
+
+/// Takes the frame on top of the stack, where there is one.
+#[tactic(auto, using(crate::proofs::Stacks::context_push))]
+pub fn pop(stack: &mut Vec<Frame>) -> Option<Frame>
+    ensures { Popped (context stack.old.items) (context stack.new.items) result }
+{
+    stack.pop()
+}

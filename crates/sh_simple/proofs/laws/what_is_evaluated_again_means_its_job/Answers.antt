@@ -1,5 +1,0 @@
-use Rattle.sh_simple.specs.Laws.{run-is}
-use Rattle.sh_simple.proofs.laws.what_is_evaluated_again_means_its_job.Goals as goal
-
-pub returns : goal.returns
-returns c = run-is

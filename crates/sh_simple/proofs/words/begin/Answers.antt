@@ -1,6 +1,0 @@
-use Rattle.sh_simple.proofs.Delivered.{word_started}
-use Rattle.sh_simple.proofs.words.begin.Goals as goal
-
-pub returns : goal.returns
-returns c =
-    λ k e p. word_started c.args.mode c.args.word c.deref.result.now c.in_ok-expander.expander c.args.place c.args.aim k e p c.deref.ensures c.in_ok-expander.ensures

@@ -1,7 +1,0 @@
--- What texts read as, and what is evaluated again.
-use Rattle.sh_simple.specs.Eval as eval
-use Rattle.sh_simple.specs.Simple.{Meaning}
-use Rattle.sh_tree.proofs.ReadAs.{reads}
-
-abbrev pub run : Meaning
-run = eval.run reads
