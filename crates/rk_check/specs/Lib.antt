@@ -5,4 +5,3 @@ pub mod Laws
 pub mod Over
 pub mod OverLaws
 pub mod Started
-pub mod Toy

@@ -4,8 +4,6 @@
 mod check;
 mod difference;
 mod feeding;
-#[cfg(test)]
-mod tests;
 
 pub use check::{CheckErr, check_record, check_with};
 pub use difference::first_difference;
