@@ -17,8 +17,6 @@ mod prepare;
 mod queries;
 mod run;
 mod stop;
-#[cfg(test)]
-mod tests;
 mod texts;
 mod top;
 
