@@ -8,8 +8,6 @@ mod forgetting;
 mod output;
 mod showing;
 mod stop;
-#[cfg(test)]
-mod tests;
 
 pub use checking::check;
 pub use forgetting::{db_file, forget};

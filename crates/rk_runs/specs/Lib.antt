@@ -19,4 +19,3 @@ pub mod Speaking
 pub mod Spoken
 pub mod Started
 pub mod Totals
-pub mod Toy

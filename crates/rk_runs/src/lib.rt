@@ -8,8 +8,6 @@ mod difference;
 mod feeding;
 mod laws;
 mod purse;
-#[cfg(test)]
-mod tests;
 
 pub use active::{Active, Frame, ask, join};
 pub use check::{CheckErr, check_record, check_with};

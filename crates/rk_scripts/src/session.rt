@@ -1,24 +1,15 @@
 // Sessions of edits and builds over a folder in memory.
-ghost use Rattle.std.specs.Prelude.{◌≡◌, ◌<◌};
+mod arranging;
+mod asking;
 
+use crate::altering::bytes_of;
+use crate::calls::{Built, Cut, ENOUGH, WHOLE, build_within};
 use crate::showing::{contents, has_line, kind_at, ran, rows_at, shown, text_at, unexplained};
 use crate::steps::{Kind, Step, steps_of};
-use rk_base::{NoMemory, Path, Steps};
-use rk_folder::{Folder, FolderErr, MemFolder, MemSink};
-use rk_top::{Outcome, exit_code, rkr};
+use rk_base::{NoMemory, Path};
+use rk_folder::{Folder, FolderErr, MemFolder};
+use rk_top::{Outcome, exit_code};
 use std::alloc::Global;
-use std::marker::Brand;
-use std::sync::ledger::{Blank, Ledger};
-
-const ENOUGH: u32 = 1_000_000;
-
-/// A build that was made.
-#[derive(Drop)]
-struct Built {
-    outcome: Outcome,
-    out: MemSink,
-    err: MemSink,
-}
 
 /// A folder, what was built in it last, and what wasn't as it was wanted.
 #[derive(Drop)]
@@ -30,6 +21,11 @@ pub(crate) struct Session {
     script: String,
     /// What the next build is to cost, or 0 where that isn't looked at.
     cost: u32,
+    /// The puts that fail in what is asked next.
+    output: Cut,
+    errors: Cut,
+    /// How many calls of the folder there were before the last request.
+    calls: u64,
     explained: String,
     told: String,
     builds: u64,
@@ -44,47 +40,22 @@ fn at(alloc: Global, text: &str) -> Result<Path, NoMemory> {
     }
 }
 
-// What these words ask for, of which the first is the program's name.
-fn call<L: Ledger>(
-    alloc: Global,
-    words: &[String],
-    folder: &mut MemFolder,
-    blank: Blank,
-) -> Result<Built, NoMemory>
-    requires name { blank.name ≡ L.name }
-    requires parts { blank.parts ≡ L.parts }
-    requires some { 0 < L.parts }
-{
-    let mut live = Steps::<L>::new(blank);
-    let mut out = MemSink::new(alloc);
-    let mut err = MemSink::new(alloc);
-    let outcome = rkr(alloc, words, folder, &mut out, &mut err, &mut live);
-    Ok(Built { outcome, out, err })
-}
-
-// An explained build within so many turns.
-fn build_in(alloc: Global, turns: u32, folder: &mut MemFolder) -> Result<Built, NoMemory> {
-    let mut words = Vec::new(alloc);
-    'words: for word in ["rkr", "build", "--explain", "--steps"] {
-        words.push(String::from_str(alloc, word)?)?;
-    }
-    words.push(format!(in alloc; "{turns}")?)?;
-    call::<Brand>(alloc, &words, folder, Blank::new(1))
-}
-
-// What the words of a line ask for.
-fn ask_in(alloc: Global, line: &str, folder: &mut MemFolder) -> Result<Built, NoMemory> {
-    let mut words = Vec::new(alloc);
-    words.push(String::from_str(alloc, "rkr")?)?;
-    'words: for word in line.split(' ') {
-        words.push(String::from_str(alloc, word)?)?;
-    }
-    call::<Brand>(alloc, &words, folder, Blank::new(1))
-}
-
 // 0 where it is no number.
 fn number(text: &str) -> u32 {
     text.parse::<u32>().unwrap_or(0)
+}
+
+fn size(text: &str) -> usize {
+    text.parse::<usize>().unwrap_or(0)
+}
+
+// The put of the first number fails after so many bytes as the second says.
+fn cut_of(line: &str) -> Cut {
+    let (put, after) = line.split_once(' ').unwrap_or((line, ""));
+    Cut {
+        put: u64::from(number(put)),
+        after: size(after),
+    }
 }
 
 impl Session {
@@ -95,6 +66,9 @@ impl Session {
             twin: MemFolder::new(alloc)?,
             script: String::new(alloc),
             cost: 0,
+            output: WHOLE,
+            errors: WHOLE,
+            calls: 0,
             explained: String::new(alloc),
             told: String::new(alloc),
             builds: 0,
@@ -167,7 +141,7 @@ impl Session {
     /// Builds in both folders, and notes where they differ.
     pub(crate) fn compare(&mut self) -> Result<(), NoMemory> {
         self.builds = self.builds.saturating_add(1);
-        let built = build_in(self.alloc, ENOUGH, &mut self.folder)?;
+        let built = build_within(self.alloc, ENOUGH, &mut self.folder)?;
         let fresh = self.afresh()?;
         let status = format!(in self.alloc; "{}", exit_code(&fresh.outcome))?;
         let errors = unexplained(shown(fresh.err.bytes()));
@@ -177,13 +151,19 @@ impl Session {
         self.tell("folder", came.as_str(), wanted.as_str())
     }
 
+    // What is called for from here on is the next request's.
+    fn begin_request(&mut self) {
+        self.folder.clear_changes();
+        self.calls = self.folder.calls();
+    }
+
     // The build within the fewest turns that do.
     fn cheapest(&mut self) -> Result<Built, NoMemory> {
         if self.cost != 0 {
             let wanted = format!(in self.alloc; "{}", self.cost)?;
             self.cost = 0;
             'turns: for turns in 1..400u32 {
-                let built = build_in(self.alloc, turns, &mut self.folder)?;
+                let built = build_within(self.alloc, turns, &mut self.folder)?;
                 if !matches!(built.outcome, Outcome::Spent) {
                     let came = format!(in self.alloc; "{turns}")?;
                     self.tell("costs", came.as_str(), wanted.as_str())?;
@@ -192,7 +172,7 @@ impl Session {
             }
             self.tell("costs", "400 or more", wanted.as_str())?;
         }
-        build_in(self.alloc, ENOUGH, &mut self.folder)
+        build_within(self.alloc, ENOUGH, &mut self.folder)
     }
 
     // Notes where a build didn't come to this.
@@ -212,9 +192,12 @@ impl Session {
 
     fn build(&mut self, status: &str, output: &str, error_text: &str) -> Result<(), NoMemory> {
         self.builds = self.builds.saturating_add(1);
+        self.begin_request();
         let built = self.cheapest()?;
         self.judge(&built, status, output, error_text)?;
         self.explained = String::from_str(self.alloc, shown(built.err.bytes()))?;
+        self.count(&built.outcome)?;
+        self.untouched(&built.outcome)?;
         let fresh = self.afresh()?;
         self.judge(&fresh, status, output, error_text)
     }
@@ -225,23 +208,12 @@ impl Session {
         if self.twin.at(&db).is_some() {
             drop_file(&mut self.twin, self.alloc, &db)?;
         }
-        build_in(self.alloc, ENOUGH, &mut self.twin)
-    }
-
-    // What a line asks for, whose first word is the status that it is to end with.
-    fn ask(&mut self, line: &str, output: &str, error_text: &str) -> Result<(), NoMemory> {
-        let (status, words) = line.split_once(' ').unwrap_or((line, ""));
-        self.builds = self.builds.saturating_add(1);
-        let asked = ask_in(self.alloc, words, &mut self.folder)?;
-        let came = format!(in self.alloc; "{}", exit_code(&asked.outcome))?;
-        self.tell("status", came.as_str(), status)?;
-        self.tell("output", shown(asked.out.bytes()), output)?;
-        self.tell("error text", shown(asked.err.bytes()), error_text)
+        build_within(self.alloc, ENOUGH, &mut self.twin)
     }
 
     fn spent(&mut self, turns: u32) -> Result<(), NoMemory> {
-        self.folder.clear_changes();
-        let built = build_in(self.alloc, turns, &mut self.folder)?;
+        self.begin_request();
+        let built = build_within(self.alloc, turns, &mut self.folder)?;
         if !matches!(built.outcome, Outcome::Spent) || !self.folder.changes().is_empty() {
             self.tell("budget", "enough", "spent")?;
         }
@@ -273,6 +245,15 @@ impl Session {
         self.tell("twin", twin.as_str(), text)
     }
 
+    // What stands in the first folder.
+    fn has(&mut self, path: &str, kind: &str, text: &str) -> Result<(), NoMemory> {
+        let place = at(self.alloc, path)?;
+        let came_kind = kind_at(&self.folder, &place);
+        self.tell(path, came_kind, kind)?;
+        let came = text_at(self.alloc, &self.folder, &place)?;
+        self.tell(path, came.as_str(), text)
+    }
+
     fn attrs(&mut self, wanted: &str) -> Result<(), NoMemory> {
         let place = at(self.alloc, "/.rkr/attrs")?;
         let came = rows_at(self.alloc, &self.folder, &place)?;
@@ -295,7 +276,9 @@ impl Session {
                 Ok(())
             }
             Kind::Build => self.build(rest, text, step.errors.as_str()),
-            Kind::Asked => self.ask(rest, text, step.errors.as_str()),
+            Kind::Asked => self.asked(rest, text, step.errors.as_str()),
+            Kind::Called => self.called(rest, text, step.errors.as_str()),
+            Kind::Refused => self.refused(rest),
             Kind::Spent => self.spent(number(rest)),
             Kind::Ran => self.ran(rest),
             Kind::Why => self.why(rest),
@@ -303,7 +286,42 @@ impl Session {
             Kind::Lacks => self.stands(rest, "nothing", ""),
             Kind::Directory => self.stands(rest, "directory", ""),
             Kind::Attrs => self.attrs(rest),
-            Kind::Unknown => self.tell("step", "unknown", rest),
+            _ => self.bear(step),
+        }
+    }
+
+    // What a folder, its state files and the sinks have to bear.
+    fn bear(&mut self, step: &Step) -> Result<(), NoMemory> {
+        let rest = step.rest.as_str();
+        let text = step.text.as_str();
+        match step.kind {
+            Kind::Has => self.has(rest, "file", text),
+            Kind::HasNot => self.has(rest, "nothing", ""),
+            Kind::Bytes => {
+                let bytes = bytes_of(self.alloc, text)?;
+                self.put_bytes(rest, &bytes)
+            }
+            Kind::Cut => self.cut(rest),
+            Kind::Turned => self.turn(rest),
+            Kind::Record => self.record(rest),
+            Kind::Special => self.put_special(rest),
+            Kind::Odd => self.make_odd(rest),
+            Kind::Fails => self.fail(rest),
+            Kind::Leaves => self.leave(rest, text),
+            Kind::OutputCut => {
+                self.output = cut_of(rest);
+                Ok(())
+            }
+            Kind::ErrorsCut => {
+                self.errors = cut_of(rest);
+                Ok(())
+            }
+            Kind::Changes => self.changed(rest),
+            Kind::Calls => self.called_for(rest),
+            Kind::Starts => self.starts(rest),
+            Kind::Traced => self.traced(rest),
+            Kind::Talk => self.talk(rest, text),
+            _ => self.tell("step", "unknown", rest),
         }
     }
 }

@@ -1,6 +1,6 @@
 // What came, as text.
 use rk_base::{Name, NoMemory, Path};
-use rk_folder::{Folder, Item, MemFolder, Standing};
+use rk_folder::{Change, Folder, Item, MemFolder, Standing};
 use std::alloc::Global;
 use tr_codec::{AttrRow, read_attrs};
 
@@ -40,6 +40,17 @@ pub(crate) fn ran(alloc: Global, explained: &str) -> Result<String, NoMemory> {
 pub(crate) fn has_line(text: &str, wanted: &str) -> bool {
     'lines: for line in text.lines() {
         if line == wanted {
+            return true;
+        }
+    }
+    false
+}
+
+/// Whether a line has a number, a blank and this text.
+pub(crate) fn has_numbered(text: &str, wanted: &str) -> bool {
+    'lines: for line in text.lines() {
+        let (_, rest) = line.split_once(' ').unwrap_or((line, ""));
+        if rest == wanted {
             return true;
         }
     }
@@ -175,6 +186,31 @@ pub(crate) fn contents(alloc: Global, folder: &mut MemFolder) -> Result<String, 
         if let Item::Dir(name) = item {
             text.push_str(dir_shown(alloc, folder, &root, name)?.as_str())?;
         }
+    }
+    Ok(text)
+}
+
+fn change_shown(alloc: Global, change: &Change) -> Result<String, NoMemory> {
+    let text = match change {
+        Change::Write(path) => format!(in alloc; "write {}", shown(path.text()))?,
+        Change::MakeDir(path) => format!(in alloc; "make {}", shown(path.text()))?,
+        Change::RemoveFile(path) => format!(in alloc; "remove {}", shown(path.text()))?,
+        Change::RemoveDir(path) => format!(in alloc; "remove directory {}", shown(path.text()))?,
+        Change::Rename(from, to) => {
+            format!(in alloc; "rename {} {}", shown(from.text()), shown(to.text()))?
+        }
+    };
+    Ok(text)
+}
+
+/// The changes that were called for.
+pub(crate) fn changes_shown(alloc: Global, changes: &[Change]) -> Result<String, NoMemory> {
+    let mut text = String::new(alloc);
+    'changes: for change in changes {
+        if !text.is_empty() {
+            text.push_str("; ")?;
+        }
+        text.push_str(change_shown(alloc, change)?.as_str())?;
     }
     Ok(text)
 }

@@ -19,8 +19,12 @@ pub(crate) enum Kind {
     Costs,
     /// A build: its status, its output and its error text.
     Build,
-    /// What words ask for: its status, its output and its error text.
+    /// What words behind the program's name ask for: its status, its output and its error text.
     Asked,
+    /// The same, where the words begin with the program's name, or there are none.
+    Called,
+    /// Words that are no request.
+    Refused,
     /// A build within so many turns is spent, and changes nothing.
     Spent,
     /// How many commands the last build launched, and the words of those that ran.
@@ -35,6 +39,40 @@ pub(crate) enum Kind {
     Directory,
     /// The links, and the modes other than the usual ones.
     Attrs,
+    /// What a file holds, in the first folder alone.
+    Has,
+    /// Nothing stands there, in the first folder alone.
+    HasNot,
+    /// Bytes are written to a file.
+    Bytes,
+    /// A file is cut after so many bytes.
+    Cut,
+    /// A bit of a byte is turned.
+    Turned,
+    /// A record of the database is changed.
+    Record,
+    /// What is no file or directory is put there.
+    Special,
+    /// A directory gets a name that is none.
+    Odd,
+    /// The call of the folder of this number fails, in what is asked next.
+    Fails,
+    /// The same, and where it is a write it leaves the text.
+    Leaves,
+    /// A put of output fails, in what is asked next.
+    OutputCut,
+    /// A put of error text fails, in what is asked next.
+    ErrorsCut,
+    /// What the last request changed, in order.
+    Changes,
+    /// How many calls of the folder the last request made.
+    Calls,
+    /// How many commands a build starts.
+    Starts,
+    /// A line of the trace, behind its number.
+    Traced,
+    /// What a command asks, by what it is answered, and how it ends.
+    Talk,
     /// No step has such a word.
     Unknown,
 }
@@ -58,6 +96,8 @@ fn kind_of(word: &str) -> Kind {
         "costs" => Kind::Costs,
         "build" => Kind::Build,
         "asked" => Kind::Asked,
+        "called" => Kind::Called,
+        "refused" => Kind::Refused,
         "spent" => Kind::Spent,
         "ran" => Kind::Ran,
         "why" => Kind::Why,
@@ -65,6 +105,30 @@ fn kind_of(word: &str) -> Kind {
         "lacks" => Kind::Lacks,
         "directory" => Kind::Directory,
         "attrs" => Kind::Attrs,
+        _ => kind_of_other(word),
+    }
+}
+
+// Of what a folder, its state files and the sinks have to bear.
+fn kind_of_other(word: &str) -> Kind {
+    match word {
+        "has" => Kind::Has,
+        "has_not" => Kind::HasNot,
+        "bytes" => Kind::Bytes,
+        "cut" => Kind::Cut,
+        "turned" => Kind::Turned,
+        "record" => Kind::Record,
+        "special" => Kind::Special,
+        "odd" => Kind::Odd,
+        "fails" => Kind::Fails,
+        "leaves" => Kind::Leaves,
+        "output_cut" => Kind::OutputCut,
+        "errors_cut" => Kind::ErrorsCut,
+        "changes" => Kind::Changes,
+        "calls" => Kind::Calls,
+        "starts" => Kind::Starts,
+        "traced" => Kind::Traced,
+        "talk" => Kind::Talk,
         _ => Kind::Unknown,
     }
 }
@@ -81,10 +145,13 @@ impl Step {
         })
     }
 
-    // Takes a line below it: `| ` before a line of text, `~ ` before one that no newline ends, `! ` before one of error text.
+    // Takes a line below it: `| ` before a line of text, `~ ` before one that no newline ends, `! ` before one of error text,
+    // `!~ ` before one of error text that no newline ends.
     fn add(&mut self, line: &str) -> Result<(), NoMemory> {
         if let Some(more) = line.strip_prefix("~ ") {
             self.text.push_str(more)?;
+        } else if let Some(more) = line.strip_prefix("!~ ") {
+            self.errors.push_str(more)?;
         } else if let Some(more) = line.strip_prefix("! ") {
             self.errors.push_str(more)?;
             self.errors.push('\n')?;

@@ -5,10 +5,9 @@ mod command;
 mod commands;
 mod generate;
 mod queries;
-#[cfg(test)]
-mod tests;
 mod top;
 
+pub use commands::Commands;
 pub use rk_build::{
     Outcome, StateFile, build_in, exit_code, finds_next, fresh_spoken, refused_settle,
     spoken_settle, stays_well,

@@ -17,6 +17,3 @@ pub use numbers::{number, number_or};
 pub use opts::{Given, OptList};
 pub use usage::begin;
 pub use words::options;
-
-#[cfg(test)]
-mod tests;

@@ -7,8 +7,6 @@ mod deep;
 mod moving;
 mod pair;
 mod place;
-#[cfg(test)]
-mod tests;
 mod utility;
 
 pub use copy_task::CopyTask;

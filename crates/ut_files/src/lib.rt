@@ -16,8 +16,6 @@ mod starting;
 mod step;
 mod targets;
 mod task;
-#[cfg(test)]
-mod tests;
 mod utility;
 mod worker;
 

@@ -15,6 +15,3 @@ pub use gatherer::{Gathered, Gatherer, Waits};
 pub use grep::{Grep, Manner};
 pub use laws::grep_says_what_commands_may;
 pub use utility::{GrepUtility, Move};
-
-#[cfg(test)]
-mod tests;

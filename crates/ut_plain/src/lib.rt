@@ -13,6 +13,3 @@ pub use names::Line;
 pub use target::Target;
 pub use tee::{Move, Stage, Tee, Teeing};
 pub use utility::{Moved, PlainUtility};
-
-#[cfg(test)]
-mod tests;

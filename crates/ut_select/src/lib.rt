@@ -21,6 +21,3 @@ pub use sort::Sort;
 pub use tr::Tr;
 pub use utility::SelectUtility;
 pub use work::SelectWork;
-
-#[cfg(test)]
-mod tests;

@@ -20,6 +20,3 @@ pub use uniq::Uniq;
 pub use utility::TextUtility;
 pub use wc::Wc;
 pub use work::TextWork;
-
-#[cfg(test)]
-mod tests;

@@ -1,0 +1,158 @@
+// Bytes that are altered: files cut short, bits turned, and records of a database changed.
+use crate::talks::{answer_of, call_of};
+use rk_base::{Bytes, NoMemory};
+use std::alloc::Global;
+use tr_codec::{read_db, write_db};
+use tr_record::{Record, Step, StepList, Table};
+
+/// The first bytes, so many of them.
+pub(crate) fn cut(alloc: Global, bytes: &[u8], most: usize) -> Result<Vec<u8>, NoMemory> {
+    let mut front = Vec::new(alloc);
+    'bytes: for byte in bytes {
+        if front.len() < most {
+            front.push(*byte)?;
+        }
+    }
+    Ok(front)
+}
+
+/// The bytes, with the lowest bit of the byte of this number turned, from 0 on.
+pub(crate) fn turned(alloc: Global, bytes: &[u8], at: usize) -> Result<Vec<u8>, NoMemory> {
+    let mut other = Vec::new(alloc);
+    'bytes: for byte in bytes {
+        let is_it = other.len() == at;
+        other.push(if is_it { *byte ^ 1 } else { *byte })?;
+    }
+    Ok(other)
+}
+
+/// The bytes of hexadecimal digits in lines; none where they are no such digits.
+pub(crate) fn bytes_of(alloc: Global, text: &str) -> Result<Vec<u8>, NoMemory> {
+    let mut bytes = Vec::new(alloc);
+    'lines: for line in text.lines() {
+        if let Ok(some) = hex::decode(alloc, line.as_bytes()) {
+            bytes.extend_from_slice(&some)?;
+        }
+    }
+    Ok(bytes)
+}
+
+/// What is changed: a part of the step of this number, from 1 on, in the record of this number, from 0 on. A change of an exit
+/// has its value in the place of the step's number.
+#[derive(Clone, Copy)]
+struct Change<'a> {
+    record: usize,
+    part: &'a str,
+    step: &'a str,
+    value: &'a str,
+}
+
+fn count(text: &str) -> usize {
+    text.parse::<usize>().unwrap_or(0)
+}
+
+fn turns(text: &str) -> u32 {
+    text.parse::<u32>().unwrap_or(0)
+}
+
+fn status(text: &str) -> u8 {
+    text.parse::<u8>().unwrap_or(0)
+}
+
+fn change_of(line: &str) -> Change<'_> {
+    let (record, rest) = line.split_once(' ').unwrap_or((line, ""));
+    let (part, rest) = rest.split_once(' ').unwrap_or((rest, ""));
+    let (step, value) = rest.split_once(' ').unwrap_or((rest, ""));
+    Change {
+        record: count(record),
+        part,
+        step,
+        value,
+    }
+}
+
+// A step with this change.
+fn changed(alloc: Global, step: &Step, change: &Change<'_>) -> Result<Step, NoMemory> {
+    let mut copy = step.copy()?;
+    match change.part {
+        "cost" => copy.cost = turns(change.value),
+        "call" => {
+            let (word, rest) = change.value.split_once(' ').unwrap_or((change.value, ""));
+            copy.call = call_of(alloc, word, rest)?;
+        }
+        "answer" => copy.answer = answer_of(alloc, change.value)?,
+        _ => {}
+    }
+    Ok(copy)
+}
+
+// The steps of a record with this change.
+fn steps_with(alloc: Global, record: &Record, change: &Change<'_>) -> Result<StepList, NoMemory> {
+    let mut steps = StepList::new(alloc);
+    let wanted = count(change.step);
+    let mut number = 0usize;
+    'steps: for step in record.steps.as_slice() {
+        number = number.saturating_add(1);
+        if number != wanted {
+            steps.push(step.copy()?)?;
+        } else if change.part != "without" {
+            steps.push(changed(alloc, step, change)?)?;
+        }
+    }
+    Ok(steps)
+}
+
+// The steps of a record as they are.
+fn steps_as(alloc: Global, record: &Record) -> Result<StepList, NoMemory> {
+    let mut steps = StepList::new(alloc);
+    'steps: for step in record.steps.as_slice() {
+        steps.push(step.copy()?)?;
+    }
+    Ok(steps)
+}
+
+// Puts a record with this change at the end.
+fn push_with(
+    alloc: Global,
+    table: &mut Table,
+    record: &Record,
+    change: &Change<'_>,
+) -> Result<(), NoMemory> {
+    let steps = steps_with(alloc, record, change)?;
+    let key = record.key.copy()?;
+    match change.part {
+        "exit" => table.push(key, steps, status(change.step), record.exit_cost),
+        "pays" => table.push(key, steps, record.exit, turns(change.step)),
+        _ => table.push(key, steps, record.exit, record.exit_cost),
+    }
+}
+
+fn push_as(alloc: Global, table: &mut Table, record: &Record) -> Result<(), NoMemory> {
+    let steps = steps_as(alloc, record)?;
+    table.push(record.key.copy()?, steps, record.exit, record.exit_cost)
+}
+
+fn table_with(alloc: Global, table: &Table, change: &Change<'_>) -> Result<Table, NoMemory> {
+    let mut other = Table::new(alloc);
+    let mut number = 0usize;
+    'records: for record in table.as_slice() {
+        if number == change.record {
+            push_with(alloc, &mut other, record, change)?;
+        } else {
+            push_as(alloc, &mut other, record)?;
+        }
+        number = number.saturating_add(1);
+    }
+    Ok(other)
+}
+
+/// The database with the change that a line names, and its digest made anew. It is as before where it is damaged.
+pub(crate) fn altered(alloc: Global, db: &[u8], line: &str) -> Result<Bytes, NoMemory> {
+    match read_db(alloc, db) {
+        Ok(table) => {
+            let other = table_with(alloc, &table, &change_of(line))?;
+            write_db(alloc, &other)
+        }
+        Err(_) => Bytes::from_slice(alloc, db),
+    }
+}
