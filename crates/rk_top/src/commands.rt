@@ -1,7 +1,7 @@
 // What makes commands.
 ghost use Rattle.std.specs.Prelude.{◌≡◌};
 
-use crate::Command;
+use crate::command::Command;
 use rk_base::NoMemory;
 use rk_calls::{Key, Maker};
 use std::alloc::Global;

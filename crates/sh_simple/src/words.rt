@@ -18,6 +18,7 @@ use sh_means::control::{
     Acted, Aim, Assigning, Casing, Control, Doing, Fielding, Inside, Made, Making, Then, Wait,
     Wordy,
 };
+use sh_means::expansion::{begin, over_fields};
 use sh_means::flow::{Flow, Place};
 use sh_means::numbers::behind;
 use sh_means::state::State;
