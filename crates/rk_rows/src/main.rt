@@ -2,17 +2,15 @@
 //! for each file how many steps there were, and what came otherwise.
 #![tactic(auto)]
 
-mod calls;
 mod names;
-mod rows;
 mod tree;
 mod world;
 
 use crate::names::Names;
-use crate::rows::{Subject, Told, carried_out, subject_of};
 use crate::tree::Grown;
 use crate::world::Asked;
 use rk_base::NoMemory;
+use rk_steps::{Subject, Told, carried_out, subject_of};
 use std::alloc::Global;
 use std::process::ExitCode;
 use std::{env, fs, io};

@@ -2,11 +2,12 @@
 ghost use Rattle.std.specs.Prelude.{IsTrue};
 ghost use Rattle.rk_tree.specs.Whole.{MayHold};
 
-use crate::calls::kind_shown;
-use crate::names::{name_of, names_shown, path_of};
-use crate::rows::{Subject, behind, flag, mode, number, number_shown, plain, shown, text, word};
 use crate::world::snapshot_shown;
-use rk_base::{Bytes, Errno, Name, NoMemory, Path};
+use rk_base::{Bytes, Name, NoMemory, Path};
+use rk_steps::{
+    Subject, behind, flag, kind_shown, mode, name_of, names_shown, number, number_shown, path_of,
+    plain, refusal_shown, shown, text, word,
+};
 use rk_tree::{Entry, Node, NodeId, Refused, Snapshot, Tree};
 use std::alloc::Global;
 
@@ -26,12 +27,6 @@ fn entry_of(alloc: Global, words: &[Vec<u8>]) -> Result<Entry, NoMemory> {
         _ => Entry::File(mode(words, 1), Bytes::from_slice(alloc, word(words, 2))?),
     };
     Ok(entry)
-}
-
-fn refusal_shown(alloc: Global, errno: Errno) -> Result<String, NoMemory> {
-    let word = errno.word();
-    let text = format!(in alloc; "no {word}")?;
-    Ok(text)
 }
 
 // What became of a change.

@@ -1,12 +1,11 @@
 // Steps of a world and of the descriptors of its commands.
-use crate::calls::{
-    Seen, answer_of, answer_shown, call_of, call_shown, key_of, key_of_parts, key_shown,
-    kind_shown, map_of,
-};
-use crate::rows::{Subject, behind, number, number_shown, plain, shown, text};
 use rk_base::NoMemory;
 use rk_calls::{Answerer, Call, Key, Refs};
 use rk_kernel::World;
+use rk_steps::{
+    Seen, Subject, answer_of, answer_shown, behind, call_of, call_shown, key_of, key_of_parts,
+    key_shown, kind_shown, map_of, number, number_shown, plain, shown, text,
+};
 use rk_tree::{Node, Snapshot, Tree};
 use std::alloc::Global;
 
