@@ -4,7 +4,7 @@ use crate::spelling::{
     spelling_shown,
 };
 use rk_base::{Bytes, NoMemory, Path};
-use rk_steps::{Subject, behind, mode, number_shown, path_of, plain, shown, text, word};
+use rk_steps::{Subject, behind, mode, path_of, plain, shown, text, word};
 use std::alloc::Global;
 use tr_codec::{AttrRow, Attrs, CodecErr, read_attrs, read_back_attrs, write_attrs};
 
@@ -62,8 +62,12 @@ fn row_shown(alloc: Global, row: &AttrRow) -> Result<String, NoMemory> {
     Ok(text)
 }
 
+// How many rows there are, and up to 20 of them.
 fn attrs_shown(alloc: Global, attrs: &Attrs) -> Result<String, NoMemory> {
     let mut text = format!(in alloc; "{}", attrs.len())?;
+    if attrs.len() > 20 {
+        return Ok(text);
+    }
     'rows: for (path, row) in attrs.as_slice() {
         text.push_str("; ")?;
         text.push_str(shown(alloc, path.text())?.as_str())?;
@@ -88,7 +92,7 @@ impl Attributes {
             return plain(self.alloc, "no path");
         };
         self.rows.push((path, row_of(self.alloc, behind(words))?))?;
-        number_shown(self.alloc, Some(self.rows.len()))
+        plain(self.alloc, "put")
     }
 
     // The rows that were put, which are gone then.
