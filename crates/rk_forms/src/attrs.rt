@@ -41,7 +41,7 @@ impl Reader for Files {
 }
 
 // The row of `file MODE`, `dir MODE` or `link TEXT`.
-fn row_of(alloc: Global, words: &[Vec<u8>]) -> Result<AttrRow, NoMemory> {
+pub(crate) fn row_of(alloc: Global, words: &[Vec<u8>]) -> Result<AttrRow, NoMemory> {
     let row = match text(words, 0) {
         "dir" => AttrRow::DirMode(mode(words, 1)),
         "link" => AttrRow::Link(Bytes::from_slice(alloc, word(words, 1))?),
@@ -63,7 +63,7 @@ fn row_shown(alloc: Global, row: &AttrRow) -> Result<String, NoMemory> {
 }
 
 // How many rows there are, and up to 20 of them.
-fn attrs_shown(alloc: Global, attrs: &Attrs) -> Result<String, NoMemory> {
+pub(crate) fn attrs_shown(alloc: Global, attrs: &Attrs) -> Result<String, NoMemory> {
     let mut text = format!(in alloc; "{}", attrs.len())?;
     if attrs.len() > 20 {
         return Ok(text);

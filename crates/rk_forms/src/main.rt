@@ -3,10 +3,17 @@
 #![tactic(auto)]
 
 mod attrs;
+mod folders;
+mod made;
+mod plans;
+mod real;
 mod records;
 mod spelling;
 
 use crate::attrs::Attributes;
+use crate::folders::Held;
+use crate::made::Made;
+use crate::real::Real;
 use crate::records::Records;
 use rk_base::NoMemory;
 use rk_steps::{Subject, Told, carried_out, subject_of};
@@ -24,9 +31,13 @@ fn steps_of<S: Subject + Drop>(
     carried_out(alloc, name, text, &mut subject)
 }
 
-fn told_of(alloc: Global, name: &str, text: &str) -> Result<Option<Told>, NoMemory> {
+fn told_of(rt: &HostRuntime, name: &str, text: &str) -> Result<Option<Told>, NoMemory> {
+    let alloc = rt.alloc();
     let told = match subject_of(text) {
         "attributes" => steps_of(alloc, name, text, Attributes::new(alloc))?,
+        "folder" => steps_of(alloc, name, text, Held::new(alloc))?,
+        "made" => steps_of(alloc, name, text, Made::new(alloc))?,
+        "real" => steps_of(alloc, name, text, Real::new(rt.clone()?))?,
         "records" => steps_of(alloc, name, text, Records::new(alloc))?,
         _ => return Ok(None),
     };
@@ -51,7 +62,7 @@ fn print(rt: &HostRuntime, name: &str, told: Result<Option<Told>, NoMemory>) -> 
 fn run(rt: &HostRuntime, names: &[String]) -> io::Result<()> {
     'names: for name in names {
         let text = fs::read_to_string(rt, name.as_str())?;
-        let told = told_of(rt.alloc(), name.as_str(), text.as_str());
+        let told = told_of(rt, name.as_str(), text.as_str());
         print(rt, name.as_str(), told)?;
     }
     Ok(())
