@@ -3,6 +3,7 @@ ghost use Rattle.std.specs.Prelude.{◌≡◌, ◌<◌};
 
 use crate::folders::standing_shown;
 use rk_base::{Bytes, NoMemory, Path};
+use rk_folder::Standing;
 use rk_gen::{Draws, Edit, Figures, File, generate, summary};
 use rk_made::{change, start_folder};
 use rk_show::{records_text, trace_json, trace_text};
@@ -59,18 +60,25 @@ fn edit_step(alloc: Global, seed: u64) -> Result<String, NoMemory> {
     edit_shown(alloc, &edit)
 }
 
-// What stands at a path of a seed's folder after its first edit.
-fn edited_step(alloc: Global, seed: u64, path: &Path) -> Result<String, NoMemory> {
+fn standing(alloc: Global, is_kind: bool, it: Option<&Standing>) -> Result<String, NoMemory> {
+    match it {
+        Some(Standing::File(_)) if is_kind => plain(alloc, "file"),
+        _ => standing_shown(alloc, it),
+    }
+}
+
+// What stands at a path of a seed's folder after its first edit, or what kind of thing.
+fn edited_step(alloc: Global, seed: u64, path: &Path, is_kind: bool) -> Result<String, NoMemory> {
     let mut made = generate(alloc, seed)?;
     let mut folder = start_folder(alloc, &made.files)?;
     let edit = made.workload.edit(alloc)?;
     change(alloc, &mut folder, &edit)?;
-    standing_shown(alloc, folder.at(path))
+    standing(alloc, is_kind, folder.at(path))
 }
 
-fn edited(alloc: Global, seed: u64, path: &[u8]) -> Result<String, NoMemory> {
+fn edited(alloc: Global, seed: u64, path: &[u8], is_kind: bool) -> Result<String, NoMemory> {
     match path_of(alloc, path)? {
-        Some(path) => edited_step(alloc, seed, &path),
+        Some(path) => edited_step(alloc, seed, &path, is_kind),
         None => plain(alloc, "no path"),
     }
 }
@@ -128,7 +136,8 @@ impl Subject for Made {
             "files" => count_step(alloc, n),
             "file" => file_step(alloc, n, number(words, 2)),
             "edit" => edit_step(alloc, n),
-            "edited" => edited(alloc, n, word(words, 2)),
+            "edited" => edited(alloc, n, word(words, 2), false),
+            "edited-kind" => edited(alloc, n, word(words, 2), true),
             "no-builds" => none_step(alloc, n),
             "two-builds" => summary_step(alloc, n, words),
             "no-json" => shown(alloc, trace_json(alloc, &[])?.as_slice()),

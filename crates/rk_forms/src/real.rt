@@ -96,18 +96,25 @@ fn narrow(rt: &HostRuntime, alloc: Global, words: &[Vec<u8>]) -> io::Result<Real
     Ok(RealSink::new(Narrow { file, most, fails }))
 }
 
-// Puts each of these words through such a stream.
-fn put_all(
-    alloc: Global,
-    sink: &mut RealSink<Narrow>,
-    words: &[Vec<u8>],
-) -> Result<String, NoMemory> {
+// Puts each of these words.
+fn put_all<S: Sink>(alloc: Global, sink: &mut S, words: &[Vec<u8>]) -> Result<String, NoMemory> {
     let mut out = plain(alloc, "puts")?;
     'words: for word in words {
         out.push(' ')?;
         out.push_str(put_shown(alloc, sink.put(word.as_slice()))?.as_str())?;
     }
     Ok(out)
+}
+
+fn put_in_file(rt: &HostRuntime, alloc: Global, words: &[Vec<u8>]) -> Result<String, NoMemory> {
+    let place = match place_of(alloc, text(words, 1)) {
+        Ok(place) => place,
+        Err(_) => return plain(alloc, "not done"),
+    };
+    match File::create(rt, place.as_str()) {
+        Ok(file) => put_all(alloc, &mut RealSink::new(file), behind(behind(words))),
+        Err(_) => plain(alloc, "not done"),
+    }
 }
 
 fn puts(rt: &HostRuntime, alloc: Global, words: &[Vec<u8>]) -> Result<String, NoMemory> {
@@ -214,6 +221,7 @@ impl Subject for Real {
             | "really-remove" => { done_shown(alloc, change(&self.rt, alloc, words)) }
             "really-read" => self.bytes(text(words, 1)),
             "mode" => self.mode(text(words, 1)),
+            "put-in" => put_in_file(&self.rt, alloc, words),
             "puts" => puts(&self.rt, alloc, words),
             "before" | "after" | "next" | "plan" | "install" | "call" | "make" => {
                 self.planned(words)
