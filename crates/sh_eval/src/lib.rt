@@ -10,6 +10,3 @@ mod reading;
 mod shell;
 
 pub use shell::Shell;
-
-#[cfg(test)]
-mod tests;
