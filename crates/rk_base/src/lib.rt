@@ -31,6 +31,3 @@ pub use text::{first_component, has_nul, is_name};
 pub use variables::is_variable;
 pub use vars::{Var, VarList};
 pub use words::WordList;
-
-#[cfg(test)]
-mod tests;

@@ -14,8 +14,6 @@ mod places;
 mod refmap;
 mod refs;
 mod same;
-#[cfg(test)]
-mod tests;
 mod turn;
 
 pub use answer::Answer;

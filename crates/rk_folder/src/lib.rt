@@ -23,6 +23,3 @@ pub use real::RealFolder;
 pub use sink::{MemSink, RealSink, Sink, SinkErr};
 pub use specials::special_is_first;
 pub use state_files::state;
-
-#[cfg(test)]
-mod tests;

@@ -9,8 +9,6 @@ mod files;
 mod lines;
 mod scripts;
 mod start;
-#[cfg(test)]
-mod tests;
 mod workload;
 
 pub use draws::Draws;

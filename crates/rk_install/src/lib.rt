@@ -14,6 +14,3 @@ pub use imported::imported_holds;
 pub use installation::{InstallErr, install};
 pub use ops::{Op, Plan};
 pub use planning::plan;
-
-#[cfg(test)]
-mod tests;

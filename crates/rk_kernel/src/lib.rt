@@ -4,8 +4,6 @@
 mod description;
 mod pipe;
 mod spot;
-#[cfg(test)]
-mod tests;
 mod world;
 
 pub use description::{Description, Source};

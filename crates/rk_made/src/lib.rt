@@ -3,8 +3,6 @@
 
 mod changing;
 mod laws;
-#[cfg(test)]
-mod tests;
 
 pub use changing::{change, start_folder};
 pub use laws::{edits_plainly, starts_plainly};

@@ -2,8 +2,6 @@
 #![tactic(auto)]
 
 mod json;
-#[cfg(test)]
-mod tests;
 mod trace;
 mod turns;
 

@@ -9,8 +9,6 @@ mod node;
 mod permission;
 mod refused;
 mod snapshot;
-#[cfg(test)]
-mod tests;
 mod tree;
 
 pub use entry::Entry;

@@ -25,6 +25,3 @@ pub use laws::{one_attrs, one_table, read_back, read_back_attrs};
 pub use reading::read_db;
 pub use rows::{AttrRow, Attrs, DIR_MODE, FILE_MODE};
 pub use writing::write_db;
-
-#[cfg(test)]
-mod tests;

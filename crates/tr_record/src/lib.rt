@@ -9,6 +9,3 @@ mod table;
 pub use records::Record;
 pub use steps::{Step, StepList};
 pub use table::Table;
-
-#[cfg(test)]
-mod tests;

@@ -1,0 +1,164 @@
+// Steps of the attributes of paths, and of their spelling.
+use crate::spelling::{
+    Came, Reader, bytes_of, damage_shown, each_change, each_change_sealed, each_prefix, sealed,
+    spelling_shown,
+};
+use rk_base::{Bytes, NoMemory, Path};
+use rk_steps::{Subject, behind, mode, path_of, plain, shown, text, word};
+use std::alloc::Global;
+use tr_codec::{AttrRow, Attrs, CodecErr, read_attrs, read_back_attrs, write_attrs};
+
+/// Rows that are put together, the attributes that were last made or read, and their bytes.
+#[derive(Drop)]
+pub(crate) struct Attributes {
+    alloc: Global,
+    rows: Vec<(Path, AttrRow)>,
+    attrs: Attrs,
+    bytes: Bytes,
+}
+
+/// What reads attributes.
+#[derive(Drop)]
+struct Files {
+    alloc: Global,
+}
+
+impl Reader for Files {
+    fn came(&self, bytes: &[u8]) -> Result<Came, NoMemory> {
+        match read_attrs(self.alloc, bytes) {
+            Ok(attrs) => {
+                let again = write_attrs(self.alloc, &attrs)?;
+                Ok(if again.as_slice() == bytes {
+                    Came::Spelt
+                } else {
+                    Came::Otherwise
+                })
+            }
+            Err(CodecErr::Damaged(damage)) => Ok(Came::Damaged(damage)),
+            Err(CodecErr::NoMemory) => Err(NoMemory),
+        }
+    }
+}
+
+// The row of `file MODE`, `dir MODE` or `link TEXT`.
+pub(crate) fn row_of(alloc: Global, words: &[Vec<u8>]) -> Result<AttrRow, NoMemory> {
+    let row = match text(words, 0) {
+        "dir" => AttrRow::DirMode(mode(words, 1)),
+        "link" => AttrRow::Link(Bytes::from_slice(alloc, word(words, 1))?),
+        _ => AttrRow::FileMode(mode(words, 1)),
+    };
+    Ok(row)
+}
+
+fn row_shown(alloc: Global, row: &AttrRow) -> Result<String, NoMemory> {
+    let text = match row {
+        AttrRow::FileMode(mode) => format!(in alloc; "file {mode:o}")?,
+        AttrRow::DirMode(mode) => format!(in alloc; "dir {mode:o}")?,
+        AttrRow::Link(to) => {
+            let to = shown(alloc, to.as_slice())?;
+            format!(in alloc; "link {}", to.as_str())?
+        }
+    };
+    Ok(text)
+}
+
+// How many rows there are, and up to 20 of them.
+pub(crate) fn attrs_shown(alloc: Global, attrs: &Attrs) -> Result<String, NoMemory> {
+    let mut text = format!(in alloc; "{}", attrs.len())?;
+    if attrs.len() > 20 {
+        return Ok(text);
+    }
+    'rows: for (path, row) in attrs.as_slice() {
+        text.push_str("; ")?;
+        text.push_str(shown(alloc, path.text())?.as_str())?;
+        text.push(' ')?;
+        text.push_str(row_shown(alloc, row)?.as_str())?;
+    }
+    Ok(text)
+}
+
+impl Attributes {
+    pub(crate) fn new(alloc: Global) -> Result<Attributes, NoMemory> {
+        Ok(Attributes {
+            alloc,
+            rows: Vec::new(alloc),
+            attrs: Attrs::new(alloc),
+            bytes: Bytes::from_slice(alloc, b"")?,
+        })
+    }
+
+    fn put(&mut self, words: &[Vec<u8>]) -> Result<String, NoMemory> {
+        let Some(path) = path_of(self.alloc, word(words, 0))? else {
+            return plain(self.alloc, "no path");
+        };
+        self.rows.push((path, row_of(self.alloc, behind(words))?))?;
+        plain(self.alloc, "put")
+    }
+
+    // The rows that were put, which are gone then.
+    fn made(&mut self) -> Result<String, NoMemory> {
+        let mut rows = Vec::new(self.alloc);
+        std::mem::swap(&mut self.rows, &mut rows);
+        match Attrs::from_vec(rows) {
+            Some(attrs) => {
+                self.attrs = attrs;
+                attrs_shown(self.alloc, &self.attrs)
+            }
+            None => plain(self.alloc, "none"),
+        }
+    }
+
+    fn spell(&mut self) -> Result<String, NoMemory> {
+        self.bytes = write_attrs(self.alloc, &self.attrs)?;
+        spelling_shown(self.alloc, self.bytes.as_slice())
+    }
+
+    fn back(&self) -> Result<String, NoMemory> {
+        match read_back_attrs(self.alloc, &self.attrs) {
+            Ok(attrs) => attrs_shown(self.alloc, &attrs),
+            Err(CodecErr::Damaged(damage)) => damage_shown(self.alloc, damage),
+            Err(CodecErr::NoMemory) => Err(NoMemory),
+        }
+    }
+
+    fn read(&mut self, bytes: Vec<u8>) -> Result<String, NoMemory> {
+        self.bytes = Bytes::new(self.alloc, bytes)?;
+        match read_attrs(self.alloc, self.bytes.as_slice()) {
+            Ok(attrs) => {
+                self.attrs = attrs;
+                attrs_shown(self.alloc, &self.attrs)
+            }
+            Err(CodecErr::Damaged(damage)) => damage_shown(self.alloc, damage),
+            Err(CodecErr::NoMemory) => Err(NoMemory),
+        }
+    }
+
+    fn read_sealed(&mut self, body: &[u8]) -> Result<String, NoMemory> {
+        let bytes = sealed(self.alloc, body)?;
+        self.read(bytes)
+    }
+}
+
+impl Subject for Attributes {
+    fn fresh(&mut self) -> Result<(), NoMemory> {
+        *self = Attributes::new(self.alloc)?;
+        Ok(())
+    }
+
+    fn step(&mut self, words: &[Vec<u8>]) -> Result<String, NoMemory> {
+        let alloc = self.alloc;
+        let files = Files { alloc };
+        match text(words, 0) {
+            "put" => self.put(behind(words)),
+            "made" => self.made(),
+            "spell" => self.spell(),
+            "back" => self.back(),
+            "bytes" => self.read(bytes_of(alloc, behind(words))?),
+            "sealed" => self.read_sealed(&bytes_of(alloc, behind(words))?),
+            "each-prefix" => each_prefix(alloc, &files, self.bytes.as_slice()),
+            "each-change" => each_change(alloc, &files, self.bytes.as_slice()),
+            "each-change-sealed" => each_change_sealed(alloc, &files, self.bytes.as_slice()),
+            _ => plain(alloc, "unknown step"),
+        }
+    }
+}

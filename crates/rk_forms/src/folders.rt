@@ -1,0 +1,376 @@
+// Steps that any folder takes, and a folder and a sink in memory.
+use crate::attrs::{attrs_shown, row_of};
+use rk_base::{Bytes, NoMemory, Path};
+use rk_folder::{
+    Change, Folder, FolderErr, Got, ImportErr, Imported, Item, MemFolder, MemSink, Sink, SinkErr,
+    Standing, State, import, state, tree_of,
+};
+use rk_install::attrs_of;
+use rk_steps::{
+    Subject, behind, kind_shown, number, number_shown, path_of, plain, shown, text, word,
+};
+use rk_tree::{Node, Snapshot, Tree};
+use std::alloc::Global;
+use tr_codec::{AttrRow, Attrs};
+
+// A listing: each name, with `/` behind a directory's and `!` behind what is special, and `?` for odd names.
+fn items_shown(alloc: Global, items: &[Item]) -> Result<String, NoMemory> {
+    let mut out = plain(alloc, "items")?;
+    'items: for item in items {
+        let (name, mark) = match item {
+            Item::File(name) => (name.as_slice(), ""),
+            Item::Dir(name) => (name.as_slice(), "/"),
+            Item::Special(name) => (name.as_slice(), "!"),
+            Item::Odd => (b"?".as_slice(), ""),
+        };
+        out.push(' ')?;
+        out.push_str(shown(alloc, name)?.as_str())?;
+        out.push_str(mark)?;
+    }
+    Ok(out)
+}
+
+fn behind_word(alloc: Global, first: &str, bytes: &[u8]) -> Result<String, NoMemory> {
+    let bytes = shown(alloc, bytes)?;
+    let out = format!(in alloc; "{first} {}", bytes.as_str())?;
+    Ok(out)
+}
+
+fn no_answer(alloc: Global, e: FolderErr) -> Result<String, NoMemory> {
+    match e {
+        FolderErr::Failed => plain(alloc, "failed"),
+        FolderErr::NoMemory => Err(NoMemory),
+    }
+}
+
+fn done_shown(alloc: Global, done: Result<(), FolderErr>) -> Result<String, NoMemory> {
+    match done {
+        Ok(()) => plain(alloc, "done"),
+        Err(e) => no_answer(alloc, e),
+    }
+}
+
+fn listed(alloc: Global, got: Result<Vec<Item>, FolderErr>) -> Result<String, NoMemory> {
+    match got {
+        Ok(items) => items_shown(alloc, &items),
+        Err(e) => no_answer(alloc, e),
+    }
+}
+
+fn got_shown(alloc: Global, got: Result<Got, FolderErr>) -> Result<String, NoMemory> {
+    match got {
+        Ok(Got::Content(bytes)) => behind_word(alloc, "content", bytes.as_slice()),
+        Ok(Got::Absent) => plain(alloc, "absent"),
+        Err(e) => no_answer(alloc, e),
+    }
+}
+
+fn node_shown(alloc: Global, node: &Node) -> Result<String, NoMemory> {
+    let bytes = if node.is_dir() {
+        String::new(alloc)
+    } else if node.link_text().is_empty() {
+        behind_word(alloc, "", node.bytes())?
+    } else {
+        behind_word(alloc, "", node.link_text())?
+    };
+    let kind = kind_shown(node.kind());
+    let out = format!(in alloc; "{kind} {:o}{}", node.mode(), bytes.as_str())?;
+    Ok(out)
+}
+
+/// Each path with what stands there, after a semicolon.
+fn snapshot_shown(alloc: Global, snapshot: &Snapshot) -> Result<String, NoMemory> {
+    let mut out = format!(in alloc; "{}", snapshot.len())?;
+    if snapshot.len() > 20 {
+        return Ok(out);
+    }
+    'rows: for (path, node) in snapshot.rows() {
+        out.push_str("; ")?;
+        out.push_str(shown(alloc, path.text())?.as_str())?;
+        out.push(' ')?;
+        out.push_str(node_shown(alloc, node)?.as_str())?;
+    }
+    Ok(out)
+}
+
+fn file_shown(alloc: Global, file: &Option<Bytes>) -> Result<String, NoMemory> {
+    match file {
+        Some(bytes) => shown(alloc, bytes.as_slice()),
+        None => plain(alloc, "none"),
+    }
+}
+
+fn state_shown(alloc: Global, rkr: bool, state: &State) -> Result<String, NoMemory> {
+    let rkr = if rkr { "there" } else { "gone" };
+    let attrs = file_shown(alloc, &state.attrs)?;
+    let db = file_shown(alloc, &state.db)?;
+    let out = format!(in alloc; ".rkr {rkr} attrs {} db {}", attrs.as_str(), db.as_str())?;
+    Ok(out)
+}
+
+fn not_imported(alloc: Global, e: ImportErr) -> Result<String, NoMemory> {
+    match e {
+        ImportErr::Special(path) => behind_word(alloc, "special", path.text()),
+        ImportErr::ReadFault => plain(alloc, "read fault"),
+        ImportErr::NoMemory => Err(NoMemory),
+    }
+}
+
+fn import_step<F: Folder>(alloc: Global, folder: &mut F) -> Result<String, NoMemory> {
+    match import(alloc, folder) {
+        Ok(found) => {
+            let mut out = state_shown(alloc, found.hidden.rkr, &found.hidden.state)?;
+            out.push(' ')?;
+            out.push_str(snapshot_shown(alloc, &found.entries)?.as_str())?;
+            Ok(out)
+        }
+        Err(e) => not_imported(alloc, e),
+    }
+}
+
+fn state_step<F: Folder>(alloc: Global, folder: &mut F) -> Result<String, NoMemory> {
+    match state(alloc, folder) {
+        Ok(hidden) => state_shown(alloc, hidden.rkr, &hidden.state),
+        Err(e) => not_imported(alloc, e),
+    }
+}
+
+fn rename_step<F: Folder>(
+    alloc: Global,
+    folder: &mut F,
+    from: &Path,
+    to: &[u8],
+) -> Result<String, NoMemory> {
+    match path_of(alloc, to)? {
+        Some(to) => done_shown(alloc, folder.rename(alloc, from, &to)),
+        None => plain(alloc, "no path"),
+    }
+}
+
+fn path_step<F: Folder>(
+    alloc: Global,
+    folder: &mut F,
+    words: &[Vec<u8>],
+    path: &Path,
+) -> Result<String, NoMemory> {
+    match text(words, 0) {
+        "list" => listed(alloc, folder.list(alloc, path)),
+        "read" => got_shown(alloc, folder.read(alloc, path)),
+        "write" => done_shown(alloc, folder.write(alloc, path, word(words, 2))),
+        "make-dir" => done_shown(alloc, folder.make_dir(alloc, path)),
+        "remove-file" => done_shown(alloc, folder.remove_file(alloc, path)),
+        "remove-dir" => done_shown(alloc, folder.remove_dir(alloc, path)),
+        "rename" => rename_step(alloc, folder, path, word(words, 2)),
+        _ => plain(alloc, "unknown step"),
+    }
+}
+
+/// A step that any folder takes.
+pub(crate) fn folder_step<F: Folder>(
+    alloc: Global,
+    folder: &mut F,
+    words: &[Vec<u8>],
+) -> Result<String, NoMemory> {
+    match text(words, 0) {
+        "import" => return import_step(alloc, folder),
+        "state" => return state_step(alloc, folder),
+        _ => {}
+    }
+    match path_of(alloc, word(words, 1))? {
+        Some(path) => path_step(alloc, folder, words, &path),
+        None => plain(alloc, "no path"),
+    }
+}
+
+/// What came of a put.
+pub(crate) fn put_shown(alloc: Global, done: Result<(), SinkErr>) -> Result<String, NoMemory> {
+    match done {
+        Ok(()) => plain(alloc, "put"),
+        Err(SinkErr::Failed) => plain(alloc, "failed"),
+        Err(SinkErr::NoMemory) => Err(NoMemory),
+    }
+}
+
+fn change_shown(alloc: Global, change: &Change) -> Result<String, NoMemory> {
+    match change {
+        Change::Write(path) => behind_word(alloc, " write", path.text()),
+        Change::MakeDir(path) => behind_word(alloc, " make-dir", path.text()),
+        Change::RemoveFile(path) => behind_word(alloc, " remove-file", path.text()),
+        Change::RemoveDir(path) => behind_word(alloc, " remove-dir", path.text()),
+        Change::Rename(from, to) => {
+            let mut out = behind_word(alloc, " rename", from.text())?;
+            out.push_str(behind_word(alloc, "", to.text())?.as_str())?;
+            Ok(out)
+        }
+    }
+}
+
+fn changes_shown(alloc: Global, changes: &[Change]) -> Result<String, NoMemory> {
+    let mut out = format!(in alloc; "{}", changes.len())?;
+    'changes: for change in changes {
+        out.push_str(change_shown(alloc, change)?.as_str())?;
+    }
+    Ok(out)
+}
+
+/// What stands at a path of a folder in memory.
+pub(crate) fn standing_shown(alloc: Global, it: Option<&Standing>) -> Result<String, NoMemory> {
+    match it {
+        Some(Standing::File(bytes)) => behind_word(alloc, "file", bytes.as_slice()),
+        Some(Standing::Dir) => plain(alloc, "dir"),
+        Some(Standing::Special) => plain(alloc, "special"),
+        None => plain(alloc, "nothing"),
+    }
+}
+
+fn set_shown(alloc: Global, is_set: bool) -> Result<String, NoMemory> {
+    plain(alloc, if is_set { "set" } else { "refused" })
+}
+
+// The tree of what was imported, with rows.
+fn tree_step(alloc: Global, found: Imported, attrs: &Attrs) -> Result<Tree, NoMemory> {
+    tree_of(alloc, found.entries, attrs)
+}
+
+/// A folder and a sink in memory, and rows of attributes.
+#[derive(Drop)]
+pub(crate) struct Held {
+    alloc: Global,
+    folder: MemFolder,
+    sink: MemSink,
+    rows: Vec<(Path, AttrRow)>,
+}
+
+impl Held {
+    pub(crate) fn new(alloc: Global) -> Result<Held, NoMemory> {
+        Ok(Held {
+            alloc,
+            folder: MemFolder::new(alloc)?,
+            sink: MemSink::new(alloc),
+            rows: Vec::new(alloc),
+        })
+    }
+
+    fn set(&mut self, words: &[Vec<u8>]) -> Result<String, NoMemory> {
+        let Some(path) = path_of(self.alloc, word(words, 1))? else {
+            return plain(self.alloc, "no path");
+        };
+        let is_set = match text(words, 0) {
+            "set-file" => self.folder.set_file(self.alloc, &path, word(words, 2))?,
+            "set-dir" => self.folder.set_dir(&path)?,
+            "set-special" => self.folder.set_special(&path)?,
+            _ => self.folder.set_odd(&path)?,
+        };
+        set_shown(self.alloc, is_set)
+    }
+
+    fn at(&self, path: Option<Path>) -> Result<String, NoMemory> {
+        match path {
+            Some(path) => standing_shown(self.alloc, self.folder.at(&path)),
+            None => plain(self.alloc, "no path"),
+        }
+    }
+
+    fn fail(&mut self, call: u64) -> Result<String, NoMemory> {
+        self.folder.fail_at(call)?;
+        plain(self.alloc, "told")
+    }
+
+    fn fail_write(&mut self, call: u64, left: &[u8]) -> Result<String, NoMemory> {
+        let left = Bytes::from_slice(self.alloc, left)?;
+        self.folder.fail_write_at(call, left)?;
+        plain(self.alloc, "told")
+    }
+
+    fn faults(&self) -> Result<String, NoMemory> {
+        let folder = &self.folder;
+        let out = format!(in self.alloc;
+            "calls {} reads {} writes {} memory {}",
+            folder.calls(),
+            folder.read_faults(),
+            folder.write_faults(),
+            folder.memory_failures()
+        )?;
+        Ok(out)
+    }
+
+    fn clear(&mut self) -> Result<String, NoMemory> {
+        self.folder.clear_changes();
+        plain(self.alloc, "cleared")
+    }
+
+    fn fail_put(&mut self, put: u64, after: u64) -> Result<String, NoMemory> {
+        self.sink.fail_at(put, after as usize)?;
+        plain(self.alloc, "told")
+    }
+
+    fn sink_shown(&self) -> Result<String, NoMemory> {
+        let bytes = shown(self.alloc, self.sink.bytes())?;
+        let out = format!(in self.alloc;
+            "{} faults {} memory {}",
+            bytes.as_str(),
+            self.sink.faults(),
+            self.sink.memory_failures()
+        )?;
+        Ok(out)
+    }
+
+    fn row(&mut self, words: &[Vec<u8>]) -> Result<String, NoMemory> {
+        let Some(path) = path_of(self.alloc, word(words, 0))? else {
+            return plain(self.alloc, "no path");
+        };
+        let row = row_of(self.alloc, behind(words))?;
+        self.rows.push((path, row))?;
+        number_shown(self.alloc, Some(self.rows.len()))
+    }
+
+    // The tree of the folder with the rows, and the rows that keep what of it the folder doesn't.
+    fn grown(&mut self, attrs: &Attrs) -> Result<String, NoMemory> {
+        let found = match import(self.alloc, &mut self.folder) {
+            Ok(found) => found,
+            Err(e) => return not_imported(self.alloc, e),
+        };
+        let tree = tree_step(self.alloc, found, attrs)?;
+        let snapshot = tree.snapshot()?;
+        let kept = attrs_of(self.alloc, &snapshot)?;
+        let mut out = snapshot_shown(self.alloc, &snapshot)?;
+        out.push_str(" kept ")?;
+        out.push_str(attrs_shown(self.alloc, &kept)?.as_str())?;
+        Ok(out)
+    }
+
+    fn tree(&mut self) -> Result<String, NoMemory> {
+        let mut rows = Vec::new(self.alloc);
+        std::mem::swap(&mut self.rows, &mut rows);
+        match Attrs::from_vec(rows) {
+            Some(attrs) => self.grown(&attrs),
+            None => plain(self.alloc, "no rows"),
+        }
+    }
+}
+
+impl Subject for Held {
+    fn fresh(&mut self) -> Result<(), NoMemory> {
+        *self = Held::new(self.alloc)?;
+        Ok(())
+    }
+
+    fn step(&mut self, words: &[Vec<u8>]) -> Result<String, NoMemory> {
+        let alloc = self.alloc;
+        match text(words, 0) {
+            "set-file" | "set-dir" | "set-special" | "set-odd" => self.set(words),
+            "at" => self.at(path_of(alloc, word(words, 1))?),
+            "fail" => self.fail(number(words, 1)),
+            "fail-write" => self.fail_write(number(words, 1), word(words, 2)),
+            "faults" => self.faults(),
+            "changes" => changes_shown(alloc, self.folder.changes()),
+            "clear" => self.clear(),
+            "put" => put_shown(alloc, self.sink.put(word(words, 1))),
+            "fail-put" => self.fail_put(number(words, 1), number(words, 2)),
+            "sink" => self.sink_shown(),
+            "row" => self.row(behind(words)),
+            "tree" => self.tree(),
+            _ => folder_step(alloc, &mut self.folder, words),
+        }
+    }
+}

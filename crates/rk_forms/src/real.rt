@@ -1,0 +1,232 @@
+// Steps of a real folder and of real streams, of which no clause tells what they hold, in a directory `real` that is made
+// for them and removed again.
+use crate::folders::{folder_step, put_shown};
+use crate::plans::{Holdings, op_of, plan_shown};
+use rk_base::NoMemory;
+use rk_folder::{RealFolder, RealSink, Sink};
+use rk_install::{InstallErr, Op, Plan, install};
+use rk_steps::{Subject, behind, mode, number, plain, shown, text};
+use std::alloc::Global;
+use std::fs::{File, Permissions};
+use std::io::Write;
+use std::os::unix::fs::{MetadataExt, PermissionsExt, symlink};
+use std::{fs, io};
+
+/// A real folder, what is planned for it, and what its directory is asked beside it.
+#[derive(Drop)]
+pub(crate) struct Real {
+    alloc: Global,
+    rt: HostRuntime,
+    folder: RealFolder<HostRuntime>,
+    holdings: Holdings,
+    ops: Vec<Op>,
+}
+
+/// A stream that takes at most so many bytes at a time, or fails.
+#[derive(Drop)]
+struct Narrow {
+    file: File,
+    most: usize,
+    fails: bool,
+}
+
+impl Write for Narrow {
+    fn write(&mut self, buf: &[u8]) -> io::Result<usize> {
+        if self.fails {
+            return Err(io::Error::from(io::ErrorKind::BrokenPipe));
+        }
+        let n = buf.len().min(self.most);
+        let (front, _) = buf.split_at_checked(n).unwrap_or((b"", b""));
+        self.file.write(front)
+    }
+
+    fn flush(&mut self) -> io::Result<()> {
+        Ok(())
+    }
+}
+
+// The place of a path in the directory.
+fn place_of(alloc: Global, path: &str) -> io::Result<String> {
+    let mut place = String::from_str(alloc, "real")?;
+    place.push_str(path)?;
+    Ok(place)
+}
+
+// A file of more than 2^32 bytes; none of them is written.
+fn make_long(rt: &HostRuntime, place: &str) -> io::Result<()> {
+    let file = File::create(rt, place)?;
+    file.set_len((1 << 32) + 1)
+}
+
+fn change(rt: &HostRuntime, alloc: Global, words: &[Vec<u8>]) -> io::Result<()> {
+    let place = place_of(alloc, text(words, 1))?;
+    match text(words, 0) {
+        "really-begin" => fs::create_dir(rt, "real"),
+        "really-end" => fs::remove_dir_all(rt, "real"),
+        "really-link" => {
+            let other = place_of(alloc, text(words, 2))?;
+            fs::hard_link(rt, place.as_str(), other.as_str())
+        }
+        "really-mode" => {
+            let mode = Permissions::from_mode(u32::from(mode(words, 2)));
+            fs::set_permissions(rt, place.as_str(), mode)
+        }
+        "really-symlink" => symlink(rt, text(words, 2), place.as_str()),
+        "really-long" => make_long(rt, place.as_str()),
+        _ => fs::remove_file(rt, place.as_str()),
+    }
+}
+
+fn mode_at(rt: &HostRuntime, alloc: Global, path: &str) -> io::Result<u32> {
+    let place = place_of(alloc, path)?;
+    let mode = fs::symlink_metadata(rt, place.as_str())?.mode();
+    Ok(mode & 0o777)
+}
+
+fn bytes_at(rt: &HostRuntime, alloc: Global, path: &str) -> io::Result<Vec<u8>> {
+    let place = place_of(alloc, path)?;
+    fs::read(rt, place.as_str())
+}
+
+fn narrow(rt: &HostRuntime, alloc: Global, words: &[Vec<u8>]) -> io::Result<RealSink<Narrow>> {
+    let place = place_of(alloc, text(words, 1))?;
+    let file = File::create(rt, place.as_str())?;
+    let most = number(words, 2) as usize;
+    let fails = text(words, 3) == "fails";
+    Ok(RealSink::new(Narrow { file, most, fails }))
+}
+
+// Puts each of these words.
+fn put_all<S: Sink>(alloc: Global, sink: &mut S, words: &[Vec<u8>]) -> Result<String, NoMemory> {
+    let mut out = plain(alloc, "puts")?;
+    'words: for word in words {
+        out.push(' ')?;
+        out.push_str(put_shown(alloc, sink.put(word.as_slice()))?.as_str())?;
+    }
+    Ok(out)
+}
+
+fn put_in_file(rt: &HostRuntime, alloc: Global, words: &[Vec<u8>]) -> Result<String, NoMemory> {
+    let place = match place_of(alloc, text(words, 1)) {
+        Ok(place) => place,
+        Err(_) => return plain(alloc, "not done"),
+    };
+    match File::create(rt, place.as_str()) {
+        Ok(file) => put_all(alloc, &mut RealSink::new(file), behind(behind(words))),
+        Err(_) => plain(alloc, "not done"),
+    }
+}
+
+fn puts(rt: &HostRuntime, alloc: Global, words: &[Vec<u8>]) -> Result<String, NoMemory> {
+    match narrow(rt, alloc, words) {
+        Ok(mut sink) => put_all(alloc, &mut sink, behind(behind(behind(behind(words))))),
+        Err(_) => plain(alloc, "not done"),
+    }
+}
+
+fn done_shown(alloc: Global, done: io::Result<()>) -> Result<String, NoMemory> {
+    plain(alloc, if done.is_ok() { "done" } else { "not done" })
+}
+
+impl Real {
+    pub(crate) fn new(rt: HostRuntime) -> Result<Real, NoMemory> {
+        let alloc = rt.alloc();
+        let other = rt.clone()?;
+        Ok(Real {
+            alloc,
+            rt,
+            folder: RealFolder::new(other, String::from_str(alloc, "real")?),
+            holdings: Holdings::new(alloc),
+            ops: Vec::new(alloc),
+        })
+    }
+
+    fn mode(&self, path: &str) -> Result<String, NoMemory> {
+        match mode_at(&self.rt, self.alloc, path) {
+            Ok(mode) => {
+                let out = format!(in self.alloc; "{mode:o}")?;
+                Ok(out)
+            }
+            Err(_) => plain(self.alloc, "nothing"),
+        }
+    }
+
+    fn bytes(&self, path: &str) -> Result<String, NoMemory> {
+        match bytes_at(&self.rt, self.alloc, path) {
+            Ok(bytes) => shown(self.alloc, &bytes),
+            Err(_) => plain(self.alloc, "nothing"),
+        }
+    }
+
+    fn add(&mut self, words: &[Vec<u8>]) -> Result<String, NoMemory> {
+        match op_of(self.alloc, words)? {
+            Some(op) => {
+                self.ops.push(op)?;
+                plain(self.alloc, "planned")
+            }
+            None => plain(self.alloc, "no call"),
+        }
+    }
+
+    fn install(&mut self, plan: &Plan) -> Result<String, NoMemory> {
+        match install(self.alloc, &mut self.folder, plan) {
+            Ok(()) => plain(self.alloc, "installed"),
+            Err(InstallErr::WriteFault) => plain(self.alloc, "write fault"),
+            Err(InstallErr::NoMemory) => Err(NoMemory),
+        }
+    }
+
+    // The calls that were planned one by one, which are gone then.
+    fn make(&mut self) -> Result<String, NoMemory> {
+        let mut ops = Vec::new(self.alloc);
+        std::mem::swap(&mut self.ops, &mut ops);
+        let plan = Plan::new(ops);
+        if plan.is_empty() {
+            return plain(self.alloc, "nothing");
+        }
+        self.install(&plan)
+    }
+
+    fn planned(&mut self, words: &[Vec<u8>]) -> Result<String, NoMemory> {
+        match text(words, 0) {
+            "before" => self.holdings.before(behind(words)),
+            "after" => self.holdings.after(behind(words)),
+            "next" => self.holdings.next(),
+            "plan" => plan_shown(self.alloc, &self.holdings.plan()?),
+            "install" => {
+                let plan = self.holdings.plan()?;
+                self.install(&plan)
+            }
+            "call" => self.add(behind(words)),
+            _ => self.make(),
+        }
+    }
+}
+
+impl Subject for Real {
+    fn fresh(&mut self) -> Result<(), NoMemory> {
+        self.holdings = Holdings::new(self.alloc);
+        Ok(())
+    }
+
+    fn step(&mut self, words: &[Vec<u8>]) -> Result<String, NoMemory> {
+        let alloc = self.alloc;
+        match text(words, 0) {
+            "really-begin"
+            | "really-end"
+            | "really-link"
+            | "really-mode"
+            | "really-symlink"
+            | "really-long"
+            | "really-remove" => { done_shown(alloc, change(&self.rt, alloc, words)) }
+            "really-read" => self.bytes(text(words, 1)),
+            "mode" => self.mode(text(words, 1)),
+            "put-in" => put_in_file(&self.rt, alloc, words),
+            "puts" => puts(&self.rt, alloc, words),
+            "before" | "after" | "next" | "plan" | "install" | "call" | "make" => {
+                self.planned(words)
+            }
+            _ => folder_step(alloc, &mut self.folder, words),
+        }
+    }
+}

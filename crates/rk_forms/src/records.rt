@@ -1,0 +1,256 @@
+// Steps of the table of records, and of its spelling.
+use crate::spelling::{
+    Came, Reader, body_of, bytes_of, changed, damage_shown, each_change, each_change_sealed,
+    each_prefix, sealed, spelling_shown,
+};
+use rk_base::{Bytes, NoMemory};
+use rk_calls::Key;
+use rk_steps::{
+    Seen, Subject, answer_of, answer_shown, behind, call_of, call_shown, key_of, key_shown, number,
+    number_shown, plain, text,
+};
+use std::alloc::Global;
+use tr_codec::{CodecErr, read_back, read_db, write_db};
+use tr_record::{Record, Step, Table};
+
+/// A table, the bytes that were last written or read, and the calls and answers of its steps.
+#[derive(Drop)]
+pub(crate) struct Records {
+    alloc: Global,
+    table: Table,
+    bytes: Bytes,
+    seen: Seen,
+}
+
+/// What reads databases.
+#[derive(Drop)]
+struct Databases {
+    alloc: Global,
+}
+
+impl Reader for Databases {
+    fn came(&self, bytes: &[u8]) -> Result<Came, NoMemory> {
+        match read_db(self.alloc, bytes) {
+            Ok(table) => {
+                let again = write_db(self.alloc, &table)?;
+                Ok(if again.as_slice() == bytes {
+                    Came::Spelt
+                } else {
+                    Came::Otherwise
+                })
+            }
+            Err(CodecErr::Damaged(damage)) => Ok(Came::Damaged(damage)),
+            Err(CodecErr::NoMemory) => Err(NoMemory),
+        }
+    }
+}
+
+fn step_shown(alloc: Global, step: &Step) -> Result<String, NoMemory> {
+    let call = call_shown(alloc, &step.call)?;
+    let answer = answer_shown(alloc, &step.answer)?;
+    let text = format!(in alloc; "; {} {} -> {}", step.cost, call.as_str(), answer.as_str())?;
+    Ok(text)
+}
+
+fn record_shown(alloc: Global, record: &Record) -> Result<String, NoMemory> {
+    let key = key_shown(alloc, &record.key)?;
+    let mut text = format!(in alloc; "{} #{}", key.as_str(), record.ordinal)?;
+    'steps: for step in record.steps.as_slice() {
+        text.push_str(step_shown(alloc, &step.copy()?)?.as_str())?;
+    }
+    let exit = format!(in alloc; "; {} exit {}", record.exit_cost, record.exit)?;
+    text.push_str(exit.as_str())?;
+    Ok(text)
+}
+
+fn table_shown(alloc: Global, table: &Table) -> Result<String, NoMemory> {
+    let mut text = String::new(alloc);
+    'records: for record in table.as_slice() {
+        text.push_str(if text.is_empty() { "" } else { " | " })?;
+        text.push_str(record_shown(alloc, record)?.as_str())?;
+    }
+    if text.is_empty() {
+        text.push_str("no records")?;
+    }
+    Ok(text)
+}
+
+fn found(alloc: Global, record: Option<&Record>) -> Result<String, NoMemory> {
+    match record {
+        Some(record) => record_shown(alloc, record),
+        None => plain(alloc, "none"),
+    }
+}
+
+// How many steps there are then.
+fn add(alloc: Global, table: &mut Table, i: usize, step: Step) -> Result<String, NoMemory> {
+    if i < table.len() {
+        table.add_step(i, step)?;
+        return number_shown(alloc, table.get(i).map(|record| record.steps.len()));
+    }
+    plain(alloc, "none")
+}
+
+fn end(alloc: Global, table: &mut Table, i: usize, ended: (u8, u32)) -> Result<String, NoMemory> {
+    if i < table.len() {
+        table.end(i, ended.0, ended.1);
+        return plain(alloc, "ended");
+    }
+    plain(alloc, "none")
+}
+
+fn small(words: &[Vec<u8>], i: usize) -> u8 {
+    text(words, i).parse::<u8>().unwrap_or(0)
+}
+
+fn cost(words: &[Vec<u8>], i: usize) -> u32 {
+    text(words, i).parse::<u32>().unwrap_or(0)
+}
+
+// The step `COST CALL -> ANSWER`.
+fn step_of(alloc: Global, words: &[Vec<u8>]) -> Result<Option<Step>, NoMemory> {
+    let mut parts = behind(words).split(|word| word.as_slice() == b"->".as_slice());
+    let call = call_of(alloc, parts.next().unwrap_or(&[]))?;
+    let answer = answer_of(alloc, parts.next().unwrap_or(&[]))?;
+    match (call, answer) {
+        (Some(call), Some(answer)) => Ok(Some(Step {
+            cost: cost(words, 0),
+            call,
+            answer,
+        })),
+        _ => Ok(None),
+    }
+}
+
+impl Records {
+    pub(crate) fn new(alloc: Global) -> Result<Records, NoMemory> {
+        Ok(Records {
+            alloc,
+            table: Table::new(alloc),
+            bytes: Bytes::from_slice(alloc, b"")?,
+            seen: Seen::new(alloc),
+        })
+    }
+
+    fn begin(&mut self, words: &[Vec<u8>]) -> Result<String, NoMemory> {
+        match key_of(self.alloc, words)? {
+            Some(key) => number_shown(self.alloc, Some(self.table.begin(key)?)),
+            None => plain(self.alloc, "no key"),
+        }
+    }
+
+    fn add(&mut self, words: &[Vec<u8>]) -> Result<String, NoMemory> {
+        let Some(step) = step_of(self.alloc, behind(words))? else {
+            return plain(self.alloc, "no step");
+        };
+        if !self.seen.call(&step.call)? || !self.seen.answer(&step.answer)? {
+            return plain(self.alloc, "not apart");
+        }
+        add(
+            self.alloc,
+            &mut self.table,
+            number(words, 0) as usize,
+            step.copy()?,
+        )
+    }
+
+    fn end(&mut self, words: &[Vec<u8>]) -> Result<String, NoMemory> {
+        let ended = (small(words, 1), cost(words, 2));
+        end(
+            self.alloc,
+            &mut self.table,
+            number(words, 0) as usize,
+            ended,
+        )
+    }
+
+    fn by_key(&self, what: &str, ordinal: u64, key: &Key) -> Result<String, NoMemory> {
+        match what {
+            "count" => number_shown(self.alloc, Some(self.table.count(key))),
+            "place" => number_shown(self.alloc, self.table.place(key, ordinal)),
+            _ => found(self.alloc, self.table.find(key, ordinal)),
+        }
+    }
+
+    fn keyed(&self, words: &[Vec<u8>]) -> Result<String, NoMemory> {
+        match key_of(self.alloc, behind(behind(words)))? {
+            Some(key) => self.by_key(text(words, 0), number(words, 1), &key),
+            None => plain(self.alloc, "no key"),
+        }
+    }
+
+    fn spell(&mut self) -> Result<String, NoMemory> {
+        self.bytes = write_db(self.alloc, &self.table)?;
+        spelling_shown(self.alloc, self.bytes.as_slice())
+    }
+
+    // The table, as it is read from what it is written as.
+    fn back(&self) -> Result<String, NoMemory> {
+        match read_back(self.alloc, &self.table) {
+            Ok(table) => table_shown(self.alloc, &table),
+            Err(CodecErr::Damaged(damage)) => damage_shown(self.alloc, damage),
+            Err(CodecErr::NoMemory) => Err(NoMemory),
+        }
+    }
+
+    // The table that bytes spell is the one that steps speak of then.
+    fn read(&mut self, bytes: Vec<u8>) -> Result<String, NoMemory> {
+        self.bytes = Bytes::new(self.alloc, bytes)?;
+        match read_db(self.alloc, self.bytes.as_slice()) {
+            Ok(table) => {
+                self.table = table;
+                table_shown(self.alloc, &self.table)
+            }
+            Err(CodecErr::Damaged(damage)) => damage_shown(self.alloc, damage),
+            Err(CodecErr::NoMemory) => Err(NoMemory),
+        }
+    }
+
+    fn read_sealed(&mut self, body: &[u8]) -> Result<String, NoMemory> {
+        let bytes = sealed(self.alloc, body)?;
+        self.read(bytes)
+    }
+
+    // The bytes with the last bit of one before the digest changed, under a new digest.
+    fn read_changed(&mut self, place: u64) -> Result<String, NoMemory> {
+        let body = changed(self.alloc, body_of(self.bytes.as_slice()), place as usize)?;
+        self.read_sealed(&body)
+    }
+
+    fn all_damages(&self, words: &[Vec<u8>]) -> Result<String, NoMemory> {
+        let alloc = self.alloc;
+        let databases = Databases { alloc };
+        match text(words, 0) {
+            "each-prefix" => each_prefix(alloc, &databases, self.bytes.as_slice()),
+            "each-change" => each_change(alloc, &databases, self.bytes.as_slice()),
+            "each-change-sealed" => each_change_sealed(alloc, &databases, self.bytes.as_slice()),
+            _ => plain(alloc, "unknown step"),
+        }
+    }
+}
+
+impl Subject for Records {
+    fn fresh(&mut self) -> Result<(), NoMemory> {
+        *self = Records::new(self.alloc)?;
+        Ok(())
+    }
+
+    fn step(&mut self, words: &[Vec<u8>]) -> Result<String, NoMemory> {
+        let alloc = self.alloc;
+        match text(words, 0) {
+            "begin" => self.begin(behind(words)),
+            "step" => self.add(behind(words)),
+            "end" => self.end(behind(words)),
+            "len" => number_shown(alloc, Some(self.table.len())),
+            "get" => found(alloc, self.table.get(number(words, 1) as usize)),
+            "count" | "place" | "find" => self.keyed(words),
+            "table" => table_shown(alloc, &self.table),
+            "spell" => self.spell(),
+            "back" => self.back(),
+            "bytes" => self.read(bytes_of(alloc, behind(words))?),
+            "sealed" => self.read_sealed(&bytes_of(alloc, behind(words))?),
+            "changed" => self.read_changed(number(words, 1)),
+            _ => self.all_damages(words),
+        }
+    }
+}

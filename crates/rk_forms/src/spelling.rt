@@ -1,0 +1,191 @@
+// Bytes by hand, and what is read from them.
+use rk_base::NoMemory;
+use rk_steps::plain;
+use sha2::{Digest, Sha256};
+use std::alloc::Global;
+use tr_codec::Damage;
+
+// `#N` is a number of eight bytes, `.HEX` bytes by their digits, `$TEXT` a text behind its length, and `'TEXT` a text alone.
+fn push_part(alloc: Global, out: &mut Vec<u8>, word: &[u8]) -> Result<(), NoMemory> {
+    match word {
+        [b'#', digits @ ..] => {
+            let n = str::from_utf8(digits)
+                .unwrap_or("")
+                .parse::<u64>()
+                .unwrap_or(0);
+            out.extend_from_slice(&n.to_be_bytes())?;
+        }
+        [b'.', digits @ ..] => {
+            if let Ok(bytes) = hex::decode(alloc, digits) {
+                out.extend_from_slice(&bytes)?;
+            }
+        }
+        [b'$', text @ ..] => {
+            out.extend_from_slice(&(text.len() as u64).to_be_bytes())?;
+            out.extend_from_slice(text)?;
+        }
+        [b'\'', text @ ..] => out.extend_from_slice(text)?,
+        _ => {}
+    }
+    Ok(())
+}
+
+/// The bytes of these parts.
+pub(crate) fn bytes_of(alloc: Global, words: &[Vec<u8>]) -> Result<Vec<u8>, NoMemory> {
+    let mut out = Vec::new(alloc);
+    'words: for word in words {
+        push_part(alloc, &mut out, word.as_slice())?;
+    }
+    Ok(out)
+}
+
+/// Bytes, and their digest (FIPS 180-4).
+pub(crate) fn sealed(alloc: Global, body: &[u8]) -> Result<Vec<u8>, NoMemory> {
+    let mut out = Vec::from_slice(alloc, body)?;
+    out.extend_from_slice(&Sha256::digest(body))?;
+    Ok(out)
+}
+
+/// All but the digest.
+pub(crate) fn body_of(bytes: &[u8]) -> &[u8] {
+    bytes
+        .split_at_checked(bytes.len().saturating_sub(32))
+        .unwrap_or((b"", b""))
+        .0
+}
+
+/// Bytes, with the last bit of one of them changed.
+pub(crate) fn changed(alloc: Global, bytes: &[u8], place: usize) -> Result<Vec<u8>, NoMemory> {
+    let mut copy = Vec::from_slice(alloc, bytes)?;
+    if let Some(byte) = copy.get_mut(place) {
+        *byte ^= 1;
+    }
+    Ok(copy)
+}
+
+/// A length, and the digest at the end.
+pub(crate) fn spelling_shown(alloc: Global, bytes: &[u8]) -> Result<String, NoMemory> {
+    let (_, digest) = bytes
+        .split_at_checked(bytes.len().saturating_sub(32))
+        .unwrap_or((b"", b""));
+    let digest = hex::encode(alloc, digest)?;
+    let text = format!(in alloc; "{} {}", bytes.len(), digest.as_str())?;
+    Ok(text)
+}
+
+/// What is wrong with bytes.
+pub(crate) fn damage_shown(alloc: Global, damage: Damage) -> Result<String, NoMemory> {
+    match damage {
+        Damage::Short(len) => {
+            let text = format!(in alloc; "short {len}")?;
+            Ok(text)
+        }
+        Damage::Digest { kept, computed } => {
+            let kept = hex::encode(alloc, &kept)?;
+            let computed = hex::encode(alloc, &computed)?;
+            let text = format!(in alloc; "digest {} {}", kept.as_str(), computed.as_str())?;
+            Ok(text)
+        }
+        Damage::Form => plain(alloc, "form"),
+    }
+}
+
+/// What came of bytes that were read.
+#[derive(Clone, Copy)]
+pub(crate) enum Came {
+    /// Something that is written back so.
+    Spelt,
+    /// Something that is written otherwise.
+    Otherwise,
+    Damaged(Damage),
+}
+
+/// How often each came.
+#[derive(Drop)]
+pub(crate) struct Tally {
+    short: u64,
+    digest: u64,
+    form: u64,
+    spelt: u64,
+    otherwise: u64,
+}
+
+impl Tally {
+    pub(crate) fn new() -> Tally {
+        Tally {
+            short: 0,
+            digest: 0,
+            form: 0,
+            spelt: 0,
+            otherwise: 0,
+        }
+    }
+
+    // A length that is told but isn't this one counts as something else.
+    pub(crate) fn count(&mut self, len: usize, came: Came) {
+        let slot = match came {
+            Came::Damaged(Damage::Short(told)) if told == len as u64 => &mut self.short,
+            Came::Damaged(Damage::Digest { .. }) => &mut self.digest,
+            Came::Damaged(Damage::Form) => &mut self.form,
+            Came::Spelt => &mut self.spelt,
+            _ => &mut self.otherwise,
+        };
+        *slot = slot.saturating_add(1);
+    }
+
+    pub(crate) fn shown(&self, alloc: Global) -> Result<String, NoMemory> {
+        let text = format!(in alloc;
+            "short {}, digest {}, form {}, spelt {}, otherwise {}",
+            self.short, self.digest, self.form, self.spelt, self.otherwise
+        )?;
+        Ok(text)
+    }
+}
+
+/// What reads bytes, and writes what it has read.
+pub(crate) trait Reader {
+    fn came(&self, bytes: &[u8]) -> Result<Came, NoMemory>;
+}
+
+/// Each proper prefix, read.
+pub(crate) fn each_prefix<R: Reader>(
+    alloc: Global,
+    reader: &R,
+    bytes: &[u8],
+) -> Result<String, NoMemory> {
+    let mut tally = Tally::new();
+    'lengths: for len in 0..bytes.len() {
+        let (front, _) = bytes.split_at_checked(len).unwrap_or((b"", b""));
+        tally.count(len, reader.came(front)?);
+    }
+    tally.shown(alloc)
+}
+
+/// The bytes with one bit of each byte changed, read.
+pub(crate) fn each_change<R: Reader>(
+    alloc: Global,
+    reader: &R,
+    bytes: &[u8],
+) -> Result<String, NoMemory> {
+    let mut tally = Tally::new();
+    'places: for place in 0..bytes.len() {
+        let other = changed(alloc, bytes, place)?;
+        tally.count(other.len(), reader.came(&other)?);
+    }
+    tally.shown(alloc)
+}
+
+/// The same of all but the digest, each under a digest of its own.
+pub(crate) fn each_change_sealed<R: Reader>(
+    alloc: Global,
+    reader: &R,
+    bytes: &[u8],
+) -> Result<String, NoMemory> {
+    let mut tally = Tally::new();
+    let body = body_of(bytes);
+    'places: for place in 0..body.len() {
+        let other = sealed(alloc, &changed(alloc, body, place)?)?;
+        tally.count(other.len(), reader.came(&other)?);
+    }
+    tally.shown(alloc)
+}

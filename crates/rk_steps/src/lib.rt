@@ -1,0 +1,24 @@
+//! Files of steps, a step a line with what is wanted beside it, for the programs that carry them out: rows, words, and calls
+//! and answers as words.
+#![tactic(auto)]
+
+mod answers;
+mod calls;
+mod escapes;
+mod keys;
+mod parts;
+mod rows;
+mod seen;
+mod spelling;
+mod words;
+
+pub use answers::{answer_of, answer_shown, kind_shown, refusal_shown};
+pub use calls::{call_of, call_shown};
+pub use escapes::shown;
+pub use keys::{key_of, key_of_parts, key_shown, map_of};
+pub use parts::{
+    name_list, name_of, names_shown, path_of, var_list, vars_shown, word_list, words_shown,
+};
+pub use rows::{Subject, Told, carried_out, subject_of};
+pub use seen::Seen;
+pub use words::{behind, flag, mode, number, number_shown, plain, text, word};
