@@ -3,10 +3,12 @@
 #![tactic(auto)]
 
 mod names;
+mod tokens;
 mod tree;
 mod world;
 
 use crate::names::Names;
+use crate::tokens::Tokens;
 use crate::tree::Grown;
 use crate::world::Asked;
 use rk_base::NoMemory;
@@ -28,6 +30,7 @@ fn steps_of<S: Subject + Drop>(
 fn told_of(alloc: Global, name: &str, text: &str) -> Result<Option<Told>, NoMemory> {
     let told = match subject_of(text) {
         "names" => steps_of(alloc, name, text, Names::new(alloc))?,
+        "tokens" => steps_of(alloc, name, text, Tokens::new(alloc))?,
         "tree" => steps_of(alloc, name, text, Grown::new(alloc))?,
         "world" => steps_of(alloc, name, text, Asked::new(alloc))?,
         _ => return Ok(None),

@@ -13,6 +13,3 @@ pub use command::{
 };
 pub use parameter::Parameter;
 pub use word::{Condition, Part, Parts, Quoting, Removal, Substitute};
-
-#[cfg(test)]
-mod tests;

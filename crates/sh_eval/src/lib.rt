@@ -7,6 +7,3 @@ mod reading;
 mod shell;
 
 pub use shell::Shell;
-
-#[cfg(test)]
-mod tests;

@@ -22,6 +22,3 @@ pub use expander::{Expander, Expanding, Step};
 pub use machine::{Frame, Level, Machine, Stage, Wants};
 pub use mode::{ExpandFault, Expanded, Mode};
 pub use names::{Named, Names};
-
-#[cfg(test)]
-mod tests;

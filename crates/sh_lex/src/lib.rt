@@ -23,6 +23,3 @@ pub use sh_token::fault::{ScriptFault, Why};
 pub use sh_token::kinds::mode_of;
 pub use sh_token::place::Words;
 pub use taken::Taken;
-
-#[cfg(test)]
-mod tests;

@@ -20,6 +20,3 @@ pub use primary::{Operator, Primary, follows, holds_of};
 pub use print::printed;
 pub use verdict::{Verdict, decides};
 pub use words::{copies, first_misnamed, joined};
-
-#[cfg(test)]
-mod tests;

@@ -10,10 +10,3 @@ mod todo;
 
 pub use reader::{Read, read_text};
 pub use script::{LONGEST, ReadErr, Script, one_script_or_fault, read_script};
-
-#[cfg(test)]
-mod tests;
-#[cfg(test)]
-mod told;
-#[cfg(test)]
-mod trees;

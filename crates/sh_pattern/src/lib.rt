@@ -17,6 +17,3 @@ pub use matching::{matches, prefix, suffix};
 pub use pathnames::{add_names, put_all, without_last};
 pub use paths::PathList;
 pub use special::{has_special, unquoted};
-
-#[cfg(test)]
-mod tests;

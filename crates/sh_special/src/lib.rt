@@ -16,6 +16,3 @@ pub use invocation::{Start, copies, misused, read_options};
 pub use options::Options;
 pub use order::Order;
 pub use ordering::order_of;
-
-#[cfg(test)]
-mod tests;

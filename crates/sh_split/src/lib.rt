@@ -14,6 +14,3 @@ pub use laws::one_cutting;
 pub use mark::{Field, Kind, Mark, kind_of_mark};
 pub use marked::{captured, pattern_of, put_all, put_given, put_literal, text_of};
 pub use split::split_fields;
-
-#[cfg(test)]
-mod tests;

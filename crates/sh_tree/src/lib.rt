@@ -15,6 +15,3 @@ mod value;
 mod words;
 
 pub use building::build;
-
-#[cfg(test)]
-mod tests;

@@ -10,6 +10,3 @@ mod vars;
 pub use env::Env;
 pub use variable::Variable;
 pub use vars::{Saved, VarErr, Vars};
-
-#[cfg(test)]
-mod tests;
