@@ -8,8 +8,8 @@ use crate::output::{put, say_none};
 use crate::stop::{Said, Stop};
 use rk_base::Bytes;
 use rk_calls::Maker;
-use rk_runs::{CheckErr, check_with};
 use rk_folder::{Folder, Sink};
+use rk_runs::{CheckErr, check_with};
 use rk_show::records_text;
 use std::alloc::Global;
 

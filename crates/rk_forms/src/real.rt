@@ -88,7 +88,11 @@ fn bytes_at(rt: &HostRuntime, alloc: Global, path: &str) -> io::Result<Vec<u8>> 
     fs::read(rt, place.as_str())
 }
 
-fn narrow(rt: &HostRuntime, alloc: Global, words: &[Vec<u8>]) -> io::Result<RealSink<Narrow>> {
+fn through_narrow(
+    rt: &HostRuntime,
+    alloc: Global,
+    words: &[Vec<u8>],
+) -> io::Result<RealSink<Narrow>> {
     let place = place_of(alloc, text(words, 1))?;
     let file = File::create(rt, place.as_str())?;
     let most = number(words, 2) as usize;
@@ -118,7 +122,7 @@ fn put_in_file(rt: &HostRuntime, alloc: Global, words: &[Vec<u8>]) -> Result<Str
 }
 
 fn puts(rt: &HostRuntime, alloc: Global, words: &[Vec<u8>]) -> Result<String, NoMemory> {
-    match narrow(rt, alloc, words) {
+    match through_narrow(rt, alloc, words) {
         Ok(mut sink) => put_all(alloc, &mut sink, behind(behind(behind(behind(words))))),
         Err(_) => plain(alloc, "not done"),
     }

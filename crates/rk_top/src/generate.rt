@@ -9,10 +9,10 @@ ghost use Rattle.rk_build.specs.Kept.{IsTable, state_in};
 ghost use Rattle.rk_build.specs.Outcomes.{Counted, IsNoFault};
 ghost use Rattle.rk_build.specs.Sessions.{IsWell};
 
+use crate::commands::Commands;
 use rk_base::{Bytes, NoMemory, Path, Steps};
 use rk_build::{Outcome, build_in, table_in};
 use rk_calls::Maker;
-use crate::commands::Commands;
 use rk_database::db_file;
 use rk_folder::{MemFolder, MemSink, Sink, SinkErr, Standing};
 use rk_gen::{Figures, Start, Workload, generate, summary};

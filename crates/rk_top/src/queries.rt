@@ -5,8 +5,8 @@ ghost use Rattle.rk_words.specs.declared.requests.Request.TheVariants as request
 ghost use Rattle.rk_build.specs.Outcomes.{Counted, IsNoFault};
 ghost use Rattle.rk_top.specs.Queries.{Queried, outcome_of_answer, outcome_of_refused};
 
-use rk_build::{Outcome, StateFile};
 use crate::commands::Commands;
+use rk_build::{Outcome, StateFile};
 use rk_database::{Said, check, forget, trace};
 use rk_folder::{Folder, Sink};
 use std::alloc::Global;

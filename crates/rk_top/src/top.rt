@@ -17,11 +17,11 @@ ghost use Rattle.rk_build.specs.Run.{fresh_run};
 ghost use Rattle.rk_build.specs.Telling.{SinkState, Put};
 ghost use Rattle.rk_words.specs.Asked.{is_fresh, request_of, turns, IfBuild, IfGen, IfQuery};
 
+use crate::commands::Commands;
 use crate::generate::tell_workload;
 use crate::queries::{check_records, forget_records, show_records};
 use rk_base::Steps;
 use rk_build::{Outcome, build_in, tell};
-use crate::commands::Commands;
 use rk_folder::{Folder, Sink};
 use rk_words::{Request, RequestErr, request};
 use std::alloc::Global;
