@@ -58,14 +58,10 @@ fn give_all(vars: &mut Vars, list: &[Var]) -> Result<(), NoMemory>
     ensures ok { OnOk result (vars.new ≡ all_given list.now vars.old) }
     ensures free { OnOk result (NoneReadonly vars.new) }
 {
-    match list {
-        [] => Ok(()),
-        [var, rest @ ..] => {
-            give(vars, var)?;
-            give_all(vars, rest)?;
-            Ok(())
-        }
+    'variables: for var in list {
+        give(vars, var)?;
     }
+    Ok(())
 }
 
 // The variables of a key, IFS and PWD.

@@ -86,16 +86,12 @@ fn with_operands(alloc: Global, text: bool, words: &[Bytes]) -> Result<Start, No
 fn other_letter(letters: &[u8]) -> Option<u8>
     ensures { result ≡ other_letter letters.now }
 {
-    match letters {
-        [] => None,
-        [b, rest @ ..] => {
-            if *b == b'c' {
-                other_letter(rest)
-            } else {
-                Some(*b)
-            }
+    'letters: for b in letters {
+        if *b != b'c' {
+            return Some(*b);
         }
     }
+    None
 }
 
 /// What a word before the operands is.
@@ -142,13 +138,14 @@ fn bad_letter(alloc: Global, b: u8) -> Result<Start, NoMemory>
 pub fn read_options(alloc: Global, text: bool, words: &[Bytes]) -> Result<Start, NoMemory>
     ensures { IfOk result (λ s. start_of s ≡ options text words.now) }
 {
-    match words {
-        [] => with_operands(alloc, text, words),
-        [word, rest @ ..] => match lead_of(word.as_slice()) {
-            Leads::Operand => with_operands(alloc, text, words),
-            Leads::End => with_operands(alloc, text, rest),
-            Leads::Letters(None) => read_options(alloc, true, rest),
-            Leads::Letters(Some(b)) => bad_letter(alloc, b),
-        },
+    let mut text = text;
+    'words: for at in 0..words.len() {
+        match lead_of(words[at].as_slice()) {
+            Leads::Operand => return with_operands(alloc, text, words.split_at(at).1),
+            Leads::End => return with_operands(alloc, text, words.split_at(at + 1).1),
+            Leads::Letters(None) => text = true,
+            Leads::Letters(Some(b)) => return bad_letter(alloc, b),
+        }
     }
+    with_operands(alloc, text, words.split_at(words.len()).1)
 }
