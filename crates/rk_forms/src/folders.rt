@@ -1,4 +1,6 @@
 // Steps that any folder takes, and a folder and a sink in memory.
+ghost use Rattle.rk_tree.specs.Entries.{IsWholeSnapshot};
+
 use crate::attrs::{attrs_shown, row_of};
 use rk_base::{Bytes, NoMemory, Path};
 use rk_folder::{
@@ -228,7 +230,9 @@ fn set_shown(alloc: Global, is_set: bool) -> Result<String, NoMemory> {
 }
 
 // The tree of what was imported, with rows.
-fn tree_step(alloc: Global, found: Imported, attrs: &Attrs) -> Result<Tree, NoMemory> {
+fn tree_step(alloc: Global, found: Imported, attrs: &Attrs) -> Result<Tree, NoMemory>
+    requires { IsWholeSnapshot found.entries }
+{
     tree_of(alloc, found.entries, attrs)
 }
 

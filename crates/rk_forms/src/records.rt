@@ -139,19 +139,26 @@ impl Records {
         }
     }
 
-    fn add(&mut self, words: &[Vec<u8>]) -> Result<String, NoMemory> {
-        let Some(step) = step_of(self.alloc, behind(words))? else {
-            return plain(self.alloc, "no step");
-        };
-        if !self.seen.call(&step.call)? || !self.seen.answer(&step.answer)? {
-            return plain(self.alloc, "not apart");
+    // Whether call and answer are their own copies, and no others before.
+    fn is_apart(&mut self, step: &Step) -> Result<bool, NoMemory> {
+        let call = self.seen.call(&step.call)?;
+        let answer = self.seen.answer(&step.answer)?;
+        Ok(call && answer)
+    }
+
+    fn add_copy(&mut self, place: usize, step: &Step) -> Result<String, NoMemory> {
+        if self.is_apart(step)? {
+            let copy = step.copy()?;
+            return add(self.alloc, &mut self.table, place, copy);
         }
-        add(
-            self.alloc,
-            &mut self.table,
-            number(words, 0) as usize,
-            step.copy()?,
-        )
+        plain(self.alloc, "not apart")
+    }
+
+    fn add(&mut self, words: &[Vec<u8>]) -> Result<String, NoMemory> {
+        match step_of(self.alloc, behind(words))? {
+            Some(step) => self.add_copy(number(words, 0) as usize, &step),
+            None => plain(self.alloc, "no step"),
+        }
     }
 
     fn end(&mut self, words: &[Vec<u8>]) -> Result<String, NoMemory> {
