@@ -9,10 +9,10 @@ use Rattle.rk_folder.specs.Sinks.{with_bytes}
 use Rattle.rk_folder.specs.Import.{snapshot_of}
 use Rattle.rk_folder.specs.Attributes.{with_rows}
 use Rattle.rk_folder.specs.Specials.{first_special}
-use Rattle.rk_install.specs.Changes.{MayRun, Partly, after_all}
-use Rattle.rk_install.specs.declared.ops.Op.{Op}
-use Rattle.rk_install.specs.declared.installation.InstallErr.{InstallErr}
-use Rattle.rk_install.specs.declared.installation.InstallErr.TheVariants as install
+use Rattle.rk_build.specs.Changes.{MayRun, Partly, after_all}
+use Rattle.rk_build.specs.declared.ops.Op.{Op}
+use Rattle.rk_build.specs.declared.installation.InstallErr.{InstallErr}
+use Rattle.rk_build.specs.declared.installation.InstallErr.TheVariants as install
 use Rattle.rk_kernel.specs.World.{World}
 use Rattle.rk_replay.specs.declared.ran.Ran.{Ran}
 use Rattle.rk_runs.specs.Run.{Outcome as Run}

@@ -1,8 +1,8 @@
 -- What a build finds in a folder.
 use Rattle.std.proofs.Common.{◌≡◌, Bool, Option, Some, None, Ok, Err, ap, subst}
 use Rattle.rk_folder.specs.Told.{Held}
-use Rattle.rk_install.specs.Imported.{holding_of}
-use Rattle.rk_install.specs.declared.holding.Holding.{Holding}
+use Rattle.rk_build.specs.Imported.{holding_of}
+use Rattle.rk_build.specs.declared.holding.Holding.{Holding}
 use Rattle.rk_words.specs.declared.requests.Request.{Request}
 use Rattle.rk_words.specs.Asked.{is_fresh}
 use Rattle.rk_build.specs.Kept.{IsKept, ReadsState, state_in, decoded}

@@ -23,11 +23,11 @@ use Rattle.rk_folder.specs.Specials.{first_special, is_fault, is_hidden_fault, i
 use Rattle.rk_folder.specs.Whole.{IsWhole}
 use Rattle.rk_folder.specs.declared.folder.Standing.TheVariants.{File}
 use Rattle.rk_folder.proofs.FirstLemmas.{first_special-is}
-use Rattle.rk_install.specs.Attributes.{attrs_of}
-use Rattle.rk_install.specs.Holdings.{IsAfter, dir_where, placed, hidden_dir, attrs_file, db_file}
-use Rattle.rk_install.specs.declared.holding.Holding.{Holding}
-use Rattle.rk_install.proofs.AttributesLemmas.{attrs_are, built-held}
-use Rattle.rk_install.proofs.SeenLemmas.{odd-within}
+use Rattle.rk_build.specs.Attributes.{attrs_of}
+use Rattle.rk_build.specs.Holdings.{IsAfter, dir_where, placed, hidden_dir, attrs_file, db_file}
+use Rattle.rk_build.specs.declared.holding.Holding.{Holding}
+use Rattle.rk_build.proofs.AttributesLemmas.{attrs_are, built-held}
+use Rattle.rk_build.proofs.SeenLemmas.{odd-within}
 use Rattle.rk_build.specs.Fresh.{AreInMemory, IsInMemory, attrs_bytes, held_after}
 use Rattle.rk_build.specs.Kept.{AreRows, IsTable, state_in}
 use Rattle.rk_build.specs.Outcomes.{IsNext}

@@ -1,3 +1,15 @@
+pub mod AttributesLemmas
+pub mod HiddenLemmas
+pub mod OrderLemmas
+pub mod SeenLemmas
+pub mod ImportedLemmas
+pub mod ReachLemmas
+pub mod AllowLemmas
+pub mod EffectLemmas
+pub mod PhaseLemmas
+pub mod StateLemmas
+pub mod PlannedLemmas
+pub mod NeededLemmas
 pub mod BuildLemmas
 pub mod BuiltLemmas
 pub mod CheckLemmas

@@ -7,13 +7,13 @@ use Rattle.rk_folder.specs.Told.{Held}
 use Rattle.rk_folder.specs.Whole.{TellsWhole}
 use Rattle.rk_folder.specs.Attributes.{with_rows}
 use Rattle.rk_folder.specs.Import.{snapshot_of}
-use Rattle.rk_install.specs.Changes.{after_all}
-use Rattle.rk_install.specs.Holdings.{IsAfter, IsBuilt, MayBecome}
-use Rattle.rk_install.specs.Imported.{holding_of}
-use Rattle.rk_install.specs.Planned.{planned, AreAllowed, LeadTo}
-use Rattle.rk_install.specs.declared.holding.Holding.{Holding}
-use Rattle.rk_install.specs.declared.ops.Op.{Op}
-use Rattle.rk_install.proofs.ImportedLemmas.{may_become-imported}
+use Rattle.rk_build.specs.Changes.{after_all}
+use Rattle.rk_build.specs.Holdings.{IsAfter, IsBuilt, MayBecome}
+use Rattle.rk_build.specs.Imported.{holding_of}
+use Rattle.rk_build.specs.Planned.{planned, AreAllowed, LeadTo}
+use Rattle.rk_build.specs.declared.holding.Holding.{Holding}
+use Rattle.rk_build.specs.declared.ops.Op.{Op}
+use Rattle.rk_build.proofs.ImportedLemmas.{may_become-imported}
 use Rattle.rk_runs.specs.Following.{never-wrong}
 use Rattle.tr_record.specs.Rec.{rec_at}
 use Rattle.tr_record.specs.declared.records.Record.{Record}

@@ -1,3 +1,8 @@
+pub mod Attributes
+pub mod Changes
+pub mod Holdings
+pub mod Imported
+pub mod Planned
 pub mod Checks
 pub mod Explained
 pub mod Fresh

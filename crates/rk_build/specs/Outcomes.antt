@@ -7,12 +7,12 @@ use Rattle.rk_runs.specs.Started.{started}
 use Rattle.rk_folder.specs.Told.{Held}
 use Rattle.rk_folder.specs.Counts.{Rose}
 use Rattle.rk_folder.specs.Sinks.{with_bytes}
-use Rattle.rk_install.specs.Changes.{Partly}
-use Rattle.rk_install.specs.Holdings.{IsAfter}
-use Rattle.rk_install.specs.Imported.{holding_of}
-use Rattle.rk_install.specs.Planned.{planned}
-use Rattle.rk_install.specs.declared.installation.InstallErr.{InstallErr}
-use Rattle.rk_install.specs.declared.installation.InstallErr.TheVariants as install
+use Rattle.rk_build.specs.Changes.{Partly}
+use Rattle.rk_build.specs.Holdings.{IsAfter}
+use Rattle.rk_build.specs.Imported.{holding_of}
+use Rattle.rk_build.specs.Planned.{planned}
+use Rattle.rk_build.specs.declared.installation.InstallErr.{InstallErr}
+use Rattle.rk_build.specs.declared.installation.InstallErr.TheVariants as install
 use Rattle.tr_codec.specs.Fits.{Fits}
 use Rattle.tr_codec.specs.declared.fault.Damage.{Damage}
 use Rattle.tr_record.specs.declared.records.Record.{Record}

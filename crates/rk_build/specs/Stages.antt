@@ -9,13 +9,13 @@ use Rattle.rk_folder.specs.Attributes.{with_rows}
 use Rattle.rk_folder.specs.Specials.{first_special}
 use Rattle.rk_folder.specs.declared.importing.ImportErr.{ImportErr}
 use Rattle.rk_folder.specs.declared.importing.ImportErr.TheVariants as import
-use Rattle.rk_install.specs.Changes.{AllowsAll, Partly, after_all}
-use Rattle.rk_install.specs.Holdings.{IsAfter}
-use Rattle.rk_install.specs.Imported.{holding_of}
-use Rattle.rk_install.specs.Planned.{planned}
-use Rattle.rk_install.specs.declared.holding.Holding.{Holding}
-use Rattle.rk_install.specs.declared.ops.Op.{Op}
-use Rattle.rk_install.specs.declared.installation.InstallErr.TheVariants as install
+use Rattle.rk_build.specs.Changes.{AllowsAll, Partly, after_all}
+use Rattle.rk_build.specs.Holdings.{IsAfter}
+use Rattle.rk_build.specs.Imported.{holding_of}
+use Rattle.rk_build.specs.Planned.{planned}
+use Rattle.rk_build.specs.declared.holding.Holding.{Holding}
+use Rattle.rk_build.specs.declared.ops.Op.{Op}
+use Rattle.rk_build.specs.declared.installation.InstallErr.TheVariants as install
 use Rattle.tr_codec.specs.Fits.{Fits}
 use Rattle.tr_codec.specs.declared.rows.AttrRow.{AttrRow}
 use Rattle.tr_record.specs.declared.records.Record.{Record}

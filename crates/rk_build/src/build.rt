@@ -1,19 +1,20 @@
 // The build, once the words are read.
 ghost use Rattle.std.specs.Prelude.{◌≡◌, ◌<◌, ◌≤◌, Ok, length, IfOk, true};
-ghost use Rattle.rk_install.specs.Changes.{MayRun};
+ghost use Rattle.rk_build.specs.Changes.{MayRun};
 ghost use Rattle.rk_words.specs.Asked.{turns};
 ghost use Rattle.rk_build.specs.Outcomes.{Checked, outcome_of, Leaves, HasStatus, Tallies, Gains, GainsErrors, ErrorsCounted, Counted, Ticked};
 ghost use Rattle.rk_build.specs.Stages.{StartsSo, InstallsSo, WritesCounted, MemoryRose, Steadily};
 ghost use Rattle.rk_build.specs.Fresh.{output_of};
 ghost use Rattle.rk_build.specs.Texts.{IsNoFault};
 
+use crate::installation::{InstallErr, install};
+use crate::ops::Plan;
 use crate::prepare::{Prepared, prepare};
 use crate::stop::Stop;
 use crate::texts::put_texts;
 use rk_base::Steps;
 use rk_calls::Maker;
 use rk_folder::{Folder, Sink};
-use rk_install::{InstallErr, Plan, install};
 use rk_replay::RanList;
 use rk_words::Request;
 use std::alloc::Global;

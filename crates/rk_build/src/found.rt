@@ -3,12 +3,12 @@ ghost use Rattle.std.specs.Prelude.{◌≡◌, IfOk, OnOk};
 ghost use Rattle.rk_tree.specs.Entries.{IsWholeSnapshot};
 ghost use Rattle.rk_build.specs.Stages.{FindsSo, ReadsCounted, Steadily};
 
+use crate::holding::Holding;
 use crate::kept::{KeptState, kept};
 use crate::look::look;
 use crate::options::is_fresh;
 use crate::stop::Stop;
 use rk_folder::Folder;
-use rk_install::Holding;
 use rk_words::Request;
 use std::alloc::Global;
 use tr_codec::Attrs;

@@ -3,9 +3,9 @@ ghost use Rattle.std.specs.Prelude.{◌≡◌, IfOk, OnOk};
 ghost use Rattle.rk_tree.specs.Entries.{IsWholeSnapshot};
 ghost use Rattle.rk_build.specs.Stages.{LooksSo, ReadsCounted, Steadily, stop_of};
 
+use crate::holding::Holding;
 use crate::stop::{Refusal, Stop};
 use rk_folder::{Folder, Hidden, ImportErr, Imported, import};
-use rk_install::Holding;
 use std::alloc::Global;
 
 fn stop_of(e: ImportErr) -> Stop

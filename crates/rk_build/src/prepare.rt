@@ -1,8 +1,8 @@
 // What is to be done once the script has run.
 ghost use Rattle.std.specs.Prelude.{◌≡◌, ◌<◌, ◌≤◌, ◌^◌, IfOk, OnOk, length};
 ghost use Rattle.rk_tree.specs.Entries.{IsWholeSnapshot};
-ghost use Rattle.rk_install.specs.Attributes.{attrs_of};
-ghost use Rattle.rk_install.specs.Holdings.{IsBuilt};
+ghost use Rattle.rk_build.specs.Attributes.{attrs_of};
+ghost use Rattle.rk_build.specs.Holdings.{IsBuilt};
 ghost use Rattle.std.specs.List.{AllByRecursion};
 ghost use Rattle.tr_codec.specs.Fits.{Fits};
 ghost use Rattle.tr_codec.specs.Sound.{IsSound};
@@ -10,15 +10,18 @@ ghost use Rattle.rk_words.specs.Asked.{turns};
 ghost use Rattle.rk_build.specs.Stages.{StartsSo, PreparesSo, ReadsCounted, Steadily};
 ghost use Rattle.rk_build.specs.Fresh.{IsInMemory, attrs_bytes, held_after};
 
+use crate::attributes::attrs_of;
 use crate::checked::check_old;
 use crate::explain::error_text;
 use crate::found::{Found, find};
+use crate::holding::Holding;
+use crate::ops::Plan;
+use crate::planning::plan;
 use crate::run::{Finished, run};
 use crate::stop::Stop;
 use rk_base::{Bytes, NoMemory, Steps};
 use rk_calls::Maker;
 use rk_folder::{Folder, State};
-use rk_install::{Holding, Plan, attrs_of, plan};
 use rk_tree::Snapshot;
 use rk_words::Request;
 use std::alloc::Global;

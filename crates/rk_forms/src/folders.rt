@@ -3,11 +3,11 @@ ghost use Rattle.rk_tree.specs.Entries.{IsWholeSnapshot};
 
 use crate::attrs::{attrs_shown, row_of};
 use rk_base::{Bytes, NoMemory, Path};
+use rk_build::attrs_of;
 use rk_folder::{
     Change, Folder, FolderErr, Got, ImportErr, Imported, Item, MemFolder, MemSink, Sink, SinkErr,
     Standing, State, import, state, tree_of,
 };
-use rk_install::attrs_of;
 use rk_steps::{
     Subject, behind, kind_shown, number, number_shown, path_of, plain, shown, text, word,
 };

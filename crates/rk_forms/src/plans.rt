@@ -1,7 +1,7 @@
 // Plans between what a folder holds before and after.
 use rk_base::{Bytes, NoMemory};
+use rk_build::{Holding, Op, Plan, plan};
 use rk_folder::State;
-use rk_install::{Holding, Op, Plan, plan};
 use rk_steps::{path_of, plain, shown, text, word};
 use rk_tree::{Entry, Snapshot};
 use std::alloc::Global;

@@ -3,8 +3,8 @@
 use crate::folders::{folder_step, put_shown};
 use crate::plans::{Holdings, op_of, plan_shown};
 use rk_base::NoMemory;
+use rk_build::{InstallErr, Op, Plan, install};
 use rk_folder::{RealFolder, RealSink, Sink};
-use rk_install::{InstallErr, Op, Plan, install};
 use rk_steps::{Subject, behind, mode, number, plain, shown, text};
 use std::alloc::Global;
 use std::fs::{File, Permissions};

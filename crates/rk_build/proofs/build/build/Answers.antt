@@ -1,6 +1,6 @@
 use Rattle.std.proofs.Common.{◌∙◌, ap, option_map}
 use Rattle.std.proofs.lemmas.Result.{err_from_is_err_and}
-use Rattle.rk_install.specs.Changes.{after_all}
+use Rattle.rk_build.specs.Changes.{after_all}
 use Rattle.rk_build.specs.Fresh.{output_of, error_text_of}
 use Rattle.rk_build.proofs.BuildLemmas.{put-gains, put-gains-errors, install-leaves-now, install-gains, install-gains-errors, end-gains, end-gains-errors, end-leaves, end-status, end-checked, end-tally, text-told, output-told, error_text-told}
 use Rattle.rk_build.proofs.build.build.Goals as goal

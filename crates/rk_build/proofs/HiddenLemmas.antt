@@ -1,0 +1,70 @@
+-- The texts of the hidden directory and of its state files.
+use Rattle.std.proofs.Common.{◌≡◌, [], ◌∷◌, true, false, refl}
+use Rattle.std.specs.Ordering.{eq_by_cmp}
+use Rattle.std.specs.Str.{is_utf8, chars}
+use lib.Utf8.{encode}
+use Rattle.rk_base.specs.Text.{text_cmp, root, parent, join, is_within}
+use Rattle.rk_base.specs.Canonical.{is_name, is_canonical}
+use Rattle.rk_build.specs.Holdings.{hidden_dir, attrs_file, db_file}
+
+pub hidden_text-canonical : is_canonical (47 ∷ 46 ∷ 114 ∷ 107 ∷ 114 ∷ []) ≡ true
+unfolding is_canonical is_name is_utf8 chars encode
+hidden_text-canonical = refl
+
+pub attrs_text-canonical : is_canonical (47 ∷ 46 ∷ 114 ∷ 107 ∷ 114 ∷ 47 ∷ 97 ∷ 116 ∷ 116 ∷ 114 ∷ 115 ∷ []) ≡ true
+unfolding is_canonical is_name is_utf8 chars encode
+attrs_text-canonical = refl
+
+pub db_text-canonical : is_canonical (47 ∷ 46 ∷ 114 ∷ 107 ∷ 114 ∷ 47 ∷ 100 ∷ 98 ∷ []) ≡ true
+unfolding is_canonical is_name is_utf8 chars encode
+db_text-canonical = refl
+
+pub hidden_parent : parent hidden_dir ≡ root
+unfolding parent join
+hidden_parent = refl
+
+pub attrs_parent : parent attrs_file ≡ hidden_dir
+unfolding parent join
+attrs_parent = refl
+
+pub db_parent : parent db_file ≡ hidden_dir
+unfolding parent join
+db_parent = refl
+
+-- the three are apart, and are hidden
+
+pub dir_not_attrs : eq_by_cmp text_cmp hidden_dir attrs_file ≡ false
+unfolding join
+dir_not_attrs = refl
+
+pub dir_not_db : eq_by_cmp text_cmp hidden_dir db_file ≡ false
+unfolding join
+dir_not_db = refl
+
+pub attrs_not_dir : eq_by_cmp text_cmp attrs_file hidden_dir ≡ false
+unfolding join
+attrs_not_dir = refl
+
+pub attrs_not_db : eq_by_cmp text_cmp attrs_file db_file ≡ false
+unfolding join
+attrs_not_db = refl
+
+pub db_not_dir : eq_by_cmp text_cmp db_file hidden_dir ≡ false
+unfolding join
+db_not_dir = refl
+
+pub db_not_attrs : eq_by_cmp text_cmp db_file attrs_file ≡ false
+unfolding join
+db_not_attrs = refl
+
+pub dir_hidden : is_within hidden_dir hidden_dir ≡ true
+unfolding is_within join
+dir_hidden = refl
+
+pub attrs_hidden : is_within hidden_dir attrs_file ≡ true
+unfolding is_within join
+attrs_hidden = refl
+
+pub db_hidden : is_within hidden_dir db_file ≡ true
+unfolding is_within join
+db_hidden = refl

@@ -1,0 +1,278 @@
+// The plan that leads from what a folder holds to what it is to hold.
+ghost use Rattle.std.specs.Prelude.{◌≡◌, [], true, ◌++◌, IfOk, OnOk, reverse, option_copied};
+ghost use Rattle.std.specs.List.{filter_map};
+ghost use Rattle.std.specs.FinMap.{entries};
+ghost use Rattle.rk_base.specs.Canonical.{is_canonical};
+ghost use Rattle.rk_folder.specs.Told.{is_file, is_dir};
+ghost use Rattle.rk_build.specs.Holdings.{placed, hidden_dir, attrs_file, db_file, Agree};
+ghost use Rattle.rk_build.specs.Planned.{removal, making, writing, removal_of, making_of, writing_of, hidden_making, attrs_calls, db_calls, planned, is_file_of, is_bytes, state_writing, AreAllowed, LeadTo, AreNeeded};
+
+use crate::{Holding, Op, Plan};
+use rk_base::{Bytes, NoMemory, Path, PathFault};
+use rk_tree::{Entry, Node, Snapshot};
+use std::alloc::Global;
+
+fn is_file(it: Option<&Node>) -> bool
+    ensures { result ≡ is_file (placed (option_copied it.entry)) }
+{
+    match it {
+        Some(it) => match it.entry() {
+            Entry::File(_, _) => true,
+            Entry::Dir(_) => false,
+            Entry::Link(_) => false,
+        },
+        None => false,
+    }
+}
+
+fn is_dir(it: Option<&Node>) -> bool
+    ensures { result ≡ is_dir (placed (option_copied it.entry)) }
+{
+    match it {
+        Some(it) => match it.entry() {
+            Entry::File(_, _) => false,
+            Entry::Dir(_) => true,
+            Entry::Link(_) => false,
+        },
+        None => false,
+    }
+}
+
+fn is_file_of(bytes: &Bytes, it: Option<&Node>) -> bool
+    ensures { result ≡ is_file_of bytes.now (placed (option_copied it.entry)) }
+{
+    match it {
+        Some(it) => match it.entry() {
+            Entry::File(_, old) => old.same(bytes),
+            Entry::Dir(_) => false,
+            Entry::Link(_) => false,
+        },
+        None => false,
+    }
+}
+
+// The call that takes away what stood at a path, where nothing of its kind stands there afterwards.
+fn removal(path: &Path, it: &Node, after: Option<&Node>) -> Result<Option<Op>, NoMemory>
+    ensures { IfOk result (λ op. op ≡ removal path.now it.now (placed (option_copied after.entry))) }
+{
+    match it.entry() {
+        Entry::File(_, _) => {
+            if is_file(after) {
+                return Ok(None);
+            }
+            Ok(Some(Op::RemoveFile(path.copy()?)))
+        }
+        Entry::Dir(_) => {
+            if is_dir(after) {
+                return Ok(None);
+            }
+            Ok(Some(Op::RemoveDir(path.copy()?)))
+        }
+        Entry::Link(_) => Ok(None),
+    }
+}
+
+// The call that makes a directory, where none stood before.
+fn making(path: &Path, it: &Node, before: Option<&Node>) -> Result<Option<Op>, NoMemory>
+    ensures { IfOk result (λ op. op ≡ making path.now it.now (placed (option_copied before.entry))) }
+{
+    match it.entry() {
+        Entry::File(_, _) => Ok(None),
+        Entry::Dir(_) => {
+            if is_dir(before) {
+                return Ok(None);
+            }
+            Ok(Some(Op::MakeDir(path.copy()?)))
+        }
+        Entry::Link(_) => Ok(None),
+    }
+}
+
+// The call that writes a file, where none of its bytes stood before.
+fn writing(path: &Path, it: &Node, before: Option<&Node>) -> Result<Option<Op>, NoMemory>
+    ensures { IfOk result (λ op. op ≡ writing path.now it.now (placed (option_copied before.entry))) }
+{
+    match it.entry() {
+        Entry::File(_, bytes) => {
+            if is_file_of(bytes, before) {
+                return Ok(None);
+            }
+            let path = path.copy()?;
+            Ok(Some(Op::Write(path, bytes.copy()?)))
+        }
+        Entry::Dir(_) => Ok(None),
+        Entry::Link(_) => Ok(None),
+    }
+}
+
+// Removals, descending by path.
+fn removals(alloc: Global, before: &Snapshot, after: &Snapshot) -> Result<Vec<Op>, NoMemory>
+    ensures { IfOk result (λ ops. ops.items ≡ reverse (filter_map (removal_of after.now) (entries before.now))) }
+{
+    let mut ops = Vec::new(alloc);
+    for (path, it) in before.rows() {
+        if let Some(op) = removal(path, it, after.get(path))? {
+            ops.push(op)?;
+        }
+    }
+    ops.reverse();
+    Ok(ops)
+}
+
+// Directories made, ascending by path.
+fn add_makings(ops: &mut Vec<Op>, before: &Snapshot, after: &Snapshot) -> Result<(), NoMemory>
+    ensures { OnOk result (ops.new.items ≡ ops.old.items ++ filter_map (making_of before.now) (entries after.now)) }
+{
+    for (path, it) in after.rows() {
+        if let Some(op) = making(path, it, before.get(path))? {
+            ops.push(op)?;
+        }
+    }
+    Ok(())
+}
+
+// Files written, ascending by path.
+fn add_writings(ops: &mut Vec<Op>, before: &Snapshot, after: &Snapshot) -> Result<(), NoMemory>
+    ensures { OnOk result (ops.new.items ≡ ops.old.items ++ filter_map (writing_of before.now) (entries after.now)) }
+{
+    for (path, it) in after.rows() {
+        if let Some(op) = writing(path, it, before.get(path))? {
+            ops.push(op)?;
+        }
+    }
+    Ok(())
+}
+
+// The path of a canonical text.
+fn path_of(alloc: Global, text: &[u8]) -> Result<Path, NoMemory>
+    requires { is_canonical text.now ≡ true }
+    ensures { IfOk result (λ path. path ≡ text.now) }
+{
+    match Path::parse(alloc, text) {
+        Ok(path) => Ok(path),
+        Err(PathFault::NoMemory) => Err(NoMemory),
+        Err(PathFault::Invalid) => unreachable!(),
+    }
+}
+
+#[tactic(auto, unfolding(rk_base::specs::Text::join))]
+fn hidden_dir(alloc: Global) -> Result<Path, NoMemory>
+    ensures { IfOk result (λ path. path ≡ hidden_dir) }
+{
+    path_of(alloc, b"/.rkr")
+}
+
+#[tactic(auto, unfolding(rk_base::specs::Text::join))]
+fn attrs_file(alloc: Global) -> Result<Path, NoMemory>
+    ensures { IfOk result (λ path. path ≡ attrs_file) }
+{
+    path_of(alloc, b"/.rkr/attrs")
+}
+
+#[tactic(auto, unfolding(rk_base::specs::Text::join))]
+fn db_file(alloc: Global) -> Result<Path, NoMemory>
+    ensures { IfOk result (λ path. path ≡ db_file) }
+{
+    path_of(alloc, b"/.rkr/db")
+}
+
+fn is_bytes(bytes: &Bytes, before: &Option<Bytes>) -> bool
+    ensures { result ≡ is_bytes bytes.now before.now }
+{
+    match before {
+        Some(old) => old.same(bytes),
+        None => false,
+    }
+}
+
+// The directory `.rkr`, where it doesn't stand.
+fn add_hidden_making(
+    alloc: Global,
+    ops: &mut Vec<Op>,
+    before: bool,
+    after: bool,
+) -> Result<(), NoMemory>
+    ensures { OnOk result (ops.new.items ≡ ops.old.items ++ hidden_making before after) }
+{
+    if after && !before {
+        ops.push(Op::MakeDir(hidden_dir(alloc)?))?;
+    }
+    Ok(())
+}
+
+// A state file, where it had other bytes.
+fn add_state_writing(
+    ops: &mut Vec<Op>,
+    path: Path,
+    before: &Option<Bytes>,
+    bytes: &Bytes,
+) -> Result<(), NoMemory>
+    ensures { OnOk result (ops.new.items ≡ ops.old.items ++ state_writing path before.now bytes.now) }
+{
+    if !is_bytes(bytes, before) {
+        ops.push(Op::Write(path, bytes.copy()?))?;
+    }
+    Ok(())
+}
+
+// attrs written or removed.
+fn add_attrs_calls(
+    alloc: Global,
+    ops: &mut Vec<Op>,
+    before: &Option<Bytes>,
+    after: &Option<Bytes>,
+) -> Result<(), NoMemory>
+    ensures { OnOk result (ops.new.items ≡ ops.old.items ++ attrs_calls before.now after.now) }
+{
+    let path = attrs_file(alloc)?;
+    match (before, after) {
+        (_, Some(bytes)) => add_state_writing(ops, path, before, bytes),
+        (Some(_), None) => {
+            ops.push(Op::RemoveFile(path))?;
+            Ok(())
+        }
+        (None, None) => Ok(()),
+    }
+}
+
+// db written.
+fn add_db_calls(
+    alloc: Global,
+    ops: &mut Vec<Op>,
+    before: &Option<Bytes>,
+    after: &Option<Bytes>,
+) -> Result<(), NoMemory>
+    ensures { OnOk result (ops.new.items ≡ ops.old.items ++ db_calls before.now after.now) }
+{
+    if let Some(bytes) = after {
+        let path = db_file(alloc)?;
+        add_state_writing(ops, path, before, bytes)?;
+    }
+    Ok(())
+}
+
+fn planned(alloc: Global, before: &Holding, after: &Holding) -> Result<Vec<Op>, NoMemory>
+    ensures { IfOk result (λ ops. ops.items ≡ planned before.now after.now) }
+{
+    let mut ops = removals(alloc, &before.entries, &after.entries)?;
+    add_makings(&mut ops, &before.entries, &after.entries)?;
+    add_writings(&mut ops, &before.entries, &after.entries)?;
+    add_hidden_making(alloc, &mut ops, before.rkr, after.rkr)?;
+    add_attrs_calls(alloc, &mut ops, &before.state.attrs, &after.state.attrs)?;
+    add_db_calls(alloc, &mut ops, &before.state.db, &after.state.db)?;
+    Ok(ops)
+}
+
+/// The calls that lead from what a folder holds to what it is to hold: only what differs, removals first,
+/// descending by path, then directories made and files written, ascending, the directory `.rkr`, attrs written
+/// or removed, and db written.
+pub fn plan(alloc: Global, before: &Holding, after: &Holding) -> Result<Plan, NoMemory>
+    ensures planned { IfOk result (λ plan. plan ≡ planned before.now after.now) }
+    ensures allowed { IfOk result (λ plan. AreAllowed plan before.now after.now) }
+    ensures leads { IfOk result (λ plan. LeadTo plan before.now after.now) }
+    ensures needed { IfOk result (λ plan. AreNeeded plan before.now after.now) }
+    ensures nothing { Agree before.now after.now → IfOk result (λ plan. plan ≡ []) }
+{
+    let ops = planned(alloc, before, after)?;
+    Ok(Plan::new(ops))
+}
