@@ -30,7 +30,7 @@ use Rattle.sh_means.specs.declared.flow.Place.{Place}
 use Rattle.sh_means.specs.Eval.{word_in}
 use Rattle.sh_means.specs.Flows.{Next, Go_on}
 use Rattle.sh_means.specs.Run.{run}
-use Rattle.sh_means.specs.Simple.{works, is_plain, keeps, unless_kept, for_its_time}
+use Rattle.sh_means.specs.Simple.{works, is_plain, exports, keeps, unless_kept, for_its_time}
 use Rattle.sh_means.specs.Stack.{Goes, aimed, fielding, then_means, making, redirects_from, when_made, when_refused, made_go, assigning, assigns_from, kind_of_code, surrounded, resumed}
 use Rattle.sh_means.specs.State.{Shell}
 use Rattle.sh_means.specs.Words.{WordMeant, RedirectMeant, AssignMeant, expand_word, expand_words, redirect_all, assign_all, names, redirect_kind}
@@ -81,12 +81,13 @@ pub redirects_over : (m : Making) (pl : Place) (k : Next) (e : Shell) (rs : Redi
 redirects_over m pl k e rs p hs is =
     ap (λ (ms : List RedirectMeant). redirect_all ms m.ran pl (when_made m pl k) (when_refused m pl k) k e p) (redirects_none (tree.redirects m.redirects.value) m.at (subst (λ (rs : Redirects). None ≡ redirect_at (tree.redirects rs) m.at) hs is))
 
-pub made_done : (as' : Rc Assignments Global) (doing : Doing) (ds : List ℕ) (before : Descriptors) (ran : Bool) (pl : Place) (k0 k1 k2 k3 : Next) (e : Shell) (exported : Bool) (p : ℕ) → exported ≡ is_plain (kind_of_code doing.kind) → k1 ≡ surrounded (around.Watch pl) k0 → k2 ≡ unless_kept (keeps (kind_of_code doing.kind)) ds before k1 → k3 ≡ for_its_time exported (names (assigns_from as'.value 0)) e.env.vars k2 → made_go (made.Simple as' doing) ds before pl k0 ran e p ≡ assigning (record { assignments = as'; at = 0; exported = exported; ran = ran; doing = doing }) ran pl k3 e p
-made_done as' doing ds before ran pl k0 k1 k2 k3 e exported p hx h1 h2 h3 =
+pub made_done : (as' : Rc Assignments Global) (doing : Doing) (ds : List ℕ) (before : Descriptors) (ran : Bool) (pl : Place) (k0 k1 k2 k3 : Next) (e : Shell) (plain exported : Bool) (p : ℕ) → plain ≡ is_plain (kind_of_code doing.kind) → exported ≡ exports (kind_of_code doing.kind) → k1 ≡ surrounded (around.Watch pl) k0 → k2 ≡ unless_kept (keeps (kind_of_code doing.kind)) ds before k1 → k3 ≡ for_its_time plain (names (assigns_from as'.value 0)) e.env.vars k2 → made_go (made.Simple as' doing) ds before pl k0 ran e p ≡ assigning (record { assignments = as'; at = 0; exported = exported; ran = ran; doing = doing }) ran pl k3 e p
+made_done as' doing ds before ran pl k0 k1 k2 k3 e plain exported p hp hx h1 h2 h3 =
     let kd = kind_of_code doing.kind in
     let done : Bool → Next → Says = λ x k. assign_all (assigns_from as'.value 0) x ran pl (λ ran. works run kd doing.fields ran pl k) k e in
     let k' : Bool → Next → Next = λ x k. for_its_time x (names (assigns_from as'.value 0)) e.env.vars k in
-    ap (λ (x : Bool). done x (k' x (unless_kept (keeps kd) ds before (surrounded (around.Watch pl) k0))) p) (sym hx)
-    ∙ ap (λ (k : Next). done exported (k' exported (unless_kept (keeps kd) ds before k)) p) (sym h1)
-    ∙ ap (λ (k : Next). done exported (k' exported k) p) (sym h2)
+    ap (λ (x : Bool). done x (k' (is_plain kd) (unless_kept (keeps kd) ds before (surrounded (around.Watch pl) k0))) p) (sym hx)
+    ∙ ap (λ (x : Bool). done exported (k' x (unless_kept (keeps kd) ds before (surrounded (around.Watch pl) k0))) p) (sym hp)
+    ∙ ap (λ (k : Next). done exported (k' plain (unless_kept (keeps kd) ds before k)) p) (sym h1)
+    ∙ ap (λ (k : Next). done exported (k' plain k) p) (sym h2)
     ∙ ap (λ (k : Next). done exported k p) (sym h3)

@@ -18,7 +18,7 @@ use Rattle.sh_means.specs.declared.flow.Place.{Place}
 use Rattle.sh_means.specs.State.{FunctionTree, Shell, with_env, with_status, with_held, with_positional}
 use Rattle.sh_means.specs.Flows.{Next, Go_on, sh, ends, returned, watched, in_function, in_script}
 use Rattle.sh_means.specs.Words.{WordMeant, RedirectMeant, AssignMeant, named, redirect_all, unredirected, names, assign_all}
-use Rattle.sh_means.specs.Simple.{Job, Called, Reads, Meaning, Kind, Bare, Special, Calls, Builtin, Launches, kind_of, launches, calls, builds_in, errs, unless_barred, changes, shifts, dot_read, dot_opened, dots, obeys, works, is_plain, for_its_time, assigns_and_works, keeps, unless_kept, refusal_flow, made_simple, refused_simple, redirects_and_works, simple_means}
+use Rattle.sh_means.specs.Simple.{Job, Called, Reads, Meaning, Kind, Bare, Special, Calls, Builtin, Launches, kind_of, launches, calls, builds_in, errs, unless_barred, changes, shifts, dot_read, dot_opened, dots, obeys, works, is_plain, exports, for_its_time, assigns_and_works, keeps, unless_kept, refusal_flow, made_simple, refused_simple, redirects_and_works, simple_means}
 use Rattle.sh_means.specs.AlikeFlows.{Each, Below, Goes, SameMeans, lower, asks-alike, tells-alike, ends-alike, returned-alike, watched-alike}
 use Rattle.sh_means.specs.AlikeWords.{SameWord, SameRedirect, SameAssign, expand_words-alike, redirect_all-alike, unredirected-alike, named-same, assign_all-alike, unassigned-alike, names-same, words-down, redirects-down, assigns-down}
 
@@ -100,11 +100,11 @@ module _ (v : View) where
 
     assigns_and_works-alike : (Q : ℕ) (kd : Kind) (as' bs : List AssignMeant) (fields : List Text) (pl : Place) (k k' : Next) (ran : Bool) → Q < P → Each (SameAssign v Q) as' bs → Below v Q k k' → Goes v Q (assigns_and_works g kd as' fields pl k ran) (assigns_and_works h kd bs fields pl k' ran)
     assigns_and_works-alike Q kd as' bs fields pl k k' ran lt s hk e p le =
-        subst (λ (ns : List Text). Alike v p (assigns_and_works g kd as' fields pl k ran e) (assign_all bs (is_plain kd) ran pl (λ ran. works h kd fields ran pl (for_its_time (is_plain kd) ns e.env.vars k')) (for_its_time (is_plain kd) ns e.env.vars k') e)) (names-same v Q as' bs s)
+        subst (λ (ns : List Text). Alike v p (assigns_and_works g kd as' fields pl k ran e) (assign_all bs (exports kd) ran pl (λ ran. works h kd fields ran pl (for_its_time (is_plain kd) ns e.env.vars k')) (for_its_time (is_plain kd) ns e.env.vars k') e)) (names-same v Q as' bs s)
         (let kk : Next = for_its_time (is_plain kd) (names as') e.env.vars k in
         let kk' : Next = for_its_time (is_plain kd) (names as') e.env.vars k' in
         let hk' : Below v Q kk kk' = for_its_time-alike Q (is_plain kd) (names as') e.env.vars k k' hk in
-        assign_all-alike v Q as' bs (is_plain kd) ran pl (λ ran. works g kd fields ran pl kk) (λ ran. works h kd fields ran pl kk') kk kk' s (λ r. works-alike Q kd fields r pl kk kk' lt hk') hk' e p le)
+        assign_all-alike v Q as' bs (exports kd) ran pl (λ ran. works g kd fields ran pl kk) (λ ran. works h kd fields ran pl kk') kk kk' s (λ r. works-alike Q kd fields r pl kk kk' lt hk') hk' e p le)
 
     unless_kept-alike : (Q : ℕ) (b : Bool) (ds : List ℕ) (before : Descriptors) (k k' : Next) → Below v Q k k' → Below v Q (unless_kept b ds before k) (unless_kept b ds before k')
     unless_kept-alike Q true ds before k k' hk = hk

@@ -20,7 +20,7 @@ use Rattle.sh_special.specs.declared.options.Options.{Options}
 use Rattle.sh_special.specs.declared.order.Order.{Order}
 use Rattle.sh_special.specs.declared.order.Order.TheVariants as order
 use Rattle.sh_special.specs.Changes.{Changed, declare_all, unset_all, has_shift, shifted, or_before, with_options}
-use Rattle.sh_special.specs.Orders.{order_of, keeps_order}
+use Rattle.sh_special.specs.Orders.{order_of, keeps_order, exports_order}
 use Rattle.sh_means.specs.declared.flow.Flow.{Flow}
 use Rattle.sh_means.specs.declared.flow.Flow.TheVariants.{Normal, Exits}
 use Rattle.sh_means.specs.declared.flow.Place.{Place}
@@ -147,7 +147,7 @@ works again (Calls f) fields ran pl k e = calls again f fields pl e k
 works again Builtin fields ran pl k e = builds_in fields k e
 works again Launches fields ran pl k e = launches fields (λ n. ends Normal n k) e
 
--- Assignments last where there is no command or a special builtin. Else they are exported and hold for the command alone.
+-- Assignments last where there is no command or a special builtin. Else they hold for the command alone.
 abbrev pub is_plain : Kind → Bool
 is_plain Bare = false
 is_plain (Special o) = false
@@ -155,13 +155,21 @@ is_plain (Calls f) = true
 is_plain Builtin = true
 is_plain Launches = true
 
+-- those that hold for the command alone are exported, and so are those of `exec`, for what it launches (XCU 2.9.1, XCU exec)
+abbrev pub exports : Kind → Bool
+exports Bare = false
+exports (Special o) = exports_order o
+exports (Calls f) = true
+exports Builtin = true
+exports Launches = true
+
 abbrev pub for_its_time : Bool → List Text → Held → Next → Next
 for_its_time true ns before k = unassigned ns before k
 for_its_time false ns before k = k
 
 abbrev pub assigns_and_works : Meaning → Kind → List AssignMeant → List Text → Place → Next → Bool → Go_on
 assigns_and_works again kind assignments fields pl k ran e =
-    let k' = for_its_time (is_plain kind) (names assignments) e.env.vars k in assign_all assignments (is_plain kind) ran pl (λ ran. works again kind fields ran pl k') k' e
+    let k' = for_its_time (is_plain kind) (names assignments) e.env.vars k in assign_all assignments (exports kind) ran pl (λ ran. works again kind fields ran pl k') k' e
 
 -- the redirections of `exec` without a command stay
 abbrev pub keeps : Kind → Bool

@@ -1,6 +1,6 @@
 // What the machine has still to do.
 ghost use Rattle.std.specs.Prelude.{◌≡◌};
-ghost use Rattle.sh_means.specs.Simple.{refusal_flow, is_plain, keeps};
+ghost use Rattle.sh_means.specs.Simple.{refusal_flow, is_plain, exports, keeps};
 ghost use Rattle.sh_means.specs.Stack.{kind_of_code};
 
 use crate::flow::{Flow, Place};
@@ -42,13 +42,26 @@ impl Kind {
         }
     }
 
-    /// Whether assignments hold for its time alone, and are exported then.
+    /// Whether assignments hold for its time alone.
     pub fn is_plain(&self) -> bool
         ensures { result ≡ is_plain (kind_of_code self.now) }
     {
         match self {
             Kind::Bare => false,
             Kind::Special(_) => false,
+            Kind::Calls(_) => true,
+            Kind::Builtin => true,
+            Kind::Launches => true,
+        }
+    }
+
+    /// Whether assignments are exported.
+    pub fn exports(&self) -> bool
+        ensures { result ≡ exports (kind_of_code self.now) }
+    {
+        match self {
+            Kind::Bare => false,
+            Kind::Special(order) => order.exports(),
             Kind::Calls(_) => true,
             Kind::Builtin => true,
             Kind::Launches => true,

@@ -90,11 +90,12 @@ fn made_simple(
 ) -> Result<Control, NoMemory>
     ensures { IfOk result (Goes (made_go (mades.Simple assignments doing) (named (redirects_from redirects.value 0)) before place (context stack.old.items) ran (shell_of state.now)) (context stack.new.items) (shell_of state.now)) }
 {
-    let exported = doing.kind.is_plain();
+    let plain = doing.kind.is_plain();
+    let exported = doing.kind.exports();
     let keeps = doing.kind.keeps();
     put_around(stack, Around::Watch(place))?;
     unless_kept(keeps, redirects, before, stack)?;
-    for_its_time(exported, &assignments, &state.env.vars, stack)?;
+    for_its_time(plain, &assignments, &state.env.vars, stack)?;
     Ok(Control::Wordy(Wordy::Assign(
         place,
         Assigning {

@@ -155,3 +155,8 @@ order_of (word ∷ words) = order_in (name_of word) words
 abbrev pub keeps_order : Order → Bool
 keeps_order order.Keep = true
 keeps_order o = false
+
+-- the assignments before `exec` are exported to what it launches (XCU exec)
+abbrev pub exports_order : Order → Bool
+exports_order (order.Exec words) = true
+exports_order o = false

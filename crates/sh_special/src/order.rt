@@ -1,6 +1,6 @@
 // What a special builtin is told to do.
 ghost use Rattle.std.specs.Prelude.{◌≡◌};
-ghost use Rattle.sh_special.specs.Orders.{keeps_order};
+ghost use Rattle.sh_special.specs.Orders.{keeps_order, exports_order};
 
 use crate::{DeclarationList, Options};
 use rk_base::{Bytes, WordList};
@@ -57,5 +57,12 @@ impl Order {
             Order::Shift(_) => false,
             Order::Usage(_) => false,
         }
+    }
+
+    /// Whether assignments before it are exported, as those before `exec` of a command are (XCU exec).
+    pub fn exports(&self) -> bool
+        ensures { result ≡ exports_order self.now }
+    {
+        matches!(self, Order::Exec(_))
     }
 }
