@@ -9,7 +9,7 @@ ghost use Rattle.sh_means.specs.Eval.{compound_in, for_in, items_in, word_in, is
 ghost use Rattle.sh_means.specs.Run.{run};
 ghost use Rattle.sh_means.specs.Simple.{Round};
 ghost use Rattle.sh_means.specs.Stack.{Steps, Goes, IsStep, context, branches_from, commands_from, first_of, whole, casing, looping, each_body, giving};
-ghost use Rattle.sh_means.specs.State.{Shell, with_held, with_slot, back};
+ghost use Rattle.sh_means.specs.State.{Shell, with_slot, past_stage};
 ghost use Rattle.sh_means.specs.Views.{shell_of};
 ghost use Rattle.sh_means.specs.Trees.{for_words_of, given_if};
 
@@ -367,13 +367,17 @@ pub fn act_stage(
     stack: &mut Vec<Frame>,
     state: &mut State,
 ) -> Result<Control, NoMemory>
-    ensures { IfOk result (Goes (first_of (commands_from list.value at) place (with_slot 1 (Some (read_end + 1)) (with_input input (shell_of state.old))) (λ f e. stages_mean (Some read_end) (commands_from list.value (at + 1)) place (context stack.old.items) (back (shell_of state.old) e))) (context stack.new.items) (shell_of state.new)) }
+    ensures { IfOk result (Goes (first_of (commands_from list.value at) place (with_slot 1 (Some (read_end + 1)) (with_input input (shell_of state.old))) (λ f e. stages_mean (Some read_end) (commands_from list.value (at + 1)) place (context stack.old.items) (past_stage (shell_of state.old) e))) (context stack.new.items) (shell_of state.new)) }
 {
     let saved = state.save(alloc)?;
     let rest = list.clone()?;
     let write_end = next_number(read_end)?;
     let next = behind(at)?;
-    put_around(stack, Around::Stage(place, rest, next, read_end, saved))?;
+    let status = state.env.status;
+    put_around(
+        stack,
+        Around::Stage(place, rest, next, read_end, status, saved),
+    )?;
     read_from(input, state);
     state.descriptors.set(1, Some(write_end));
     Ok(Control::One(place, list, at))

@@ -308,8 +308,9 @@ pub fn leave_around(
             let control = leave_links(place, list, at, connectors, flow, stack, state)?;
             Ok(control)
         }
-        Around::Stage(place, list, at, read_end, saved) => {
+        Around::Stage(place, list, at, read_end, status, saved) => {
             state.come_back(saved);
+            state.env.status = status;
             Ok(Control::Inside(Inside::Stages(place, list, at, Some(read_end))))
         }
         Around::Watch(place) => Ok(leave_watch(place, flow, state)),

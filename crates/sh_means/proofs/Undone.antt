@@ -25,7 +25,7 @@ use Rattle.sh_means.specs.Compound.{stages_mean}
 use Rattle.sh_means.specs.Flows.{Next, returned}
 use Rattle.sh_means.specs.Simple.{for_its_time}
 use Rattle.sh_means.specs.Stack.{redirects_from, assigns_from, commands_from, surrounded, undone, wording, resumed}
-use Rattle.sh_means.specs.State.{Shell, with_held, put_back_variables}
+use Rattle.sh_means.specs.State.{Shell, with_held, with_status, put_back_variables}
 use Rattle.sh_means.specs.Views.{back_to}
 use Rattle.sh_means.specs.Words.{AssignMeant, named, names}
 use Rattle.sh_means.proofs.Places.{assigns_none}
@@ -49,8 +49,8 @@ shell_back saved k f e e' p h = ap (λ (x : Shell). k Normal x p) (sym h)
 pub word_back : (w : Wording) (saved : SavedState) (k : Next) (f : Flow) (e e' : Shell) (p : ℕ) → e' ≡ back_to saved e → undone (undo.Substitution w saved) k f e p ≡ wording w k Go e' p
 word_back w saved k f e e' p h = ap (λ (x : Shell). wording w k Go x p) (sym h)
 
-pub stage_back : (pl : Place) (l : Rc CommandList Global) (at n : ℕ) (saved : SavedState) (k : Next) (f : Flow) (e e' : Shell) (p : ℕ) → e' ≡ back_to saved e → surrounded (around.Stage pl l at n saved) k f e p ≡ resumed (control.Inside (inside.Stages pl l at (Some n))) k Go e' p
-stage_back pl l at n saved k f e e' p h = ap (λ (x : Shell). stages_mean (Some n) (commands_from l.value at) pl k x p) (sym h)
+pub stage_back : (pl : Place) (l : Rc CommandList Global) (at n status : ℕ) (saved : SavedState) (k : Next) (f : Flow) (e e' : Shell) (p : ℕ) → e' ≡ back_to saved e → surrounded (around.Stage pl l at n status saved) k f e p ≡ resumed (control.Inside (inside.Stages pl l at (Some n))) k Go (with_status status e') p
+stage_back pl l at n status saved k f e e' p h = ap (λ (x : Shell). stages_mean (Some n) (commands_from l.value at) pl k (with_status status x) p) (sym h)
 
 -- Variables are put back after a time, where there are assignments.
 

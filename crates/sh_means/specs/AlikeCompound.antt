@@ -10,7 +10,7 @@ use Rattle.sh_expand.specs.declared.mode.Mode.TheVariants as mode
 use Rattle.sh_expand.specs.declared.mode.Expanded.{Expanded}
 use Rattle.sh_means.specs.declared.flow.Flow.TheVariants.{Normal}
 use Rattle.sh_means.specs.declared.flow.Place.{Place}
-use Rattle.sh_means.specs.State.{FunctionTree, Shell, with_status, heard, back, define}
+use Rattle.sh_means.specs.State.{FunctionTree, Shell, with_status, heard, back, past_stage, define}
 use Rattle.sh_means.specs.Flows.{Next, Go_on, Means, ends, and_then, by_status, in_loop, watched, inverted, ignoring, deeper}
 use Rattle.sh_means.specs.Words.{WordMeant, RedirectMeant, value_of, named, redirect_all, unredirected}
 use Rattle.sh_means.specs.Simple.{Meaning, Round}
@@ -78,9 +78,9 @@ module _ (v : View) where
   stages-alike Q input (m ∷ []) (n ∷ o ∷ ns) pl k k' s hk e p le = absurd s.1
   stages-alike Q input (m ∷ l ∷ ms) (n ∷ []) pl k k' s hk e p le = absurd s.1
   stages-alike Q input (m ∷ l ∷ ms) (n ∷ o ∷ ns) pl k k' s hk e p le =
-      let x : Shell → Next = λ e' f e''. stages_mean (Some e.env.next) (l ∷ ms) pl k (back e' e'') in
-      let x' : Shell → Next = λ e' f e''. stages_mean (Some e.env.next) (o ∷ ns) pl k' (back e' e'') in
-      alike-ask v p _ 1 _ _ tt (λ lt a. s.0 pl _ (p - 1) (x (heard a e)) (x' (heard a e)) (omega arith) (λ f e'' p' le'. stages-alike Q (Some e.env.next) (l ∷ ms) (o ∷ ns) pl k k' s.1 hk (back (heard a e) e'') p' (omega arith)))
+      let x : Shell → Next = λ e' f e''. stages_mean (Some e.env.next) (l ∷ ms) pl k (past_stage e' e'') in
+      let x' : Shell → Next = λ e' f e''. stages_mean (Some e.env.next) (o ∷ ns) pl k' (past_stage e' e'') in
+      alike-ask v p _ 1 _ _ tt (λ lt a. s.0 pl _ (p - 1) (x (heard a e)) (x' (heard a e)) (omega arith) (λ f e'' p' le'. stages-alike Q (Some e.env.next) (l ∷ ms) (o ∷ ns) pl k k' s.1 hk (past_stage (heard a e) e'') p' (omega arith)))
 
   piped-alike : (Q : ℕ) (ms ns : List Means) (pl : Place) (k k' : Next) → Each (SameMeans v Q) ms ns → Below v Q k k' → Goes v Q (piped_means ms pl k) (piped_means ns pl k')
   piped-alike Q [] [] pl k k' s hk e p le = hk Normal e p le

@@ -11,7 +11,7 @@ use Rattle.sh_expand.specs.declared.mode.Mode.TheVariants as mode
 use Rattle.sh_redirect.specs.declared.descriptors.Descriptors.{Descriptors}
 use Rattle.sh_means.specs.declared.flow.Flow.TheVariants.{Normal}
 use Rattle.sh_means.specs.declared.flow.Place.{Place}
-use Rattle.sh_means.specs.State.{FunctionTree, Shell, with_slot, back, define}
+use Rattle.sh_means.specs.State.{FunctionTree, Shell, with_slot, back, past_stage, define}
 use Rattle.sh_means.specs.Flows.{Next, Go_on, Means, asks, ends, and_then, by_status, in_loop, watched, inverted, ignoring, deeper}
 use Rattle.sh_means.specs.Words.{WordMeant, RedirectMeant, expand_word, expand_words, value_of, named, redirect_all, unredirected, assigns}
 use Rattle.sh_means.specs.Simple.{Meaning, Round}
@@ -53,13 +53,13 @@ abbrev pub with_input : Option ℕ → Shell → Shell
 with_input None e = e
 with_input (Some n) e = with_slot 0 (Some n) e
 
--- The stages, the first of which reads from this number. Each is a subshell, and each but the last writes into a pipe that
--- is made before it.
+-- The stages, the first of which reads from this number. Each is a subshell of the shell that the pipeline met, and each but
+-- the last writes into a pipe that is made before it. The status is the last one's.
 abbrev pub stages_mean : Option ℕ → List Means → Place → Next → Go_on
 stages_mean input [] pl k e = k Normal e
 stages_mean input (m ∷ []) pl k e = m pl (with_input input e) (λ f e'. k Normal (back e e'))
 stages_mean input (m ∷ n ∷ ms) pl k e =
-    asks Pipe 1 (λ a e'. m pl (with_slot 1 (Some (e.env.next + 1)) (with_input input e')) (λ f e''. stages_mean (Some e.env.next) (n ∷ ms) pl k (back e' e''))) e
+    asks Pipe 1 (λ a e'. m pl (with_slot 1 (Some (e.env.next + 1)) (with_input input e')) (λ f e''. stages_mean (Some e.env.next) (n ∷ ms) pl k (past_stage e' e''))) e
 
 -- one command behind `!` is no subshell
 abbrev pub piped_means : List Means → Place → Next → Go_on

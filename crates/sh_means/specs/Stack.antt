@@ -57,7 +57,7 @@ use Rattle.sh_means.specs.declared.control.Wait.TheVariants as wait
 use Rattle.sh_means.specs.declared.control.Wording.{Wording}
 use Rattle.sh_means.specs.declared.control.Wordy.{Wordy}
 use Rattle.sh_means.specs.declared.control.Wordy.TheVariants as wordy
-use Rattle.sh_means.specs.State.{Shell, with_env, with_positional, with_slot, back, took}
+use Rattle.sh_means.specs.State.{Shell, with_env, with_status, with_positional, with_slot, past_stage, took}
 use Rattle.sh_means.specs.Flows.{Next, Go_on, Means, asks, ends, and_then, by_status, in_loop, returned, watched, inverted, deeper}
 use Rattle.sh_means.specs.Words.{WordMeant, RedirectMeant, AssignMeant, bodies_at, faults, expand_words, fields_of, value_of, named, moved, redirect_to, redirect_all, unredirected, names, assigns, assign_all, unassigned}
 use Rattle.sh_means.specs.Simple.{Kind, Bare, Special, Calls, Builtin as Builds, Launches, Round, Reads, dot_opened, dot_read, works, made_simple, refused_simple, redirects_and_works}
@@ -165,7 +165,7 @@ building b k a e = builtin_does b a (slot e.descriptors) (λ status env. ends No
 abbrev pub waiting : Wait → Next → Answer → Go_on
 waiting (wait.Told f n) k a e = ends f n k e
 waiting (wait.Launched f) k a e = ends f (joined a) k e
-waiting (wait.Stage pl l i input n) k a e = first_of (commands_from l.value i) pl (with_slot 1 (Some (n + 1)) (with_input input e)) (λ f e'. stages_mean (Some n) (commands_from l.value (i + 1)) pl k (back e e'))
+waiting (wait.Stage pl l i input n) k a e = first_of (commands_from l.value i) pl (with_slot 1 (Some (n + 1)) (with_input input e)) (λ f e'. stages_mean (Some n) (commands_from l.value (i + 1)) pl k (past_stage e e'))
 waiting (wait.Opened pl file n) k a e = dot_opened run file n pl k (brought a) e
 waiting (wait.Read pl file) k a e = dot_read run file pl k (brought a) e
 waiting (wait.Redirects pl m r) k a e = redirecting m pl k r a e
@@ -222,7 +222,7 @@ resumed (control.Leave f) k a e = k f e
 abbrev pub surrounded : Around → Next → Next
 surrounded (around.Rest pl l i) k = and_then (λ e. seq_all (commands_from l.value i) pl e k) k
 surrounded (around.Links pl l i connectors) k = and_then (links_mean (commands_from l.value (i + 1)) (drop i connectors.value.items.items) pl k) k
-surrounded (around.Stage pl l i n saved) k = λ f e. stages_mean (Some n) (commands_from l.value i) pl k (back_to saved e)
+surrounded (around.Stage pl l i n status saved) k = λ f e. stages_mean (Some n) (commands_from l.value i) pl k (with_status status (back_to saved e))
 surrounded (around.Watch pl) k = watched pl k
 surrounded around.Invert k = inverted k
 surrounded (around.Condition pl last l) k = after_condition (whole l.body.value) run last (looping l) (tree.commands l.condition.value) (tree.commands l.body.value) pl k

@@ -50,6 +50,11 @@ back_env env env' = record env { status = env'.status; next = env'.next }
 abbrev pub back : Shell → Shell → Shell
 back e e' = with_env (back_env e.env e'.env) e
 
+-- Of a stage of a pipeline that is not the last the local numbers alone are kept, so the next one has the state that the
+-- pipeline met, its status included (XCU 2.5.2).
+abbrev pub past_stage : Shell → Shell → Shell
+past_stage e e' = with_status e.env.status (back e e')
+
 -- A substitution took place since the next local number was n: it alone takes such numbers in expansion.
 abbrev pub took : ℕ → Shell → Bool
 took n e = not (e.env.next == n)

@@ -270,8 +270,8 @@ pub enum Control {
 pub enum Around {
     Rest(Place, Rc<CommandList>, usize),
     Links(Place, Rc<CommandList>, usize, Rc<Connectors>),
-    /// After a stage, whose pipe has this read end.
-    Stage(Place, Rc<CommandList>, usize, u64, SavedState),
+    /// After a stage, whose pipe has this read end; the status is the one before the pipeline.
+    Stage(Place, Rc<CommandList>, usize, u64, u8, SavedState),
     Watch(Place),
     Invert,
     Condition(Place, u8, Loop),

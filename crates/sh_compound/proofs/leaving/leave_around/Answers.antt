@@ -18,7 +18,7 @@ returns-in_ok-control-in-Links c =
 pub returns-in-Stage : goal.returns-in-Stage
 returns-in-Stage c =
     λ p. ap (λ (x : Around). surrounded x (context c.args.stack.now.items) c.args.flow (shell_of c.args.state.now) p) c.in-Stage.is
-    ∙ stage_back c.in-Stage.place c.in-Stage.list c.in-Stage.at c.in-Stage.read_end c.in-Stage.saved (context c.args.stack.now.items) c.args.flow (shell_of c.args.state.now) (shell_of c.come_back.new.self) p c.come_back.ensures
+    ∙ stage_back c.in-Stage.place c.in-Stage.list c.in-Stage.at c.in-Stage.read_end c.in-Stage.status c.in-Stage.saved (context c.args.stack.now.items) c.args.flow (shell_of c.args.state.now) (shell_of c.come_back.new.self) p c.come_back.ensures
 
 pub returns-in-Watch : goal.returns-in-Watch
 returns-in-Watch c =
