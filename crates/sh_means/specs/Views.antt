@@ -1,5 +1,5 @@
 -- The state of a shell as the code keeps it.
-use Rattle.std.specs.Prelude.{List, [], ◌∷◌}
+use Rattle.std.specs.Prelude.{List, [], ◌∷◌, ◌++◌}
 use Rattle.rk_base.specs.Text.{Text}
 use Rattle.sh_ast.specs.Commands as tree
 use Rattle.sh_means.specs.declared.state.Callee.{Callee}
@@ -14,9 +14,10 @@ function_of c = record { body = tree.compound c.body.value; redirects = tree.red
 abbrev pub row_of : Function → Text × FunctionTree
 row_of f = (f.name, function_of f.callee)
 
+-- the code keeps the newest last
 abbrev pub rows_of : List Function → List (Text × FunctionTree)
 rows_of [] = []
-rows_of (f ∷ fs) = row_of f ∷ rows_of fs
+rows_of (f ∷ fs) = rows_of fs ++ row_of f ∷ []
 
 abbrev pub shell_of : State → Shell
 shell_of s = record { env = s.env; errexit = s.errexit; functions = rows_of s.functions.items; descriptors = s.descriptors }

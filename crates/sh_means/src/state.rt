@@ -1,5 +1,5 @@
 // The state of a shell, and copies of it for subshells.
-ghost use Rattle.std.specs.Prelude.{◌≡◌, ◌++◌, ◌∷◌, [], IfOk, OnOk, option_map};
+ghost use Rattle.std.specs.Prelude.{◌≡◌, ◌++◌, ◌∷◌, IfOk, OnOk, option_map};
 ghost use Rattle.sh_means.specs.State.{Shell, back, define, function_named};
 ghost use Rattle.sh_means.specs.Views.{shell_of, back_to, row_of, rows_of, function_of};
 
@@ -30,7 +30,7 @@ pub struct State {
     pub env: Env,
     /// Whether `set -e` is on.
     pub errexit: bool,
-    /// Of one name the newest stands first.
+    /// Of one name the newest stands last.
     pub functions: Vec<Function>,
     pub descriptors: Descriptors,
 }
@@ -58,7 +58,7 @@ pub fn copy_callee(callee: &Callee) -> Result<Callee, NoMemory>
 }
 
 fn push_copy(copies: &mut Vec<Function>, f: &Function) -> Result<(), NoMemory>
-    ensures { OnOk result (rows_of copies.new.items ≡ rows_of copies.old.items ++ row_of f.now ∷ []) }
+    ensures { OnOk result (rows_of copies.new.items ≡ row_of f.now ∷ rows_of copies.old.items) }
 {
     let name = f.name.copy()?;
     let callee = copy_callee(&f.callee)?;
@@ -67,16 +67,12 @@ fn push_copy(copies: &mut Vec<Function>, f: &Function) -> Result<(), NoMemory>
 }
 
 fn push_copies(copies: &mut Vec<Function>, functions: &[Function]) -> Result<(), NoMemory>
-    ensures { OnOk result (rows_of copies.new.items ≡ rows_of copies.old.items ++ rows_of functions.now) }
+    ensures { OnOk result (rows_of copies.new.items ≡ rows_of functions.now ++ rows_of copies.old.items) }
 {
-    match functions {
-        [] => Ok(()),
-        [f, rest @ ..] => {
-            push_copy(copies, f)?;
-            push_copies(copies, rest)?;
-            Ok(())
-        }
+    'functions: for f in functions {
+        push_copy(copies, f)?;
     }
+    Ok(())
 }
 
 impl State {
@@ -129,7 +125,7 @@ impl State {
     pub fn define(&mut self, function: Function) -> Result<(), NoMemory>
         ensures { OnOk result (shell_of self.new ≡ define function.name (function_of function.callee) (shell_of self.old)) }
     {
-        self.functions.insert(0, function)?;
+        self.functions.push(function)?;
         Ok(())
     }
 }
@@ -138,7 +134,10 @@ impl State {
 pub fn function_named<'a>(functions: &'a [Function], name: &[u8]) -> Option<&'a Callee>
     ensures { option_map (λ c. function_of c.now) result ≡ function_named name.now (rows_of functions.now) }
 {
-    'functions: for f in functions {
+    let mut left = functions.len();
+    'functions: while left > 0 {
+        left -= 1;
+        let f = &functions[left];
         if f.name.as_slice() == name {
             return Some(&f.callee);
         }
