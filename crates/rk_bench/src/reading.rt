@@ -41,6 +41,16 @@ fn documents_on_a_line() -> Shape {
     }
 }
 
+// Brackets of one word that begin with a period, up to the `]` that closes the first.
+fn closed_brackets() -> Shape {
+    Shape {
+        first: b"",
+        again: b"[.$",
+        middle: b"]",
+        closing: b"",
+    }
+}
+
 fn shape_of(word: &str) -> Option<Shape> {
     match word {
         "parens" => Some(only(b"(")),
@@ -53,7 +63,8 @@ fn shape_of(word: &str) -> Option<Shape> {
         "commands" => Some(only(b"a;")),
         "bodies" => Some(only(b"a <<a\na\n")),
         "several" => Some(documents_on_a_line()),
-        "brackets" => Some(only(b"[.$")),
+        "brackets" => Some(only(b"[[.$")),
+        "closed" => Some(closed_brackets()),
         _ => None,
     }
 }

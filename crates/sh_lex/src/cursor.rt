@@ -16,7 +16,7 @@ use crate::taken::Taken;
 use rk_base::NoMemory;
 use sh_rules::{Kind, Mode};
 use sh_token::blanks::past_blanks;
-use sh_token::brackets::holds_symbol;
+use sh_token::brackets::before_symbol;
 use sh_token::effect::{Effect, effect_of, opens_level, takes_body};
 use sh_token::folded::is_read_out;
 use sh_token::front::front_of;
@@ -146,12 +146,12 @@ impl<'a> Cursor<'a> {
         }
     }
 
-    // Behind a text with a bracket that isn't closed, looks for how far none is, where this isn't known.
+    // Behind a text with `[.` or `[=`, looks for how far no `]` closes a bracket, where it wasn't yet looked for.
     fn remember(&mut self, kind: Kind, token: &[u8])
         ensures { self.new ≡ self.old }
     {
         if let Some(class) = text_class(kind) {
-            if !self.text.is_unclosed(class) && holds_symbol(token) {
+            if !self.text.is_looked_through(class) && before_symbol(token) < token.len() {
                 self.text = self.text.looked_through(class);
             }
         }

@@ -8,8 +8,9 @@ ghost use Rattle.sh_token.specs.Steps as steps;
 
 use crate::place::Cursor;
 use rk_base::{Bytes, NoMemory};
+use sh_token::blanks::joins;
 use sh_token::body::before_nul;
-use sh_token::brackets::{begins_symbol, has_symbol};
+use sh_token::brackets::{before_symbol, bracket};
 use sh_token::bytes::{Class, is_digit};
 use sh_token::delimiter::walk;
 use sh_token::expansions::parameter;
@@ -51,21 +52,26 @@ fn dollar_out(text: &[u8]) -> usize
     }
 }
 
-// `[.` or `[=` in a bracket.
+fn is_out(here: Option<usize>) -> bool
+    ensures { result ≡ lem.is_out here }
+{
+    match here {
+        None => true,
+        Some(_) => false,
+    }
+}
+
+// A bracket that has `[.` or `[=`.
 fn is_bracket_out(in_word: bool, text: &[u8]) -> bool
     ensures { result ≡ lem.is_bracket_out in_word (folded text.now) }
 {
-    if in_word {
-        begins_symbol(text)
-    } else {
-        has_symbol(Class::Plain, text)
-    }
+    first(text) == b'[' && (in_word || is_out(bracket(Class::Plain, text)))
 }
 
 // How many bytes in front the profile leaves out.
 #[tactic(auto, unfolding(sh_token::specs::Faults::left_out))]
-fn left_out(in_word: bool, text: &[u8]) -> usize
-    ensures { result ≡ lem.left_out in_word (folded text.now) }
+fn left_out(text: &[u8]) -> usize
+    ensures { result ≡ lem.left_out (folded text.now) }
 {
     let c = byte(text, 0);
     if c == b'`' || c == b'~' {
@@ -78,11 +84,19 @@ fn left_out(in_word: bool, text: &[u8]) -> usize
         digits_out(text)
     } else if c == b'$' {
         dollar_out(text)
-    } else if c == b'[' {
-        if is_bracket_out(in_word, text) { 2 } else { 0 }
     } else {
         0
     }
+}
+
+// What is left at the first `[.` or `[=` of the bracket in front.
+fn at_symbol(text: &[u8]) -> &[u8]
+    ensures left { result.now ≡ lem.at_symbol text.now }
+    ensures within { length result.now ≤ length text.now }
+{
+    let behind = rest(text);
+    let n = before_symbol(behind);
+    skip(text, n + 1)
 }
 
 fn behind_parameter(n: usize, text: &[u8]) -> usize
@@ -273,6 +287,22 @@ impl<'a> Cursor<'a> {
         }
     }
 
+    fn symbol_fault(&self, alloc: Global, symbol: &[u8]) -> Result<ScriptFault, NoMemory>
+        requires { length symbol.now ≤ length self.now.text }
+        ensures { IfOk result (λ f. f ≡ lem.symbol_fault symbol.now self.now) }
+    {
+        let before = self.text.bytes().len() - symbol.len();
+        let word = first_bytes(alloc, 2, symbol)?;
+        Ok(fault(self.at + before + joins(symbol), Why::NotInProfile(word)))
+    }
+
+    // At the first `[.` or `[=` of the bracket that begins here.
+    fn bracket_fault(&self, alloc: Global) -> Result<ScriptFault, NoMemory>
+        ensures { IfOk result (λ f. f ≡ lem.bracket_fault self.now) }
+    {
+        self.symbol_fault(alloc, at_symbol(self.text.bytes()))
+    }
+
     #[tactic(auto, unfolding(sh_token::specs::Faults::text_fault))]
     fn text_fault(&self, alloc: Global) -> Result<ScriptFault, NoMemory>
         ensures { IfOk result (λ f. f ≡ lem.text_fault self.now) }
@@ -284,8 +314,10 @@ impl<'a> Cursor<'a> {
             Ok(self.single_fault())
         } else if breaks_off(text) {
             Ok(self.unclosed())
+        } else if is_bracket_out(self.in_word, text) {
+            self.bracket_fault(alloc)
         } else {
-            out_fault(alloc, self.at, left_out(self.in_word, text), text)
+            out_fault(alloc, self.at, left_out(text), text)
         }
     }
 

@@ -16,7 +16,7 @@ use Rattle.sh_token.specs.Tokens.{Look, token}
 use Rattle.sh_token.specs.Operators.{operator, redirect, numbered, more_by}
 use Rattle.sh_token.specs.Reserved.{is_word, opener, closer}
 use Rattle.sh_token.specs.Expansions.{dollar, braced, operation, operated, length_of, length_look, parameter, parameter_in_braces, or_else, is_special, substitutes}
-use Rattle.sh_token.specs.Brackets.{has_symbol, text_run, text_look}
+use Rattle.sh_token.specs.Brackets.{bracket, bracket_on, text_run, text_from, text_look}
 use Rattle.sh_token.specs.Quoting.{escape, single, not_quote}
 use Rattle.sh_token.specs.Commands.{command_word, prefix_word, argument_word, text_of, name_look, redirection, opening, is_in, name_or_text, function_name, long_number, opens_parenthesis}
 use Rattle.sh_token.specs.Words.{backslash}
@@ -107,8 +107,11 @@ of_single : (text : List ℕ) → Of (51 ∷ []) (single text)
 of_single text = of_if (51 ∷ []) (slice_index text (run not_quote (drop 1 text) + 1) == 39) _ _ (refl, omega arith) tt
 
 of_text : (ks : List ℕ) (f : ℕ → Bool) (kind : Kind) (text : List ℕ) → Finds ks kind → Of ks (text_look f kind text)
-of_text ks f kind text h =
-    of_if ks (has_symbol f text) _ _ tt (h.0, subst (λ b. Wide b (suc (text_run f (drop 1 text)))) (sym h.1) (some_bytes _))
+of_text ks f kind text h = by (bracket f text)
+  where
+    by : (x : Option ℕ) → Of ks (text_from f kind x (drop 1 text))
+    by None = tt
+    by (Some n) = (h.0, subst (λ b. Wide b (suc (text_run f (bracket_on f n (drop 1 text)) (drop 1 text)))) (sym h.1) (some_bytes _))
 
 -- of the words that begin or close a command
 abbrev opens : List ℕ

@@ -1,6 +1,6 @@
 -- How far no bracket is closed.
 use Rattle.std.proofs.Common.{◌≡◌, ℕ, zero, suc, ◌+◌, ◌-◌, ◌<◌, ◌≤◌, inl, inr, List, [], ◌∷◌, drop, length, slice_index, Bool, true, false, refl, sym, ap, subst, ◌∙◌, arith, length-drop, drop-drop}
-use Rattle.std.specs.Prelude.{◌==◌, if◌then◌else◌, None}
+use Rattle.std.specs.Prelude.{◌==◌}
 use Rattle.std.proofs.lemmas.Bool.{eqb-true, cases_lt}
 use Rattle.sh_rules.specs.declared.kind.Kind.{Kind}
 use Rattle.sh_token.specs.declared.bytes.Class.{Class}
@@ -8,10 +8,9 @@ use Rattle.sh_token.specs.Blanks.{joins, two_if}
 use Rattle.sh_token.specs.Bytes.{◌or◌, ◌also◌, class_is}
 use Rattle.sh_token.specs.Expansions.{is_dollar}
 use Rattle.sh_token.specs.Folded.{folded, without, run_on, behind_one}
-use Rattle.sh_token.specs.Brackets.{begins_symbol, closes_bracket, text_run, text_look, holds_symbol, IsUnclosed}
+use Rattle.sh_token.specs.Brackets.{closes_bracket, text_from, text_look, IsUnclosed}
 use Rattle.sh_token.specs.Tokens.{token}
-use Rattle.sh_token.proofs.Folding.{folded-length}
-use Rattle.sh_token.proofs.Symbols.{bare, one_less, closes_on, closes_never, unclosed}
+use Rattle.sh_token.proofs.Symbols.{bare, no_bare, one_less, closes_on, closes_never, unclosed_bracket, unclosed}
 
 -- of a text of which nothing is known
 pub unknown : (f : ℕ → Bool) (text : List ℕ) → IsUnclosed f (length text) text
@@ -112,42 +111,8 @@ later k [] h b = refl
 later k (c ∷ cs) h b = rest_of (bare k (c ∷ cs)) (c == 93) (closes_bracket (class_is k) cs) b h
 
 pub look_unclosed : (k : Class) (kind : Kind) (xs : List ℕ) → closes_bracket (class_is k) xs ≡ false → bare k xs ≡ true → token kind (run_on (class_is k) xs) ≡ text_look (class_is k) kind xs
-look_unclosed k kind xs h b =
-    let e = unclosed (class_is k) (drop 1 xs) (later k xs h b) in
-    let n = ap (λ c. begins_symbol xs also c) h ∙ never (begins_symbol xs) in
-    sym (ap (λ c. if c then None else token kind (suc (text_run (class_is k) (drop 1 xs)))) n ∙ ap (λ m. token kind (suc m)) e)
-
--- whether a symbol stands in what is left
-pub record Held (text left : List ℕ) (count : ℕ) : Type 0 where
-  pub same : holds_symbol (folded text) ≡ holds_symbol (folded left)
-  pub counts : length (folded left) ≤ length (folded text) - count
-
-pub held_begins : (text : List ℕ) → Held text text 0
-held_begins text = record { same = refl; counts = omega arith }
-
-holds_on : (xs : List ℕ) → begins_symbol xs ≡ false → holds_symbol xs ≡ holds_symbol (drop 1 xs)
-holds_on [] h = refl
-holds_on (c ∷ cs) h = ap (λ b. b or holds_symbol cs) h
-
-holds_here : (xs : List ℕ) → begins_symbol xs ≡ true → holds_symbol xs ≡ true
-holds_here [] h = cc
-holds_here (c ∷ cs) h = ap (λ b. b or holds_symbol cs) h
-
-holds_none : (xs : List ℕ) → length xs ≡ 0 → holds_symbol xs ≡ false
-holds_none [] h = refl
-holds_none (c ∷ cs) h = cc
-
-pub held_on : (text left next : List ℕ) (n : ℕ) → Held text left n → begins_symbol (folded left) ≡ false → folded next ≡ drop 1 (folded left) → Held text next (n + 1)
-held_on text left next n s h e =
-    record {
-      same = s.same ∙ holds_on (folded left) h ∙ sym (ap holds_symbol e);
-      counts = omega (arith, s.counts, ap length e, length-drop 1 (folded left));
-    }
-
-pub held_here : (text left : List ℕ) (n : ℕ) → Held text left n → begins_symbol (folded left) ≡ true → true ≡ holds_symbol (folded text)
-held_here text left n s h = sym (s.same ∙ holds_here (folded left) h)
-
-pub held_ends : (text left : List ℕ) (n : ℕ) → Held text left n → length text ≤ n → false ≡ holds_symbol (folded text)
-held_ends text left n s h =
-    let e : length (folded left) ≡ 0 = omega (arith, s.counts, folded-length text, h) in
-    sym (s.same ∙ holds_none (folded left) e)
+look_unclosed k kind [] h b = absurd (no_bare k b)
+look_unclosed k kind (c ∷ cs) h b =
+    let i = later k (c ∷ cs) h b in
+    let x = unclosed_bracket (class_is k) c cs i in
+    sym (ap (λ y. text_from (class_is k) kind y cs) x.1 ∙ ap (λ m. token kind (suc m)) (unclosed (class_is k) x.0 cs i))

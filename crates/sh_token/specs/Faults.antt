@@ -1,15 +1,16 @@
 -- Why no script goes on at a place: by the place alone. At one place what the profile leaves out comes first, then a level too many, then what isn't closed, then syntax.
-use Rattle.std.specs.Prelude.{ℕ, suc, ◌+◌, ◌==◌, nat_lt, List, [], ◌∷◌, take, drop, length, slice_index, Option, Some, None, Bool, true, false, if◌then◌else◌}
+use Rattle.std.specs.Prelude.{ℕ, suc, ◌+◌, ◌-◌, ◌==◌, nat_lt, List, [], ◌∷◌, take, drop, length, slice_index, Option, Some, None, Bool, true, false, if◌then◌else◌}
 use Rattle.sh_rules.specs.Reading.{Halt, Blocked, Over}
 use Rattle.sh_rules.specs.Rules.{Token}
 use Rattle.sh_token.specs.declared.fault.Why.{Why}
 use Rattle.sh_token.specs.declared.fault.Why.TheVariants as y
 use Rattle.sh_token.specs.declared.fault.ScriptFault.{ScriptFault}
 use Rattle.sh_token.specs.declared.delimiter.Within.TheVariants as w
+use Rattle.sh_token.specs.Blanks.{joins}
 use Rattle.sh_token.specs.Bytes.{◌or◌, ◌also◌, not_so, is_digit, is_plain}
-use Rattle.sh_token.specs.Folded.{folded, run}
+use Rattle.sh_token.specs.Folded.{folded, run, behind}
 use Rattle.sh_token.specs.Expansions.{parameter}
-use Rattle.sh_token.specs.Brackets.{begins_symbol, has_symbol}
+use Rattle.sh_token.specs.Brackets.{bracket, before_symbol}
 use Rattle.sh_token.specs.Quoting.{not_quote}
 use Rattle.sh_token.specs.HereDocuments.{Awaited, walk}
 use Rattle.sh_token.specs.Places.{Place, is_none, is_closed}
@@ -29,22 +30,24 @@ dollar_out text =
     let d = slice_index text 1 in
     if (d == 36 or d == 33 or d == 45) then 2 else if (d == 40 also slice_index text 2 == 40) then 3 else 0
 
--- in the middle of a word it is its bracket alone at which no text stands
-abbrev pub is_bracket_out : Bool → List ℕ → Bool
-is_bracket_out true text = begins_symbol text
-is_bracket_out false text = has_symbol is_plain text
-
--- what this profile leaves out, in front of a text as it is read: ` ~ & <> $$ $! $- $(( and long numbers of descriptors, [. and [= in a bracket
-unfoldable pub left_out : Bool → List ℕ → ℕ
-left_out in_word text =
+-- what this profile leaves out, in front of a text as it is read: ` ~ & <> $$ $! $- $(( and long numbers of descriptors
+unfoldable pub left_out : List ℕ → ℕ
+left_out text =
     let c = slice_index text 0 in
     if (c == 96 or c == 126) then 1
     else if c == 38 then (if slice_index text 1 == 38 then 0 else 1)
     else if c == 60 then (if slice_index text 1 == 62 then 2 else 0)
     else if is_digit c then digits_out text
     else if c == 36 then dollar_out text
-    else if c == 91 then (if is_bracket_out in_word text then 2 else 0)
     else 0
+
+-- a bracket that has [. or [= in it; in the middle of a word no text stands at a bracket only if it is such a one
+abbrev pub is_out : Option ℕ → Bool
+is_out None = true
+is_out (Some n) = false
+
+abbrev pub is_bracket_out : Bool → List ℕ → Bool
+is_bracket_out in_word text = slice_index text 0 == 91 also (in_word or is_out (bracket is_plain text))
 
 abbrev pub least : ℕ → ℕ → ℕ
 least a b = if nat_lt a b then a else b
@@ -112,12 +115,23 @@ breaks_off text =
 abbrev pub out_fault : ℕ → ℕ → List ℕ → ScriptFault
 out_fault n at text = if n == 0 then fault at y.Syntax else fault at (y.NotInProfile (take n (folded text)))
 
+-- what is left at the first [. or [= of the bracket with which a text begins, and the fault there
+abbrev pub at_symbol : List ℕ → List ℕ
+at_symbol text = behind (suc (before_symbol (drop 1 (folded text)))) text
+
+abbrev pub symbol_fault : List ℕ → Place → ScriptFault
+symbol_fault symbol p = fault (p.at + (length p.text - length symbol) + joins symbol) (y.NotInProfile (take 2 (folded symbol)))
+
+abbrev pub bracket_fault : Place → ScriptFault
+bracket_fault p = symbol_fault (at_symbol p.text) p
+
 unfoldable pub text_fault : Place → ScriptFault
 text_fault p =
     if is_none p.text then end_fault p
     else if slice_index p.text 0 == 39 then single_fault (suc (run not_quote (drop 1 p.text))) p
     else if breaks_off (folded p.text) then unclosed p
-    else out_fault (left_out p.in_word (folded p.text)) p.at p.text
+    else if is_bracket_out p.in_word (folded p.text) then bracket_fault p
+    else out_fault (left_out (folded p.text)) p.at p.text
 
 -- where a delimiter is due
 abbrev pub due_fault : Place → ScriptFault

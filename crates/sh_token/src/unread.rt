@@ -9,13 +9,15 @@ use crate::bytes::Class;
 use std::marker::Model;
 
 /// What is left of a text, and how far no `]` closes a bracket in it, as far as this was looked for: so the unquoted bytes behind a `[.`
-/// aren't gone over again for each one that stands among them.
+/// aren't gone over again for each one that stands among them, whether a `]` is there or none.
 #[derive(Drop)]
 pub struct Unread<'a> {
     bytes: &'a [u8],
     class: Class,
     // Where more bytes are left than these, no `]` stands among the unquoted bytes of the class.
     down_to: usize,
+    // Where more are left than these, it was looked for one.
+    looked_to: usize,
 }
 
 impl<'a> Model for Unread<'a> {
@@ -39,6 +41,7 @@ impl<'a> Unread<'a> {
             bytes,
             class: Class::Plain,
             down_to: bytes.len(),
+            looked_to: bytes.len(),
         }
     }
 
@@ -58,6 +61,7 @@ impl<'a> Unread<'a> {
             bytes: self.bytes.split_at(n).1,
             class: self.class,
             down_to: self.down_to,
+            looked_to: self.looked_to,
         }
     }
 
@@ -65,11 +69,18 @@ impl<'a> Unread<'a> {
     pub fn looked_through(&self, class: Class) -> Unread<'a>
         ensures { result ≡ self.now }
     {
+        let (down_to, looked_to) = unclosed_down_to(class, self.bytes);
         Unread {
             bytes: self.bytes,
             class,
-            down_to: unclosed_down_to(class, self.bytes),
+            down_to,
+            looked_to,
         }
+    }
+
+    /// It was looked for a `]` among the unquoted bytes of a class in front.
+    pub fn is_looked_through(&self, class: Class) -> bool {
+        class == self.class && self.bytes.len() > self.looked_to
     }
 
     /// It is known that no bracket of unquoted bytes of a class is closed in front.
