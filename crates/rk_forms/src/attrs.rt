@@ -4,7 +4,7 @@ use crate::spelling::{
     spelling_shown,
 };
 use rk_base::{Bytes, NoMemory, Path};
-use rk_steps::{Subject, behind, mode, path_of, plain, shown, text, word};
+use rk_steps::{Subject, attrs_shown, behind, path_of, plain, row_of, text, word};
 use std::alloc::Global;
 use tr_codec::{AttrRow, Attrs, CodecErr, read_attrs, read_back_attrs, write_attrs};
 
@@ -38,43 +38,6 @@ impl Reader for Files {
             Err(CodecErr::NoMemory) => Err(NoMemory),
         }
     }
-}
-
-// The row of `file MODE`, `dir MODE` or `link TEXT`.
-pub(crate) fn row_of(alloc: Global, words: &[Vec<u8>]) -> Result<AttrRow, NoMemory> {
-    let row = match text(words, 0) {
-        "dir" => AttrRow::DirMode(mode(words, 1)),
-        "link" => AttrRow::Link(Bytes::from_slice(alloc, word(words, 1))?),
-        _ => AttrRow::FileMode(mode(words, 1)),
-    };
-    Ok(row)
-}
-
-fn row_shown(alloc: Global, row: &AttrRow) -> Result<String, NoMemory> {
-    let text = match row {
-        AttrRow::FileMode(mode) => format!(in alloc; "file {mode:o}")?,
-        AttrRow::DirMode(mode) => format!(in alloc; "dir {mode:o}")?,
-        AttrRow::Link(to) => {
-            let to = shown(alloc, to.as_slice())?;
-            format!(in alloc; "link {}", to.as_str())?
-        }
-    };
-    Ok(text)
-}
-
-// How many rows there are, and up to 20 of them.
-pub(crate) fn attrs_shown(alloc: Global, attrs: &Attrs) -> Result<String, NoMemory> {
-    let mut text = format!(in alloc; "{}", attrs.len())?;
-    if attrs.len() > 20 {
-        return Ok(text);
-    }
-    'rows: for (path, row) in attrs.as_slice() {
-        text.push_str("; ")?;
-        text.push_str(shown(alloc, path.text())?.as_str())?;
-        text.push(' ')?;
-        text.push_str(row_shown(alloc, row)?.as_str())?;
-    }
-    Ok(text)
 }
 
 impl Attributes {

@@ -1,19 +1,12 @@
-//! Carries out files of steps for the public calls beneath builds, a step a line with what is wanted beside it, and prints
+//! Carries out files of steps for records, attributes and their spelling, a step a line with what is wanted beside it, and prints
 //! for each file how many steps there were, and what came otherwise.
 #![tactic(auto)]
 
 mod attrs;
-mod folders;
-mod made;
-mod plans;
-mod real;
 mod records;
 mod spelling;
 
 use crate::attrs::Attributes;
-use crate::folders::Held;
-use crate::made::Made;
-use crate::real::Real;
 use crate::records::Records;
 use rk_base::NoMemory;
 use rk_steps::{Subject, Told, carried_out, subject_of};
@@ -31,13 +24,9 @@ fn steps_of<S: Subject + Drop>(
     carried_out(alloc, name, text, &mut subject)
 }
 
-fn told_of(rt: &HostRuntime, name: &str, text: &str) -> Result<Option<Told>, NoMemory> {
-    let alloc = rt.alloc();
+fn told_of(alloc: Global, name: &str, text: &str) -> Result<Option<Told>, NoMemory> {
     let told = match subject_of(text) {
         "attributes" => steps_of(alloc, name, text, Attributes::new(alloc))?,
-        "folder" => steps_of(alloc, name, text, Held::new(alloc))?,
-        "made" => steps_of(alloc, name, text, Made::new(alloc))?,
-        "real" => steps_of(alloc, name, text, Real::new(rt.clone()?))?,
         "records" => steps_of(alloc, name, text, Records::new(alloc))?,
         _ => return Ok(None),
     };
@@ -62,7 +51,7 @@ fn print(rt: &HostRuntime, name: &str, told: Result<Option<Told>, NoMemory>) -> 
 fn run(rt: &HostRuntime, names: &[String]) -> io::Result<()> {
     'names: for name in names {
         let text = fs::read_to_string(rt, name.as_str())?;
-        let told = told_of(rt, name.as_str(), text.as_str());
+        let told = told_of(rt.alloc(), name.as_str(), text.as_str());
         print(rt, name.as_str(), told)?;
     }
     Ok(())

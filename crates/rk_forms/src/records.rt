@@ -45,11 +45,15 @@ impl Reader for Databases {
     }
 }
 
+fn step_line(alloc: Global, cost: u32, call: &str, answer: &str) -> Result<String, NoMemory> {
+    let text = format!(in alloc; "; {cost} {call} -> {answer}")?;
+    Ok(text)
+}
+
 fn step_shown(alloc: Global, step: &Step) -> Result<String, NoMemory> {
     let call = call_shown(alloc, &step.call)?;
     let answer = answer_shown(alloc, &step.answer)?;
-    let text = format!(in alloc; "; {} {} -> {}", step.cost, call.as_str(), answer.as_str())?;
-    Ok(text)
+    step_line(alloc, step.cost, call.as_str(), answer.as_str())
 }
 
 fn record_shown(alloc: Global, record: &Record) -> Result<String, NoMemory> {

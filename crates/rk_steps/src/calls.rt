@@ -1,6 +1,6 @@
 // Calls as words.
 use crate::keys::{key_of, key_shown, map_of};
-use crate::{behind, mode, number, plain, shown, text, word};
+use crate::{behind, mode, number, plain, push_shown, shown, text, word};
 use rk_base::{Bytes, NoMemory};
 use rk_calls::{Call, How, Key, RefMap};
 use std::alloc::Global;
@@ -88,7 +88,7 @@ pub(crate) fn one(alloc: Global, word: &str, path: &Bytes) -> Result<String, NoM
 fn two(alloc: Global, word: &str, a: &Bytes, b: &Bytes) -> Result<String, NoMemory> {
     let mut text = one(alloc, word, a)?;
     text.push(' ')?;
-    text.push_str(shown(alloc, b.as_slice())?.as_str())?;
+    push_shown(alloc, &mut text, b.as_slice())?;
     Ok(text)
 }
 
@@ -114,7 +114,7 @@ fn with_word(alloc: Global, word: &str, path: &Bytes, last: &str) -> Result<Stri
 fn write_shown(alloc: Global, number: u64, bytes: &Bytes) -> Result<String, NoMemory> {
     let mut text = numbered(alloc, "write", number)?;
     text.push(' ')?;
-    text.push_str(shown(alloc, bytes.as_slice())?.as_str())?;
+    push_shown(alloc, &mut text, bytes.as_slice())?;
     Ok(text)
 }
 

@@ -55,15 +55,21 @@ fn push_byte(alloc: Global, text: &mut String, byte: u8) -> Result<(), NoMemory>
     Ok(())
 }
 
-/// Bytes as a word that stands for them.
-pub fn shown(alloc: Global, bytes: &[u8]) -> Result<String, NoMemory> {
-    let mut text = String::new(alloc);
+/// Puts bytes at the end of a text, as a word that stands for them.
+pub fn push_shown(alloc: Global, text: &mut String, bytes: &[u8]) -> Result<(), NoMemory> {
     if bytes.is_empty() {
         text.push_str("\\e")?;
     }
     'bytes: for byte in bytes {
-        push_byte(alloc, &mut text, *byte)?;
+        push_byte(alloc, text, *byte)?;
     }
+    Ok(())
+}
+
+/// Bytes as a word that stands for them.
+pub fn shown(alloc: Global, bytes: &[u8]) -> Result<String, NoMemory> {
+    let mut text = String::new(alloc);
+    push_shown(alloc, &mut text, bytes)?;
     Ok(text)
 }
 

@@ -3,6 +3,7 @@
 #![tactic(auto)]
 
 mod answers;
+mod attributes;
 mod calls;
 mod escapes;
 mod keys;
@@ -13,8 +14,9 @@ mod spelling;
 mod words;
 
 pub use answers::{answer_of, answer_shown, kind_shown, refusal_shown};
+pub use attributes::{attrs_shown, row_of};
 pub use calls::{call_of, call_shown};
-pub use escapes::shown;
+pub use escapes::{push_shown, shown};
 pub use keys::{key_of, key_of_parts, key_shown, map_of};
 pub use parts::{
     name_list, name_of, names_shown, path_of, var_list, vars_shown, word_list, words_shown,

@@ -1,5 +1,5 @@
 // Paths, names and lists as words.
-use crate::shown;
+use crate::push_shown;
 use rk_base::{Bytes, Name, NameList, NoMemory, Path, PathFault, Var, VarList, WordList};
 use std::alloc::Global;
 
@@ -61,17 +61,19 @@ pub fn var_list(alloc: Global, word: &[u8]) -> Result<Option<VarList>, NoMemory>
     Ok(VarList::from_vec(vars))
 }
 
+fn push_var(alloc: Global, text: &mut String, var: &Var) -> Result<(), NoMemory> {
+    push_shown(alloc, text, var.name.as_slice())?;
+    text.push('=')?;
+    push_shown(alloc, text, var.value.as_slice())
+}
+
 /// Variables as such a word.
 pub fn vars_shown(alloc: Global, vars: &VarList) -> Result<String, NoMemory> {
-    let mut text = String::new(alloc);
-    'vars: for var in vars.as_slice() {
-        text.push_str(if text.is_empty() { "" } else { "," })?;
-        text.push_str(shown(alloc, var.name.as_slice())?.as_str())?;
-        text.push('=')?;
-        text.push_str(shown(alloc, var.value.as_slice())?.as_str())?;
-    }
-    if text.is_empty() {
-        text.push('-')?;
+    let vars = vars.as_slice();
+    let mut text = String::from_str(alloc, if vars.is_empty() { "-" } else { "" })?;
+    'vars: for (i, var) in vars.iter().enumerate() {
+        text.push_str(if i == 0 { "" } else { "," })?;
+        push_var(alloc, &mut text, var)?;
     }
     Ok(text)
 }
@@ -81,7 +83,7 @@ pub fn names_shown(alloc: Global, names: &NameList) -> Result<String, NoMemory> 
     let mut text = String::new(alloc);
     'names: for name in names.as_slice() {
         text.push(' ')?;
-        text.push_str(shown(alloc, name.as_slice())?.as_str())?;
+        push_shown(alloc, &mut text, name.as_slice())?;
     }
     Ok(text)
 }
@@ -91,7 +93,7 @@ pub fn words_shown(alloc: Global, words: &[Bytes]) -> Result<String, NoMemory> {
     let mut text = String::new(alloc);
     'words: for word in words {
         text.push(' ')?;
-        text.push_str(shown(alloc, word.as_slice())?.as_str())?;
+        push_shown(alloc, &mut text, word.as_slice())?;
     }
     Ok(text)
 }

@@ -58,19 +58,22 @@ fn make_long(rt: &HostRuntime, place: &str) -> io::Result<()> {
     file.set_len((1 << 32) + 1)
 }
 
+fn link(rt: &HostRuntime, alloc: Global, place: &str, path: &str) -> io::Result<()> {
+    let other = place_of(alloc, path)?;
+    fs::hard_link(rt, place, other.as_str())
+}
+
+fn set_mode(rt: &HostRuntime, place: &str, mode: u16) -> io::Result<()> {
+    fs::set_permissions(rt, place, Permissions::from_mode(u32::from(mode)))
+}
+
 fn change(rt: &HostRuntime, alloc: Global, words: &[Vec<u8>]) -> io::Result<()> {
     let place = place_of(alloc, text(words, 1))?;
     match text(words, 0) {
         "really-begin" => fs::create_dir(rt, "real"),
         "really-end" => fs::remove_dir_all(rt, "real"),
-        "really-link" => {
-            let other = place_of(alloc, text(words, 2))?;
-            fs::hard_link(rt, place.as_str(), other.as_str())
-        }
-        "really-mode" => {
-            let mode = Permissions::from_mode(u32::from(mode(words, 2)));
-            fs::set_permissions(rt, place.as_str(), mode)
-        }
+        "really-link" => link(rt, alloc, place.as_str(), text(words, 2)),
+        "really-mode" => set_mode(rt, place.as_str(), mode(words, 2)),
         "really-symlink" => symlink(rt, text(words, 2), place.as_str()),
         "really-long" => make_long(rt, place.as_str()),
         _ => fs::remove_file(rt, place.as_str()),
@@ -83,9 +86,19 @@ fn mode_at(rt: &HostRuntime, alloc: Global, path: &str) -> io::Result<u32> {
     Ok(mode & 0o777)
 }
 
+fn mode_shown(alloc: Global, mode: u32) -> Result<String, NoMemory> {
+    let out = format!(in alloc; "{mode:o}")?;
+    Ok(out)
+}
+
 fn bytes_at(rt: &HostRuntime, alloc: Global, path: &str) -> io::Result<Vec<u8>> {
     let place = place_of(alloc, path)?;
     fs::read(rt, place.as_str())
+}
+
+fn create(rt: &HostRuntime, alloc: Global, path: &str) -> io::Result<File> {
+    let place = place_of(alloc, path)?;
+    File::create(rt, place.as_str())
 }
 
 fn through_narrow(
@@ -93,8 +106,7 @@ fn through_narrow(
     alloc: Global,
     words: &[Vec<u8>],
 ) -> io::Result<RealSink<Narrow>> {
-    let place = place_of(alloc, text(words, 1))?;
-    let file = File::create(rt, place.as_str())?;
+    let file = create(rt, alloc, text(words, 1))?;
     let most = number(words, 2) as usize;
     let fails = text(words, 3) == "fails";
     Ok(RealSink::new(Narrow { file, most, fails }))
@@ -111,11 +123,7 @@ fn put_all<S: Sink>(alloc: Global, sink: &mut S, words: &[Vec<u8>]) -> Result<St
 }
 
 fn put_in_file(rt: &HostRuntime, alloc: Global, words: &[Vec<u8>]) -> Result<String, NoMemory> {
-    let place = match place_of(alloc, text(words, 1)) {
-        Ok(place) => place,
-        Err(_) => return plain(alloc, "not done"),
-    };
-    match File::create(rt, place.as_str()) {
+    match create(rt, alloc, text(words, 1)) {
         Ok(file) => put_all(alloc, &mut RealSink::new(file), behind(behind(words))),
         Err(_) => plain(alloc, "not done"),
     }
@@ -147,10 +155,7 @@ impl Real {
 
     fn mode(&self, path: &str) -> Result<String, NoMemory> {
         match mode_at(&self.rt, self.alloc, path) {
-            Ok(mode) => {
-                let out = format!(in self.alloc; "{mode:o}")?;
-                Ok(out)
-            }
+            Ok(mode) => mode_shown(self.alloc, mode),
             Err(_) => plain(self.alloc, "nothing"),
         }
     }
@@ -162,12 +167,14 @@ impl Real {
         }
     }
 
+    fn push(&mut self, op: Op) -> Result<String, NoMemory> {
+        self.ops.push(op)?;
+        plain(self.alloc, "planned")
+    }
+
     fn add(&mut self, words: &[Vec<u8>]) -> Result<String, NoMemory> {
         match op_of(self.alloc, words)? {
-            Some(op) => {
-                self.ops.push(op)?;
-                plain(self.alloc, "planned")
-            }
+            Some(op) => self.push(op),
             None => plain(self.alloc, "no call"),
         }
     }
@@ -178,6 +185,11 @@ impl Real {
             Err(InstallErr::WriteFault) => plain(self.alloc, "write fault"),
             Err(InstallErr::NoMemory) => Err(NoMemory),
         }
+    }
+
+    fn install_planned(&mut self) -> Result<String, NoMemory> {
+        let plan = self.holdings.plan()?;
+        self.install(&plan)
     }
 
     // The calls that were planned one by one, which are gone then.
@@ -197,10 +209,7 @@ impl Real {
             "after" => self.holdings.after(behind(words)),
             "next" => self.holdings.next(),
             "plan" => plan_shown(self.alloc, &self.holdings.plan()?),
-            "install" => {
-                let plan = self.holdings.plan()?;
-                self.install(&plan)
-            }
+            "install" => self.install_planned(),
             "call" => self.add(behind(words)),
             _ => self.make(),
         }

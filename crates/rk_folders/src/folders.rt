@@ -1,7 +1,6 @@
 // Steps that any folder takes, and a folder and a sink in memory.
 ghost use Rattle.rk_tree.specs.Entries.{IsWholeSnapshot};
 
-use crate::attrs::{attrs_shown, row_of};
 use rk_base::{Bytes, NoMemory, Path};
 use rk_build::attrs_of;
 use rk_folder::{
@@ -9,32 +8,47 @@ use rk_folder::{
     Standing, State, import, state, tree_of,
 };
 use rk_steps::{
-    Subject, behind, kind_shown, number, number_shown, path_of, plain, shown, text, word,
+    Subject, attrs_shown, behind, kind_shown, number, number_shown, path_of, plain, push_shown,
+    row_of, shown, text, word,
 };
 use rk_tree::{Node, Snapshot, Tree};
 use std::alloc::Global;
 use tr_codec::{AttrRow, Attrs};
 
+fn push_marked(alloc: Global, out: &mut String, name: &[u8], mark: &str) -> Result<(), NoMemory> {
+    out.push(' ')?;
+    push_shown(alloc, out, name)?;
+    out.push_str(mark)?;
+    Ok(())
+}
+
+fn push_item(alloc: Global, out: &mut String, item: &Item) -> Result<(), NoMemory> {
+    match item {
+        Item::File(name) => push_marked(alloc, out, name.as_slice(), ""),
+        Item::Dir(name) => push_marked(alloc, out, name.as_slice(), "/"),
+        Item::Special(name) => push_marked(alloc, out, name.as_slice(), "!"),
+        Item::Odd => push_marked(alloc, out, b"?", ""),
+    }
+}
+
 // A listing: each name, with `/` behind a directory's and `!` behind what is special, and `?` for odd names.
 fn items_shown(alloc: Global, items: &[Item]) -> Result<String, NoMemory> {
     let mut out = plain(alloc, "items")?;
     'items: for item in items {
-        let (name, mark) = match item {
-            Item::File(name) => (name.as_slice(), ""),
-            Item::Dir(name) => (name.as_slice(), "/"),
-            Item::Special(name) => (name.as_slice(), "!"),
-            Item::Odd => (b"?".as_slice(), ""),
-        };
-        out.push(' ')?;
-        out.push_str(shown(alloc, name)?.as_str())?;
-        out.push_str(mark)?;
+        push_item(alloc, &mut out, item)?;
     }
     Ok(out)
 }
 
+fn push_behind(alloc: Global, out: &mut String, first: &str, bytes: &[u8]) -> Result<(), NoMemory> {
+    out.push_str(first)?;
+    out.push(' ')?;
+    push_shown(alloc, out, bytes)
+}
+
 fn behind_word(alloc: Global, first: &str, bytes: &[u8]) -> Result<String, NoMemory> {
-    let bytes = shown(alloc, bytes)?;
-    let out = format!(in alloc; "{first} {}", bytes.as_str())?;
+    let mut out = String::new(alloc);
+    push_behind(alloc, &mut out, first, bytes)?;
     Ok(out)
 }
 
@@ -67,46 +81,59 @@ fn got_shown(alloc: Global, got: Result<Got, FolderErr>) -> Result<String, NoMem
     }
 }
 
-fn node_shown(alloc: Global, node: &Node) -> Result<String, NoMemory> {
-    let bytes = if node.is_dir() {
-        String::new(alloc)
-    } else if node.link_text().is_empty() {
-        behind_word(alloc, "", node.bytes())?
-    } else {
-        behind_word(alloc, "", node.link_text())?
-    };
-    let kind = kind_shown(node.kind());
-    let out = format!(in alloc; "{kind} {:o}{}", node.mode(), bytes.as_str())?;
+fn kind_and_mode(alloc: Global, kind: &str, mode: u16) -> Result<String, NoMemory> {
+    let out = format!(in alloc; "{kind} {mode:o}")?;
     Ok(out)
+}
+
+fn push_content(alloc: Global, out: &mut String, node: &Node) -> Result<(), NoMemory> {
+    if node.is_dir() {
+        return Ok(());
+    }
+    let link = node.link_text();
+    push_behind(
+        alloc,
+        out,
+        "",
+        if link.is_empty() { node.bytes() } else { link },
+    )
+}
+
+fn push_node(alloc: Global, out: &mut String, node: &Node) -> Result<(), NoMemory> {
+    out.push_str(kind_and_mode(alloc, kind_shown(node.kind()), node.mode())?.as_str())?;
+    push_content(alloc, out, node)
 }
 
 /// Each path with what stands there, after a semicolon.
 fn snapshot_shown(alloc: Global, snapshot: &Snapshot) -> Result<String, NoMemory> {
-    let mut out = format!(in alloc; "{}", snapshot.len())?;
+    let mut out = number_shown(alloc, Some(snapshot.len()))?;
     if snapshot.len() > 20 {
         return Ok(out);
     }
     'rows: for (path, node) in snapshot.rows() {
-        out.push_str("; ")?;
-        out.push_str(shown(alloc, path.text())?.as_str())?;
+        push_behind(alloc, &mut out, ";", path.text())?;
         out.push(' ')?;
-        out.push_str(node_shown(alloc, node)?.as_str())?;
+        push_node(alloc, &mut out, node)?;
     }
     Ok(out)
 }
 
-fn file_shown(alloc: Global, file: &Option<Bytes>) -> Result<String, NoMemory> {
+fn push_file(alloc: Global, out: &mut String, file: &Option<Bytes>) -> Result<(), NoMemory> {
     match file {
-        Some(bytes) => shown(alloc, bytes.as_slice()),
-        None => plain(alloc, "none"),
+        Some(bytes) => push_shown(alloc, out, bytes.as_slice()),
+        None => {
+            out.push_str("none")?;
+            Ok(())
+        }
     }
 }
 
 fn state_shown(alloc: Global, rkr: bool, state: &State) -> Result<String, NoMemory> {
-    let rkr = if rkr { "there" } else { "gone" };
-    let attrs = file_shown(alloc, &state.attrs)?;
-    let db = file_shown(alloc, &state.db)?;
-    let out = format!(in alloc; ".rkr {rkr} attrs {} db {}", attrs.as_str(), db.as_str())?;
+    let mut out = plain(alloc, if rkr { ".rkr there" } else { ".rkr gone" })?;
+    out.push_str(" attrs ")?;
+    push_file(alloc, &mut out, &state.attrs)?;
+    out.push_str(" db ")?;
+    push_file(alloc, &mut out, &state.db)?;
     Ok(out)
 }
 
@@ -118,14 +145,16 @@ fn not_imported(alloc: Global, e: ImportErr) -> Result<String, NoMemory> {
     }
 }
 
+fn imported_shown(alloc: Global, found: &Imported) -> Result<String, NoMemory> {
+    let mut out = state_shown(alloc, found.hidden.rkr, &found.hidden.state)?;
+    out.push(' ')?;
+    out.push_str(snapshot_shown(alloc, &found.entries)?.as_str())?;
+    Ok(out)
+}
+
 fn import_step<F: Folder>(alloc: Global, folder: &mut F) -> Result<String, NoMemory> {
     match import(alloc, folder) {
-        Ok(found) => {
-            let mut out = state_shown(alloc, found.hidden.rkr, &found.hidden.state)?;
-            out.push(' ')?;
-            out.push_str(snapshot_shown(alloc, &found.entries)?.as_str())?;
-            Ok(out)
-        }
+        Ok(found) => imported_shown(alloc, &found),
         Err(e) => not_imported(alloc, e),
     }
 }
@@ -193,24 +222,25 @@ pub(crate) fn put_shown(alloc: Global, done: Result<(), SinkErr>) -> Result<Stri
     }
 }
 
-fn change_shown(alloc: Global, change: &Change) -> Result<String, NoMemory> {
+fn push_rename(alloc: Global, out: &mut String, from: &Path, to: &Path) -> Result<(), NoMemory> {
+    push_behind(alloc, out, " rename", from.text())?;
+    push_behind(alloc, out, "", to.text())
+}
+
+fn push_change(alloc: Global, out: &mut String, change: &Change) -> Result<(), NoMemory> {
     match change {
-        Change::Write(path) => behind_word(alloc, " write", path.text()),
-        Change::MakeDir(path) => behind_word(alloc, " make-dir", path.text()),
-        Change::RemoveFile(path) => behind_word(alloc, " remove-file", path.text()),
-        Change::RemoveDir(path) => behind_word(alloc, " remove-dir", path.text()),
-        Change::Rename(from, to) => {
-            let mut out = behind_word(alloc, " rename", from.text())?;
-            out.push_str(behind_word(alloc, "", to.text())?.as_str())?;
-            Ok(out)
-        }
+        Change::Write(path) => push_behind(alloc, out, " write", path.text()),
+        Change::MakeDir(path) => push_behind(alloc, out, " make-dir", path.text()),
+        Change::RemoveFile(path) => push_behind(alloc, out, " remove-file", path.text()),
+        Change::RemoveDir(path) => push_behind(alloc, out, " remove-dir", path.text()),
+        Change::Rename(from, to) => push_rename(alloc, out, from, to),
     }
 }
 
 fn changes_shown(alloc: Global, changes: &[Change]) -> Result<String, NoMemory> {
-    let mut out = format!(in alloc; "{}", changes.len())?;
+    let mut out = number_shown(alloc, Some(changes.len()))?;
     'changes: for change in changes {
-        out.push_str(change_shown(alloc, change)?.as_str())?;
+        push_change(alloc, &mut out, change)?;
     }
     Ok(out)
 }
@@ -236,6 +266,33 @@ fn tree_step(alloc: Global, found: Imported, attrs: &Attrs) -> Result<Tree, NoMe
     tree_of(alloc, found.entries, attrs)
 }
 
+// A snapshot, and the rows that keep what of it the folder doesn't.
+fn kept_shown(alloc: Global, snapshot: &Snapshot) -> Result<String, NoMemory>
+    requires { IsWholeSnapshot snapshot.now }
+{
+    let kept = attrs_of(alloc, snapshot)?;
+    let mut out = snapshot_shown(alloc, snapshot)?;
+    out.push_str(" kept ")?;
+    out.push_str(attrs_shown(alloc, &kept)?.as_str())?;
+    Ok(out)
+}
+
+fn tree_shown(alloc: Global, tree: &Tree) -> Result<String, NoMemory> {
+    let snapshot = tree.snapshot()?;
+    kept_shown(alloc, &snapshot)
+}
+
+fn counts_shown(alloc: Global, calls: u64, faults: (u64, u64, u64)) -> Result<String, NoMemory> {
+    let (reads, writes, memory) = faults;
+    let out = format!(in alloc; "calls {calls} reads {reads} writes {writes} memory {memory}")?;
+    Ok(out)
+}
+
+fn put_counts(alloc: Global, faults: u64, memory: u64) -> Result<String, NoMemory> {
+    let out = format!(in alloc; " faults {faults} memory {memory}")?;
+    Ok(out)
+}
+
 /// A folder and a sink in memory, and rows of attributes.
 #[derive(Drop)]
 pub(crate) struct Held {
@@ -255,17 +312,20 @@ impl Held {
         })
     }
 
+    fn set_at(&mut self, words: &[Vec<u8>], path: &Path) -> Result<bool, NoMemory> {
+        match text(words, 0) {
+            "set-file" => self.folder.set_file(self.alloc, path, word(words, 2)),
+            "set-dir" => self.folder.set_dir(path),
+            "set-special" => self.folder.set_special(path),
+            _ => self.folder.set_odd(path),
+        }
+    }
+
     fn set(&mut self, words: &[Vec<u8>]) -> Result<String, NoMemory> {
-        let Some(path) = path_of(self.alloc, word(words, 1))? else {
-            return plain(self.alloc, "no path");
-        };
-        let is_set = match text(words, 0) {
-            "set-file" => self.folder.set_file(self.alloc, &path, word(words, 2))?,
-            "set-dir" => self.folder.set_dir(&path)?,
-            "set-special" => self.folder.set_special(&path)?,
-            _ => self.folder.set_odd(&path)?,
-        };
-        set_shown(self.alloc, is_set)
+        match path_of(self.alloc, word(words, 1))? {
+            Some(path) => set_shown(self.alloc, self.set_at(words, &path)?),
+            None => plain(self.alloc, "no path"),
+        }
     }
 
     fn at(&self, path: Option<Path>) -> Result<String, NoMemory> {
@@ -288,14 +348,15 @@ impl Held {
 
     fn faults(&self) -> Result<String, NoMemory> {
         let folder = &self.folder;
-        let out = format!(in self.alloc;
-            "calls {} reads {} writes {} memory {}",
+        counts_shown(
+            self.alloc,
             folder.calls(),
-            folder.read_faults(),
-            folder.write_faults(),
-            folder.memory_failures()
-        )?;
-        Ok(out)
+            (
+                folder.read_faults(),
+                folder.write_faults(),
+                folder.memory_failures(),
+            ),
+        )
     }
 
     fn clear(&mut self) -> Result<String, NoMemory> {
@@ -309,38 +370,30 @@ impl Held {
     }
 
     fn sink_shown(&self) -> Result<String, NoMemory> {
-        let bytes = shown(self.alloc, self.sink.bytes())?;
-        let out = format!(in self.alloc;
-            "{} faults {} memory {}",
-            bytes.as_str(),
-            self.sink.faults(),
-            self.sink.memory_failures()
-        )?;
+        let sink = &self.sink;
+        let mut out = shown(self.alloc, sink.bytes())?;
+        let counts = put_counts(self.alloc, sink.faults(), sink.memory_failures())?;
+        out.push_str(counts.as_str())?;
         Ok(out)
     }
 
     fn row(&mut self, words: &[Vec<u8>]) -> Result<String, NoMemory> {
-        let Some(path) = path_of(self.alloc, word(words, 0))? else {
-            return plain(self.alloc, "no path");
-        };
         let row = row_of(self.alloc, behind(words))?;
-        self.rows.push((path, row))?;
-        number_shown(self.alloc, Some(self.rows.len()))
+        match path_of(self.alloc, word(words, 0))? {
+            Some(path) => {
+                self.rows.push((path, row))?;
+                number_shown(self.alloc, Some(self.rows.len()))
+            }
+            None => plain(self.alloc, "no path"),
+        }
     }
 
     // The tree of the folder with the rows, and the rows that keep what of it the folder doesn't.
     fn grown(&mut self, attrs: &Attrs) -> Result<String, NoMemory> {
-        let found = match import(self.alloc, &mut self.folder) {
-            Ok(found) => found,
-            Err(e) => return not_imported(self.alloc, e),
-        };
-        let tree = tree_step(self.alloc, found, attrs)?;
-        let snapshot = tree.snapshot()?;
-        let kept = attrs_of(self.alloc, &snapshot)?;
-        let mut out = snapshot_shown(self.alloc, &snapshot)?;
-        out.push_str(" kept ")?;
-        out.push_str(attrs_shown(self.alloc, &kept)?.as_str())?;
-        Ok(out)
+        match import(self.alloc, &mut self.folder) {
+            Ok(found) => tree_shown(self.alloc, &tree_step(self.alloc, found, attrs)?),
+            Err(e) => not_imported(self.alloc, e),
+        }
     }
 
     fn tree(&mut self) -> Result<String, NoMemory> {

@@ -1,13 +1,14 @@
 // Steps of made workloads, and of what is told where there are no records.
-ghost use Rattle.std.specs.Prelude.{◌≡◌, ◌<◌};
+ghost use Rattle.rk_folder.specs.Memory.{is_steady};
+ghost use Rattle.std.specs.Prelude.{◌≡◌, ◌<◌, true};
 
 use crate::folders::standing_shown;
 use rk_base::{Bytes, NoMemory, Path};
-use rk_folder::Standing;
+use rk_folder::{MemFolder, Standing};
 use rk_gen::{Draws, Edit, Figures, File, generate, summary};
 use rk_made::{change, start_folder};
 use rk_show::{records_text, trace_json, trace_text};
-use rk_steps::{Subject, number, number_shown, path_of, plain, shown, text, word};
+use rk_steps::{Subject, number, number_shown, path_of, plain, push_shown, shown, text, word};
 use std::alloc::Global;
 
 /// What is drawn.
@@ -18,9 +19,11 @@ pub(crate) struct Made {
 }
 
 fn two(alloc: Global, first: &str, path: &[u8], bytes: &[u8]) -> Result<String, NoMemory> {
-    let path = shown(alloc, path)?;
-    let bytes = shown(alloc, bytes)?;
-    let out = format!(in alloc; "{first} {} {}", path.as_str(), bytes.as_str())?;
+    let mut out = plain(alloc, first)?;
+    out.push(' ')?;
+    push_shown(alloc, &mut out, path)?;
+    out.push(' ')?;
+    push_shown(alloc, &mut out, bytes)?;
     Ok(out)
 }
 
@@ -31,14 +34,16 @@ fn file_shown(alloc: Global, file: Option<&File>) -> Result<String, NoMemory> {
     }
 }
 
+fn remove_shown(alloc: Global, path: &Path) -> Result<String, NoMemory> {
+    let mut out = plain(alloc, "remove ")?;
+    push_shown(alloc, &mut out, path.text())?;
+    Ok(out)
+}
+
 fn edit_shown(alloc: Global, edit: &Edit) -> Result<String, NoMemory> {
     match edit {
         Edit::Write(file) => two(alloc, "write", file.path.text(), file.bytes.as_slice()),
-        Edit::Remove(path) => {
-            let path = shown(alloc, path.text())?;
-            let out = format!(in alloc; "remove {}", path.as_str())?;
-            Ok(out)
-        }
+        Edit::Remove(path) => remove_shown(alloc, path),
         Edit::Nothing => plain(alloc, "nothing"),
     }
 }
@@ -54,9 +59,13 @@ fn file_step(alloc: Global, seed: u64, i: u64) -> Result<String, NoMemory> {
 }
 
 // The first edit of a seed.
-fn edit_step(alloc: Global, seed: u64) -> Result<String, NoMemory> {
+fn first_edit(alloc: Global, seed: u64) -> Result<Edit, NoMemory> {
     let mut made = generate(alloc, seed)?;
-    let edit = made.workload.edit(alloc)?;
+    made.workload.edit(alloc)
+}
+
+fn edit_step(alloc: Global, seed: u64) -> Result<String, NoMemory> {
+    let edit = first_edit(alloc, seed)?;
     edit_shown(alloc, &edit)
 }
 
@@ -67,12 +76,18 @@ fn standing(alloc: Global, is_kind: bool, it: Option<&Standing>) -> Result<Strin
     }
 }
 
+fn edit_in(alloc: Global, folder: &mut MemFolder, seed: u64) -> Result<(), NoMemory>
+    requires { is_steady folder.old ≡ true }
+{
+    let edit = first_edit(alloc, seed)?;
+    change(alloc, folder, &edit)
+}
+
 // What stands at a path of a seed's folder after its first edit, or what kind of thing.
 fn edited_step(alloc: Global, seed: u64, path: &Path, is_kind: bool) -> Result<String, NoMemory> {
-    let mut made = generate(alloc, seed)?;
+    let made = generate(alloc, seed)?;
     let mut folder = start_folder(alloc, &made.files)?;
-    let edit = made.workload.edit(alloc)?;
-    change(alloc, &mut folder, &edit)?;
+    edit_in(alloc, &mut folder, seed)?;
     standing(alloc, is_kind, folder.at(path))
 }
 

@@ -1,0 +1,148 @@
+// Plans between what a folder holds before and after.
+use rk_base::{Bytes, NoMemory, Path};
+use rk_build::{Holding, Op, Plan, plan};
+use rk_folder::State;
+use rk_steps::{number_shown, path_of, plain, push_shown, text, word};
+use rk_tree::{Entry, Snapshot};
+use std::alloc::Global;
+
+/// What is held before and after.
+#[derive(Drop)]
+pub(crate) struct Holdings {
+    alloc: Global,
+    before: Holding,
+    after: Holding,
+}
+
+fn nothing(alloc: Global) -> Holding {
+    Holding {
+        entries: Snapshot::new(alloc),
+        rkr: false,
+        state: State {
+            db: None,
+            attrs: None,
+        },
+    }
+}
+
+fn keep(alloc: Global, file: &mut Option<Bytes>, bytes: &[u8]) -> Result<String, NoMemory> {
+    let bytes = Bytes::from_slice(alloc, bytes)?;
+    *file = Some(bytes);
+    plain(alloc, "held")
+}
+
+// `PATH dir`, `PATH file BYTES`, `PATH link TEXT`, or one of `rkr`, `attrs BYTES` and `db BYTES`.
+fn hold(alloc: Global, holding: &mut Holding, words: &[Vec<u8>]) -> Result<String, NoMemory> {
+    match text(words, 0) {
+        "rkr" => {
+            holding.rkr = true;
+            plain(alloc, "held")
+        }
+        "attrs" => keep(alloc, &mut holding.state.attrs, word(words, 1)),
+        "db" => keep(alloc, &mut holding.state.db, word(words, 1)),
+        _ => hold_entry(alloc, &mut holding.entries, words),
+    }
+}
+
+fn entry_of(kind: &str, bytes: Bytes) -> Entry {
+    match kind {
+        "dir" => Entry::Dir(0o755),
+        "link" => Entry::Link(bytes),
+        _ => Entry::File(0o644, bytes),
+    }
+}
+
+fn hold_entry(
+    alloc: Global,
+    entries: &mut Snapshot,
+    words: &[Vec<u8>],
+) -> Result<String, NoMemory> {
+    let bytes = Bytes::from_slice(alloc, word(words, 2))?;
+    match path_of(alloc, word(words, 0))? {
+        Some(path) => {
+            entries.put(path, entry_of(text(words, 1), bytes))?;
+            plain(alloc, "held")
+        }
+        None => plain(alloc, "no path"),
+    }
+}
+
+fn push_at(alloc: Global, out: &mut String, first: &str, path: &Path) -> Result<(), NoMemory> {
+    out.push_str(first)?;
+    push_shown(alloc, out, path.text())
+}
+
+fn push_write(alloc: Global, out: &mut String, path: &Path, bytes: &Bytes) -> Result<(), NoMemory> {
+    push_at(alloc, out, "; write ", path)?;
+    out.push(' ')?;
+    push_shown(alloc, out, bytes.as_slice())
+}
+
+fn push_op(alloc: Global, out: &mut String, op: &Op) -> Result<(), NoMemory> {
+    match op {
+        Op::RemoveFile(path) => push_at(alloc, out, "; remove-file ", path),
+        Op::RemoveDir(path) => push_at(alloc, out, "; remove-dir ", path),
+        Op::MakeDir(path) => push_at(alloc, out, "; make-dir ", path),
+        Op::Write(path, bytes) => push_write(alloc, out, path, bytes),
+    }
+}
+
+/// A plan's calls; of more than 20 only how many.
+pub(crate) fn plan_shown(alloc: Global, plan: &Plan) -> Result<String, NoMemory> {
+    let mut out = number_shown(alloc, Some(plan.len()))?;
+    if plan.len() > 20 {
+        return Ok(out);
+    }
+    'ops: for op in plan.as_slice() {
+        push_op(alloc, &mut out, op)?;
+    }
+    Ok(out)
+}
+
+fn op_at(kind: &str, path: Path, bytes: Bytes) -> Option<Op> {
+    match kind {
+        "remove-file" => Some(Op::RemoveFile(path)),
+        "remove-dir" => Some(Op::RemoveDir(path)),
+        "make-dir" => Some(Op::MakeDir(path)),
+        "write" => Some(Op::Write(path, bytes)),
+        _ => None,
+    }
+}
+
+/// The call of these words.
+pub(crate) fn op_of(alloc: Global, words: &[Vec<u8>]) -> Result<Option<Op>, NoMemory> {
+    let bytes = Bytes::from_slice(alloc, word(words, 2))?;
+    match path_of(alloc, word(words, 1))? {
+        Some(path) => Ok(op_at(text(words, 0), path, bytes)),
+        None => Ok(None),
+    }
+}
+
+impl Holdings {
+    pub(crate) fn new(alloc: Global) -> Holdings {
+        Holdings {
+            alloc,
+            before: nothing(alloc),
+            after: nothing(alloc),
+        }
+    }
+
+    pub(crate) fn before(&mut self, words: &[Vec<u8>]) -> Result<String, NoMemory> {
+        hold(self.alloc, &mut self.before, words)
+    }
+
+    pub(crate) fn after(&mut self, words: &[Vec<u8>]) -> Result<String, NoMemory> {
+        hold(self.alloc, &mut self.after, words)
+    }
+
+    /// What was held after is held before from here on, and nothing after.
+    pub(crate) fn next(&mut self) -> Result<String, NoMemory> {
+        self.before = nothing(self.alloc);
+        std::mem::swap(&mut self.before, &mut self.after);
+        plain(self.alloc, "next")
+    }
+
+    pub(crate) fn plan(&self) -> Result<Plan, NoMemory> {
+        plan(self.alloc, &self.before, &self.after)
+    }
+}
