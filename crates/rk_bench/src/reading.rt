@@ -41,6 +41,16 @@ fn documents_on_a_line() -> Shape {
     }
 }
 
+// A bracket of letters that nothing closes.
+fn open_bracket() -> Shape {
+    Shape {
+        first: b"[",
+        again: b"a",
+        middle: b"",
+        closing: b"",
+    }
+}
+
 // Brackets of one word that begin with a period, up to the `]` that closes the first.
 fn closed_brackets() -> Shape {
     Shape {
@@ -65,6 +75,7 @@ fn shape_of(word: &str) -> Option<Shape> {
         "several" => Some(documents_on_a_line()),
         "brackets" => Some(only(b"[[.$")),
         "closed" => Some(closed_brackets()),
+        "open" => Some(open_bracket()),
         _ => None,
     }
 }

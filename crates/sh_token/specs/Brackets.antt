@@ -22,16 +22,19 @@ closes_bracket f (c ∷ cs) = (f c or is_dollar (c ∷ cs)) also (c == 93 or clo
 abbrev pub has_symbol : (ℕ → Bool) → List ℕ → Bool
 has_symbol f text = begins_symbol text also closes_bracket f text
 
--- a character class, as `[:alpha:]`, whose name has so many bytes
-abbrev pub is_class : ℕ → List ℕ → Bool
-is_class n text = slice_index text 0 == 91 also slice_index text 1 == 58 also slice_index text (n + 2) == 58 also slice_index text (n + 3) == 93
+-- a text begins as a character class does, as `[:alpha:]`, and its name of so many bytes is closed
+abbrev pub begins_class : List ℕ → Bool
+begins_class text = slice_index text 0 == 91 also slice_index text 1 == 58
+
+abbrev pub closes_class : ℕ → List ℕ → Bool
+closes_class n text = slice_index text (n + 2) == 58 also slice_index text (n + 3) == 93
 
 abbrev pub class_name : List ℕ → ℕ
 class_name text = run is_name (drop 2 text)
 
 -- how many bytes one has behind its `[`, 0 where none begins there
 abbrev pub class_rest : List ℕ → ℕ
-class_rest text = if is_class (class_name text) text then class_name text + 3 else 0
+class_rest text = if begins_class text also closes_class (class_name text) text then class_name text + 3 else 0
 
 -- how many bytes behind a bracket's `[` close nothing: the `!` that negates it, and a `]` as its first item
 abbrev pub item_first : List ℕ → ℕ
