@@ -1,6 +1,5 @@
 -- What a build leaves, wherever it ends.
 use Rattle.std.proofs.Common.{◌≡◌, ℕ, ◌+◌, ◌++◌, ◌≤◌, List, [], length, Option, Some, None, IfSome, Err, refl, sym, ap, subst, ◌∙◌, ◌⊎◌, inl, inr, append-nil, option_map, arith}
-use Rattle.std.proofs.Math.Seq.{take-length}
 use Rattle.rk_base.specs.Text.{Text}
 use Rattle.rk_calls.specs.Keys.{KeyValue}
 use Rattle.rk_calls.specs.Talk.{Says}
@@ -19,10 +18,10 @@ use Rattle.rk_runs.specs.Run.{Outcome as Run}
 use Rattle.rk_runs.specs.Spoken.{AreSpoken}
 use Rattle.rk_words.specs.Asked.{turns, is_fresh}
 use Rattle.rk_words.specs.declared.requests.Request.{Request}
-use Rattle.rk_build.specs.Outcomes.{Checked, outcome_of_stop, IfSpecial, IfDamaged, IfForged, EndsSo, EndsWith, HasStatus, Tallies, IsLeft, Leaves, FolderCounts, PartlyInstalled, Halts, Gains, HaltsErrors, GainsErrors, Counts, Counted, ErrorsCounted, Ticked}
-use Rattle.rk_build.specs.Stages.{PreparesSo, IsPrepared, ReadsCounted, WritesCounted, MemoryRose, InstallsSo}
-use Rattle.rk_build.specs.Telling.{SinkState, IsPut, IsCut, PutsLine, PutsErrors}
-use Rattle.rk_build.specs.Texts.{Front, PutSo, BothCounted, MemoryCounted}
+use Rattle.rk_build.specs.Outcomes.{Checked, outcome_of_stop, IfSpecial, IfDamaged, IfForged, EndsSo, EndsWith, HasStatus, Tallies, IsLeft, RanSo, StartsBoth, Leaves, FolderCounts, PartlyInstalled, Tried, Halts, GainsAll, Gains, GainsErrors, InOrder, Counts, Counted, ErrorsCounted, Ticked}
+use Rattle.rk_build.specs.Stages.{PreparesSo, IsPrepared, ReadsCounted, WritesCounted, MemoryRose, InstallsSo, StartsSo}
+use Rattle.rk_build.specs.Telling.{SinkState, IsPut, IsCut, PutsLine, PutsOutput, PutsErrors, PutsInOrder}
+use Rattle.rk_build.specs.Texts.{BothCounted, MemoryCounted}
 use Rattle.rk_build.specs.Checks.{TellsForged}
 use Rattle.rk_build.specs.Run.{fresh_run}
 use Rattle.rk_build.specs.Fresh.{RunText, output_of, error_text_of}
@@ -31,6 +30,7 @@ use Rattle.rk_build.specs.Kept.{Keeping, IsDamaged, state_in, decoded}
 use Rattle.rk_build.specs.declared.stop.Refusal.TheVariants as refusal
 use Rattle.rk_build.specs.declared.outcome.Outcome.{Outcome}
 use Rattle.rk_build.specs.declared.outcome.Outcome.TheVariants as out
+use Rattle.rk_build.specs.declared.build.Ended.{Ended}
 use Rattle.rk_build.specs.declared.prepare.Prepared.{Prepared}
 use Rattle.rk_build.specs.declared.stop.Stop.{Stop}
 use Rattle.rk_build.specs.declared.stop.Stop.TheVariants as stop
@@ -38,10 +38,6 @@ use Rattle.rk_build.specs.declared.stop.Stop.TheVariants as stop
 pub with_bytes-nil : (old : Option Text) → with_bytes [] old ≡ old
 with_bytes-nil None = refl
 with_bytes-nil (Some front) = ap Some (append-nil front)
-
--- all of a text is a front of it
-pub Front-all : (text : Text) (old new : Option Text) → new ≡ with_bytes text old → Front text old new
-Front-all text old new all = (length text, all ∙ ap (λ (t : Text). with_bytes t old) (sym (take-length text)))
 
 pub counts-same : (before now : Counts) → now.reads ≡ before.reads → now.writes ≡ before.writes → now.puts ≡ before.puts → now.error_puts ≡ before.error_puts → now ≡ before
 counts-same before now r w p e =
@@ -61,14 +57,14 @@ prepare-leaves first request told new before now b n stop.ReadFault p same = sam
 prepare-leaves first request told new before now b n stop.WriteFault p same = absurd p
 prepare-leaves first request told new before now b n stop.NoMemory p same = inl same
 
-pub prepare-gains : (first : KeyValue → Says) (request : Request) (text : RunText) (told : Option Held) (old new : Option Text) (before now : ℕ) (e : Stop) → PreparesSo first request told before now (Err e) → new ≡ old → Gains first request text told old new (outcome_of_stop e)
-prepare-gains first request text told old new before now (stop.Refused (refusal.Special path)) p same = same
-prepare-gains first request text told old new before now (stop.Refused (refusal.Damaged file damage)) p same = same
-prepare-gains first request text told old new before now (stop.Forged rec step) p same = same
-prepare-gains first request text told old new before now stop.Spent p same = same
-prepare-gains first request text told old new before now stop.ReadFault p same = same
-prepare-gains first request text told old new before now stop.WriteFault p same = absurd p
-prepare-gains first request text told old new before now stop.NoMemory p same = inl same
+pub prepare-gains : (first : KeyValue → Says) (request : Request) (told : Option Held) (old new : SinkState) (before now : ℕ) (e : Stop) → PreparesSo first request told before now (Err e) → new ≡ old → Gains first request told old new (outcome_of_stop e)
+prepare-gains first request told old new before now (stop.Refused (refusal.Special path)) p same = same
+prepare-gains first request told old new before now (stop.Refused (refusal.Damaged file damage)) p same = same
+prepare-gains first request told old new before now (stop.Forged rec step) p same = same
+prepare-gains first request told old new before now stop.Spent p same = same
+prepare-gains first request told old new before now stop.ReadFault p same = same
+prepare-gains first request told old new before now stop.WriteFault p same = absurd p
+prepare-gains first request told old new before now stop.NoMemory p same = inl same
 
 pub prepare-errors : (first : KeyValue → Says) (request : Request) (told : Option Held) (old new : SinkState) (before now : ℕ) (e : Stop) → PreparesSo first request told before now (Err e) → new ≡ old → GainsErrors first request told old new (outcome_of_stop e)
 prepare-errors first request told old new before now (stop.Refused (refusal.Special path)) p same = same
@@ -112,7 +108,7 @@ unput-errors s out.NoMemory = (refl, omega arith)
 
 -- A put failed.
 
-pub put-leaves : (first : KeyValue → Says) (request : Request) (told new : Option Held) (b n : FolderCounts) (text : Text) (o m : Option Text) (e : Stop) → PutSo {T = Unit {0}} text o m (Err e) → new ≡ told → Leaves first request told new b n (outcome_of_stop e)
+pub put-leaves : (first : KeyValue → Says) (request : Request) (told new : Option Held) (b n : FolderCounts) (text : Text) (o m : SinkState) (e : Stop) → PutsOutput {T = Unit {0}} text o m (Err e) → new ≡ told → Leaves first request told new b n (outcome_of_stop e)
 put-leaves first request told new b n text o m (stop.Refused refusal) p same = absurd p
 put-leaves first request told new b n text o m (stop.Forged rec step) p same = absurd p
 put-leaves first request told new b n text o m stop.Spent p same = absurd p
@@ -136,25 +132,21 @@ error_text-told first request (Some held) before now p is = record { plain = is.
 pub text-told : (first : KeyValue → Says) (request : Request) (text : RunText) (told : Option Held) (it out : Text) → it ≡ out → IsTextOf first request text told out → IsTextOf first request text told it
 text-told first request text told it out same is = subst (IsTextOf first request text told) (sym same) is
 
-front-told : (first : KeyValue → Says) (request : Request) (text : RunText) (told : Option Held) (it : Text) (old new : Option Text) → IsTextOf first request text told it → Front it old new → Halts first request text told old new
-front-told first request text None it old new is front = inr tt
-front-told first request text (Some held) it old new is front = inr (record { plain = is.plain; rows = is.rows; old = is.old; kept = is.kept; so = record { it = it; is_text = is.so; front = front } })
+tried : (first : KeyValue → Says) (request : Request) (text : RunText) (told : Option Held) (it : Text) (old new : SinkState) → IsTextOf first request text told it → PutsLine it old new → Tried first request text told old new
+tried first request text None it old new is put = tt
+tried first request text (Some held) it old new is put = record { plain = is.plain; rows = is.rows; old = is.old; kept = is.kept; so = record { it = it; is_text = is.so; put = put } }
 
-pub put-gains : (first : KeyValue → Says) (request : Request) (text : RunText) (told : Option Held) (it : Text) (old new : Option Text) (e : Stop) → IsTextOf first request text told it → PutSo {T = Unit {0}} it old new (Err e) → Gains first request text told old new (outcome_of_stop e)
-put-gains first request text told it old new (stop.Refused refusal) is p = absurd p
-put-gains first request text told it old new (stop.Forged rec step) is p = absurd p
-put-gains first request text told it old new stop.Spent is p = absurd p
-put-gains first request text told it old new stop.ReadFault is p = absurd p
-put-gains first request text told it old new stop.WriteFault is p = front-told first request text told it old new is p
-put-gains first request text told it old new stop.NoMemory is p = front-told first request text told it old new is p
+pub put-gains : (first : KeyValue → Says) (request : Request) (told : Option Held) (it : Text) (old new : SinkState) (e : Stop) → IsTextOf first request output_of told it → PutsOutput {T = Unit {0}} it old new (Err e) → Gains first request told old new (outcome_of_stop e)
+put-gains first request told it old new (stop.Refused refusal) is p = absurd p
+put-gains first request told it old new (stop.Forged rec step) is p = absurd p
+put-gains first request told it old new stop.Spent is p = absurd p
+put-gains first request told it old new stop.ReadFault is p = absurd p
+put-gains first request told it old new stop.WriteFault is p = tried first request output_of told it old new is p
+put-gains first request told it old new stop.NoMemory is p = inr (tried first request output_of told it old new is p)
 
-errors-told : (first : KeyValue → Says) (request : Request) (told : Option Held) (it : Text) (old new : SinkState) → IsTextOf first request error_text_of told it → PutsLine it old new → HaltsErrors first request told old new
-errors-told first request None it old new is put = inr tt
-errors-told first request (Some held) it old new is put = inr (record { plain = is.plain; rows = is.rows; old = is.old; kept = is.kept; so = record { it = it; is_text = is.so; put = put } })
-
-errors-cut : (first : KeyValue → Says) (request : Request) (told : Option Held) (it : Text) (old new : SinkState) → IsTextOf first request error_text_of told it → (new ≡ old) ⊎ IsCut it old new → HaltsErrors first request told old new
+errors-cut : (first : KeyValue → Says) (request : Request) (told : Option Held) (it : Text) (old new : SinkState) → IsTextOf first request error_text_of told it → (new ≡ old) ⊎ IsCut it old new → Halts first request error_text_of told old new
 errors-cut first request told it old new is (inl same) = inl same
-errors-cut first request told it old new is (inr cut) = errors-told first request told it old new is (inr cut)
+errors-cut first request told it old new is (inr cut) = inr (tried first request error_text_of told it old new is (inr cut))
 
 pub put-gains-errors : (first : KeyValue → Says) (request : Request) (told : Option Held) (it : Text) (old new : SinkState) (e : Stop) → IsTextOf first request error_text_of told it → PutsErrors {T = Unit {0}} it old new (Err e) → GainsErrors first request told old new (outcome_of_stop e)
 put-gains-errors first request told it old new (stop.Refused refusal) is p = absurd p
@@ -164,7 +156,14 @@ put-gains-errors first request told it old new stop.ReadFault is p = absurd p
 put-gains-errors first request told it old new stop.WriteFault is p = errors-cut first request told it old new is p
 put-gains-errors first request told it old new stop.NoMemory is p = errors-cut first request told it old new is p
 
-pub put-counted : (b n : Counts) (text : Text) (old new : Option Text) (e : Stop) → PutSo {T = Unit {0}} text old new (Err e) → BothCounted {T = Unit {0}} b.puts n.puts b.error_puts n.error_puts (Err e) → n.reads ≡ b.reads → n.writes ≡ b.writes → Counted b n (outcome_of_stop e)
+-- the error text was put once the output went out
+pub put-order : (first : KeyValue → Says) (request : Request) (told : Option Held) (it : Text) (old new err_old err_new : SinkState) → IsTextOf first request output_of told it → PutsInOrder it old new err_old err_new → InOrder first request told (record { out = old; err = err_old }) (record { out = new; err = err_new })
+put-order first request told it old new err_old err_new is (inl same) = inl same
+put-order first request None it old new err_old err_new is (inr put) = inr tt
+put-order first request (Some held) it old new err_old err_new is (inr put) =
+    inr (record { plain = is.plain; rows = is.rows; old = is.old; kept = is.kept; so = record { it = it; is_text = is.so; put = put } })
+
+pub put-counted : (b n : Counts) (text : Text) (old new : SinkState) (e : Stop) → PutsOutput {T = Unit {0}} text old new (Err e) → BothCounted {T = Unit {0}} b.puts n.puts b.error_puts n.error_puts (Err e) → n.reads ≡ b.reads → n.writes ≡ b.writes → Counted b n (outcome_of_stop e)
 put-counted b n text old new (stop.Refused refusal) p c r w = absurd p
 put-counted b n text old new (stop.Forged rec step) p c r w = absurd p
 put-counted b n text old new stop.Spent p c r w = absurd p
@@ -172,7 +171,7 @@ put-counted b n text old new stop.ReadFault p c r w = absurd p
 put-counted b n text old new stop.WriteFault p c r w = (r, inr c.2)
 put-counted b n text old new stop.NoMemory p c r w = counts-same b n r w c.0 c.1
 
-pub put-errors : (b n : ℕ) (before now : SinkState) (text : Text) (old new : Option Text) (e : Stop) → PutSo {T = Unit {0}} text old new (Err e) → BothCounted {T = Unit {0}} b n before.faults now.faults (Err e) → MemoryCounted {T = Unit {0}} before.memory now.memory (Err e) → ErrorsCounted before now (outcome_of_stop e)
+pub put-errors : (b n : ℕ) (before now : SinkState) (text : Text) (old new : SinkState) (e : Stop) → PutsOutput {T = Unit {0}} text old new (Err e) → BothCounted {T = Unit {0}} b n before.faults now.faults (Err e) → MemoryCounted {T = Unit {0}} before.memory now.memory (Err e) → ErrorsCounted before now (outcome_of_stop e)
 put-errors b n before now text old new (stop.Refused refusal) p c m = absurd p
 put-errors b n before now text old new (stop.Forged rec step) p c m = absurd p
 put-errors b n before now text old new stop.Spent p c m = absurd p
@@ -180,7 +179,7 @@ put-errors b n before now text old new stop.ReadFault p c m = absurd p
 put-errors b n before now text old new stop.WriteFault p c m = (c.1, m)
 put-errors b n before now text old new stop.NoMemory p c m = (c.1, m)
 
-pub put-ticked : (request : Request) (before now : ℕ) (text : Text) (old new : Option Text) (e : Stop) → PutSo {T = Unit {0}} text old new (Err e) → now ≤ before + turns request → Ticked request before now (outcome_of_stop e)
+pub put-ticked : (request : Request) (before now : ℕ) (text : Text) (old new : SinkState) (e : Stop) → PutsOutput {T = Unit {0}} text old new (Err e) → now ≤ before + turns request → Ticked request before now (outcome_of_stop e)
 put-ticked request before now text old new (stop.Refused refusal) p most = absurd p
 put-ticked request before now text old new (stop.Forged rec step) p most = absurd p
 put-ticked request before now text old new stop.Spent p most = most
@@ -188,15 +187,56 @@ put-ticked request before now text old new stop.ReadFault p most = most
 put-ticked request before now text old new stop.WriteFault p most = most
 put-ticked request before now text old new stop.NoMemory p most = most
 
+left : (first : KeyValue → Says) (request : Request) (held : Held) (before now : ℕ) (p : Prepared) → (is : IsPrepared first request held before now p) → AreSpoken first is.old → IsLeft (fresh_run first request (with_rows (snapshot_of held) is.rows)) p.finished.world p.finished.table
+left first request held before now p is spoken =
+    subst (λ (r : Run World). IsLeft r p.finished.world p.finished.table) (sym (is.run.ends spoken).1) (refl, refl)
+
+-- so many commands ran
+ran-so : (first : KeyValue → Says) (request : Request) (told : Option Held) (before now : ℕ) (p : Prepared) → IfSome told (λ held. IsPrepared first request held before now p) → RanSo first request told (length p.finished.ran)
+ran-so first request None before now p is = tt
+ran-so first request (Some held) before now p is = record {
+  plain = is.plain;
+  rows = is.rows;
+  old = is.old;
+  kept = is.kept;
+  so = record {
+    world = p.finished.world;
+    table = p.finished.table;
+    is_left = λ spoken. left first request held before now p is spoken;
+    count = ap (λ (ran : List Ran). length ran) is.run.ran;
+  };
+}
+
+pub put-starts : (first : KeyValue → Says) (request : Request) (told : Option Held) (live late before now : ℕ) (p : Prepared) (text : Text) (old new : SinkState) (e : Stop) → IfSome told (λ held. IsPrepared first request held live late p) → PutsOutput {T = Unit {0}} text old new (Err e) → StartsBoth request told before now (length p.finished.ran) → StartsSo {T = Ended} (λ e. length e.ran) first request told before now (Err e)
+put-starts first request told live late before now p text old new (stop.Refused refusal) is put starts = absurd put
+put-starts first request told live late before now p text old new (stop.Forged rec step) is put starts = absurd put
+put-starts first request told live late before now p text old new stop.Spent is put starts = absurd put
+put-starts first request told live late before now p text old new stop.ReadFault is put starts = absurd put
+put-starts first request told live late before now p text old new stop.WriteFault is put starts = (length p.finished.ran, (ran-so first request told live late p is, starts))
+put-starts first request told live late before now p text old new stop.NoMemory is put starts = tt
+
+pub install-starts : (first : KeyValue → Says) (request : Request) (told h k : Option Held) (ops : List Op) (live late before now : ℕ) (p : Prepared) (e : Stop) → IfSome told (λ held. IsPrepared first request held live late p) → InstallsSo {T = Unit {0}} ops h k (Err e) → StartsBoth request told before now (length p.finished.ran) → StartsSo {T = Ended} (λ e. length e.ran) first request told before now (Err e)
+install-starts first request told h k ops live late before now p (stop.Refused refusal) is part starts = absurd part
+install-starts first request told h k ops live late before now p (stop.Forged rec step) is part starts = absurd part
+install-starts first request told h k ops live late before now p stop.Spent is part starts = absurd part
+install-starts first request told h k ops live late before now p stop.ReadFault is part starts = absurd part
+install-starts first request told h k ops live late before now p stop.WriteFault is part starts = (length p.finished.ran, (ran-so first request told live late p is, starts))
+install-starts first request told h k ops live late before now p stop.NoMemory is part starts = tt
+
+-- what is said of the starts where nothing was prepared
+pub prepare-starts : (first : KeyValue → Says) (request : Request) (told : Option Held) (before now : ℕ) (e : Stop) → StartsSo {T = Prepared} (λ p. length p.finished.ran) first request told before now (Err e) → StartsSo {T = Ended} (λ e. length e.ran) first request told before now (Err e)
+prepare-starts first request told before now (stop.Refused refusal) h = h
+prepare-starts first request told before now (stop.Forged rec step) h = h
+prepare-starts first request told before now stop.Spent h = h
+prepare-starts first request told before now stop.ReadFault h = h
+prepare-starts first request told before now stop.WriteFault h = h
+prepare-starts first request told before now stop.NoMemory h = h
+
 -- A call of the installation failed.
 
 pub may_run : (first : KeyValue → Says) (request : Request) (told : Option Held) (before now : ℕ) (p : Prepared) → IfSome told (λ held. IsPrepared first request held before now p) → MayRun told p.plan
 may_run first request None before now p is = tt
 may_run first request (Some held) before now p is = is.allowed
-
-left : (first : KeyValue → Says) (request : Request) (held : Held) (before now : ℕ) (p : Prepared) → (is : IsPrepared first request held before now p) → AreSpoken first is.old → IsLeft (fresh_run first request (with_rows (snapshot_of held) is.rows)) p.finished.world p.finished.table
-left first request held before now p is spoken =
-    subst (λ (r : Run World). IsLeft r p.finished.world p.finished.table) (sym (is.run.ends spoken).1) (refl, refl)
 
 partly : (first : KeyValue → Says) (request : Request) (told new : Option Held) (before now : ℕ) (p : Prepared) (e : InstallErr) → IfSome told (λ held. IsPrepared first request held before now p) → Partly p.plan told new e → IfSome told (λ held. Keeping (is_fresh request) held (λ entries old. PartlyInstalled first request entries old held new e))
 partly first request None new before now p e is part = tt
@@ -228,21 +268,21 @@ install-leaves-now first request told h new before now b c n p e same writes mem
     (subst (λ (k : ℕ). WritesCounted {T = Unit {0}} k n.writes (Err e)) writes w)
     (subst (λ (k : ℕ). MemoryRose {T = Unit {0}} k n.memory (Err e)) memory m)
 
-pub install-gains : (first : KeyValue → Says) (request : Request) (text : RunText) (told h n : Option Held) (ops : List Op) (it : Text) (old new : Option Text) (e : Stop) → IsTextOf first request text told it → InstallsSo {T = Unit {0}} ops h n (Err e) → new ≡ with_bytes it old → Gains first request text told old new (outcome_of_stop e)
-install-gains first request text told h n ops it old new (stop.Refused refusal) is part all = absurd part
-install-gains first request text told h n ops it old new (stop.Forged rec step) is part all = absurd part
-install-gains first request text told h n ops it old new stop.Spent is part all = absurd part
-install-gains first request text told h n ops it old new stop.ReadFault is part all = absurd part
-install-gains first request text told h n ops it old new stop.WriteFault is part all = front-told first request text told it old new is (Front-all it old new all)
-install-gains first request text told h n ops it old new stop.NoMemory is part all = front-told first request text told it old new is (Front-all it old new all)
+pub install-gains : (first : KeyValue → Says) (request : Request) (told h n : Option Held) (ops : List Op) (it : Text) (old new : SinkState) (e : Stop) → IsTextOf first request output_of told it → InstallsSo {T = Unit {0}} ops h n (Err e) → IsPut it old new → Gains first request told old new (outcome_of_stop e)
+install-gains first request told h n ops it old new (stop.Refused refusal) is part put = absurd part
+install-gains first request told h n ops it old new (stop.Forged rec step) is part put = absurd part
+install-gains first request told h n ops it old new stop.Spent is part put = absurd part
+install-gains first request told h n ops it old new stop.ReadFault is part put = absurd part
+install-gains first request told h n ops it old new stop.WriteFault is part put = tried first request output_of told it old new is (inl put)
+install-gains first request told h n ops it old new stop.NoMemory is part put = inr (tried first request output_of told it old new is (inl put))
 
 pub install-gains-errors : (first : KeyValue → Says) (request : Request) (told h n : Option Held) (ops : List Op) (it : Text) (old new : SinkState) (e : Stop) → IsTextOf first request error_text_of told it → InstallsSo {T = Unit {0}} ops h n (Err e) → IsPut it old new → GainsErrors first request told old new (outcome_of_stop e)
 install-gains-errors first request told h n ops it old new (stop.Refused refusal) is part put = absurd part
 install-gains-errors first request told h n ops it old new (stop.Forged rec step) is part put = absurd part
 install-gains-errors first request told h n ops it old new stop.Spent is part put = absurd part
 install-gains-errors first request told h n ops it old new stop.ReadFault is part put = absurd part
-install-gains-errors first request told h n ops it old new stop.WriteFault is part put = errors-told first request told it old new is (inl put)
-install-gains-errors first request told h n ops it old new stop.NoMemory is part put = errors-told first request told it old new is (inl put)
+install-gains-errors first request told h n ops it old new stop.WriteFault is part put = inr (tried first request error_text_of told it old new is (inl put))
+install-gains-errors first request told h n ops it old new stop.NoMemory is part put = inr (tried first request error_text_of told it old new is (inl put))
 
 pub install-counted : (b n : Counts) (h k : Option Held) (ops : List Op) (e : Stop) → InstallsSo {T = Unit {0}} ops h k (Err e) → WritesCounted {T = Unit {0}} b.writes n.writes (Err e) → n.reads ≡ b.reads → n.puts ≡ b.puts → n.error_puts ≡ b.error_puts → Counted b n (outcome_of_stop e)
 install-counted b n h k ops (stop.Refused refusal) part w r o x = absurd part
@@ -308,14 +348,9 @@ end-tally first request (Some held) new before now p launched is same number = r
   };
 }
 
-pub end-gains : (first : KeyValue → Says) (request : Request) (text : RunText) (told : Option Held) (it : Text) (old new : Option Text) (status launched ran : ℕ) → IsTextOf first request text told it → new ≡ with_bytes it old → Gains first request text told old new (out.Ended status launched ran)
-end-gains first request text None it old new status launched ran is all = tt
-end-gains first request text (Some held) it old new status launched ran is all =
-    record { plain = is.plain; rows = is.rows; old = is.old; kept = is.kept; so = λ spoken. all ∙ ap (λ (t : Text). with_bytes t old) (is.so spoken) }
-
-pub end-gains-errors : (first : KeyValue → Says) (request : Request) (told : Option Held) (it : Text) (old new : SinkState) (status launched ran : ℕ) → IsTextOf first request error_text_of told it → IsPut it old new → GainsErrors first request told old new (out.Ended status launched ran)
-end-gains-errors first request None it old new status launched ran is put = tt
-end-gains-errors first request (Some held) it old new status launched ran is put =
+pub end-gains : (first : KeyValue → Says) (request : Request) (text : RunText) (told : Option Held) (it : Text) (old new : SinkState) → IsTextOf first request text told it → IsPut it old new → GainsAll first request text told old new
+end-gains first request text None it old new is put = tt
+end-gains first request text (Some held) it old new is put =
     record { plain = is.plain; rows = is.rows; old = is.old; kept = is.kept; so = λ spoken. subst (λ (t : Text). IsPut t old new) (is.so spoken) put }
 
 -- What is said of the refusals.

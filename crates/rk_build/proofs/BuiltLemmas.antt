@@ -1,6 +1,8 @@
 -- What is said of how a build ended is said of its outcome.
 use Rattle.std.proofs.Common.{◌≢◌, ℕ, length, Option, Result, Ok, Err, IfOk}
 use Rattle.rk_build.specs.Outcomes.{outcome_of, IfEnded, IsNoFault, Started}
+use Rattle.rk_calls.specs.Keys.{KeyValue}
+use Rattle.rk_calls.specs.Talk.{Says}
 use Rattle.rk_folder.specs.Told.{Held}
 use Rattle.rk_words.specs.declared.requests.Request.{Request}
 use Rattle.rk_build.specs.Stages.{StartsSo}
@@ -31,15 +33,15 @@ built-no-fault (Err stop.ReadFault) h = absurd h
 built-no-fault (Err stop.WriteFault) h = absurd h
 built-no-fault (Err stop.NoMemory) h = tt
 
-pub built-started : (request : Request) (told : Option Held) (before now : ℕ) (built : Result Ended Stop) → StartsSo (λ e. length e.ran) request told before now built → Started request told before now (outcome_of built)
-built-started request told before now (Ok e) h = h
-built-started request told before now (Err (stop.Refused (refusal.Special path))) h = h
-built-started request told before now (Err (stop.Refused (refusal.Damaged file damage))) h = h
-built-started request told before now (Err (stop.Forged rec step)) h = tt
-built-started request told before now (Err stop.Spent) h = tt
-built-started request told before now (Err stop.ReadFault) h = tt
-built-started request told before now (Err stop.WriteFault) h = tt
-built-started request told before now (Err stop.NoMemory) h = tt
+pub built-started : (first : KeyValue → Says) (request : Request) (told : Option Held) (before now : ℕ) (built : Result Ended Stop) → StartsSo (λ e. length e.ran) first request told before now built → Started first request told before now (outcome_of built)
+built-started first request told before now (Ok e) h = h
+built-started first request told before now (Err (stop.Refused (refusal.Special path))) h = h
+built-started first request told before now (Err (stop.Refused (refusal.Damaged file damage))) h = h
+built-started first request told before now (Err (stop.Forged rec step)) h = h
+built-started first request told before now (Err stop.Spent) h = tt
+built-started first request told before now (Err stop.ReadFault) h = h
+built-started first request told before now (Err stop.WriteFault) h = h
+built-started first request told before now (Err stop.NoMemory) h = tt
 
 pub built-asked : (built : Result Ended Stop) → outcome_of built ≢ out.Usage
 built-asked (Ok e) same = cc

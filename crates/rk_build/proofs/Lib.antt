@@ -1,5 +1,6 @@
 pub mod AttributesLemmas
 pub mod HiddenLemmas
+pub mod HoldingLemmas
 pub mod OrderLemmas
 pub mod SeenLemmas
 pub mod ImportedLemmas

@@ -8,8 +8,7 @@ use Rattle.rk_folder.specs.Told.{Held}
 use Rattle.tr_codec.specs.declared.fault.Damage.{Damage}
 use Rattle.rk_build.specs.declared.outcome.StateFile.{StateFile}
 use Rattle.rk_words.specs.declared.requests.Request.{Request}
-use Rattle.rk_build.specs.Fresh.{RunText}
-use Rattle.rk_build.specs.Outcomes.{IfEnded, Leaves, FolderCounts, Gains, GainsErrors, GainsLine, ErrorsCounted, Counts, Counted, AfterLine, Faults, Ticked, IsNoFault, Settles, IfSpecial, IfDamaged, IfForged}
+use Rattle.rk_build.specs.Outcomes.{IfEnded, Leaves, FolderCounts, Gains, GainsErrors, GainsLine, InOrder, ErrorsCounted, Counts, Counted, AfterLine, Faults, Ticked, IsNoFault, Settles, IfSpecial, IfDamaged, IfForged}
 use Rattle.rk_build.specs.Telling.{SinkState, IsNamed, IsTold, Put, PutsLine, Tells}
 use Rattle.rk_build.specs.declared.outcome.Outcome.{Outcome}
 use Rattle.rk_build.specs.declared.outcome.Outcome.TheVariants as out
@@ -35,20 +34,20 @@ unnamed-leaves first request told new b n out.NoMemory named l = l
 pub line-leaves : (first : KeyValue → Says) (request : Request) (told new : Option Held) (b n : FolderCounts) (outcome it : Outcome) → IsTold outcome it → Leaves first request told new b n outcome → Leaves first request told new b n it
 line-leaves first request told new b n outcome it t l = as_told (Leaves first request told new b n) outcome it t l (unnamed-leaves first request told new b n outcome)
 
-unnamed-gains : (first : KeyValue → Says) (request : Request) (text : RunText) (told : Option Held) (old new : Option Text) (outcome : Outcome) → IsNamed outcome → Gains first request text told old new outcome → Gains first request text told old new out.NoMemory
-unnamed-gains first request text told old new (out.Special path) named g = inl g
-unnamed-gains first request text told old new (out.Damaged file damage) named g = inl g
-unnamed-gains first request text told old new (out.Forged rec step) named g = inl g
-unnamed-gains first request text told old new (out.Ended status launched ran) named g = absurd named
-unnamed-gains first request text told old new out.Usage named g = absurd named
-unnamed-gains first request text told old new (out.Said status) named g = absurd named
-unnamed-gains first request text told old new out.Spent named g = absurd named
-unnamed-gains first request text told old new out.ReadFault named g = absurd named
-unnamed-gains first request text told old new out.WriteFault named g = absurd named
-unnamed-gains first request text told old new out.NoMemory named g = g
+unnamed-gains : (first : KeyValue → Says) (request : Request) (told : Option Held) (old new : SinkState) (outcome : Outcome) → IsNamed outcome → Gains first request told old new outcome → Gains first request told old new out.NoMemory
+unnamed-gains first request told old new (out.Special path) named g = inl g
+unnamed-gains first request told old new (out.Damaged file damage) named g = inl g
+unnamed-gains first request told old new (out.Forged rec step) named g = inl g
+unnamed-gains first request told old new (out.Ended status launched ran) named g = absurd named
+unnamed-gains first request told old new out.Usage named g = absurd named
+unnamed-gains first request told old new (out.Said status) named g = absurd named
+unnamed-gains first request told old new out.Spent named g = absurd named
+unnamed-gains first request told old new out.ReadFault named g = absurd named
+unnamed-gains first request told old new out.WriteFault named g = absurd named
+unnamed-gains first request told old new out.NoMemory named g = g
 
-pub told-gains : (first : KeyValue → Says) (request : Request) (text : RunText) (told : Option Held) (old new : Option Text) (outcome it : Outcome) → IsTold outcome it → Gains first request text told old new outcome → Gains first request text told old new it
-told-gains first request text told old new outcome it t g = as_told (Gains first request text told old new) outcome it t g (unnamed-gains first request text told old new outcome)
+pub told-gains : (first : KeyValue → Says) (request : Request) (told : Option Held) (old new : SinkState) (outcome it : Outcome) → IsTold outcome it → Gains first request told old new outcome → Gains first request told old new it
+told-gains first request told old new outcome it t g = as_told (Gains first request told old new) outcome it t g (unnamed-gains first request told old new outcome)
 
 unnamed-gains-errors : (first : KeyValue → Says) (request : Request) (told : Option Held) (old new : SinkState) (outcome : Outcome) → IsNamed outcome → GainsErrors first request told old new outcome → GainsErrors first request told old new out.NoMemory
 unnamed-gains-errors first request told old new (out.Special path) named g = inl g
@@ -77,9 +76,10 @@ unnamed-errors old new out.NoMemory named c = c
 pub told-errors : (old new : SinkState) (outcome it : Outcome) → IsTold outcome it → ErrorsCounted old new outcome → ErrorsCounted old new it
 told-errors old new outcome it t c = as_told (ErrorsCounted old new) outcome it t c (unnamed-errors old new outcome)
 
-pub line-gains : (first : KeyValue → Says) (request : Request) (told : Option Held) (old mid new : SinkState) (outcome it : Outcome) → GainsErrors first request told old mid outcome → ErrorsCounted old mid outcome → Tells outcome it mid new → GainsLine first request told old new it
-line-gains first request told old mid new outcome it g c t = record {
+pub line-gains : (first : KeyValue → Says) (request : Request) (told : Option Held) (out_old out_new old mid new : SinkState) (outcome it : Outcome) → InOrder first request told (record { out = out_old; err = old }) (record { out = out_new; err = mid }) → GainsErrors first request told old mid outcome → ErrorsCounted old mid outcome → Tells outcome it mid new → GainsLine first request told out_old out_new old new it
+line-gains first request told out_old out_new old mid new outcome it o g c t = record {
   worked = mid;
+  order = o;
   text = as_told (GainsErrors first request told old mid) outcome it t.0 g (unnamed-gains-errors first request told old mid outcome);
   counted = told-errors old mid outcome it t.0 c;
   line = t.1;

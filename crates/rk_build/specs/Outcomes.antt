@@ -6,7 +6,6 @@ use Rattle.rk_calls.specs.Talk.{Says}
 use Rattle.rk_runs.specs.Started.{started}
 use Rattle.rk_folder.specs.Told.{Held}
 use Rattle.rk_folder.specs.Counts.{Rose}
-use Rattle.rk_folder.specs.Sinks.{with_bytes}
 use Rattle.rk_build.specs.Changes.{Partly}
 use Rattle.rk_build.specs.Holdings.{IsAfter}
 use Rattle.rk_build.specs.Imported.{holding_of}
@@ -24,12 +23,11 @@ use Rattle.rk_runs.specs.Spoken.{AreSpoken}
 use Rattle.rk_replay.specs.Ran.{ran_total}
 use Rattle.rk_words.specs.Asked.{checks, is_fresh, turns}
 use Rattle.rk_words.specs.declared.requests.Request.{Request}
-use Rattle.rk_build.specs.Fresh.{RunText, error_text_of, held_after}
+use Rattle.rk_build.specs.Fresh.{RunText, output_of, error_text_of, held_after}
 use Rattle.rk_build.specs.Kept.{Keeping, Refuses}
 use Rattle.rk_build.specs.Checks.{ChecksWhole, TellsForged, checked_count}
 use Rattle.rk_build.specs.Run.{fresh_run, ran_count}
 use Rattle.rk_build.specs.Telling.{SinkState, IsPut, PutsLine, Put}
-use Rattle.rk_build.specs.Texts.{Front}
 use Rattle.rk_build.specs.declared.build.Ended.{Ended}
 use Rattle.rk_build.specs.declared.outcome.StateFile.{StateFile}
 use Rattle.rk_build.specs.declared.stop.Refusal.{Refusal}
@@ -164,42 +162,51 @@ abbrev pub Tallies : (KeyValue → Says) → Request → Option Held → Option 
 Tallies first request told new before now launched ran =
     IfSome told (λ held. Keeping (is_fresh request) held (λ entries old. IsTally first request entries old held new launched ran before now))
 
--- The sinks: a text of the run by what the folder held, all over an end, a front over a stop that came late, and
+-- The sinks: a text of the run by what the folder held, all over an end, all or a front over a stop that came late, and
 -- nothing over the others.
 
--- over spoken records it is the fresh run's text, of which a front went out
-pub record HaltsIn (first : KeyValue → Says) (request : Request) (text : RunText) (entries : Entries) (kept : List Record) (old new : Option Text) : Type 0 where
+-- over spoken records it is the fresh run's text, of which all went out, or a front where the put failed or had no memory
+pub record IsTried (first : KeyValue → Says) (request : Request) (text : RunText) (entries : Entries) (kept : List Record) (old new : SinkState) : Type 0 where
   pub it : Text
   pub is_text : AreSpoken first kept → it ≡ text request kept (fresh_run first request entries)
-  pub front : Front it old new
-
--- nothing, or a front of a text
-abbrev pub Halts : (KeyValue → Says) → Request → RunText → Option Held → Option Text → Option Text → Type 0
-Halts first request text told old new =
-    (new ≡ old) ⊎ IfSome told (λ held. Keeping (is_fresh request) held (λ entries kept. HaltsIn first request text entries kept old new))
-
-abbrev pub Gains : (KeyValue → Says) → Request → RunText → Option Held → Option Text → Option Text → Outcome → Type 0
-Gains first request text told old new (out.Ended status launched ran) = IfSome told (λ held. Keeping (is_fresh request) held (λ entries kept. AreSpoken first kept → new ≡ with_bytes (text request kept (fresh_run first request entries)) old))
-Gains first request text told old new out.WriteFault = Halts first request text told old new
-Gains first request text told old new out.NoMemory = Halts first request text told old new
-Gains first request text told old new other = new ≡ old
-
--- over spoken records it is the fresh run's error text, of which all went out, or a front where the put failed or had no memory
-pub record HaltsErrorsIn (first : KeyValue → Says) (request : Request) (entries : Entries) (kept : List Record) (old new : SinkState) : Type 0 where
-  pub it : Text
-  pub is_text : AreSpoken first kept → it ≡ error_text_of request kept (fresh_run first request entries)
   pub put : PutsLine it old new
 
+-- such a text was put
+abbrev pub Tried : (KeyValue → Says) → Request → RunText → Option Held → SinkState → SinkState → Type 0
+Tried first request text told old new =
+    IfSome told (λ held. Keeping (is_fresh request) held (λ entries kept. IsTried first request text entries kept old new))
+
 -- nothing was put, or such a text
-abbrev pub HaltsErrors : (KeyValue → Says) → Request → Option Held → SinkState → SinkState → Type 0
-HaltsErrors first request told old new =
-    (new ≡ old) ⊎ IfSome told (λ held. Keeping (is_fresh request) held (λ entries kept. HaltsErrorsIn first request entries kept old new))
+abbrev pub Halts : (KeyValue → Says) → Request → RunText → Option Held → SinkState → SinkState → Type 0
+Halts first request text told old new = (new ≡ old) ⊎ Tried first request text told old new
+
+-- over spoken records all of the fresh run's text went out
+abbrev pub GainsAll : (KeyValue → Says) → Request → RunText → Option Held → SinkState → SinkState → Type 0
+GainsAll first request text told old new =
+    IfSome told (λ held. Keeping (is_fresh request) held (λ entries kept. AreSpoken first kept → IsPut (text request kept (fresh_run first request entries)) old new))
+
+-- whatever the records, all of such a text went out
+pub record IsOut (first : KeyValue → Says) (request : Request) (text : RunText) (entries : Entries) (kept : List Record) (old new : SinkState) : Type 0 where
+  pub it : Text
+  pub is_text : AreSpoken first kept → it ≡ text request kept (fresh_run first request entries)
+  pub put : IsPut it old new
+
+abbrev pub WentOut : (KeyValue → Says) → Request → RunText → Option Held → SinkState → SinkState → Type 0
+WentOut first request text told old new =
+    IfSome told (λ held. Keeping (is_fresh request) held (λ entries kept. IsOut first request text entries kept old new))
+
+-- what the output's sink gains; it is put first, so it was put over each write fault
+abbrev pub Gains : (KeyValue → Says) → Request → Option Held → SinkState → SinkState → Outcome → Type 0
+Gains first request told old new (out.Ended status launched ran) = GainsAll first request output_of told old new
+Gains first request told old new out.WriteFault = Tried first request output_of told old new
+Gains first request told old new out.NoMemory = Halts first request output_of told old new
+Gains first request told old new other = new ≡ old
 
 -- what the error text's sink gains before the outcome's line
 abbrev pub GainsErrors : (KeyValue → Says) → Request → Option Held → SinkState → SinkState → Outcome → Type 0
-GainsErrors first request told old new (out.Ended status launched ran) = IfSome told (λ held. Keeping (is_fresh request) held (λ entries kept. AreSpoken first kept → IsPut (error_text_of request kept (fresh_run first request entries)) old new))
-GainsErrors first request told old new out.WriteFault = HaltsErrors first request told old new
-GainsErrors first request told old new out.NoMemory = HaltsErrors first request told old new
+GainsErrors first request told old new (out.Ended status launched ran) = GainsAll first request error_text_of told old new
+GainsErrors first request told old new out.WriteFault = Halts first request error_text_of told old new
+GainsErrors first request told old new out.NoMemory = Halts first request error_text_of told old new
 GainsErrors first request told old new other = new ≡ old
 
 -- the counts of the error text's sink before the outcome's line: faults rise only over a write fault, wants of memory only
@@ -209,9 +216,19 @@ ErrorsCounted before now out.WriteFault = (before.faults ≤ now.faults) × (now
 ErrorsCounted before now out.NoMemory = (now.faults ≡ before.faults) × (before.memory ≤ now.memory)
 ErrorsCounted before now other = (now.faults ≡ before.faults) × (now.memory ≡ before.memory)
 
+-- The two sinks, each at a moment.
+pub record BothSinks : Type 0 where
+  pub out : SinkState
+  pub err : SinkState
+
+-- the error text is put once all of the output went out
+abbrev pub InOrder : (KeyValue → Says) → Request → Option Held → BothSinks → BothSinks → Type 0
+InOrder first request told old new = (new.err ≡ old.err) ⊎ WentOut first request output_of told old.out new.out
+
 -- the run's error text, and then the outcome's own line
-pub record GainsLine (first : KeyValue → Says) (request : Request) (told : Option Held) (old new : SinkState) (outcome : Outcome) : Type 0 where
+pub record GainsLine (first : KeyValue → Says) (request : Request) (told : Option Held) (out_old out_new old new : SinkState) (outcome : Outcome) : Type 0 where
   pub worked : SinkState
+  pub order : InOrder first request told (record { out = out_old; err = old }) (record { out = out_new; err = worked })
   pub text : GainsErrors first request told old worked outcome
   pub counted : ErrorsCounted old worked outcome
   pub line : Put outcome worked new
@@ -256,7 +273,7 @@ Ticked request before now (out.Forged rec step) = (now ≤ before + turns reques
 Ticked request before now other = now ≤ before + turns request
 
 -- The count of starts: one for each record that is checked, then one for each command that ran; none where the folder is
--- refused.
+-- refused or couldn't be read.
 
 -- so many records are checked: none where that isn't asked for
 abbrev pub ChecksMany : Request → Option Held → ℕ → Type 0
@@ -266,12 +283,27 @@ ChecksMany request told many =
 abbrev pub StartsBoth : Request → Option Held → ℕ → ℕ → ℕ → Type 0
 StartsBoth request told before now ran = (many : ℕ) × (ChecksMany request told many × (now ≡ started ran (started many before)))
 
-abbrev pub Started : Request → Option Held → ℕ → ℕ → Outcome → Type 0
-Started request told before now (out.Ended status launched ran) = StartsBoth request told before now ran
-Started request told before now out.Usage = now ≡ before
-Started request told before now (out.Special path) = now ≡ before
-Started request told before now (out.Damaged file damage) = now ≡ before
-Started request told before now other = Unit {0}
+-- whatever the records: so many commands of a run ran over those that were kept; over spoken ones it is the fresh run
+pub record HasRan (first : KeyValue → Says) (request : Request) (entries : Entries) (old : List Record) (ran : ℕ) : Type 0 where
+  pub world : World
+  pub table : List Record
+  pub is_left : AreSpoken first old → IsLeft (fresh_run first request entries) world table
+  pub count : ran ≡ ran_count old table
+
+abbrev pub RanSo : (KeyValue → Says) → Request → Option Held → ℕ → Type 0
+RanSo first request told ran = IfSome told (λ held. Keeping (is_fresh request) held (λ entries old. HasRan first request entries old ran))
+
+-- nothing is read once a machine was started, and a run was made before anything is written; a check of all starts the
+-- records up to the one that is forged
+abbrev pub Started : (KeyValue → Says) → Request → Option Held → ℕ → ℕ → Outcome → Type 0
+Started first request told before now (out.Ended status launched ran) = StartsBoth request told before now ran
+Started first request told before now out.Usage = now ≡ before
+Started first request told before now (out.Special path) = now ≡ before
+Started first request told before now (out.Damaged file damage) = now ≡ before
+Started first request told before now (out.Forged rec step) = checks request ≡ true → now ≡ started (rec + 1) before
+Started first request told before now out.ReadFault = now ≡ before
+Started first request told before now out.WriteFault = (ran : ℕ) × (RanSo first request told ran × StartsBoth request told before now ran)
+Started first request told before now other = Unit {0}
 
 -- where every record is to be checked, each is spoken
 abbrev pub Checked : (KeyValue → Says) → Request → Option Held → Type 0

@@ -32,12 +32,31 @@ pub record IsCut (text : Text) (old new : SinkState) : Type 0 where
 abbrev pub PutsLine : Text → SinkState → SinkState → Type 0
 PutsLine line old new = IsPut line old new ⊎ IsCut line old new
 
+-- What putting a text leaves: all of it went out at Ok; else the put failed or had no memory.
+abbrev pub PutSo : {T : Type 0} → Text → SinkState → SinkState → Result T Stop → Type 0
+PutSo text old new (Ok it) = IsPut text old new
+PutSo text old new (Err stop.WriteFault) = IsCut text old new
+PutSo text old new (Err stop.NoMemory) = IsCut text old new
+PutSo text old new (Err other) = ⊥
+
+-- What putting the run's output leaves, which is put first: all of it went out at Ok; else it was put, or that put failed or
+-- had no memory.
+abbrev pub PutsOutput : {T : Type 0} → Text → SinkState → SinkState → Result T Stop → Type 0
+PutsOutput text old new (Ok it) = IsPut text old new
+PutsOutput text old new (Err stop.WriteFault) = PutsLine text old new
+PutsOutput text old new (Err stop.NoMemory) = PutsLine text old new
+PutsOutput text old new (Err other) = ⊥
+
 -- What putting the run's error text leaves: all of it went out at Ok; else nothing was put, or the put failed or had no memory.
 abbrev pub PutsErrors : {T : Type 0} → Text → SinkState → SinkState → Result T Stop → Type 0
 PutsErrors text old new (Ok it) = IsPut text old new
 PutsErrors text old new (Err stop.WriteFault) = (new ≡ old) ⊎ IsCut text old new
 PutsErrors text old new (Err stop.NoMemory) = (new ≡ old) ⊎ IsCut text old new
 PutsErrors text old new (Err other) = ⊥
+
+-- Of both: the error text is put once all of the output went out.
+abbrev pub PutsInOrder : Text → SinkState → SinkState → SinkState → SinkState → Type 0
+PutsInOrder output old new err_old err_new = (err_new ≡ err_old) ⊎ IsPut output old new
 
 -- the outcome's own line; over an end and an answer nothing is put
 abbrev pub Put : Outcome → SinkState → SinkState → Type 0

@@ -10,13 +10,6 @@ use Rattle.rk_build.specs.declared.stop.Stop.TheVariants as stop
 abbrev pub Front : Text → Option Text → Option Text → Type 0
 Front text old new = (n : ℕ) × (new ≡ with_bytes (take n text) old)
 
--- all at Ok, else a front
-abbrev pub PutSo : {T : Type 0} → Text → Option Text → Option Text → Result T Stop → Type 0
-PutSo text old new (Ok it) = new ≡ with_bytes text old
-PutSo text old new (Err stop.WriteFault) = Front text old new
-PutSo text old new (Err stop.NoMemory) = Front text old new
-PutSo text old new (Err other) = ⊥
-
 -- a fault only where the count rose
 abbrev pub Counted : {T : Type 0} → ℕ → ℕ → Result T Stop → Type 0
 Counted before now (Ok it) = now ≡ before

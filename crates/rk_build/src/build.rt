@@ -2,9 +2,8 @@
 ghost use Rattle.std.specs.Prelude.{◌≡◌, ◌<◌, ◌≤◌, Ok, length, IfOk, true};
 ghost use Rattle.rk_build.specs.Changes.{MayRun};
 ghost use Rattle.rk_words.specs.Asked.{turns};
-ghost use Rattle.rk_build.specs.Outcomes.{Checked, outcome_of, Leaves, HasStatus, Tallies, Gains, GainsErrors, ErrorsCounted, Counted, Ticked};
+ghost use Rattle.rk_build.specs.Outcomes.{Checked, outcome_of, Leaves, HasStatus, Tallies, Gains, GainsErrors, InOrder, ErrorsCounted, Counted, Ticked};
 ghost use Rattle.rk_build.specs.Stages.{StartsSo, InstallsSo, WritesCounted, MemoryRose, Steadily};
-ghost use Rattle.rk_build.specs.Fresh.{output_of};
 ghost use Rattle.rk_build.specs.Texts.{IsNoFault};
 
 use crate::installation::{InstallErr, install};
@@ -59,8 +58,9 @@ pub(crate) fn build<M: Maker, F: Folder, O: Sink, E: Sink, L: Ledger>(
     ensures status { IfOk result (λ e. HasStatus M.first request.now (F.told folder.old) e.status) }
     ensures tally { IfOk result (λ e. Tallies M.first request.now (F.told folder.old) (F.told folder.new) live.old live.new e.launched (length e.ran)) }
     ensures checked { IfOk result (λ _. Checked M.first request.now (F.told folder.old)) }
-    ensures output { Gains M.first request.now output_of (F.told folder.old) (O.so_far out.old) (O.so_far out.new) (outcome_of result) }
+    ensures output { Gains M.first request.now (F.told folder.old) (record { so_far = O.so_far out.old; faults = O.faults out.old; memory = O.memory_failures out.old }) (record { so_far = O.so_far out.new; faults = O.faults out.new; memory = O.memory_failures out.new }) (outcome_of result) }
     ensures errors { GainsErrors M.first request.now (F.told folder.old) (record { so_far = E.so_far err.old; faults = E.faults err.old; memory = E.memory_failures err.old }) (record { so_far = E.so_far err.new; faults = E.faults err.new; memory = E.memory_failures err.new }) (outcome_of result) }
+    ensures order { InOrder M.first request.now (F.told folder.old) (record { out = (record { so_far = O.so_far out.old; faults = O.faults out.old; memory = O.memory_failures out.old }); err = (record { so_far = E.so_far err.old; faults = E.faults err.old; memory = E.memory_failures err.old }) }) (record { out = (record { so_far = O.so_far out.new; faults = O.faults out.new; memory = O.memory_failures out.new }); err = (record { so_far = E.so_far err.new; faults = E.faults err.new; memory = E.memory_failures err.new }) }) }
     ensures error_counts { ErrorsCounted (record { so_far = E.so_far err.old; faults = E.faults err.old; memory = E.memory_failures err.old }) (record { so_far = E.so_far err.new; faults = E.faults err.new; memory = E.memory_failures err.new }) (outcome_of result) }
     ensures counts { Counted (record { reads = F.read_faults folder.old; writes = F.write_faults folder.old; puts = O.faults out.old; error_puts = E.faults err.old })
         (record { reads = F.read_faults folder.new; writes = F.write_faults folder.new; puts = O.faults out.new; error_puts = E.faults err.new }) (outcome_of result) }
@@ -68,7 +68,7 @@ pub(crate) fn build<M: Maker, F: Folder, O: Sink, E: Sink, L: Ledger>(
     ensures folder_steady { F.steady folder.new ≡ F.steady folder.old }
     ensures live { Ticked request.now live.old live.new (outcome_of result) }
     ensures rises { live.old ≤ live.new }
-    ensures starts { StartsSo (λ e. length e.ran) request.now (F.told folder.old) (M.starts maker.old) (M.starts maker.new) result }
+    ensures starts { StartsSo (λ e. length e.ran) M.first request.now (F.told folder.old) (M.starts maker.old) (M.starts maker.new) result }
 {
     let Prepared {
         finished,

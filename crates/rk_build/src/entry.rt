@@ -5,8 +5,7 @@ ghost use Rattle.rk_folder.specs.Told.{Held};
 ghost use Rattle.rk_folder.specs.Specials.{first_special};
 ghost use Rattle.rk_runs.specs.Run.{Spent};
 ghost use Rattle.rk_runs.specs.Spoken.{AreSpoken};
-ghost use Rattle.rk_build.specs.Outcomes.{Checked, outcome_of, outcome_of_stop, outcome_of_refusal, Leaves, HasStatus, Tallies, Gains, GainsErrors, ErrorsCounted, Counted, Ticked, Started, IfEnded, IfSpecial, IfDamaged, IfForged, IsNoFault, Settles};
-ghost use Rattle.rk_build.specs.Fresh.{output_of};
+ghost use Rattle.rk_build.specs.Outcomes.{Checked, outcome_of, outcome_of_stop, outcome_of_refusal, Leaves, HasStatus, Tallies, Gains, GainsErrors, InOrder, ErrorsCounted, Counted, Ticked, Started, IfEnded, IfSpecial, IfDamaged, IfForged, IsNoFault, Settles};
 ghost use Rattle.rk_build.specs.Kept.{decoded, state_in, IsDamaged, Keeping};
 ghost use Rattle.rk_build.specs.Checks.{TellsForged};
 ghost use Rattle.rk_build.specs.Run.{fresh_run};
@@ -86,14 +85,15 @@ pub fn build_in<M: Maker, F: Folder, O: Sink, E: Sink, L: Ledger>(
     // Where every record is to be checked, each is spoken.
     ensures status { IfEnded result (λ status launched ran. HasStatus M.first request.now (F.told folder.old) status) }
     ensures tally { IfEnded result (λ status launched ran. Tallies M.first request.now (F.told folder.old) (F.told folder.new) live.old live.new launched ran) }
-    ensures starts { Started request.now (F.told folder.old) (M.starts maker.old) (M.starts maker.new) result }
+    ensures starts { Started M.first request.now (F.told folder.old) (M.starts maker.old) (M.starts maker.new) result }
     ensures checked { IfEnded result (λ status launched ran. Checked M.first request.now (F.told folder.old)) }
     ensures live { Ticked request.now live.old live.new result }
     ensures rises { live.old ≤ live.new }
 
-    // What was put: the run's output and error text.
-    ensures output { Gains M.first request.now output_of (F.told folder.old) (O.so_far out.old) (O.so_far out.new) result }
+    // What was put: the run's output, and then its error text.
+    ensures output { Gains M.first request.now (F.told folder.old) (record { so_far = O.so_far out.old; faults = O.faults out.old; memory = O.memory_failures out.old }) (record { so_far = O.so_far out.new; faults = O.faults out.new; memory = O.memory_failures out.new }) result }
     ensures errors { GainsErrors M.first request.now (F.told folder.old) (record { so_far = E.so_far err.old; faults = E.faults err.old; memory = E.memory_failures err.old }) (record { so_far = E.so_far err.new; faults = E.faults err.new; memory = E.memory_failures err.new }) result }
+    ensures order { InOrder M.first request.now (F.told folder.old) (record { out = (record { so_far = O.so_far out.old; faults = O.faults out.old; memory = O.memory_failures out.old }); err = (record { so_far = E.so_far err.old; faults = E.faults err.old; memory = E.memory_failures err.old }) }) (record { out = (record { so_far = O.so_far out.new; faults = O.faults out.new; memory = O.memory_failures out.new }); err = (record { so_far = E.so_far err.new; faults = E.faults err.new; memory = E.memory_failures err.new }) }) }
     ensures error_counts { ErrorsCounted (record { so_far = E.so_far err.old; faults = E.faults err.old; memory = E.memory_failures err.old }) (record { so_far = E.so_far err.new; faults = E.faults err.new; memory = E.memory_failures err.new }) result }
 
     // Each refusal only for its cause.

@@ -91,7 +91,7 @@ pub(crate) fn prepare<M: Maker, F: Folder, L: Ledger>(
     ensures steady { Steadily (F.steady folder.old) (F.steady folder.new) result }
     ensures prepares { PreparesSo M.first request.now (F.told folder.old) live.old live.new result }
     ensures rises { live.old ≤ live.new }
-    ensures starts { StartsSo (λ p. length p.finished.ran) request.now (F.told folder.old) (M.starts maker.old) (M.starts maker.new) result }
+    ensures starts { StartsSo (λ p. length p.finished.ran) M.first request.now (F.told folder.old) (M.starts maker.old) (M.starts maker.new) result }
 {
     let Found {
         holding: before,

@@ -125,9 +125,12 @@ finds-forgets told now stop.ReadFault h same = same
 finds-forgets told now stop.WriteFault h same = absurd h
 finds-forgets told now stop.NoMemory h same = same
 
+is-none : (told : Option Held) → FindsDb told (Ok None) → Holds told (λ it. it ≡ None)
+is-none told h = holds-more told (λ it. None ≡ it) (λ it. it ≡ None) (λ it e. sym e) h
+
 pub forgets-none : (told now : Option Held) (old new : Option Text) (r : Result Said Stop) → FindsDb told (Ok None) → PutsNone old new r → now ≡ told → Forgets told now r
 forgets-none told now old new (Ok said.Done) h put same = absurd put
-forgets-none told now old new (Ok said.NoTrace) h put same = (holds-more told (λ it. None ≡ it) (λ it. it ≡ None) (λ it e. sym e) h, same)
+forgets-none told now old new (Ok said.NoTrace) h put same = (is-none told h, same)
 forgets-none told now old new (Err (stop.Special path)) h put same = absurd put
 forgets-none told now old new (Err (stop.Damaged damage)) h put same = absurd put
 forgets-none told now old new (Err (stop.Forged rec step)) h put same = absurd put
@@ -135,12 +138,12 @@ forgets-none told now old new (Err stop.ReadFault) h put same = same
 forgets-none told now old new (Err stop.WriteFault) h put same = same
 forgets-none told now old new (Err stop.NoMemory) h put same = same
 
-pub says-none : (old new : Option Text) (r : Result Said Stop) → PutsNone old new r → SaysNone old new r
-says-none old new (Ok said.Done) put = absurd put
-says-none old new (Ok said.NoTrace) put = put
-says-none old new (Err (stop.Special path)) put = absurd put
-says-none old new (Err (stop.Damaged damage)) put = absurd put
-says-none old new (Err (stop.Forged rec step)) put = absurd put
-says-none old new (Err stop.ReadFault) put = absurd put
-says-none old new (Err stop.WriteFault) put = inr put
-says-none old new (Err stop.NoMemory) put = inr put
+pub says-none : (told : Option Held) (old new : Option Text) (r : Result Said Stop) → FindsDb told (Ok None) → PutsNone old new r → SaysNone told old new r
+says-none told old new (Ok said.Done) h put = absurd put
+says-none told old new (Ok said.NoTrace) h put = (is-none told h, put)
+says-none told old new (Err (stop.Special path)) h put = absurd put
+says-none told old new (Err (stop.Damaged damage)) h put = absurd put
+says-none told old new (Err (stop.Forged rec step)) h put = absurd put
+says-none told old new (Err stop.ReadFault) h put = absurd put
+says-none told old new (Err stop.WriteFault) h put = inr (is-none told h, put)
+says-none told old new (Err stop.NoMemory) h put = inr (is-none told h, put)

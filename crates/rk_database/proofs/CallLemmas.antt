@@ -66,7 +66,7 @@ unput told n stop.ReadFault h = refl
 unput told n stop.WriteFault h = absurd h
 unput told n stop.NoMemory h = refl
 
-pub unsaid : (told : Option Held) (old : Option Text) (e : Stop) → FindsDb told (Err e) → SaysNone old old (Err e)
+pub unsaid : (told : Option Held) (old : Option Text) (e : Stop) → FindsDb told (Err e) → SaysNone told old old (Err e)
 unsaid told old (stop.Special path) h = refl
 unsaid told old (stop.Damaged damage) h = absurd h
 unsaid told old (stop.Forged rec step) h = absurd h

@@ -102,12 +102,16 @@ Forgets told new (Err stop.ReadFault) = new ≡ told
 Forgets told new (Err stop.WriteFault) = new ≡ told
 Forgets told new (Err stop.NoMemory) = new ≡ told
 
--- that there is none is all that it says
-abbrev pub SaysNone : Option Text → Option Text → Result Said Stop → Type 0
-SaysNone old new (Ok said.NoTrace) = new ≡ with_bytes no_trace old
-SaysNone old new (Err stop.WriteFault) = (new ≡ old) ⊎ Front no_trace old new
-SaysNone old new (Err stop.NoMemory) = (new ≡ old) ⊎ Front no_trace old new
-SaysNone old new other = new ≡ old
+-- nothing, or a front of the text that says that there is none, where there is none
+abbrev pub MaySayNone : Option Held → Option Text → Option Text → Type 0
+MaySayNone told old new = (new ≡ old) ⊎ (Holds told (λ it. it ≡ None) × Front no_trace old new)
+
+-- that there is none is all that it says, and only where there is none
+abbrev pub SaysNone : Option Held → Option Text → Option Text → Result Said Stop → Type 0
+SaysNone told old new (Ok said.NoTrace) = Holds told (λ it. it ≡ None) × (new ≡ with_bytes no_trace old)
+SaysNone told old new (Err stop.WriteFault) = MaySayNone told old new
+SaysNone told old new (Err stop.NoMemory) = MaySayNone told old new
+SaysNone told old new other = new ≡ old
 
 -- The counts of faults.
 

@@ -31,7 +31,7 @@ pub fn db_file(alloc: Global) -> Result<Path, NoMemory>
 /// no database. Only `.rkr` and its state files are looked at.
 pub fn forget<F: Folder, O: Sink>(alloc: Global, folder: &mut F, out: &mut O) -> Result<Said, Stop>
     ensures folder { Forgets (F.told folder.old) (F.told folder.new) result }
-    ensures output { SaysNone (O.so_far out.old) (O.so_far out.new) result }
+    ensures output { SaysNone (F.told folder.old) (O.so_far out.old) (O.so_far out.new) result }
     ensures reads { ReadsCounted (F.read_faults folder.old) (F.read_faults folder.new) result }
     ensures writes { EitherCounted (F.write_faults folder.old) (F.write_faults folder.new) (O.faults out.old) (O.faults out.new) result }
     ensures steady { F.steady folder.old ≡ true → O.steady out.old ≡ true → IsNoFault result }

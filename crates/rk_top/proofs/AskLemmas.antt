@@ -76,6 +76,21 @@ gen-then (Trace json) P Q f h = tt
 gen-then Forget P Q f h = tt
 gen-then (Gen seed) P Q f h = f seed h
 
+pub build-both : (request : Request) (P Q : Type 0) → IfBuild request P → IfBuild request Q → IfBuild request (P × Q)
+build-both (Build steps explain fresh check) P Q p q = (p, q)
+build-both Check P Q p q = tt
+build-both (Trace json) P Q p q = tt
+build-both Forget P Q p q = tt
+build-both (Gen seed) P Q p q = tt
+
+pair : (o : Option Request) (P Q R : Request → Type 0) → ((request : Request) → P request → Q request → R request) → IfSome o P → IfSome o Q → IfSome o R
+pair None P Q R f p q = tt
+pair (Some request) P Q R f p q = f request p q
+
+-- what is so twice
+pub builds-both : (words : List Text) (P Q : Request → Type 0) → AsksBuild words P → AsksBuild words Q → AsksBuild words (λ r. P r × Q r)
+builds-both words P Q p q = pair (request_of words) (λ r. IfBuild r (P r)) (λ r. IfBuild r (Q r)) (λ r. IfBuild r (P r × Q r)) (λ r p q. build-both r (P r) (Q r) p q) p q
+
 -- what follows from what is so
 pub builds-then : (words : List Text) (P Q : Request → Type 0) → ((request : Request) → P request → Q request) → AsksBuild words P → AsksBuild words Q
 builds-then words P Q f h = asks-then words (λ r. IfBuild r (P r)) (λ r. IfBuild r (Q r)) (λ r p. build-then r (P r) (Q r) (f r) p) h

@@ -25,7 +25,7 @@ use Rattle.rk_runs.specs.Run.{Outcome as Run, Done, Spent}
 use Rattle.rk_runs.specs.Spoken.{AreSpoken}
 use Rattle.rk_tree.specs.Entries.{Entries}
 use Rattle.rk_build.specs.Fresh.{held_after}
-use Rattle.rk_top.specs.Generated.{ComesTo, Generates, IsBuilt, IsLine, Reaches, Stage, edit_after, edited_stage, line_of_stage, plain_build, workload_after}
+use Rattle.rk_top.specs.Generated.{ComesTo, Generates, IsBuilt, IsLine, KeepsTable, Reaches, Stage, edit_after, edited_stage, line_of_stage, plain_build, workload_after}
 use Rattle.rk_build.specs.Kept.{AreRows, IsTable, Keeping, state_in}
 use Rattle.rk_build.specs.Checks.{TellsForged}
 use Rattle.rk_build.specs.Outcomes.{EndsSo, FolderCounts, IsLeft, IsNext, IsNoFault, IsTally, Leaves}
@@ -39,7 +39,7 @@ use Rattle.rk_build.proofs.SettledLemmas.{forged-clash, refused-kept}
 use Rattle.rk_build.proofs.TellLemmas.{as_told}
 
 -- what is told twice of a folder is told of the same entries and records
-one-kept : (held : Held) (P Q : Entries → List Record → Type 0) (k : Keeping false held P) → Keeping false held Q → Q (with_rows (snapshot_of held) k.rows) k.old
+pub one-kept : (held : Held) (P Q : Entries → List Record → Type 0) (k : Keeping false held P) → Keeping false held Q → Q (with_rows (snapshot_of held) k.rows) k.old
 one-kept held P Q k s =
     let table : s.old ≡ k.old = s.kept.1.1 k.old k.kept.1.0 in
     let rows : s.rows ≡ k.rows = s.kept.0.1 k.rows k.kept.0.0 in
@@ -102,7 +102,19 @@ built first before after old table launched ran live now k l t adds =
     let g = goes first before after (fresh_run first plain_build (with_rows (snapshot_of before.held) k.rows)) tally.world tally.table k.old old table launched ran live now ends (tally.is_left k.so) tally.launched tally.ran tally.paid is_old adds in
     record { built = record { plain = k.plain; rows = k.rows; old = k.old; kept = k.kept; so = g.comes }; well = g.well; paid = omega (arith, g.paid) }
 
-same-stage : (a b : Stage) → a.held ≡ b.held → a.sums ≡ b.sums → a ≡ b
+-- what a build that ended leaves keeps a table
+left-keeps : (first : KeyValue → Says) (held new : Held) (r : Run World) → EndsSo first r held (Some new) → KeepsTable new
+left-keeps first held new (Done world status left table) e =
+    let same : e.installed.after ≡ new = same-held new e.installed.after e.installed.told in
+    let next : IsNext world table new = subst (IsNext world table) same e.next in
+    (next.old, next.kept.1)
+left-keeps first held new Spent e = absurd e
+
+pub ended-keeps : (first : KeyValue → Says) (held new : Held) → IsWell first held → Leaving first held new → KeepsTable new
+ended-keeps first held new k l =
+    left-keeps first held new (fresh_run first plain_build (with_rows (snapshot_of held) k.rows)) (one-kept held _ _ k l k.so)
+
+pub same-stage : (a b : Stage) → a.held ≡ b.held → a.sums ≡ b.sums → a ≡ b
 same-stage a b held sums = ap (λ (h : Held). record { held = h; sums = a.sums }) held ∙ ap (λ (s : Sums). record { held = b.held; sums = s }) sums
 
 -- a build that is spent leaves all as it is

@@ -1,3 +1,4 @@
 pub mod AskLemmas
 pub mod GeneratedLemmas
+pub mod OneLineLemmas
 pub mod QueryLemmas

@@ -75,7 +75,7 @@ shown-named Of R told old new (Err stop.ReadFault) named h = absurd named
 shown-named Of R told old new (Err stop.WriteFault) named h = absurd named
 shown-named Of R told old new (Err stop.NoMemory) named h = h
 
-forgotten-named : (told now : Option Held) (old new : Option Text) (answer : Result Said Stop) → IsNamed (outcome_of_answer answer) → Forgets told now answer × SaysNone old new answer → Forgets told now (Err stop.NoMemory) × SaysNone old new (Err stop.NoMemory)
+forgotten-named : (told now : Option Held) (old new : Option Text) (answer : Result Said Stop) → IsNamed (outcome_of_answer answer) → Forgets told now answer × SaysNone told old new answer → Forgets told now (Err stop.NoMemory) × SaysNone told old new (Err stop.NoMemory)
 forgotten-named told now old new (Ok said.Done) named h = absurd named
 forgotten-named told now old new (Ok said.NoTrace) named h = absurd named
 forgotten-named told now old new (Err (stop.Special path)) named h = (h.0.1, inl h.1)

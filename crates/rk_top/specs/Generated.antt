@@ -19,13 +19,17 @@ use Rattle.rk_runs.specs.Run.{Outcome as Run, Done, Spent}
 use Rattle.rk_words.specs.declared.requests.Request.{Request}
 use Rattle.rk_words.specs.declared.requests.Request.TheVariants.{Build}
 use Rattle.rk_build.specs.Fresh.{held_after}
-use Rattle.rk_build.specs.Kept.{Keeping, state_in}
+use Rattle.rk_build.specs.Kept.{IsTable, Keeping, state_in}
 use Rattle.rk_build.specs.Outcomes.{IsNext}
 use Rattle.rk_build.specs.Run.{fresh_run, ran_count}
 use Rattle.rk_build.specs.Texts.{Front}
 use Rattle.rk_top.specs.declared.generate.Session.{Session}
 use Rattle.rk_build.specs.declared.outcome.Outcome.{Outcome}
 use Rattle.rk_build.specs.declared.outcome.Outcome.TheVariants as out
+
+-- the database is absent or spells records
+abbrev pub KeepsTable : Held → Type 0
+KeepsTable held = (table : List Record) × IsTable (state_in held).db table
 
 -- a build with the default budget, of which nothing else is asked
 abbrev pub plain_build : Request
@@ -93,6 +97,10 @@ pub record IsLine (first : KeyValue → Says) (seed before now : ℕ) (line : Te
   pub session : Reaches first seed 20 stage
   pub told : line ≡ line_of_stage seed stage
   pub paid : before + stage.sums.turns ≤ now
+
+-- a seed has one line, whatever the counts of turns
+abbrev pub HaveOneLine : Type 0
+HaveOneLine = (first : KeyValue → Says) (seed before now : ℕ) (line : Text) (before' now' : ℕ) (line' : Text) → IsLine first seed before now line → IsLine first seed before' now' line' → line ≡ line'
 
 -- of that line this is so
 abbrev pub OfLine : (KeyValue → Says) → ℕ → ℕ → ℕ → (Text → Type 0) → Type 0

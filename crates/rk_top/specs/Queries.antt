@@ -40,4 +40,4 @@ Queried first (request.Build steps explain fresh check) told new old_out new_out
 Queried first (request.Gen seed) told new old_out new_out outcome = Unit {0}
 Queried first request.Check told new old_out new_out outcome = (new ≡ told) × IsAnswer outcome (Shows (IsChecked first) (NoCheck first) told old_out new_out)
 Queried first (request.Trace json) told new old_out new_out outcome = (new ≡ told) × IsAnswer outcome (Shows (IsTrace json) NoTrace told old_out new_out)
-Queried first request.Forget told new old_out new_out outcome = IsAnswer outcome (λ answer. Forgets told new answer × SaysNone old_out new_out answer)
+Queried first request.Forget told new old_out new_out outcome = IsAnswer outcome (λ answer. Forgets told new answer × SaysNone told old_out new_out answer)

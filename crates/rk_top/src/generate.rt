@@ -4,14 +4,14 @@ ghost use Rattle.rk_top.specs.First.{first_talk};
 ghost use Rattle.rk_folder.specs.Memory.{held_by, is_steady};
 ghost use Rattle.rk_folder.specs.Told.{bytes_in, standing};
 ghost use Rattle.rk_gen.specs.Edits.{edited};
-ghost use Rattle.rk_top.specs.Generated.{Generates, IsBuilt, IsLine, Reaches, digest_of, edited_stage, last_digest, line_of_stage, stage_of};
+ghost use Rattle.rk_top.specs.Generated.{Generates, IsBuilt, IsLine, KeepsTable, Reaches, digest_of, edited_stage, last_digest, line_of_stage, stage_of};
 ghost use Rattle.rk_build.specs.Kept.{IsTable, state_in};
 ghost use Rattle.rk_build.specs.Outcomes.{Counted, IsNoFault};
 ghost use Rattle.rk_build.specs.Sessions.{IsWell};
 
 use crate::commands::Commands;
 use rk_base::{Bytes, NoMemory, Path, Steps};
-use rk_build::{Outcome, build_in, table_in};
+use rk_build::{Outcome, Stop, build_in, table_in};
 use rk_calls::Maker;
 use rk_database::db_file;
 use rk_folder::{MemFolder, MemSink, Sink, SinkErr, Standing};
@@ -66,12 +66,14 @@ fn db_of(alloc: Global, folder: &MemFolder) -> Result<Option<Bytes>, NoMemory>
 
 // The records that the database spells.
 fn table_of(alloc: Global, folder: &MemFolder) -> Result<Table, NoMemory>
+    requires { KeepsTable (held_by folder.now) }
     ensures { IfOk result (λ table. IsTable (state_in (held_by folder.now)).db table) }
 {
     let db = db_of(alloc, folder)?;
     match table_in(alloc, &db) {
         Ok(table) => Ok(table),
-        Err(_) => Err(NoMemory),
+        Err(Stop::NoMemory) => Err(NoMemory),
+        Err(_) => unreachable!(),
     }
 }
 

@@ -4,6 +4,7 @@
 mod command;
 mod commands;
 mod generate;
+mod laws;
 mod queries;
 mod top;
 
@@ -12,6 +13,7 @@ pub use rk_build::{
     Outcome, StateFile, build_in, exit_code, finds_next, fresh_spoken, refused_settle,
     spoken_settle, stays_well,
 };
+pub use laws::have_one_line;
 pub use rk_words::{Request, RequestErr, request};
 pub use top::rkr;
 pub use tr_codec::Damage;

@@ -7,8 +7,7 @@ ghost use Rattle.rk_folder.specs.Specials.{first_special};
 ghost use Rattle.rk_runs.specs.Run.{Spent};
 ghost use Rattle.rk_runs.specs.Spoken.{AreSpoken};
 ghost use Rattle.rk_top.specs.Asks.{Asks, AsksBuild, AsksQuery};
-ghost use Rattle.rk_build.specs.Outcomes.{Checked, Leaves, HasStatus, Tallies, Gains, GainsErrors, GainsLine, ErrorsCounted, Counted, Ticked, Faults, IfEnded, IfSpecial, IfDamaged, IfForged, IsNoFault, NoneRose, Settles};
-ghost use Rattle.rk_build.specs.Fresh.{output_of};
+ghost use Rattle.rk_build.specs.Outcomes.{Checked, Leaves, HasStatus, Tallies, Gains, GainsErrors, GainsLine, InOrder, ErrorsCounted, Counted, Ticked, Faults, IfEnded, IfSpecial, IfDamaged, IfForged, IsNoFault, NoneRose, Settles};
 ghost use Rattle.rk_top.specs.Generated.{Generates};
 ghost use Rattle.rk_build.specs.Kept.{decoded, state_in, IsDamaged, Keeping};
 ghost use Rattle.rk_build.specs.Checks.{TellsForged};
@@ -45,8 +44,9 @@ fn serve<F: Folder, O: Sink, E: Sink, L: Ledger>(
     ensures checked { IfEnded result (λ status launched ran. IfBuild request.now (Checked first_talk request.now (F.told folder.old))) }
     ensures tally { IfEnded result (λ status launched ran. IfBuild request.now (Tallies first_talk request.now (F.told folder.old) (F.told folder.new) live.old live.new launched ran)) }
     ensures live { IfBuild request.now (Ticked request.now live.old live.new result) }
-    ensures output { IfBuild request.now (Gains first_talk request.now output_of (F.told folder.old) (O.so_far out.old) (O.so_far out.new) result) }
+    ensures output { IfBuild request.now (Gains first_talk request.now (F.told folder.old) (record { so_far = O.so_far out.old; faults = O.faults out.old; memory = O.memory_failures out.old }) (record { so_far = O.so_far out.new; faults = O.faults out.new; memory = O.memory_failures out.new }) result) }
     ensures errors { IfBuild request.now (GainsErrors first_talk request.now (F.told folder.old) (record { so_far = E.so_far err.old; faults = E.faults err.old; memory = E.memory_failures err.old }) (record { so_far = E.so_far err.new; faults = E.faults err.new; memory = E.memory_failures err.new }) result) }
+    ensures order { IfBuild request.now (InOrder first_talk request.now (F.told folder.old) (record { out = (record { so_far = O.so_far out.old; faults = O.faults out.old; memory = O.memory_failures out.old }); err = (record { so_far = E.so_far err.old; faults = E.faults err.old; memory = E.memory_failures err.old }) }) (record { out = (record { so_far = O.so_far out.new; faults = O.faults out.new; memory = O.memory_failures out.new }); err = (record { so_far = E.so_far err.new; faults = E.faults err.new; memory = E.memory_failures err.new }) })) }
     ensures special { IfBuild request.now (IfSpecial result (λ path. IfSome (F.told folder.old) (λ held. first_special held ≡ Some path))) }
     ensures damaged { IfBuild request.now (IfDamaged result (λ file damage. IfSome (F.told folder.old) (λ held. (first_special held ≡ None) × IsDamaged (decoded (is_fresh request.now) (state_in held)) file damage))) }
     ensures forged { IfBuild request.now (IfForged result (λ rec step. IfSome (F.told folder.old) (λ held. Keeping (is_fresh request.now) held (λ entries old. TellsForged first_talk request.now old rec step)))) }
@@ -98,8 +98,9 @@ fn work<F: Folder, O: Sink, E: Sink, L: Ledger>(
     ensures checked { IfEnded result (λ status launched ran. AsksBuild (map string_bytes words.now) (λ request. Checked first_talk request (F.told folder.old))) }
     ensures tally { IfEnded result (λ status launched ran. AsksBuild (map string_bytes words.now) (λ request. Tallies first_talk request (F.told folder.old) (F.told folder.new) live.old live.new launched ran)) }
     ensures live { AsksBuild (map string_bytes words.now) (λ request. Ticked request live.old live.new result) }
-    ensures output { AsksBuild (map string_bytes words.now) (λ request. Gains first_talk request output_of (F.told folder.old) (O.so_far out.old) (O.so_far out.new) result) }
+    ensures output { AsksBuild (map string_bytes words.now) (λ request. Gains first_talk request (F.told folder.old) (record { so_far = O.so_far out.old; faults = O.faults out.old; memory = O.memory_failures out.old }) (record { so_far = O.so_far out.new; faults = O.faults out.new; memory = O.memory_failures out.new }) result) }
     ensures errors { AsksBuild (map string_bytes words.now) (λ request. GainsErrors first_talk request (F.told folder.old) (record { so_far = E.so_far err.old; faults = E.faults err.old; memory = E.memory_failures err.old }) (record { so_far = E.so_far err.new; faults = E.faults err.new; memory = E.memory_failures err.new }) result) }
+    ensures order { AsksBuild (map string_bytes words.now) (λ request. InOrder first_talk request (F.told folder.old) (record { out = (record { so_far = O.so_far out.old; faults = O.faults out.old; memory = O.memory_failures out.old }); err = (record { so_far = E.so_far err.old; faults = E.faults err.old; memory = E.memory_failures err.old }) }) (record { out = (record { so_far = O.so_far out.new; faults = O.faults out.new; memory = O.memory_failures out.new }); err = (record { so_far = E.so_far err.new; faults = E.faults err.new; memory = E.memory_failures err.new }) })) }
     ensures queried { Asks (map string_bytes words.now) (λ request. Queried first_talk request (F.told folder.old) (F.told folder.new) (O.so_far out.old) (O.so_far out.new) result) }
     ensures silent { AsksQuery (map string_bytes words.now) (λ request. (live.new ≡ live.old) × (E.so_far err.new ≡ E.so_far err.old)) }
     ensures generated { Asks (map string_bytes words.now) (λ request. IfGen request (λ seed. Generates first_talk seed live.old live.new (O.so_far out.old) (O.so_far out.new) result)) }
@@ -162,10 +163,10 @@ pub fn rkr<F: Folder, O: Sink, E: Sink, L: Ledger>(
     ensures tally { IfEnded result (λ status launched ran. AsksBuild (map string_bytes words.now) (λ request. Tallies first_talk request (F.told folder.old) (F.told folder.new) live.old live.new launched ran)) }
     ensures live { AsksBuild (map string_bytes words.now) (λ request. Ticked request live.old live.new result) }
 
-    // What was put: the run's output and error text, and then the outcome's own line, whole unless that put failed or had no
-    // memory.
-    ensures output { AsksBuild (map string_bytes words.now) (λ request. Gains first_talk request output_of (F.told folder.old) (O.so_far out.old) (O.so_far out.new) result) }
-    ensures errors { AsksBuild (map string_bytes words.now) (λ request. GainsLine first_talk request (F.told folder.old) (record { so_far = E.so_far err.old; faults = E.faults err.old; memory = E.memory_failures err.old }) (record { so_far = E.so_far err.new; faults = E.faults err.new; memory = E.memory_failures err.new }) result) }
+    // What was put: the run's output, once all of it went out the error text, and then the outcome's own line, whole unless
+    // that put failed or had no memory.
+    ensures output { AsksBuild (map string_bytes words.now) (λ request. Gains first_talk request (F.told folder.old) (record { so_far = O.so_far out.old; faults = O.faults out.old; memory = O.memory_failures out.old }) (record { so_far = O.so_far out.new; faults = O.faults out.new; memory = O.memory_failures out.new }) result) }
+    ensures errors { AsksBuild (map string_bytes words.now) (λ request. GainsLine first_talk request (F.told folder.old) (record { so_far = O.so_far out.old; faults = O.faults out.old; memory = O.memory_failures out.old }) (record { so_far = O.so_far out.new; faults = O.faults out.new; memory = O.memory_failures out.new }) (record { so_far = E.so_far err.old; faults = E.faults err.old; memory = E.memory_failures err.old }) (record { so_far = E.so_far err.new; faults = E.faults err.new; memory = E.memory_failures err.new }) result) }
 
     // Special only with the first special path; Damaged only with the first state file that is damaged, and its damage;
     // Forged only with a record that its command doesn't say, and the first wrong step; Spent only where each record is

@@ -2,13 +2,13 @@ use Rattle.std.proofs.Common.{◌∙◌, ap, option_map}
 use Rattle.std.proofs.lemmas.Result.{err_from_is_err_and}
 use Rattle.rk_build.specs.Changes.{after_all}
 use Rattle.rk_build.specs.Fresh.{output_of, error_text_of}
-use Rattle.rk_build.proofs.BuildLemmas.{put-gains, put-gains-errors, install-leaves-now, install-gains, install-gains-errors, end-gains, end-gains-errors, end-leaves, end-status, end-checked, end-tally, text-told, output-told, error_text-told}
+use Rattle.rk_build.proofs.BuildLemmas.{put-gains, put-gains-errors, put-order, put-starts, prepare-starts, install-starts, install-leaves-now, install-gains, install-gains-errors, end-gains, end-leaves, end-status, end-checked, end-tally, text-told, output-told, error_text-told}
 use Rattle.rk_build.proofs.build.build.Goals as goal
 
 pub returns-in_err-put_texts-clause-output : goal.returns-in_err-put_texts-clause-output
 returns-in_err-put_texts-clause-output g c =
     let p = err_from_is_err_and c.from_residual-in_err-put_texts.result c.from_residual-in_err-put_texts.ensures.1 in
-    rw (p.1, p.2) (put-gains g.M.Maker.first c.args.request.now output_of _ c.out.result.now _ _ _ (text-told g.M.Maker.first c.args.request.now output_of _ _ _ c.out.ensures (output-told g.M.Maker.first c.args.request.now _ _ _ c.in_ok-finished.field-0 c.in_ok-finished.ensures.prepares.0)) c.in_err-put_texts.ensures.output)
+    rw (p.1, p.2) (put-gains g.M.Maker.first c.args.request.now _ c.out.result.now _ _ _ (text-told g.M.Maker.first c.args.request.now output_of _ _ _ c.out.ensures (output-told g.M.Maker.first c.args.request.now _ _ _ c.in_ok-finished.field-0 c.in_ok-finished.ensures.prepares.0)) c.in_err-put_texts.ensures.output)
 
 pub returns-in_err-put_texts-clause-errors : goal.returns-in_err-put_texts-clause-errors
 returns-in_err-put_texts-clause-errors g c =
@@ -23,7 +23,7 @@ returns-in_err-carry_out-clause-folder g c =
 pub returns-in_err-carry_out-clause-output : goal.returns-in_err-carry_out-clause-output
 returns-in_err-carry_out-clause-output g c =
     let p = err_from_is_err_and c.from_residual-in_err-carry_out.result c.from_residual-in_err-carry_out.ensures.1 in
-    rw (p.1, p.2) (install-gains g.M.Maker.first c.args.request.now output_of _ _ _ _ c.out.result.now _ _ _ (text-told g.M.Maker.first c.args.request.now output_of _ _ _ c.out.ensures (output-told g.M.Maker.first c.args.request.now _ _ _ c.in_ok-finished.field-0 c.in_ok-finished.ensures.prepares.0)) c.in_err-carry_out.ensures.held c.in_ok-put_texts.ensures.output)
+    rw (p.1, p.2) (install-gains g.M.Maker.first c.args.request.now _ _ _ _ c.out.result.now _ _ _ (text-told g.M.Maker.first c.args.request.now output_of _ _ _ c.out.ensures (output-told g.M.Maker.first c.args.request.now _ _ _ c.in_ok-finished.field-0 c.in_ok-finished.ensures.prepares.0)) c.in_err-carry_out.ensures.held c.in_ok-put_texts.ensures.output)
 
 pub returns-in_err-carry_out-clause-errors : goal.returns-in_err-carry_out-clause-errors
 returns-in_err-carry_out-clause-errors g c =
@@ -43,7 +43,31 @@ pub returns-clause-tally : goal.returns-clause-tally
 returns-clause-tally g c = end-tally g.M.Maker.first c.args.request.now _ _ _ _ c.in_ok-finished.field-0 _ c.in_ok-finished.ensures.prepares.0 (c.in_ok-carry_out.ensures.held ∙ ap (option_map (after_all c.in_ok-finished.field-0.plan)) c.prepare.ensures.held) c.len-launched.ensures
 
 pub returns-clause-output : goal.returns-clause-output
-returns-clause-output g c = end-gains g.M.Maker.first c.args.request.now output_of _ c.out.result.now _ _ c.in_ok-finished.field-0.finished.status c.len-launched.result 0 (text-told g.M.Maker.first c.args.request.now output_of _ _ _ c.out.ensures (output-told g.M.Maker.first c.args.request.now _ _ _ c.in_ok-finished.field-0 c.in_ok-finished.ensures.prepares.0)) c.in_ok-put_texts.ensures.output
+returns-clause-output g c = end-gains g.M.Maker.first c.args.request.now output_of _ c.out.result.now _ _ (text-told g.M.Maker.first c.args.request.now output_of _ _ _ c.out.ensures (output-told g.M.Maker.first c.args.request.now _ _ _ c.in_ok-finished.field-0 c.in_ok-finished.ensures.prepares.0)) c.in_ok-put_texts.ensures.output
 
 pub returns-clause-errors : goal.returns-clause-errors
-returns-clause-errors g c = end-gains-errors g.M.Maker.first c.args.request.now _ c.as_slice.result.now _ _ c.in_ok-finished.field-0.finished.status c.len-launched.result 0 (text-told g.M.Maker.first c.args.request.now error_text_of _ _ _ c.as_slice.ensures (error_text-told g.M.Maker.first c.args.request.now _ _ _ c.in_ok-finished.field-0 c.in_ok-finished.ensures.prepares.0)) c.in_ok-put_texts.ensures.errors
+returns-clause-errors g c = end-gains g.M.Maker.first c.args.request.now error_text_of _ c.as_slice.result.now _ _ (text-told g.M.Maker.first c.args.request.now error_text_of _ _ _ c.as_slice.ensures (error_text-told g.M.Maker.first c.args.request.now _ _ _ c.in_ok-finished.field-0 c.in_ok-finished.ensures.prepares.0)) c.in_ok-put_texts.ensures.errors
+
+pub returns-in_err-put_texts-clause-order : goal.returns-in_err-put_texts-clause-order
+returns-in_err-put_texts-clause-order g c = put-order g.M.Maker.first c.args.request.now _ c.out.result.now _ _ _ _ (text-told g.M.Maker.first c.args.request.now output_of _ _ _ c.out.ensures (output-told g.M.Maker.first c.args.request.now _ _ _ c.in_ok-finished.field-0 c.in_ok-finished.ensures.prepares.0)) c.in_err-put_texts.ensures.order
+
+pub returns-in_err-carry_out-clause-order : goal.returns-in_err-carry_out-clause-order
+returns-in_err-carry_out-clause-order g c = put-order g.M.Maker.first c.args.request.now _ c.out.result.now _ _ _ _ (text-told g.M.Maker.first c.args.request.now output_of _ _ _ c.out.ensures (output-told g.M.Maker.first c.args.request.now _ _ _ c.in_ok-finished.field-0 c.in_ok-finished.ensures.prepares.0)) c.in_ok-put_texts.ensures.order
+
+pub returns-clause-order : goal.returns-clause-order
+returns-clause-order g c = put-order g.M.Maker.first c.args.request.now _ c.out.result.now _ _ _ _ (text-told g.M.Maker.first c.args.request.now output_of _ _ _ c.out.ensures (output-told g.M.Maker.first c.args.request.now _ _ _ c.in_ok-finished.field-0 c.in_ok-finished.ensures.prepares.0)) c.in_ok-put_texts.ensures.order
+
+pub returns-in_err-finished-clause-starts : goal.returns-in_err-finished-clause-starts
+returns-in_err-finished-clause-starts g c =
+    let p = err_from_is_err_and c.from_residual.result c.from_residual.ensures.1 in
+    rw (p.1, p.2) (prepare-starts g.M.Maker.first c.args.request.now _ _ _ _ c.in_err-finished.ensures.starts)
+
+pub returns-in_err-put_texts-clause-starts : goal.returns-in_err-put_texts-clause-starts
+returns-in_err-put_texts-clause-starts g c =
+    let p = err_from_is_err_and c.from_residual-in_err-put_texts.result c.from_residual-in_err-put_texts.ensures.1 in
+    rw (p.1, p.2) (put-starts g.M.Maker.first c.args.request.now _ _ _ _ _ c.in_ok-finished.field-0 _ _ _ _ c.in_ok-finished.ensures.prepares.0 c.in_err-put_texts.ensures.output c.in_ok-finished.ensures.starts)
+
+pub returns-in_err-carry_out-clause-starts : goal.returns-in_err-carry_out-clause-starts
+returns-in_err-carry_out-clause-starts g c =
+    let p = err_from_is_err_and c.from_residual-in_err-carry_out.result c.from_residual-in_err-carry_out.ensures.1 in
+    rw (p.1, p.2) (install-starts g.M.Maker.first c.args.request.now _ _ _ _ _ _ _ _ c.in_ok-finished.field-0 _ c.in_ok-finished.ensures.prepares.0 c.in_err-carry_out.ensures.held c.in_ok-finished.ensures.starts)

@@ -31,7 +31,7 @@ pub returns-clause-checked : goal.returns-clause-checked
 returns-clause-checked g c = rw c.outcome_of.ensures (built-ended _ c.build.result c.build.ensures.checked)
 
 pub returns-clause-starts : goal.returns-clause-starts
-returns-clause-starts g c = rw c.outcome_of.ensures (built-started c.args.request.now _ _ _ c.build.result c.build.ensures.starts)
+returns-clause-starts g c = rw c.outcome_of.ensures (built-started g.M.Maker.first c.args.request.now _ _ _ c.build.result c.build.ensures.starts)
 
 pub returns-clause-asked : goal.returns-clause-asked
 returns-clause-asked g c = rw c.outcome_of.ensures (built-asked c.build.result)

@@ -1,7 +1,7 @@
 use Rattle.std.proofs.Common.{length, refl}
 use Rattle.rk_build.specs.declared.prepare.Prepared.{Prepared}
 use Rattle.std.proofs.lemmas.Result.{err_from_is_err_and}
-use Rattle.rk_build.proofs.CheckLemmas.{check-no-fault, check-reads, check-starts, starts-both}
+use Rattle.rk_build.proofs.CheckLemmas.{check-no-fault, check-reads, check-starts, find-starts, run-starts, starts-both}
 use Rattle.rk_build.proofs.PrepareLemmas.{check-stops, find-stops, run-stops, is_prepared}
 use Rattle.rk_build.proofs.prepare.prepare.Goals as goal
 
@@ -99,7 +99,17 @@ returns-in_err-check_old-clause-steady g c =
 pub returns-in_err-check_old-clause-starts : goal.returns-in_err-check_old-clause-starts
 returns-in_err-check_old-clause-starts g c =
     let p = err_from_is_err_and c.from_residual-in_err-check_old.result c.from_residual-in_err-check_old.ensures.1 in
-    rw (p.1, p.2) (check-starts {T = Prepared} (λ (p : Prepared). length p.finished.ran) g.M.Maker.first c.args.request.now (g.F.Folder.told c.args.folder.now) c.in_ok-before.field-0.old _ _ _ c.in_err-check_old.ensures.checked)
+    rw (p.1, p.2) (check-starts {T = Prepared} (λ (p : Prepared). length p.finished.ran) g.M.Maker.first c.args.request.now (g.F.Folder.told c.args.folder.now) c.in_ok-before.field-0.old _ _ _ c.in_err-check_old.ensures.checked c.in_err-check_old.ensures.starts)
 
 pub returns-clause-starts : goal.returns-clause-starts
 returns-clause-starts g c = starts-both c.args.request.now _ c.in_ok-before.field-0 _ _ _ _ c.in_ok-before.ensures.finds c.in_ok-check_old.ensures.starts c.in_ok-finished.ensures.starts
+
+pub returns-in_err-before-clause-starts : goal.returns-in_err-before-clause-starts
+returns-in_err-before-clause-starts g c =
+    let p = err_from_is_err_and c.from_residual.result c.from_residual.ensures.1 in
+    rw (p.1, p.2) (find-starts {T = Prepared} (λ (p : Prepared). length p.finished.ran) g.M.Maker.first c.args.request.now (g.F.Folder.told c.args.folder.now) _ _ c.in_err-before.ensures.finds)
+
+pub returns-in_err-finished-clause-starts : goal.returns-in_err-finished-clause-starts
+returns-in_err-finished-clause-starts g c =
+    let p = err_from_is_err_and c.from_residual-in_err-finished.result c.from_residual-in_err-finished.ensures.1 in
+    rw (p.1, p.2) (run-starts {T = Prepared} (λ (p : Prepared). length p.finished.ran) g.M.Maker.first c.args.request.now (g.F.Folder.told c.args.folder.now) _ c.in_ok-before.field-0.old c.args.live.now c.run.new.live _ _ _ c.in_err-finished.ensures.runs c.in_ok-check_old.ensures.checked)

@@ -37,7 +37,7 @@ returns-in-None-clause-folder g c =
     forgets-none (g.F.Folder.told c.args.folder.now) _ _ _ c.say_none.result (subst (λ (o : Option Text). FindsDb (g.F.Folder.told c.args.folder.now) (Ok o)) c.in-None.is c.in_ok-database.ensures.finds) c.say_none.ensures.puts c.in_ok-database.ensures.held
 
 pub returns-in-None-clause-output : goal.returns-in-None-clause-output
-returns-in-None-clause-output g c = says-none _ _ c.say_none.result c.say_none.ensures.puts
+returns-in-None-clause-output g c = says-none (g.F.Folder.told c.args.folder.now) _ _ c.say_none.result (subst (λ (o : Option Text). FindsDb (g.F.Folder.told c.args.folder.now) (Ok o)) c.in-None.is c.in_ok-database.ensures.finds) c.say_none.ensures.puts
 
 pub returns-in-None-clause-reads : goal.returns-in-None-clause-reads
 returns-in-None-clause-reads g c = unread _ _ _ _ c.say_none.result c.say_none.ensures.puts c.in_ok-database.ensures.reads

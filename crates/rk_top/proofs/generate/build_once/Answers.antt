@@ -2,13 +2,16 @@ use Rattle.std.proofs.Common.{ap, ◌∙◌, refl, ℕ}
 use Rattle.rk_folder.specs.Memory.{held_by}
 use Rattle.rk_gen.specs.Summary.{added}
 use Rattle.rk_top.specs.Generated.{Stage}
-use Rattle.rk_top.proofs.GeneratedLemmas.{built, few-turns, no-other, spent-built}
+use Rattle.rk_top.proofs.GeneratedLemmas.{built, ended-keeps, few-turns, no-other, spent-built}
 use Rattle.rk_top.proofs.generate.build_once.Goals as goal
 
 pub paid-requires : goal.paid-requires
 paid-requires g c =
     few-turns g.M.Maker.first (held_by c.args.session.now.folder) (held_by c.build_in.new.folder) c.in_ok-old.old c.in_ok-table-in-Ended.table c.in-Ended.launched c.in-Ended.ran c.args.live.now c.build_in.new.live
     c.requires.well c.in-Ended.ensures.folder c.in-Ended.ensures.tally c.in-Ended.ensures.live c.in_ok-old.ensures c.in_ok-table-in-Ended.ensures
+
+pub table_of-requires-in-Ended : goal.table_of-requires-in-Ended
+table_of-requires-in-Ended g c = ended-keeps g.M.Maker.first (held_by c.args.session.now.folder) (held_by c.build_in.new.folder) c.requires.well c.in-Ended.ensures.folder
 
 pub returns-in-Ended-clause-built : goal.returns-in-Ended-clause-built
 returns-in-Ended-clause-built g c =

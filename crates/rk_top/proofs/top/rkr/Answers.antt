@@ -1,7 +1,6 @@
 use Rattle.std.proofs.Common.{refl, map, string_bytes}
 use Rattle.rk_top.specs.First.{first_talk}
-use Rattle.rk_build.specs.Fresh.{output_of}
-use Rattle.rk_top.proofs.AskLemmas.{asks-then, builds-then, gens-then, queries-then}
+use Rattle.rk_top.proofs.AskLemmas.{asks-then, builds-both, builds-then, gens-then, queries-then}
 use Rattle.rk_top.proofs.GeneratedLemmas.{line-generates}
 use Rattle.rk_top.proofs.QueryLemmas.{line-queried}
 use Rattle.rk_build.proofs.TellLemmas.{line-gains, told-gains, told-errors, line-leaves, line-ticked, line-faults, line-special, line-damaged, line-forged, line-ended, line-no-fault, line-settles, mid-still, steady-same}
@@ -29,10 +28,10 @@ pub returns-clause-live : goal.returns-clause-live
 returns-clause-live g c = builds-then (map string_bytes c.args.words.now) _ _ (λ request t. line-ticked request _ _ _ _ c.tell.ensures.tells.0 t) c.work-outcome.ensures.live
 
 pub returns-clause-output : goal.returns-clause-output
-returns-clause-output g c = builds-then (map string_bytes c.args.words.now) _ _ (λ request t. told-gains first_talk request output_of _ _ _ _ _ c.tell.ensures.tells.0 t) c.work-outcome.ensures.output
+returns-clause-output g c = builds-then (map string_bytes c.args.words.now) _ _ (λ request t. told-gains first_talk request _ _ _ _ _ c.tell.ensures.tells.0 t) c.work-outcome.ensures.output
 
 pub returns-clause-errors : goal.returns-clause-errors
-returns-clause-errors g c = builds-then (map string_bytes c.args.words.now) _ _ (λ request t. line-gains first_talk request _ _ _ _ _ _ t c.work-outcome.ensures.error_counts c.tell.ensures.tells) c.work-outcome.ensures.errors
+returns-clause-errors g c = builds-then (map string_bytes c.args.words.now) _ _ (λ request t. line-gains first_talk request _ _ _ _ _ _ _ _ t.0 t.1 c.work-outcome.ensures.error_counts c.tell.ensures.tells) (builds-both (map string_bytes c.args.words.now) _ _ c.work-outcome.ensures.order c.work-outcome.ensures.errors)
 
 pub returns-clause-faults : goal.returns-clause-faults
 returns-clause-faults g c = line-faults _ _ _ _ _ _ _ c.work-outcome.ensures.counts c.tell.ensures.tells refl refl refl refl refl

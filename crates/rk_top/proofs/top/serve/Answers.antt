@@ -179,3 +179,15 @@ returns-in-Forget-clause-counts g c = c.forget_records.ensures.counts (g.E.Sink.
 
 pub returns-in-Gen-clause-counts : goal.returns-in-Gen-clause-counts
 returns-in-Gen-clause-counts g c = c.tell_workload.ensures.counts (g.F.Folder.read_faults c.args.folder.now) (g.F.Folder.write_faults c.args.folder.now) (g.E.Sink.faults c.args.err.now)
+
+pub returns-in-Build-clause-order : goal.returns-in-Build-clause-order
+returns-in-Build-clause-order g c = if-build c.args.request.now _ c.build_in.ensures.order
+
+pub returns-in-Check-clause-order : goal.returns-in-Check-clause-order
+returns-in-Check-clause-order g c = no-build c.args.request.now _ _ c.in-Check.is tt
+
+pub returns-in-Trace-clause-order : goal.returns-in-Trace-clause-order
+returns-in-Trace-clause-order g c = no-build c.args.request.now _ _ c.in-Trace.is tt
+
+pub returns-in-Forget-clause-order : goal.returns-in-Forget-clause-order
+returns-in-Forget-clause-order g c = no-build c.args.request.now _ _ c.in-Forget.is tt

@@ -125,3 +125,12 @@ returns-in-Err-NoMemory-clause-generated g c = gens-any (map string_bytes c.args
 
 pub returns-in-Err-NoMemory-clause-apart : goal.returns-in-Err-NoMemory-clause-apart
 returns-in-Err-NoMemory-clause-apart g c = gens-any (map string_bytes c.args.words.now) _ (λ seed. (refl, refl))
+
+pub returns-in-Ok-clause-order : goal.returns-in-Ok-clause-order
+returns-in-Ok-clause-order g c = asks (map string_bytes c.args.words.now) _ c.in-Ok.asked c.in-Ok.ensures.asked c.serve.ensures.order
+
+pub returns-in-Err-Usage-clause-order : goal.returns-in-Err-Usage-clause-order
+returns-in-Err-Usage-clause-order g c = unasked (map string_bytes c.args.words.now) _ (c.in-Err-Usage.ensures.usage (assumption c.in-Err-Usage))
+
+pub returns-in-Err-NoMemory-clause-order : goal.returns-in-Err-NoMemory-clause-order
+returns-in-Err-NoMemory-clause-order g c = builds-any (map string_bytes c.args.words.now) _ (λ request. inl refl)
