@@ -9,11 +9,11 @@ mod queries;
 mod top;
 
 pub use commands::Commands;
+pub use laws::have_one_line;
 pub use rk_build::{
     Outcome, StateFile, build_in, exit_code, finds_next, fresh_spoken, refused_settle,
     spoken_settle, stays_well,
 };
-pub use laws::have_one_line;
 pub use rk_words::{Request, RequestErr, request};
 pub use top::rkr;
 pub use tr_codec::Damage;
