@@ -1,5 +1,5 @@
 -- What stands in a folder in which nothing is special.
-use Rattle.std.proofs.Common.{◌≡◌, ◌⊎◌, inl, inr, List, [], ◌∷◌, Bool, true, false, ◌&&◌, ◌||◌, Option, Some, None, refl, sym, ap, subst, ◌∙◌}
+use Rattle.std.proofs.Common.{◌≡◌, ◌⊎◌, inl, inr, List, [], ◌∷◌, Bool, true, false, ◌&&◌, ◌||◌, Option, Some, None, refl, ap, subst, ◌∙◌}
 use Rattle.std.specs.List.{list_all}
 use Rattle.rk_base.specs.Text.{Text, is_within, same_text}
 use Rattle.rk_base.proofs.CanonicalLemmas.{both}

@@ -1,5 +1,5 @@
 -- What each answer says of the folder, the output and the counts.
-use Rattle.std.specs.Prelude.{◌≡◌, ◌⊎◌, ◌≤◌, ◌+◌, ℕ, Bool, true, take, length, List, Option, Some, None, IfSome, IsSome, option_map, Result, Ok, Err}
+use Rattle.std.specs.Prelude.{◌≡◌, ◌⊎◌, ◌≤◌, ◌+◌, ℕ, take, length, List, Option, Some, None, IfSome, IsSome, option_map, Result, Ok, Err}
 use Rattle.rk_base.specs.Text.{Text}
 use Rattle.rk_runs.specs.Started.{started}
 use Rattle.rk_folder.specs.Counts.{Rose}

@@ -1,4 +1,4 @@
-use Rattle.std.proofs.Common.{suc, ◌≡◌, ℕ, ◌≤◌, ◌<◌, List, length, Option, Some, None, option_map, Result, Ok, Err, arith, refl, ap, ◌∙◌}
+use Rattle.std.proofs.Common.{suc, ◌≡◌, ℕ, ◌<◌, List, length, Option, Some, None, option_map, Result, Ok, Err, arith, refl, ap, ◌∙◌}
 use Rattle.std.specs.Prelude.{IsErr}
 use Rattle.rk_folder.specs.Schedule.{Schedule, after_call, after_calls}
 use Rattle.rk_build.specs.Changes.{CountsCalls}
