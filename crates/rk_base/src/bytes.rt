@@ -27,6 +27,7 @@ impl Model for Bytes {
 }
 
 impl Bytes {
+    /// A byte string of these bytes; want of memory is for the count of its owners.
     pub fn new(alloc: Global, bytes: Vec<u8>) -> Result<Bytes, NoMemory>
         ensures { IfOk result (λ b. b ≡ bytes.items) }
     {
@@ -34,6 +35,7 @@ impl Bytes {
         Ok(Bytes { bytes })
     }
 
+    /// A copy of these bytes.
     pub fn from_slice(alloc: Global, bytes: &[u8]) -> Result<Bytes, NoMemory>
         ensures { IfOk result (λ b. b ≡ bytes.now) }
     {
@@ -41,6 +43,7 @@ impl Bytes {
         Bytes::new(alloc, bytes)
     }
 
+    /// Its bytes.
     pub fn as_slice(&self) -> &[u8]
         ensures { result.now ≡ self.now }
     {
@@ -59,6 +62,7 @@ impl Bytes {
         self.bytes.len()
     }
 
+    /// Whether it has no bytes.
     pub fn is_empty(&self) -> bool
         ensures { IsTrue result ↔ (length self.now ≡ 0) }
     {
@@ -82,6 +86,7 @@ impl Bytes {
         Ok(())
     }
 
+    /// The same bytes, shared.
     pub fn copy(&self) -> Result<Bytes, NoMemory>
         ensures { IfOk result (λ b. b ≡ self.now) }
     {

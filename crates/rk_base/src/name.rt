@@ -49,6 +49,7 @@ impl Name {
         Name { bytes }
     }
 
+    /// Its bytes.
     pub fn as_slice(&self) -> &[u8]
         ensures value { result.now ≡ self.now }
         ensures name { is_name self.now ≡ true }
@@ -56,6 +57,7 @@ impl Name {
         self.bytes.as_slice()
     }
 
+    /// The same name.
     pub fn copy(&self) -> Result<Name, NoMemory>
         ensures { IfOk result (λ n. n ≡ self.now) }
     {

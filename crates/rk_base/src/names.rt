@@ -70,6 +70,7 @@ impl NameList {
         }
     }
 
+    /// The names, in their order.
     pub fn as_slice(&self) -> &[Name]
         ensures value { result.now ≡ self.now }
         ensures names { are_names self.now ≡ true }
@@ -84,6 +85,7 @@ impl NameList {
         self.names.len()
     }
 
+    /// Whether there are none.
     pub fn is_empty(&self) -> bool
         ensures { IsTrue result ↔ (length self.now ≡ 0) }
     {
@@ -97,6 +99,7 @@ impl NameList {
         self.names.as_slice() == other.names.as_slice()
     }
 
+    /// The same names.
     pub fn copy(&self) -> Result<NameList, NoMemory>
         ensures { IfOk result (λ n. n ≡ self.now) }
     {

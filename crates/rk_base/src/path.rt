@@ -176,6 +176,7 @@ impl Path {
         !self.is_root() && self.parent_text() == dir.text()
     }
 
+    /// Whether it is `/`.
     pub fn is_root(&self) -> bool
         ensures { result ≡ is_root self.now }
     {

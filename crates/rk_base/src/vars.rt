@@ -54,6 +54,7 @@ impl VarList {
         }
     }
 
+    /// The variables, in their order.
     pub fn as_slice(&self) -> &[Var]
         ensures value { result.now ≡ self.now }
         ensures variables { are_variables self.now ≡ true }
@@ -70,6 +71,7 @@ impl VarList {
         VarList { vars }
     }
 
+    /// Whether there are none.
     pub fn is_empty(&self) -> bool
         ensures { IsTrue result ↔ (self.now ≡ []) }
     {
@@ -83,6 +85,7 @@ impl VarList {
         self.vars.as_slice() == other.vars.as_slice()
     }
 
+    /// The same variables.
     pub fn copy(&self) -> Result<VarList, NoMemory>
         ensures { IfOk result (λ v. v ≡ self.now) }
     {

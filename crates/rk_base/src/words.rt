@@ -24,18 +24,21 @@ impl Model for WordList {
 }
 
 impl WordList {
+    /// These words, in their order.
     pub fn new(words: Vec<Bytes>) -> WordList
         ensures { result ≡ words.items }
     {
         WordList { words }
     }
 
+    /// The words, in their order.
     pub fn as_slice(&self) -> &[Bytes]
         ensures { result.now ≡ self.now }
     {
         self.words.as_slice()
     }
 
+    /// How many words there are.
     pub fn len(&self) -> usize
         ensures { result ≡ length self.now }
     {
@@ -58,6 +61,7 @@ impl WordList {
         self.words.as_slice() == other.words.as_slice()
     }
 
+    /// The same words.
     pub fn copy(&self) -> Result<WordList, NoMemory>
         ensures { IfOk result (λ w. w ≡ self.now) }
     {

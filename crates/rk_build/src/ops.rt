@@ -37,6 +37,7 @@ impl Plan {
         Plan { ops }
     }
 
+    /// The calls, in their order.
     pub fn as_slice(&self) -> &[Op]
         ensures { result.now ≡ self.now }
     {
@@ -50,6 +51,7 @@ impl Plan {
         self.ops.len()
     }
 
+    /// Whether there is nothing to do.
     pub fn is_empty(&self) -> bool
         ensures { IsTrue result ↔ (self.now ≡ []) }
     {

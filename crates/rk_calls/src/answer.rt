@@ -28,6 +28,7 @@ pub enum Answer {
 }
 
 impl Answer {
+    /// The same answer.
     pub fn copy(&self) -> Result<Answer, NoMemory>
         ensures { IfOk result (λ a. a ≡ self.now) }
     {

@@ -49,6 +49,7 @@ pub enum Call {
 }
 
 impl Call {
+    /// The same call.
     pub fn copy(&self) -> Result<Call, NoMemory>
         ensures { IfOk result (λ c. c ≡ self.now) }
     {

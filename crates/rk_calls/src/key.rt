@@ -76,6 +76,7 @@ impl Key {
         }
     }
 
+    /// The words, of which there is one at least.
     pub fn argv(&self) -> &WordList
         ensures value { result.now ≡ self.now.argv }
         ensures key { is_key self.now.argv self.now.vars ≡ true }
@@ -90,6 +91,7 @@ impl Key {
         &self.wd
     }
 
+    /// The variables; only a shell has any.
     pub fn vars(&self) -> &VarList
         ensures { result.now ≡ self.now.vars }
     {
@@ -103,6 +105,7 @@ impl Key {
         self.argv.same(&other.argv) && self.wd.same(&other.wd) && self.vars.same(&other.vars)
     }
 
+    /// The same key.
     pub fn copy(&self) -> Result<Key, NoMemory>
         ensures { IfOk result (λ k. k ≡ self.now) }
     {

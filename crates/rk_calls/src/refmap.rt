@@ -58,6 +58,7 @@ impl RefMap {
         }
     }
 
+    /// The pairs of a descriptor and a local number, ascending by descriptor.
     pub fn as_slice(&self) -> &[(u8, u64)]
         ensures value { result.now ≡ self.now }
         ensures refmap { is_refmap self.now ≡ true }
@@ -84,6 +85,7 @@ impl RefMap {
         self.pairs.as_slice() == other.pairs.as_slice()
     }
 
+    /// The same pairs.
     pub fn copy(&self) -> Result<RefMap, NoMemory>
         ensures { IfOk result (λ m. m ≡ self.now) }
     {

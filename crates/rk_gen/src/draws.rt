@@ -23,6 +23,7 @@ impl Model for Draws {
 }
 
 impl Draws {
+    /// The draws of a seed, from the first on.
     pub fn new(seed: u64) -> Draws
         ensures { result ≡ seed }
     {

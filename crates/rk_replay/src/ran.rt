@@ -65,12 +65,14 @@ impl RanList {
         Ok(())
     }
 
+    /// What ran, in launch order.
     pub fn as_slice(&self) -> &[Ran]
         ensures { result.now ≡ self.now }
     {
         self.items.as_slice()
     }
 
+    /// How many commands ran.
     pub fn len(&self) -> usize
         ensures { result ≡ length self.now }
     {

@@ -24,14 +24,17 @@ pub struct Told {
 }
 
 impl Told {
+    /// A line for each step that came otherwise.
     pub fn text(&self) -> &str {
         self.text.as_str()
     }
 
+    /// How many steps there were.
     pub fn steps(&self) -> u64 {
         self.steps
     }
 
+    /// How many of them came otherwise.
     pub fn otherwise(&self) -> u64 {
         self.otherwise
     }

@@ -16,6 +16,7 @@ pub struct Seen {
 }
 
 impl Seen {
+    /// Nothing is kept yet.
     pub fn new(alloc: Global) -> Seen {
         Seen {
             alloc,

@@ -28,6 +28,7 @@ impl Entry {
         }
     }
 
+    /// The same entry.
     pub fn copy(&self) -> Result<Entry, NoMemory>
         ensures { IfOk result (λ it. node_of it ≡ node_of self.now) }
     {

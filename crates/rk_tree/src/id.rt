@@ -28,6 +28,7 @@ impl NodeId {
         NodeId { number: 0 }
     }
 
+    /// Whether it is the root's number.
     pub fn is_root(self) -> bool
         ensures { result ≡ (self == top) }
     {

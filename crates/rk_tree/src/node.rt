@@ -27,18 +27,21 @@ impl Model for Node {
 }
 
 impl Node {
+    /// The node of an entry.
     pub fn new(entry: Entry) -> Node
         ensures { result ≡ node_of entry }
     {
         Node { entry }
     }
 
+    /// Its entry.
     pub fn entry(&self) -> &Entry
         ensures { node_of result.now ≡ self.now }
     {
         &self.entry
     }
 
+    /// Whether it is a file, a directory or a link.
     pub fn kind(&self) -> Kind
         ensures { result ≡ kind_of self.now }
     {
@@ -49,6 +52,7 @@ impl Node {
         }
     }
 
+    /// Whether it is a directory.
     pub fn is_dir(&self) -> bool
         ensures { result ≡ is_dir (Some self.now) }
     {
@@ -95,6 +99,7 @@ impl Node {
         self.entry.same(&other.entry)
     }
 
+    /// The same node.
     pub fn copy(&self) -> Result<Node, NoMemory>
         ensures { IfOk result (λ it. it ≡ self.now) }
     {

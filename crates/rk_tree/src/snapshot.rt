@@ -77,6 +77,7 @@ impl Snapshot {
         self.rows.len()
     }
 
+    /// Whether there are no entries.
     pub fn is_empty(&self) -> bool
         ensures { IsTrue result ↔ (len self.now ≡ 0) }
     {

@@ -31,6 +31,7 @@ impl<'a> Label<'a> {
         Label { bytes }
     }
 
+    /// Its bytes, which are a name.
     pub fn bytes(&self) -> &'a [u8]
         ensures value { result.now ≡ self.now }
         ensures name { is_name self.now ≡ true }

@@ -292,6 +292,7 @@ pub enum Undo {
     Substitution(Wording, SavedState),
 }
 
+/// What the control stack has: what is around a command, or what is undone behind it.
 #[derive(Drop)]
 pub enum Frame {
     Around(Around),

@@ -39,12 +39,14 @@ impl Todo {
         Ok(Todo { items })
     }
 
+    /// Takes the symbol on top.
     pub fn pop(&mut self) -> Option<Symbol>
         ensures { MatchOption result ((self.old ≡ []) × (self.new ≡ [])) (λ s. self.old ≡ symbol_named s ∷ self.new) }
     {
         self.items.pop()
     }
 
+    /// Puts a symbol on top.
     pub fn push(&mut self, symbol: Symbol) -> Result<(), NoMemory>
         ensures { OnOk result (self.new ≡ symbol_named symbol ∷ self.old) }
     {
@@ -82,6 +84,7 @@ impl Model for Marks {
 }
 
 impl Marks {
+    /// No marks.
     pub fn new(alloc: Global) -> Marks
         ensures { result ≡ [] }
     {
@@ -90,6 +93,7 @@ impl Marks {
         }
     }
 
+    /// One mark more, at the end.
     pub fn push(&mut self, mark: Mark) -> Result<(), NoMemory>
         ensures { OnOk result (self.new ≡ self.old ++ (mark_named mark ∷ [])) }
     {
@@ -97,6 +101,7 @@ impl Marks {
         Ok(())
     }
 
+    /// The marks, in the order of the text.
     pub fn into_items(self) -> Vec<Mark>
         ensures { map mark_named result.items ≡ self }
     {

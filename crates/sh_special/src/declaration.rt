@@ -29,6 +29,7 @@ impl Model for DeclarationList {
 }
 
 impl DeclarationList {
+    /// The declarations, in their order.
     pub fn as_slice(&self) -> &[Declaration]
         ensures { result.now ≡ self.now }
     {

@@ -49,12 +49,14 @@ impl Model for Field {
 }
 
 impl Field {
+    /// The field of these marks.
     pub fn new(marks: Vec<Mark>) -> Field
         ensures { result ≡ marks.items }
     {
         Field { marks }
     }
 
+    /// Its marks, given up.
     pub fn into_vec(self) -> Vec<Mark>
         ensures { result.items ≡ self }
     {
@@ -62,6 +64,7 @@ impl Field {
         marks
     }
 
+    /// Its marks, in their order.
     pub fn as_slice(&self) -> &[Mark]
         ensures { result.now ≡ self.now }
     {

@@ -23,6 +23,7 @@ pub struct Builder {
 }
 
 impl Builder {
+    /// Nothing was read.
     #[tactic(auto, unfolding(crate::specs::Seen::state))]
     pub fn new(alloc: Global) -> Result<Builder, NoMemory>
         ensures { IfOk result (λ b. state b ≡ st.start) }
@@ -59,6 +60,7 @@ impl Builder {
         let _value = self.pop();
     }
 
+    /// Puts a value on top.
     #[tactic(auto, unfolding(crate::specs::Seen::state, crate::specs::States::with))]
     pub fn put(&mut self, value: Value) -> Result<(), NoMemory>
         ensures { OnOk result (state self.new ≡ st.with (seen value) (state self.old)) }

@@ -20,6 +20,7 @@ impl<T> Model for Row<T> {
 }
 
 impl<T> Row<T> {
+    /// No items.
     pub fn new(alloc: Global) -> Row<T>
         ensures { result ≡ [] }
     {
@@ -28,6 +29,7 @@ impl<T> Row<T> {
         }
     }
 
+    /// Whether there are none.
     pub fn is_empty(&self) -> bool
         ensures { IsTrue result ↔ (self.now ≡ []) }
     {

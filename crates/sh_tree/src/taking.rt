@@ -15,6 +15,7 @@ use sh_ast::{
 use std::alloc::Global;
 use std::rc::Rc;
 
+/// The text that a value holds.
 #[tactic(auto, unfolding(crate::specs::Seen::seen))]
 pub fn text_in(alloc: Global, value: Value) -> Result<Bytes, NoMemory>
     ensures { IfOk result (λ t. t ≡ v.text_in (seen value)) }
@@ -25,6 +26,7 @@ pub fn text_in(alloc: Global, value: Value) -> Result<Bytes, NoMemory>
     }
 }
 
+/// The parts that a value holds.
 #[tactic(auto, unfolding(crate::specs::Seen::seen))]
 pub fn parts_in(alloc: Global, value: Value) -> Row<Part>
     ensures { map w.part result ≡ v.parts_in (seen value) }
@@ -53,6 +55,7 @@ pub fn word_of(
     Ok(word)
 }
 
+/// The word that a value holds.
 #[tactic(auto, unfolding(crate::specs::Seen::seen))]
 pub fn word_in(alloc: Global, value: Value) -> Result<Rc<Word>, NoMemory>
     ensures { IfOk result (λ r. c.word r.value ≡ v.word_in (seen value)) }
@@ -63,6 +66,7 @@ pub fn word_in(alloc: Global, value: Value) -> Result<Rc<Word>, NoMemory>
     }
 }
 
+/// The words that a value holds.
 #[tactic(auto, unfolding(crate::specs::Seen::seen))]
 pub fn words_in(alloc: Global, value: Value) -> Row<Rc<Word>>
     ensures { map (λ r. c.word r.value) result ≡ v.words_in (seen value) }
@@ -73,6 +77,7 @@ pub fn words_in(alloc: Global, value: Value) -> Row<Rc<Word>>
     }
 }
 
+/// The redirections that a value holds.
 #[tactic(auto, unfolding(crate::specs::Seen::seen))]
 pub fn redirects_in(alloc: Global, value: Value) -> Row<Redirect>
     ensures { map c.redirect result ≡ v.redirects_in (seen value) }
@@ -83,6 +88,7 @@ pub fn redirects_in(alloc: Global, value: Value) -> Row<Redirect>
     }
 }
 
+/// The assignments, words and redirections that a value holds.
 #[tactic(auto, unfolding(crate::specs::Seen::seen))]
 pub fn simple_in(alloc: Global, value: Value) -> (Row<Assignment>, Row<Rc<Word>>, Row<Redirect>)
     ensures assignments { map c.assignment result.0 ≡ v.assignments_in (seen value) }
@@ -95,6 +101,7 @@ pub fn simple_in(alloc: Global, value: Value) -> (Row<Assignment>, Row<Rc<Word>>
     }
 }
 
+/// The commands that a value holds.
 #[tactic(auto, unfolding(crate::specs::Seen::seen))]
 pub fn commands_in(alloc: Global, value: Value) -> Row<Command>
     ensures { map c.command result ≡ v.commands_in (seen value) }
@@ -105,6 +112,7 @@ pub fn commands_in(alloc: Global, value: Value) -> Row<Command>
     }
 }
 
+/// The pipelines that a value holds, with what connects them.
 #[tactic(auto, unfolding(crate::specs::Seen::seen))]
 pub fn joined_in(alloc: Global, value: Value) -> (Row<Connector>, Row<Command>)
     ensures connectors { result.0 ≡ v.connectors_in (seen value) }
@@ -129,12 +137,14 @@ pub fn list_of(alloc: Global, commands: Row<Command>) -> Result<Rc<CommandList>,
     Ok(list)
 }
 
+/// The commands that a value holds, as a list.
 pub fn list_in(alloc: Global, value: Value) -> Result<Rc<CommandList>, NoMemory>
     ensures { IfOk result (λ r. c.commands r.value ≡ c.commands_of (v.commands_in (seen value))) }
 {
     list_of(alloc, commands_in(alloc, value))
 }
 
+/// The compound command that a value holds; else an empty group.
 #[tactic(auto, unfolding(crate::specs::Seen::seen))]
 pub fn compound_in(alloc: Global, value: Value) -> Result<Compound, NoMemory>
     ensures { IfOk result (λ x. c.compound x ≡ v.compound_in (seen value)) }
@@ -148,6 +158,7 @@ pub fn compound_in(alloc: Global, value: Value) -> Result<Compound, NoMemory>
     }
 }
 
+/// The branches that a value holds, and the commands behind `else`.
 #[tactic(auto, unfolding(crate::specs::Seen::seen))]
 pub fn branches_in(alloc: Global, value: Value) -> (Row<Branch>, Row<Command>)
     ensures branches { map c.branch result.0 ≡ v.branches_in (seen value) }
@@ -159,6 +170,7 @@ pub fn branches_in(alloc: Global, value: Value) -> (Row<Branch>, Row<Command>)
     }
 }
 
+/// The items of a `case` that a value holds.
 #[tactic(auto, unfolding(crate::specs::Seen::seen))]
 pub fn items_in(alloc: Global, value: Value) -> Row<CaseItem>
     ensures { map c.case_item result ≡ v.items_in (seen value) }

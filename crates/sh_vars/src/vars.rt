@@ -207,6 +207,7 @@ impl Vars {
         &self.positional
     }
 
+    /// These are the positional parameters from now on.
     pub fn set_positional(&mut self, words: WordList)
         ensures { self.new ≡ record self.old { positional = words } }
     {

@@ -16,6 +16,7 @@ pub struct Step {
 }
 
 impl Step {
+    /// The same step.
     pub fn copy(&self) -> Result<Step, NoMemory>
         ensures { IfOk result (λ s. s ≡ self.now) }
     {
@@ -54,12 +55,14 @@ impl StepList {
         }
     }
 
+    /// The steps, in their order.
     pub fn as_slice(&self) -> &[Step]
         ensures { result.now ≡ self.now }
     {
         self.steps.as_slice()
     }
 
+    /// How many steps there are.
     pub fn len(&self) -> usize
         ensures { result ≡ length self.now }
     {

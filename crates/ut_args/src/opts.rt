@@ -81,6 +81,7 @@ impl OptList {
         Ok(())
     }
 
+    /// The options, in the order in which they were given.
     pub fn as_slice(&self) -> &[Given]
         ensures { result.now ≡ self.now }
     {

@@ -36,6 +36,7 @@ impl Model for InputList {
 }
 
 impl InputList {
+    /// No inputs.
     pub fn new(alloc: Global) -> InputList
         ensures { result ≡ [] }
     {
@@ -44,6 +45,7 @@ impl InputList {
         }
     }
 
+    /// One input more, at the end.
     pub fn push(&mut self, input: Input) -> Result<(), NoMemory>
         ensures { OnOk result (self.new ≡ self.old ++ input ∷ []) }
     {
@@ -51,6 +53,7 @@ impl InputList {
         Ok(())
     }
 
+    /// The inputs, in their order.
     pub fn as_slice(&self) -> &[Input]
         ensures { result.now ≡ self.now }
     {
