@@ -1,10 +1,9 @@
 -- Formats of `printf` (XBD 5 and XCU 4, `printf`).
-use Rattle.std.specs.Prelude.{ℕ, ◌+◌, ◌-◌, ◌*◌, ◌%◌, ◌==◌, List, [], ◌∷◌, ◌++◌, Bool, true, false, ◌&&◌, Option, Some, None, if◌then◌else◌, nat_lt, count_by}
+use Rattle.std.specs.Prelude.{ℕ, ◌+◌, ◌-◌, ◌*◌, ◌%◌, ◌==◌, List, [], ◌∷◌, ◌++◌, Bool, true, false, ◌&&◌, Option, Some, None, if◌then◌else◌, nat_lt, nat_le}
 use Rattle.rk_base.specs.Text.{Text}
 use Rattle.rk_base.specs.Variables.{is_between}
 use Rattle.sh_operands.specs.declared.format.Kind.{Kind}
 use Rattle.sh_operands.specs.declared.format.Kind.TheVariants as kind
-use Rattle.sh_operands.specs.declared.format.Conversion.{Conversion}
 use Rattle.sh_operands.specs.declared.format.Piece.{Piece}
 use Rattle.sh_operands.specs.declared.format.Piece.TheVariants.{Literal, Converted}
 use Rattle.sh_operands.specs.declared.format.Reading.{Reading}
@@ -63,9 +62,17 @@ abbrev pub converts : Option Kind → Bool → Bool → ℕ → List Piece → S
 converts None left zero width done = record { pieces = done; next = None }
 converts (Some k) left zero width done = to Plain (done ++ Converted (record { left = left; zero = zero; width = width; kind = k }) ∷ [])
 
+-- a width with one digit more: it is at most 2^31 - 1
+abbrev pub wider : ℕ → ℕ → Option ℕ
+wider width b = if nat_le (10 * width + (b - 48)) 2147483647 then Some (10 * width + (b - 48)) else None
+
+abbrev pub with_width : Bool → Bool → Option ℕ → Option Reading
+with_width left zero None = None
+with_width left zero (Some width) = Some (Width left zero width)
+
 -- a width, and then the letter
 abbrev pub widened : Bool → Bool → ℕ → ℕ → List Piece → Step
-widened left zero width b done = if is_digit b then to (Width left zero (10 * width + (b - 48))) done else converts (kind_of b) left zero width done
+widened left zero width b done = if is_digit b then record { pieces = done; next = with_width left zero (wider width b) } else converts (kind_of b) left zero width done
 
 -- behind a `%`: flags, then a width
 abbrev pub flagged : Bool → Bool → ℕ → List Piece → Step
@@ -93,7 +100,7 @@ abbrev pub pieces_from : Reading → Text → List Piece → Option (List Piece)
 pieces_from reading [] done = finished reading done
 pieces_from reading (b ∷ bs) done = goes_on (step reading b done) (λ next done. pieces_from next bs done)
 
--- the pieces of a format; None where a `%` in it begins no conversion
+-- the pieces of a format; None where a `%` in it begins no conversion, or one that is too wide
 abbrev pub pieces : Text → Option (List Piece)
 pieces format = pieces_from Plain format []
 

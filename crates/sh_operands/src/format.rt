@@ -1,6 +1,6 @@
 // Formats of `printf`.
 ghost use Rattle.std.specs.Prelude.{◌≡◌, ◌+◌, ◌-◌, ◌*◌, ◌%◌, ◌++◌, ◌∷◌, [], IfOk, OnOk, count_by};
-ghost use Rattle.sh_operands.specs.Formats.{escape_of, kind_of, is_octal, with_byte, plain, known, escaped, octal, converts, widened, flagged, step, finished, pieces, kind_takes, takes};
+ghost use Rattle.sh_operands.specs.Formats.{escape_of, kind_of, is_octal, with_byte, plain, known, escaped, octal, converts, wider, with_width, widened, flagged, step, finished, pieces, kind_takes, takes};
 
 use crate::number::is_digit;
 use rk_base::NoMemory;
@@ -50,7 +50,7 @@ pub enum Reading {
     Octal(u8, u8),
     /// Behind a `%`, with `-` and `0` or not.
     Flags(bool, bool),
-    /// The same, with a width.
+    /// The same, with a width of at most 2^31 - 1.
     Width(bool, bool, u64),
 }
 
@@ -218,17 +218,30 @@ fn converts(
     }
 }
 
-// One digit more of a width. No memory holds a field that is wider than any number.
-fn with_digit(width: u64, b: u8) -> Result<u64, NoMemory>
-    ensures { IfOk result (λ w. w ≡ 10 * width + (b - 48)) }
+// The greatest width of a conversion, 2^31 - 1.
+const GREATEST_WIDTH: u64 = 2147483647;
+
+// One digit more of a width, `None` where that is too wide.
+fn wider(width: u64, b: u8) -> Option<u64>
+    ensures { result ≡ wider width b }
 {
-    let digit = u64::from(b.saturating_sub(48));
-    match width.checked_mul(10) {
-        Some(tens) => match tens.checked_add(digit) {
-            Some(sum) => Ok(sum),
-            None => Err(NoMemory),
-        },
-        None => Err(NoMemory),
+    if width > GREATEST_WIDTH {
+        return None;
+    }
+    let wide = 10 * width + u64::from(b.saturating_sub(48));
+    if wide > GREATEST_WIDTH {
+        None
+    } else {
+        Some(wide)
+    }
+}
+
+fn with_width(left: bool, zero: bool, width: Option<u64>) -> Option<Reading>
+    ensures { result ≡ with_width left zero width }
+{
+    match width {
+        None => None,
+        Some(width) => Some(Reading::Width(left, zero, width)),
     }
 }
 
@@ -243,8 +256,7 @@ fn widened(
     ensures pieces { OnOk result (done.new ≡ (widened left zero width b done.old).pieces) }
 {
     if is_digit(b) {
-        let width = with_digit(width, b)?;
-        return Ok(Some(Reading::Width(left, zero, width)));
+        return Ok(with_width(left, zero, wider(width, b)));
     }
     converts(kind_of(b), left, zero, width, done)
 }
@@ -294,7 +306,7 @@ fn finished(reading: Reading, done: Format) -> Result<Option<Format>, NoMemory>
     }
 }
 
-/// The pieces of a format; `None` exactly where a `%` in it begins no conversion.
+/// The pieces of a format; `None` exactly where a `%` in it begins no conversion, or one that is wider than 2^31 - 1.
 pub fn pieces(alloc: Global, format: &[u8]) -> Result<Option<Format>, NoMemory>
     ensures { IfOk result (λ f. f ≡ pieces format.now) }
 {
