@@ -104,11 +104,11 @@ fn end(alloc: Global, table: &mut Table, i: usize, ended: (u8, u32)) -> Result<S
 }
 
 fn small(words: &[Vec<u8>], i: usize) -> u8 {
-    text(words, i).parse::<u8>().unwrap_or(0)
+    u8::try_from(number(words, i)).unwrap_or(0)
 }
 
 fn cost(words: &[Vec<u8>], i: usize) -> u32 {
-    text(words, i).parse::<u32>().unwrap_or(0)
+    u32::try_from(number(words, i)).unwrap_or(0)
 }
 
 // The step `COST CALL -> ANSWER`.
