@@ -1,20 +1,29 @@
 -- The machine's turns.
-use Rattle.std.proofs.Common.{◌≡◌, ℕ, refl, ap, ◌∙◌, zero, suc, arith}
+use Rattle.std.proofs.Common.{◌≡◌, ℕ, refl, ap, ◌∙◌, zero, suc, arith, Result, Ok, Err, IfOk}
 use Rattle.rk_calls.specs.Costly.{IsCostly}
-use Rattle.rk_calls.specs.Talk.{pay, after}
+use Rattle.rk_calls.specs.Talk.{Says, pay, after}
 use Rattle.rk_calls.specs.Views.{pay-nothing}
 use Rattle.rk_calls.specs.declared.answer.Answer.TheVariants.{Go}
 use Rattle.rk_calls.specs.declared.turn.Turn.{Turn}
 use Rattle.rk_calls.specs.declared.turn.Turn.TheVariants.{Ask, More, Exit}
 use Rattle.sh_eval.specs.declared.machine.Evaluator.{Evaluator}
 use Rattle.sh_eval.specs.Machine.{IsFree, steps_on, evaluator_says}
-use Rattle.sh_means.specs.Stack.{IsStep, context, stepped}
+use Rattle.sh_means.specs.declared.control.Acted.{Acted}
+use Rattle.sh_means.specs.Flows.{Next}
+use Rattle.sh_means.specs.Stack.{Steps, IsStep, context, stepped}
+use Rattle.sh_means.specs.State.{Shell}
 use Rattle.sh_means.specs.Views.{shell_of}
 
 pub stepped_after : (t : Turn) (x : Evaluator) (p : ℕ) → stepped t x.control (context x.stack.items) (shell_of x.state) p ≡ after t (evaluator_says x) p
 stepped_after (Ask call c) x p = refl
 stepped_after (More c) x p = refl
 stepped_after (Exit status c) x p = refl
+
+-- what was to be said, in other words
+pub said_so : {E : Type 0} (result : Result Acted E) (x y : Next → Says) (e : Shell) → ((k : Next) (p : ℕ) → x k p ≡ y k p) →
+    IfOk result (λ t. (k : Next) → Steps (y k) k e t) → IfOk result (λ t. (k : Next) → Steps (x k) k e t)
+said_so (Ok t) x y e is talk = λ k p. is k p ∙ talk k p
+said_so (Err z) x y e is talk = tt
 
 -- what was said before a turn without cost is said after it
 pub after_free : (t : Turn) (x : Evaluator) (p : ℕ) → IsFree t → after t (evaluator_says x) p ≡ steps_on x Go p

@@ -39,8 +39,7 @@ fn fail(
     ensures talk { IfOk result (λ t. (k : Next) → Steps (fails file.now what.now status k (shell_of state.old)) k (shell_of state.new) t) }
     ensures costly { IfOk result (λ t. IsStep t.turn) }
 {
-    let acted = refuse(alloc, file.as_slice(), what, Flow::Exits, status, state)?;
-    Ok(acted)
+    refuse(alloc, file.as_slice(), what, Flow::Exits, status, state)
 }
 
 fn open(alloc: Global, file: Bytes, state: &State) -> Result<Acted, NoMemory>
@@ -94,15 +93,12 @@ fn found(
     ensures costly { IfOk result (λ t. IsStep t.turn) }
 {
     if is_directory(kind) {
-        let acted = fail(alloc, &file, b"is a directory", 126, state)?;
-        return Ok(acted);
+        return fail(alloc, &file, b"is a directory", 126, state);
     }
     if has_x(mode) {
-        let acted = open(alloc, file, state)?;
-        return Ok(acted);
+        return open(alloc, file, state);
     }
-    let acted = fail(alloc, &file, b"denied", 126, state)?;
-    Ok(acted)
+    fail(alloc, &file, b"denied", 126, state)
 }
 
 fn looked(alloc: Global, file: Bytes, answer: Answer, state: &mut State) -> Result<Acted, NoMemory>
@@ -141,10 +137,7 @@ fn opened(
             turn: Turn::Ask(Call::Read(n), 1),
             control: Control::Begins(Begin::Read(file)),
         }),
-        Err(errno) => {
-            let acted = fail(alloc, &file, errno.word().as_bytes(), 127, state)?;
-            Ok(acted)
-        }
+        Err(errno) => fail(alloc, &file, errno.word().as_bytes(), 127, state),
     }
 }
 
@@ -155,10 +148,7 @@ fn read(alloc: Global, file: Bytes, answer: Answer, state: &mut State) -> Result
     let it = brought(alloc, answer)?;
     match it {
         Ok(text) => Ok(free(Control::Wordy(Wordy::Text(outermost(), file, text)))),
-        Err(errno) => {
-            let acted = fail(alloc, &file, errno.word().as_bytes(), 127, state)?;
-            Ok(acted)
-        }
+        Err(errno) => fail(alloc, &file, errno.word().as_bytes(), 127, state),
     }
 }
 

@@ -53,31 +53,23 @@ fn act_inside(
             let control = act_compound(alloc, place, &body, stack, state)?;
             Ok(free(control))
         }
-        Inside::Called(place, callee) => {
-            let acted = act_redirected(place, &callee.body, &callee.redirects, state)?;
-            Ok(acted)
-        }
+        Inside::Called(place, callee) => act_redirected(
+            place,
+            &callee.body,
+            &callee.redirects,
+            state,
+        ),
         Inside::If(place, branches, at, otherwise) => {
             let control = act_if(place, branches, at, otherwise, stack)?;
             Ok(free(control))
         }
-        Inside::Round(place, last, left) => {
-            let acted = act_round(place, last, left, stack)?;
-            Ok(acted)
-        }
+        Inside::Round(place, last, left) => act_round(place, last, left, stack),
         Inside::Each(place, each) => { Ok(act_each(place, each)) }
-        Inside::Gives(place, each) => {
-            let acted = act_gives(alloc, place, each, stack, state)?;
-            Ok(acted)
-        }
-        Inside::Case(place, casing) => {
-            let acted = act_case_at(alloc, place, casing, state)?;
-            Ok(acted)
-        }
-        Inside::Stages(place, list, at, input) => {
-            let acted = act_stages(alloc, place, list, at, input, stack, state)?;
-            Ok(acted)
-        }
+        Inside::Gives(place, each) => act_gives(alloc, place, each, stack, state),
+        Inside::Case(place, casing) => act_case_at(alloc, place, casing, state),
+        Inside::Stages(place, list, at, input) => act_stages(
+            alloc, place, list, at, input, stack, state,
+        ),
     }
 }
 
@@ -96,26 +88,14 @@ fn act_wordy(
             let control = next_word(alloc, place, left, state)?;
             Ok(free(control))
         }
-        Wordy::Expand(wording) => {
-            let acted = act_expand(alloc, wording, answer, stack, state)?;
-            Ok(acted)
-        }
-        Wordy::Deliver(place, aim, expanded) => {
-            let acted = deliver(alloc, place, aim, expanded, state)?;
-            Ok(acted)
-        }
+        Wordy::Expand(wording) => act_expand(alloc, wording, answer, stack, state),
+        Wordy::Deliver(place, aim, expanded) => deliver(alloc, place, aim, expanded, state),
         Wordy::Make(place, left) => {
             let control = next_redirect(alloc, place, left, stack, state)?;
             Ok(free(control))
         }
-        Wordy::Assign(place, left) => {
-            let acted = next_assign(alloc, place, left, stack, state)?;
-            Ok(acted)
-        }
-        Wordy::Text(place, name, text) => {
-            let acted = act_text(alloc, place, &name, &text, state)?;
-            Ok(acted)
-        }
+        Wordy::Assign(place, left) => next_assign(alloc, place, left, stack, state),
+        Wordy::Text(place, name, text) => act_text(alloc, place, &name, &text, state),
     }
 }
 
@@ -136,37 +116,26 @@ fn act_wait(
             let control = act_stage(alloc, place, list, at, input, read_end, stack, state)?;
             Ok(free(control))
         }
-        Wait::Opened(place, file, n) => {
-            let acted = opened(alloc, place, file, n, answer, state)?;
-            Ok(acted)
-        }
-        Wait::Read(place, file) => {
-            let acted = read(alloc, place, file, answer, stack, state)?;
-            Ok(acted)
-        }
-        Wait::Redirects(place, left, redirecting) => {
-            let acted = go_on_redirect(place, left, redirecting, answer, stack, state)?;
-            Ok(acted)
-        }
-        Wait::Fails(parameter, message) => {
-            let acted = refuse(
-                alloc,
-                parameter.as_slice(),
-                message.as_slice(),
-                Flow::Exits,
-                1,
-                state,
-            )?;
-            Ok(acted)
-        }
-        Wait::Builtin(builtin) => {
-            let acted = go_on_builtin(builtin, answer, state)?;
-            Ok(acted)
-        }
-        Wait::Lacks(builtin) => {
-            let acted = go_on_without(builtin, state)?;
-            Ok(acted)
-        }
+        Wait::Opened(place, file, n) => opened(alloc, place, file, n, answer, state),
+        Wait::Read(place, file) => read(alloc, place, file, answer, stack, state),
+        Wait::Redirects(place, left, redirecting) => go_on_redirect(
+            place,
+            left,
+            redirecting,
+            answer,
+            stack,
+            state,
+        ),
+        Wait::Fails(parameter, message) => refuse(
+            alloc,
+            parameter.as_slice(),
+            message.as_slice(),
+            Flow::Exits,
+            1,
+            state,
+        ),
+        Wait::Builtin(builtin) => go_on_builtin(builtin, answer, state),
+        Wait::Lacks(builtin) => go_on_without(builtin, state),
     }
 }
 
@@ -203,38 +172,14 @@ fn act(
     ensures costly { IfOk result (λ t. IsStep t.turn) }
 {
     match control {
-        Control::Begins(begin) => {
-            let acted = act_begin(alloc, begin, answer, state)?;
-            Ok(acted)
-        }
-        Control::Run(place, list, at) => {
-            let acted = act_run(alloc, place, list, at, stack, state)?;
-            Ok(acted)
-        }
-        Control::Whole(place, list) => {
-            let acted = act_whole(alloc, place, list, stack, state)?;
-            Ok(acted)
-        }
-        Control::One(place, list, at) => {
-            let acted = act_one(alloc, place, &list, at, stack, state)?;
-            Ok(acted)
-        }
-        Control::Inside(inside) => {
-            let acted = act_inside(alloc, inside, stack, state)?;
-            Ok(acted)
-        }
-        Control::Wordy(wordy) => {
-            let acted = act_wordy(alloc, wordy, answer, stack, state)?;
-            Ok(acted)
-        }
-        Control::Waits(wait) => {
-            let acted = act_wait(alloc, wait, answer, stack, state)?;
-            Ok(acted)
-        }
-        Control::Leave(flow) => {
-            let acted = act_leave(flow, stack, state)?;
-            Ok(acted)
-        }
+        Control::Begins(begin) => act_begin(alloc, begin, answer, state),
+        Control::Run(place, list, at) => act_run(alloc, place, list, at, stack, state),
+        Control::Whole(place, list) => act_whole(alloc, place, list, stack, state),
+        Control::One(place, list, at) => act_one(alloc, place, &list, at, stack, state),
+        Control::Inside(inside) => act_inside(alloc, inside, stack, state),
+        Control::Wordy(wordy) => act_wordy(alloc, wordy, answer, stack, state),
+        Control::Waits(wait) => act_wait(alloc, wait, answer, stack, state),
+        Control::Leave(flow) => act_leave(flow, stack, state),
     }
 }
 

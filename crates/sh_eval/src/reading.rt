@@ -34,8 +34,7 @@ pub(crate) fn act_text(
         Read::Fault(words) => {
             let operand = name.as_slice();
             let what = words.as_slice();
-            let acted = refuse(alloc, operand, what, Flow::Exits, 2, state)?;
-            Ok(acted)
+            refuse(alloc, operand, what, Flow::Exits, 2, state)
         }
     }
 }
@@ -58,17 +57,14 @@ pub(crate) fn opened(
             turn: Turn::Ask(Call::Read(n), 1),
             control: Control::Waits(Wait::Read(place, file)),
         }),
-        Err(errno) => {
-            let acted = refuse(
-                alloc,
-                file.as_slice(),
-                errno.word().as_bytes(),
-                Flow::Exits,
-                1,
-                state,
-            )?;
-            Ok(acted)
-        }
+        Err(errno) => refuse(
+            alloc,
+            file.as_slice(),
+            errno.word().as_bytes(),
+            Flow::Exits,
+            1,
+            state,
+        ),
     }
 }
 
@@ -94,16 +90,13 @@ pub(crate) fn read(
             };
             Ok(free(Control::Wordy(Wordy::Text(inside, file, text))))
         }
-        Err(errno) => {
-            let acted = refuse(
-                alloc,
-                file.as_slice(),
-                errno.word().as_bytes(),
-                Flow::Exits,
-                1,
-                state,
-            )?;
-            Ok(acted)
-        }
+        Err(errno) => refuse(
+            alloc,
+            file.as_slice(),
+            errno.word().as_bytes(),
+            Flow::Exits,
+            1,
+            state,
+        ),
     }
 }

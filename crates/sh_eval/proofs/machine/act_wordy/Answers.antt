@@ -10,32 +10,8 @@ returns-in_ok-control-in-Words-clause-talk c =
     let e = shell_of c.args.state.now in
     λ p. ap (λ (x : Wordy). wordily x k c.args.answer e p) c.in-Words.is ∙ c.in_ok-control-in-Words.ensures k p ∙ c.free.ensures.talk k (shell_of c.next_word.new.state) p
 
-pub returns-in_ok-acted-in-Expand-clause-talk : goal.returns-in_ok-acted-in-Expand-clause-talk
-returns-in_ok-acted-in-Expand-clause-talk c =
-    let k = context c.args.stack.now.items in
-    let e = shell_of c.args.state.now in
-    λ p. ap (λ (x : Wordy). wordily x k c.args.answer e p) c.in-Expand.is ∙ c.in_ok-acted-in-Expand.ensures.talk p
-
-pub returns-in_ok-acted-in-Deliver-clause-talk : goal.returns-in_ok-acted-in-Deliver-clause-talk
-returns-in_ok-acted-in-Deliver-clause-talk c =
-    let k = context c.args.stack.now.items in
-    let e = shell_of c.args.state.now in
-    λ p. ap (λ (x : Wordy). wordily x k c.args.answer e p) c.in-Deliver.is ∙ c.in_ok-acted-in-Deliver.ensures.talk k p
-
 pub returns-in_ok-control-in-Make-clause-talk : goal.returns-in_ok-control-in-Make-clause-talk
 returns-in_ok-control-in-Make-clause-talk c =
     let k = context c.args.stack.now.items in
     let e = shell_of c.args.state.now in
     λ p. ap (λ (x : Wordy). wordily x k c.args.answer e p) c.in-Make.is ∙ c.in_ok-control-in-Make.ensures p ∙ c.free-in-Make.ensures.talk (context c.next_redirect.new.stack.items) e p
-
-pub returns-in_ok-acted-in-Assign-clause-talk : goal.returns-in_ok-acted-in-Assign-clause-talk
-returns-in_ok-acted-in-Assign-clause-talk c =
-    let k = context c.args.stack.now.items in
-    let e = shell_of c.args.state.now in
-    λ p. ap (λ (x : Wordy). wordily x k c.args.answer e p) c.in-Assign.is ∙ c.in_ok-acted-in-Assign.ensures.talk p
-
-pub returns-in_ok-acted-in-Text-clause-talk : goal.returns-in_ok-acted-in-Text-clause-talk
-returns-in_ok-acted-in-Text-clause-talk c =
-    let k = context c.args.stack.now.items in
-    let e = shell_of c.args.state.now in
-    λ p. ap (λ (x : Wordy). wordily x k c.args.answer e p) c.in-Text.is ∙ c.in_ok-acted-in-Text.ensures.talk k p
