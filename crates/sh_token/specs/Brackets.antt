@@ -22,19 +22,19 @@ closes_bracket f (c ∷ cs) = (f c or is_dollar (c ∷ cs)) also (c == 93 or clo
 abbrev pub has_symbol : (ℕ → Bool) → List ℕ → Bool
 has_symbol f text = begins_symbol text also closes_bracket f text
 
--- a text begins as a character class does, as `[:alpha:]`, and its name of so many bytes is closed
+-- a character class, as `[:alpha:]`: its first two bytes, how many its name has, and the two behind so many
 abbrev pub begins_class : List ℕ → Bool
 begins_class text = slice_index text 0 == 91 also slice_index text 1 == 58
-
-abbrev pub closes_class : ℕ → List ℕ → Bool
-closes_class n text = slice_index text (n + 2) == 58 also slice_index text (n + 3) == 93
 
 abbrev pub class_name : List ℕ → ℕ
 class_name text = run is_name (drop 2 text)
 
+abbrev pub ends_class : ℕ → List ℕ → Bool
+ends_class n text = slice_index text (n + 2) == 58 also slice_index text (n + 3) == 93
+
 -- how many bytes one has behind its `[`, 0 where none begins there
 abbrev pub class_rest : List ℕ → ℕ
-class_rest text = if begins_class text also closes_class (class_name text) text then class_name text + 3 else 0
+class_rest text = if (begins_class text also ends_class (class_name text) text) then class_name text + 3 else 0
 
 -- how many bytes behind a bracket's `[` close nothing: the `!` that negates it, and a `]` as its first item
 abbrev pub item_first : List ℕ → ℕ
@@ -52,7 +52,7 @@ passed_on (suc n) text = n
 abbrev pub goes_on : (ℕ → Bool) → ℕ → ℕ → Bool
 goes_on f passed c = f c also (nat_lt 0 passed or not_so (c == 93))
 
--- An open bracket: at which place its `]` stands, or a byte that is of no class or none. None where a symbol stands in it that is left out.
+-- An open bracket: at which place its `]` stands, or else the first byte that isn't of the class. None where a symbol stands in it that is left out.
 abbrev pub open_bracket : (ℕ → Bool) → ℕ → ℕ → List ℕ → Option ℕ
 open_bracket f passed at [] = Some at
 open_bracket f passed at (c ∷ cs) =

@@ -42,19 +42,10 @@ fn closes_bracket(class: Class, text: &[u8]) -> bool
     false
 }
 
-// A text begins as a character class does.
 fn begins_class(text: &[u8]) -> bool
     ensures { result ≡ lem.begins_class (folded text.now) }
 {
     first(text) == b'[' && byte(text, 1) == b':'
-}
-
-// A class's name of so many bytes is closed.
-fn closes_class(n: usize, text: &[u8]) -> bool
-    requires { n ≤ length text.now }
-    ensures { result ≡ lem.closes_class n (folded text.now) }
-{
-    byte(text, n + 2) == b':' && byte(text, n + 3) == b']'
 }
 
 fn class_name(text: &[u8]) -> usize
@@ -65,16 +56,23 @@ fn class_name(text: &[u8]) -> usize
     run(Class::Name, behind)
 }
 
-// How many bytes a character class has behind its `[`, 0 where none begins here.
+fn ends_class(n: usize, text: &[u8]) -> bool
+    requires { n ≤ length text.now }
+    ensures { result ≡ lem.ends_class n (folded text.now) }
+{
+    byte(text, n + 2) == b':' && byte(text, n + 3) == b']'
+}
+
+// How many bytes a character class has behind its `[`, 0 where none begins here. Its name is looked at where one may begin alone.
 fn class_rest(text: &[u8]) -> usize
     ensures { result ≡ lem.class_rest (folded text.now) }
 {
-    // A name is looked for where one may stand alone, or each byte of a bracket would go over those behind it.
-    if !begins_class(text) {
-        return 0;
+    if begins_class(text) {
+        let n = class_name(text);
+        if ends_class(n, text) { n + 3 } else { 0 }
+    } else {
+        0
     }
-    let n = class_name(text);
-    if closes_class(n, text) { n + 3 } else { 0 }
 }
 
 fn item_first(text: &[u8]) -> usize
