@@ -2,12 +2,8 @@
 //! were, and what wasn't as it is wanted.
 #![tactic(auto)]
 
-mod altering;
 mod calls;
 mod session;
-mod showing;
-mod steps;
-mod talks;
 mod workload;
 
 use crate::session::{Session, carried_out};

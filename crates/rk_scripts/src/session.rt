@@ -2,12 +2,13 @@
 mod arranging;
 mod asking;
 
-use crate::altering::bytes_of;
 use crate::calls::{Built, Cut, ENOUGH, WHOLE, build_within};
-use crate::showing::{contents, has_line, kind_at, ran, rows_at, shown, text_at, unexplained};
-use crate::steps::{Kind, Step, steps_of};
 use rk_base::{NoMemory, Path};
 use rk_folder::{Folder, FolderErr, MemFolder};
+use rk_sessions::{
+    Kind, Step, bytes_of, contents, has_line, kind_at, number, ran, rows_at, shown, size, steps_of,
+    text_at, turns, unexplained,
+};
 use rk_top::{Outcome, exit_code};
 use std::alloc::Global;
 
@@ -40,20 +41,31 @@ fn at(alloc: Global, text: &str) -> Result<Path, NoMemory> {
     }
 }
 
-// 0 where it is no number.
-fn number(text: &str) -> u32 {
-    text.parse::<u32>().unwrap_or(0)
+fn otherwise_shown(
+    alloc: Global,
+    script: &str,
+    what: &str,
+    came: &str,
+    wanted: &str,
+) -> Result<String, NoMemory> {
+    let line = format!(in alloc; "[{script}] {what}: {came:?}, wanted {wanted:?}\n")?;
+    Ok(line)
 }
 
-fn size(text: &str) -> usize {
-    text.parse::<usize>().unwrap_or(0)
+fn digits(alloc: Global, n: u64) -> Result<String, NoMemory> {
+    let text = format!(in alloc; "{n}")?;
+    Ok(text)
+}
+
+fn status_shown(alloc: Global, outcome: &Outcome) -> Result<String, NoMemory> {
+    digits(alloc, u64::from(exit_code(outcome)))
 }
 
 // The put of the first number fails after so many bytes as the second says.
 fn cut_of(line: &str) -> Cut {
     let (put, after) = line.split_once(' ').unwrap_or((line, ""));
     Cut {
-        put: u64::from(number(put)),
+        put: number(put),
         after: size(after),
     }
 }
@@ -93,10 +105,7 @@ impl Session {
     // Notes what came in place of what was wanted.
     fn tell(&mut self, what: &str, came: &str, wanted: &str) -> Result<(), NoMemory> {
         if came != wanted {
-            let line = format!(in self.alloc;
-                "[{}] {what}: {came:?}, wanted {wanted:?}\n",
-                self.script.as_str()
-            )?;
+            let line = otherwise_shown(self.alloc, self.script.as_str(), what, came, wanted)?;
             self.told.push_str(line.as_str())?;
             self.otherwise = self.otherwise.saturating_add(1);
         }
@@ -143,9 +152,17 @@ impl Session {
         self.builds = self.builds.saturating_add(1);
         let built = build_within(self.alloc, ENOUGH, &mut self.folder)?;
         let fresh = self.afresh()?;
-        let status = format!(in self.alloc; "{}", exit_code(&fresh.outcome))?;
+        self.judge_by(&built, &fresh)?;
+        self.compare_folders()
+    }
+
+    fn judge_by(&mut self, built: &Built, fresh: &Built) -> Result<(), NoMemory> {
+        let status = status_shown(self.alloc, &fresh.outcome)?;
         let errors = unexplained(shown(fresh.err.bytes()));
-        self.judge(&built, status.as_str(), shown(fresh.out.bytes()), errors)?;
+        self.judge(built, status.as_str(), shown(fresh.out.bytes()), errors)
+    }
+
+    fn compare_folders(&mut self) -> Result<(), NoMemory> {
         let came = contents(self.alloc, &mut self.folder)?;
         let wanted = contents(self.alloc, &mut self.twin)?;
         self.tell("folder", came.as_str(), wanted.as_str())
@@ -159,20 +176,30 @@ impl Session {
 
     // The build within the fewest turns that do.
     fn cheapest(&mut self) -> Result<Built, NoMemory> {
-        if self.cost != 0 {
-            let wanted = format!(in self.alloc; "{}", self.cost)?;
+        let cost = self.cost;
+        if cost != 0 {
             self.cost = 0;
             'turns: for turns in 1..400u32 {
                 let built = build_within(self.alloc, turns, &mut self.folder)?;
                 if !matches!(built.outcome, Outcome::Spent) {
-                    let came = format!(in self.alloc; "{turns}")?;
-                    self.tell("costs", came.as_str(), wanted.as_str())?;
+                    self.judge_turns(turns, cost)?;
                     return Ok(built);
                 }
             }
-            self.tell("costs", "400 or more", wanted.as_str())?;
+            self.judge_cost("400 or more", cost)?;
         }
         build_within(self.alloc, ENOUGH, &mut self.folder)
+    }
+
+    // Notes where the fewest turns that do aren't these.
+    fn judge_turns(&mut self, came: u32, wanted: u32) -> Result<(), NoMemory> {
+        let came = digits(self.alloc, u64::from(came))?;
+        self.judge_cost(came.as_str(), wanted)
+    }
+
+    fn judge_cost(&mut self, came: &str, wanted: u32) -> Result<(), NoMemory> {
+        let wanted = digits(self.alloc, u64::from(wanted))?;
+        self.tell("costs", came, wanted.as_str())
     }
 
     // Notes where a build didn't come to this.
@@ -183,7 +210,7 @@ impl Session {
         output: &str,
         error_text: &str,
     ) -> Result<(), NoMemory> {
-        let came = format!(in self.alloc; "{}", exit_code(&built.outcome))?;
+        let came = status_shown(self.alloc, &built.outcome)?;
         self.tell("status", came.as_str(), status)?;
         self.tell("output", shown(built.out.bytes()), output)?;
         let errors = unexplained(shown(built.err.bytes()));
@@ -234,15 +261,17 @@ impl Session {
     }
 
     fn stands(&mut self, path: &str, kind: &str, text: &str) -> Result<(), NoMemory> {
+        self.has(path, kind, text)?;
+        self.twin_has(path, kind, text)
+    }
+
+    // What stands in the second folder.
+    fn twin_has(&mut self, path: &str, kind: &str, text: &str) -> Result<(), NoMemory> {
         let place = at(self.alloc, path)?;
-        let came_kind = kind_at(&self.folder, &place);
-        self.tell(path, came_kind, kind)?;
-        let twin_kind = kind_at(&self.twin, &place);
-        self.tell("twin", twin_kind, kind)?;
-        let came = text_at(self.alloc, &self.folder, &place)?;
-        self.tell(path, came.as_str(), text)?;
-        let twin = text_at(self.alloc, &self.twin, &place)?;
-        self.tell("twin", twin.as_str(), text)
+        let came_kind = kind_at(&self.twin, &place);
+        self.tell("twin", came_kind, kind)?;
+        let came = text_at(self.alloc, &self.twin, &place)?;
+        self.tell("twin", came.as_str(), text)
     }
 
     // What stands in the first folder.
@@ -272,14 +301,14 @@ impl Session {
             Kind::Dir => self.make_dir(rest),
             Kind::Removed => self.remove(rest),
             Kind::Costs => {
-                self.cost = number(rest);
+                self.cost = turns(rest);
                 Ok(())
             }
             Kind::Build => self.build(rest, text, step.errors.as_str()),
             Kind::Asked => self.asked(rest, text, step.errors.as_str()),
             Kind::Called => self.called(rest, text, step.errors.as_str()),
             Kind::Refused => self.refused(rest),
-            Kind::Spent => self.spent(number(rest)),
+            Kind::Spent => self.spent(turns(rest)),
             Kind::Ran => self.ran(rest),
             Kind::Why => self.why(rest),
             Kind::Holds => self.stands(rest, "file", text),

@@ -1,8 +1,8 @@
 // What is arranged in a session: bytes, damage, changed records, special entries, and calls that fail.
-use super::{Session, at, number, size};
-use crate::altering::{altered, cut, turned};
+use super::{Session, at};
 use rk_base::{Bytes, NoMemory};
 use rk_folder::Standing;
+use rk_sessions::{altered, cut, number, size, turned};
 
 impl Session {
     pub(crate) fn put_bytes(&mut self, path: &str, bytes: &[u8]) -> Result<(), NoMemory> {
@@ -68,13 +68,13 @@ impl Session {
 
     // The call of this number fails, from here on.
     pub(crate) fn fail(&mut self, text: &str) -> Result<(), NoMemory> {
-        let call = self.folder.calls().saturating_add(u64::from(number(text)));
+        let call = self.folder.calls().saturating_add(number(text));
         self.folder.fail_at(call)
     }
 
     // The same, and a write leaves these bytes.
     pub(crate) fn leave(&mut self, call: &str, text: &str) -> Result<(), NoMemory> {
-        let call = self.folder.calls().saturating_add(u64::from(number(call)));
+        let call = self.folder.calls().saturating_add(number(call));
         let left = Bytes::from_slice(self.alloc, text.as_bytes())?;
         self.folder.fail_write_at(call, left)
     }

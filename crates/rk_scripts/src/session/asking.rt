@@ -1,11 +1,10 @@
 // What is asked in a session, what the program told, and what it did to the folder.
-use super::{Session, at};
+use super::{Session, at, digits, status_shown};
 use crate::calls::{WHOLE, ask_in, started};
-use crate::showing::{changes_shown, has_numbered, shown};
-use crate::talks::db_of;
 use rk_base::NoMemory;
 use rk_folder::MemFolder;
-use rk_top::{Outcome, exit_code};
+use rk_sessions::{changes_shown, db_of, has_numbered, shown};
+use rk_top::Outcome;
 
 const USAGE: &str =
     "usage: rkr build [--steps N] [--explain] [--fresh] [--check] | check | trace [--json] | forget | gen SEED\n";
@@ -52,7 +51,7 @@ impl Session {
         self.output = WHOLE;
         self.errors = WHOLE;
         self.untouched(&asked.outcome)?;
-        let came = format!(in self.alloc; "{}", exit_code(&asked.outcome))?;
+        let came = status_shown(self.alloc, &asked.outcome)?;
         self.tell(line, came.as_str(), status)?;
         self.tell("output", shown(asked.out.bytes()), output)?;
         self.tell("error text", shown(asked.err.bytes()), error_text)
@@ -93,7 +92,7 @@ impl Session {
         self.builds = self.builds.saturating_add(1);
         self.begin_request();
         let count = started(self.alloc, flag == "--check", &mut self.folder);
-        let came = format!(in self.alloc; "{count}")?;
+        let came = digits(self.alloc, count)?;
         self.tell("starts", came.as_str(), wanted)
     }
 
@@ -128,7 +127,7 @@ impl Session {
     // How many calls the last request made.
     pub(crate) fn called_for(&mut self, wanted: &str) -> Result<(), NoMemory> {
         let calls = self.folder.calls().saturating_sub(self.calls);
-        let came = format!(in self.alloc; "{calls}")?;
+        let came = digits(self.alloc, calls)?;
         self.tell("calls", came.as_str(), wanted)
     }
 }

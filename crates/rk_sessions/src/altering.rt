@@ -1,4 +1,5 @@
 // Bytes that are altered: files cut short, bits turned, and records of a database changed.
+use crate::numbers::{size, status, turns};
 use crate::talks::{answer_of, call_of};
 use rk_base::{Bytes, NoMemory};
 use std::alloc::Global;
@@ -6,7 +7,7 @@ use tr_codec::{read_db, write_db};
 use tr_record::{Record, Step, StepList, Table};
 
 /// The first bytes, so many of them.
-pub(crate) fn cut(alloc: Global, bytes: &[u8], most: usize) -> Result<Vec<u8>, NoMemory> {
+pub fn cut(alloc: Global, bytes: &[u8], most: usize) -> Result<Vec<u8>, NoMemory> {
     let mut front = Vec::new(alloc);
     'bytes: for byte in bytes {
         if front.len() < most {
@@ -17,7 +18,7 @@ pub(crate) fn cut(alloc: Global, bytes: &[u8], most: usize) -> Result<Vec<u8>, N
 }
 
 /// The bytes, with the lowest bit of the byte of this number turned, from 0 on.
-pub(crate) fn turned(alloc: Global, bytes: &[u8], at: usize) -> Result<Vec<u8>, NoMemory> {
+pub fn turned(alloc: Global, bytes: &[u8], at: usize) -> Result<Vec<u8>, NoMemory> {
     let mut other = Vec::new(alloc);
     'bytes: for byte in bytes {
         let is_it = other.len() == at;
@@ -27,7 +28,7 @@ pub(crate) fn turned(alloc: Global, bytes: &[u8], at: usize) -> Result<Vec<u8>, 
 }
 
 /// The bytes of hexadecimal digits in lines; none where they are no such digits.
-pub(crate) fn bytes_of(alloc: Global, text: &str) -> Result<Vec<u8>, NoMemory> {
+pub fn bytes_of(alloc: Global, text: &str) -> Result<Vec<u8>, NoMemory> {
     let mut bytes = Vec::new(alloc);
     'lines: for line in text.lines() {
         if let Ok(some) = hex::decode(alloc, line.as_bytes()) {
@@ -47,24 +48,12 @@ struct Change<'a> {
     value: &'a str,
 }
 
-fn count(text: &str) -> usize {
-    text.parse::<usize>().unwrap_or(0)
-}
-
-fn turns(text: &str) -> u32 {
-    text.parse::<u32>().unwrap_or(0)
-}
-
-fn status(text: &str) -> u8 {
-    text.parse::<u8>().unwrap_or(0)
-}
-
 fn change_of(line: &str) -> Change<'_> {
     let (record, rest) = line.split_once(' ').unwrap_or((line, ""));
     let (part, rest) = rest.split_once(' ').unwrap_or((rest, ""));
     let (step, value) = rest.split_once(' ').unwrap_or((rest, ""));
     Change {
-        record: count(record),
+        record: size(record),
         part,
         step,
         value,
@@ -89,7 +78,7 @@ fn changed(alloc: Global, step: &Step, change: &Change<'_>) -> Result<Step, NoMe
 // The steps of a record with this change.
 fn steps_with(alloc: Global, record: &Record, change: &Change<'_>) -> Result<StepList, NoMemory> {
     let mut steps = StepList::new(alloc);
-    let wanted = count(change.step);
+    let wanted = size(change.step);
     let mut number = 0usize;
     'steps: for step in record.steps.as_slice() {
         number = number.saturating_add(1);
@@ -147,7 +136,7 @@ fn table_with(alloc: Global, table: &Table, change: &Change<'_>) -> Result<Table
 }
 
 /// The database with the change that a line names, and its digest made anew. It is as before where it is damaged.
-pub(crate) fn altered(alloc: Global, db: &[u8], line: &str) -> Result<Bytes, NoMemory> {
+pub fn altered(alloc: Global, db: &[u8], line: &str) -> Result<Bytes, NoMemory> {
     match read_db(alloc, db) {
         Ok(table) => {
             let other = table_with(alloc, &table, &change_of(line))?;

@@ -1,21 +1,10 @@
 // Records as text: what a command asks, what it is answered, and how it ends.
+use crate::numbers::{number, status, turns};
 use rk_base::{Bytes, Errno, Kind, Name, NameList, NoMemory, Path, VarList, WordList};
 use rk_calls::{Answer, Call, How, Key};
 use std::alloc::Global;
 use tr_codec::write_db;
 use tr_record::{Step, StepList, Table};
-
-fn number(text: &str) -> u64 {
-    text.parse::<u64>().unwrap_or(0)
-}
-
-fn turns(text: &str) -> u32 {
-    text.parse::<u32>().unwrap_or(0)
-}
-
-fn status(text: &str) -> u8 {
-    text.parse::<u8>().unwrap_or(0)
-}
 
 // The mode of octal digits.
 fn mode(text: &str) -> u16 {
@@ -42,37 +31,38 @@ fn bytes(alloc: Global, text: &str) -> Result<Bytes, NoMemory> {
 
 /// The call of a word and what stands behind it.
 pub(crate) fn call_of(alloc: Global, word: &str, rest: &str) -> Result<Call, NoMemory> {
-    let call = match word {
-        "open" => Call::Open(bytes(alloc, rest)?, How::Read),
-        "make" => Call::Open(bytes(alloc, rest)?, How::Make),
-        "append" => Call::Open(bytes(alloc, rest)?, How::Append),
-        "read" => Call::Read(number(rest)),
-        "stat" => Call::Stat(bytes(alloc, rest)?, true),
-        "lstat" => Call::Stat(bytes(alloc, rest)?, false),
-        "list" => Call::List(bytes(alloc, rest)?),
-        "readlink" => Call::ReadLink(bytes(alloc, rest)?),
-        "walk" => Call::Walk(bytes(alloc, rest)?),
-        "rmdir" => Call::Rmdir(bytes(alloc, rest)?),
-        "unlink" => Call::Unlink(bytes(alloc, rest)?),
-        _ => return call_of_two(alloc, word, rest),
-    };
-    Ok(call)
+    let path = bytes(alloc, rest)?;
+    match word {
+        "open" => Ok(Call::Open(path, How::Read)),
+        "make" => Ok(Call::Open(path, How::Make)),
+        "append" => Ok(Call::Open(path, How::Append)),
+        "read" => Ok(Call::Read(number(rest))),
+        "stat" => Ok(Call::Stat(path, true)),
+        "lstat" => Ok(Call::Stat(path, false)),
+        "list" => Ok(Call::List(path)),
+        "readlink" => Ok(Call::ReadLink(path)),
+        "walk" => Ok(Call::Walk(path)),
+        "rmdir" => Ok(Call::Rmdir(path)),
+        "unlink" => Ok(Call::Unlink(path)),
+        _ => call_of_two(alloc, word, rest),
+    }
 }
 
 // The call of a word and two things behind it.
 fn call_of_two(alloc: Global, word: &str, rest: &str) -> Result<Call, NoMemory> {
     let (first, second) = rest.split_once(' ').unwrap_or((rest, ""));
-    let call = match word {
-        "write" => Call::Write(number(first), bytes(alloc, second)?),
-        "mkdir" => Call::Mkdir(bytes(alloc, first)?, mode(second)),
-        "chmod" => Call::Chmod(bytes(alloc, first)?, mode(second)),
-        "same" => Call::Same(bytes(alloc, first)?, bytes(alloc, second)?),
-        "rename" => Call::Rename(bytes(alloc, first)?, bytes(alloc, second)?),
-        "symlink" => Call::Symlink(bytes(alloc, first)?, bytes(alloc, second)?),
-        "link" => Call::Link(bytes(alloc, first)?, bytes(alloc, second)?),
-        _ => Call::Pipe,
-    };
-    Ok(call)
+    let path = bytes(alloc, first)?;
+    let other = bytes(alloc, second)?;
+    match word {
+        "write" => Ok(Call::Write(number(first), other)),
+        "mkdir" => Ok(Call::Mkdir(path, mode(second))),
+        "chmod" => Ok(Call::Chmod(path, mode(second))),
+        "same" => Ok(Call::Same(path, other)),
+        "rename" => Ok(Call::Rename(path, other)),
+        "symlink" => Ok(Call::Symlink(path, other)),
+        "link" => Ok(Call::Link(path, other)),
+        _ => Ok(Call::Pipe),
+    }
 }
 
 fn refusal(text: &str) -> Errno {
@@ -128,22 +118,21 @@ fn path(alloc: Global, text: &str) -> Result<Path, NoMemory> {
 /// The answer of a text: a word with what stands behind it, or the words of a refusal.
 pub(crate) fn answer_of(alloc: Global, text: &str) -> Result<Answer, NoMemory> {
     let (word, rest) = text.split_once(' ').unwrap_or((text, ""));
-    let answer = match word {
-        "done" => Answer::Done,
-        "opened" => Answer::Opened,
-        "content" => Answer::Content(bytes(alloc, rest)?),
-        "file" => stat(Kind::File, mode(rest), false),
-        "empty" => stat(Kind::File, mode(rest), true),
-        "directory" => stat(Kind::Dir, mode(rest), false),
-        "link" => stat(Kind::Link, mode(rest), false),
-        "names" => names(alloc, rest)?,
-        "text" => Answer::Text(bytes(alloc, rest)?),
-        "place" => Answer::Place(path(alloc, rest)?),
-        "same" => Answer::Same(rest == "yes"),
-        "joined" => Answer::Joined(status(rest)),
-        _ => Answer::No(refusal(text)),
-    };
-    Ok(answer)
+    match word {
+        "done" => Ok(Answer::Done),
+        "opened" => Ok(Answer::Opened),
+        "content" => Ok(Answer::Content(bytes(alloc, rest)?)),
+        "file" => Ok(stat(Kind::File, mode(rest), false)),
+        "empty" => Ok(stat(Kind::File, mode(rest), true)),
+        "directory" => Ok(stat(Kind::Dir, mode(rest), false)),
+        "link" => Ok(stat(Kind::Link, mode(rest), false)),
+        "names" => names(alloc, rest),
+        "text" => Ok(Answer::Text(bytes(alloc, rest)?)),
+        "place" => Ok(Answer::Place(path(alloc, rest)?)),
+        "same" => Ok(Answer::Same(rest == "yes")),
+        "joined" => Ok(Answer::Joined(status(rest))),
+        _ => Ok(Answer::No(refusal(text))),
+    }
 }
 
 // The step of a line: its cost, its call, and its answer behind ` -> `.
@@ -191,6 +180,6 @@ fn table_of(alloc: Global, words: &str, text: &str) -> Result<Table, NoMemory> {
 }
 
 /// The database of one record: a command's words, and lines of what it asks and is answered.
-pub(crate) fn db_of(alloc: Global, words: &str, text: &str) -> Result<Bytes, NoMemory> {
+pub fn db_of(alloc: Global, words: &str, text: &str) -> Result<Bytes, NoMemory> {
     write_db(alloc, &table_of(alloc, words, text)?)
 }

@@ -3,8 +3,8 @@ use rk_base::NoMemory;
 use std::alloc::Global;
 
 /// What is done with a folder, or looked at in it.
-#[derive(Clone, Copy, PartialEq, Eq)]
-pub(crate) enum Kind {
+#[derive(Clone, Copy)]
+pub enum Kind {
     /// A fresh folder with the text as its script, and nothing else.
     Fresh,
     /// Another script.
@@ -79,11 +79,14 @@ pub(crate) enum Kind {
 
 /// A step: its kind, what stands behind its word, and the texts below it.
 #[derive(Drop)]
-pub(crate) struct Step {
-    pub(crate) kind: Kind,
-    pub(crate) rest: String,
-    pub(crate) text: String,
-    pub(crate) errors: String,
+pub struct Step {
+    pub kind: Kind,
+    /// What stands behind its word.
+    pub rest: String,
+    /// The text below it.
+    pub text: String,
+    /// The error text below it.
+    pub errors: String,
 }
 
 fn kind_of(word: &str) -> Kind {
@@ -133,6 +136,17 @@ fn kind_of_other(word: &str) -> Kind {
     }
 }
 
+fn push_end(text: &mut String, more: &str) -> Result<(), NoMemory> {
+    text.push_str(more)?;
+    Ok(())
+}
+
+fn push_line(text: &mut String, more: &str) -> Result<(), NoMemory> {
+    text.push_str(more)?;
+    text.push('\n')?;
+    Ok(())
+}
+
 impl Step {
     // The step of a line, without the texts below it.
     fn new(alloc: Global, line: &str) -> Result<Step, NoMemory> {
@@ -149,17 +163,14 @@ impl Step {
     // `!~ ` before one of error text that no newline ends.
     fn add(&mut self, line: &str) -> Result<(), NoMemory> {
         if let Some(more) = line.strip_prefix("~ ") {
-            self.text.push_str(more)?;
+            push_end(&mut self.text, more)
         } else if let Some(more) = line.strip_prefix("!~ ") {
-            self.errors.push_str(more)?;
+            push_end(&mut self.errors, more)
         } else if let Some(more) = line.strip_prefix("! ") {
-            self.errors.push_str(more)?;
-            self.errors.push('\n')?;
+            push_line(&mut self.errors, more)
         } else {
-            self.text.push_str(line.strip_prefix("| ").unwrap_or(""))?;
-            self.text.push('\n')?;
+            push_line(&mut self.text, line.strip_prefix("| ").unwrap_or(""))
         }
-        Ok(())
     }
 }
 
@@ -173,7 +184,7 @@ fn is_comment(line: &str) -> bool {
 
 /// The steps of a file: a line for each, with its texts in the lines below it. Empty lines, and those that begin with `#`,
 /// say nothing.
-pub(crate) fn steps_of(alloc: Global, text: &str) -> Result<Vec<Step>, NoMemory> {
+pub fn steps_of(alloc: Global, text: &str) -> Result<Vec<Step>, NoMemory> {
     let mut steps: Vec<Step> = Vec::new(alloc);
     'lines: for line in text.lines() {
         if is_text(line) {

@@ -1,0 +1,20 @@
+//! What sessions of builds are made of: the steps of their files, records as text, bytes that are altered, what came as text,
+//! and what is drawn for made ones.
+#![tactic(auto)]
+
+mod altering;
+mod drawing;
+mod numbers;
+mod showing;
+mod steps;
+mod talks;
+
+pub use altering::{altered, bytes_of, cut, turned};
+pub use drawing::{Draws, SOURCES, script, source};
+pub use numbers::{number, size, status, turns};
+pub use showing::{
+    changes_shown, contents, has_line, has_numbered, kind_at, ran, rows_at, shown, text_at,
+    unexplained,
+};
+pub use steps::{Kind, Step, steps_of};
+pub use talks::db_of;
