@@ -23,10 +23,10 @@ use sh_means::stack::pop;
 use sh_means::state::State;
 use sh_means::steps::{end, free, refuse};
 use sh_simple::assigning::next_assign;
-use sh_simple::expanding::act_expand;
 use sh_simple::launching::{go_on as go_on_builtin, go_on_without};
-use sh_simple::making::{go_on as go_on_redirect, next_redirect};
-use sh_simple::words::{deliver, next_word};
+use sh_words::expanding::act_expand;
+use sh_words::making::{go_on as go_on_redirect, next_redirect};
+use sh_words::words::{deliver, next_word};
 use std::alloc::Global;
 use std::mem;
 

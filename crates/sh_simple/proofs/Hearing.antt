@@ -10,27 +10,9 @@ use Rattle.sh_vars.specs.declared.env.Env.{Env}
 use Rattle.sh_expand.specs.Told.{numbered}
 use Rattle.sh_expand.specs.Expands.{counted}
 use Rattle.sh_redirect.specs.declared.descriptors.Descriptors.{Descriptors}
-use Rattle.sh_redirect.specs.Answers as redirection
 use Rattle.sh_redirect.specs.Descriptors.{slot}
 use Rattle.sh_builtin.specs.Doing as builtin
 use Rattle.sh_simple.specs.Launching.{through}
-
-numbered_redirection : (a : Answer) (n : ℕ) → numbered a n ≡ n + redirection.gives a
-numbered_redirection answer.Go n = omega arith
-numbered_redirection answer.Done n = omega arith
-numbered_redirection answer.Opened n = refl
-numbered_redirection answer.Piped n = refl
-numbered_redirection (answer.Content bytes) n = omega arith
-numbered_redirection (answer.Stat kind mode empty) n = omega arith
-numbered_redirection (answer.Names names) n = omega arith
-numbered_redirection (answer.Text text) n = omega arith
-numbered_redirection (answer.Place path) n = omega arith
-numbered_redirection (answer.Same same) n = omega arith
-numbered_redirection (answer.Joined status) n = omega arith
-numbered_redirection (answer.No errno) n = omega arith
-
-pub redirection_heard : (a : Answer) (env : Env) → redirection.heard a env ≡ counted a env
-redirection_heard a env = ap (λ (n : ℕ). record env { next = n }) (sym (numbered_redirection a env.next))
 
 numbered_builtin : (a : Answer) (n : ℕ) → numbered a n ≡ n + builtin.gives a
 numbered_builtin answer.Go n = omega arith

@@ -1,4 +1,2 @@
 pub mod Hearing
-pub mod Substituted
-pub mod Redirected
-pub mod Refused
+pub mod Built

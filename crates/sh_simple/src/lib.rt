@@ -1,10 +1,6 @@
-//! The steps of simple commands (XCU 2.9.1): words, redirections, assignments, and what a command does once it has them.
+//! The steps of simple commands once they have their fields (XCU 2.9.1): assignments, and what a command does.
 #![tactic(auto)]
 
 pub mod assigning;
-pub mod expanding;
-mod kinds;
 pub mod launching;
-pub mod making;
 mod special;
-pub mod words;

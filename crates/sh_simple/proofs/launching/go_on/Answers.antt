@@ -1,6 +1,6 @@
 use Rattle.std.proofs.Common.{◌∙◌}
 use Rattle.sh_means.specs.Views.{shell_of}
-use Rattle.sh_simple.proofs.Redirected.{builtin_asks, builtin_lacks}
+use Rattle.sh_simple.proofs.Built.{builtin_asks, builtin_lacks}
 use Rattle.sh_simple.proofs.launching.go_on.Goals as goal
 
 pub returns-in-Some-clause-talk : goal.returns-in-Some-clause-talk

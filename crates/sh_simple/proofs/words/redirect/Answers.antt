@@ -1,7 +1,0 @@
-use Rattle.sh_means.specs.Views.{shell_of}
-use Rattle.sh_simple.proofs.Redirected.{redirect_begun}
-use Rattle.sh_simple.proofs.words.redirect.Goals as goal
-
-pub returns : goal.returns
-returns c =
-    λ k p. redirect_begun c.args.left c.args.place c.args.kind c.args.descriptor c.args.operand c.start-redirecting.result _ c.ran_since.result k (shell_of c.args.state.now) p c.start-redirecting.ensures c.ran_since.ensures

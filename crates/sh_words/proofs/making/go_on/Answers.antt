@@ -1,0 +1,17 @@
+use Rattle.std.proofs.Common.{◌∙◌}
+use Rattle.sh_means.specs.Stack.{context}
+use Rattle.sh_means.specs.Views.{shell_of}
+use Rattle.sh_words.proofs.Redirected.{redirect_asks, redirect_made, redirect_refused}
+use Rattle.sh_words.proofs.making.go_on.Goals as goal
+
+pub returns-in-Ask-clause-talk : goal.returns-in-Ask-clause-talk
+returns-in-Ask-clause-talk c =
+    λ p. redirect_asks c.args.left c.args.place (context c.args.stack.now.items) c.args.r c.resume.new.self c.args.answer (shell_of c.args.state.now) c.resume.new.descriptors c.in_ok-turn.turn c.in_ok-turn.ensures.does c.in-Ask.call c.in-Ask.cost p c.in-Ask.is
+
+pub returns-in-Made-clause-talk : goal.returns-in-Made-clause-talk
+returns-in-Made-clause-talk c =
+    λ p. redirect_made c.args.left c.args.place (context c.args.stack.now.items) c.args.r c.resume.new.self c.args.answer (shell_of c.args.state.now) c.resume.new.descriptors c.in_ok-turn.turn c.in_ok-turn.ensures.does p c.in-Made.is ∙ c.free.ensures.talk (context c.args.stack.now.items) _ p
+
+pub returns-in_ok-acted-in-Refused-clause-talk : goal.returns-in_ok-acted-in-Refused-clause-talk
+returns-in_ok-acted-in-Refused-clause-talk c =
+    λ p. redirect_refused c.args.left c.args.place (context c.args.stack.now.items) c.args.r c.resume.new.self c.args.answer (shell_of c.args.state.now) c.resume.new.descriptors c.in_ok-turn.turn c.in_ok-turn.ensures.does p c.in-Refused.is ∙ c.in_ok-acted-in-Refused.ensures.talk p

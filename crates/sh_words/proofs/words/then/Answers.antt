@@ -1,0 +1,43 @@
+use Rattle.std.proofs.Common.{◌≡◌, ℕ, Bool, List, sym, ap, ◌∙◌}
+use Rattle.std.specs.declared.rc.Rc.{Rc}
+use Rattle.std.specs.declared.alloc.Global.{Global}
+use Rattle.rk_base.specs.Text.{Text}
+use Rattle.rk_calls.specs.Talk.{Says}
+use Rattle.sh_ast.specs.declared.command.Assignments.{Assignments}
+use Rattle.sh_ast.specs.declared.command.Redirects.{Redirects}
+use Rattle.sh_ast.specs.declared.command.SimpleCommand.{SimpleCommand, out-SimpleCommand}
+use Rattle.sh_means.specs.declared.control.Kind as code
+use Rattle.sh_means.specs.declared.control.Made.TheVariants as made
+use Rattle.sh_means.specs.declared.control.Then.{Then}
+use Rattle.sh_means.specs.declared.flow.Place.{Place}
+use Rattle.sh_means.specs.declared.state.Function.{Function}
+use Rattle.sh_means.specs.Flows.{Next}
+use Rattle.sh_means.specs.Run.{run}
+use Rattle.sh_means.specs.Simple.{Kind, kind_of, made_simple, refused_simple}
+use Rattle.sh_means.specs.Stack.{then_means, making, redirects_from, assigns_from, kind_of_code}
+use Rattle.sh_means.specs.State.{Shell}
+use Rattle.sh_means.specs.Views.{shell_of, rows_of}
+use Rattle.sh_means.specs.Words.{redirect_all, named}
+use Rattle.sh_words.proofs.words.then.Goals as goal
+
+-- the redirections of a simple command with these fields, as a kind
+with_kind : List Text → Bool → Place → Next → Shell → Redirects → Assignments → Kind → Says
+with_kind fields ran pl k e R A kd =
+    redirect_all (redirects_from R 0) ran pl (made_simple run kd (assigns_from A 0) (named (redirects_from R 0)) e.descriptors fields pl k) (refused_simple kd (named (redirects_from R 0)) e.descriptors pl k) k e
+
+simple_then : (x : SimpleCommand) (rs : Rc Redirects Global) (as' : Rc Assignments Global) (kd : code.Kind) (fields : List Text) (ran : Bool) (pl : Place) (k : Next) (e : Shell) (p : ℕ) → rs.value ≡ (out-SimpleCommand x).redirects.value → as'.value ≡ (out-SimpleCommand x).assignments.value → kind_of_code kd ≡ kind_of fields e.functions → with_kind fields ran pl k e (out-SimpleCommand x).redirects.value (out-SimpleCommand x).assignments.value (kind_of fields e.functions) p ≡ making (record { redirects = rs; at = 0; before = e.descriptors; ran = ran; made = made.Simple as' (record { kind = kd; fields = fields }) }) ran pl k e p
+unfolding with_kind
+simple_then x rs as' kd fields ran pl k e p hr ha hk =
+    ap (λ (R : Redirects). with_kind fields ran pl k e R (out-SimpleCommand x).assignments.value (kind_of fields e.functions) p) (sym hr)
+    ∙ ap (λ (A : Assignments). with_kind fields ran pl k e rs.value A (kind_of fields e.functions) p) (sym ha)
+    ∙ ap (λ (kd : Kind). with_kind fields ran pl k e rs.value as'.value kd p) (sym hk)
+
+pub returns-in_ok-assignments-in-Simple : goal.returns-in_ok-assignments-in-Simple
+unfolding with_kind
+returns-in_ok-assignments-in-Simple c =
+    let e = shell_of c.args.state.now in
+    λ k p. ap (λ (t : Then). then_means t c.args.place k c.args.fields c.args.ran e p) c.in-Simple.is
+    ∙ simple_then c.in-Simple.command.value c.in_ok-redirects-in-Simple.redirects c.in_ok-assignments-in-Simple.assignments c.in_ok-kind-in-Simple.kind c.args.fields c.args.ran c.args.place k e p
+    (c.in_ok-redirects-in-Simple.ensures.cases ∙ ap (λ (x : SimpleCommand). (out-SimpleCommand x).redirects.value) c.deref.ensures)
+    (c.in_ok-assignments-in-Simple.ensures.cases ∙ ap (λ (x : SimpleCommand). (out-SimpleCommand x).assignments.value) c.deref-in-Simple.ensures)
+    (c.in_ok-kind-in-Simple.ensures ∙ ap (λ (fs : List Function). kind_of c.args.fields (rows_of fs)) c.as_slice.ensures.value)

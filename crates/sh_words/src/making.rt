@@ -1,0 +1,245 @@
+// Redirections, one after another, and what they are made for.
+ghost use Rattle.std.specs.Prelude.{◌≡◌, IfOk, OnOk, true};
+ghost use Rattle.sh_means.specs.Flows.{Next};
+ghost use Rattle.sh_words.specs.Making.{made_flow};
+ghost use Rattle.sh_means.specs.Simple.{unless_kept, for_its_time};
+ghost use Rattle.sh_means.specs.Stack.{Steps, Goes, IsStep, context, making, made_go, when_made, when_refused, redirecting, redirects_from, assigns_from};
+ghost use Rattle.sh_means.specs.declared.control.Made.TheVariants as mades;
+ghost use Rattle.sh_means.specs.Views.{shell_of};
+ghost use Rattle.sh_means.specs.Words.{named, names, redirect_kind};
+
+use rk_base::NoMemory;
+use rk_calls::{Answer, Turn};
+use sh_ast::{Assignments, RedirectOperator, Redirects};
+use sh_expand::Mode;
+use sh_means::control::{
+    Acted, Aim, Around, Assigning, Control, Doing, Frame, Inside, Made, Making, Undo, Wait, Wordy,
+};
+use sh_means::expansion::begin;
+use sh_means::flow::{Flow, Place};
+use sh_means::numbers::behind;
+use sh_means::stack::{put_around, put_undo};
+use sh_means::state::State;
+use sh_means::steps::{end, free};
+use sh_redirect::{Descriptors, Redirect, Redirecting};
+use sh_vars::Vars;
+use std::alloc::Global;
+use std::rc::Rc;
+
+// The map is put back, unless the redirections stay.
+fn unless_kept(
+    keeps: bool,
+    redirects: Rc<Redirects>,
+    before: Descriptors,
+    stack: &mut Vec<Frame>,
+) -> Result<(), NoMemory>
+    ensures { OnOk result (context stack.new.items ≡ unless_kept keeps (named (redirects_from redirects.value 0)) before (context stack.old.items)) }
+{
+    if keeps {
+        return Ok(());
+    }
+    put_undo(stack, Undo::Redirected(redirects, before))?;
+    Ok(())
+}
+
+// The variables are put back, where there are assignments.
+fn put_back_later(
+    assignments: &Rc<Assignments>,
+    vars: &Vars,
+    stack: &mut Vec<Frame>,
+) -> Result<(), NoMemory>
+    ensures { OnOk result (context stack.new.items ≡ for_its_time true (names (assigns_from assignments.now.value 0)) vars.now (context stack.old.items)) }
+{
+    match assignments.get(0) {
+        None => Ok(()),
+        Some(_) => {
+            let assignments = assignments.clone()?;
+            let before = vars.save()?;
+            put_undo(stack, Undo::Assigned(assignments, before))?;
+            Ok(())
+        }
+    }
+}
+
+// The variables are put back, where the assignments hold for a time.
+fn for_its_time(
+    plain: bool,
+    assignments: &Rc<Assignments>,
+    vars: &Vars,
+    stack: &mut Vec<Frame>,
+) -> Result<(), NoMemory>
+    ensures { OnOk result (context stack.new.items ≡ for_its_time plain (names (assigns_from assignments.now.value 0)) vars.now (context stack.old.items)) }
+{
+    if plain {
+        put_back_later(assignments, vars, stack)?;
+        return Ok(());
+    }
+    Ok(())
+}
+
+// A simple command whose redirections were made.
+fn made_simple(
+    place: Place,
+    redirects: Rc<Redirects>,
+    before: Descriptors,
+    ran: bool,
+    assignments: Rc<Assignments>,
+    doing: Doing,
+    stack: &mut Vec<Frame>,
+    state: &State,
+) -> Result<Control, NoMemory>
+    ensures { IfOk result (Goes (made_go (mades.Simple assignments doing) (named (redirects_from redirects.value 0)) before place (context stack.old.items) ran (shell_of state.now)) (context stack.new.items) (shell_of state.now)) }
+{
+    let plain = doing.kind.is_plain();
+    let exported = doing.kind.exports();
+    let keeps = doing.kind.keeps();
+    put_around(stack, Around::Watch(place))?;
+    unless_kept(keeps, redirects, before, stack)?;
+    for_its_time(plain, &assignments, &state.env.vars, stack)?;
+    Ok(Control::Wordy(Wordy::Assign(
+        place,
+        Assigning {
+            assignments,
+            at: 0,
+            exported,
+            ran,
+            doing,
+        },
+    )))
+}
+
+// All redirections were made.
+fn all_made(
+    place: Place,
+    left: Making,
+    stack: &mut Vec<Frame>,
+    state: &State,
+) -> Result<Control, NoMemory>
+    ensures { IfOk result (Goes (when_made left place (context stack.old.items) left.ran (shell_of state.now)) (context stack.new.items) (shell_of state.now)) }
+{
+    let Making {
+        redirects,
+        at: _,
+        before,
+        ran,
+        made,
+    } = left;
+    match made {
+        Made::Simple(assignments, doing) => {
+            let control = made_simple(
+                place,
+                redirects,
+                before,
+                ran,
+                assignments,
+                doing,
+                stack,
+                state,
+            )?;
+            Ok(control)
+        }
+        Made::Compound(body) => {
+            put_undo(stack, Undo::Redirected(redirects, before))?;
+            Ok(Control::Inside(Inside::Compound(place, body)))
+        }
+    }
+}
+
+fn kind_of(operator: RedirectOperator) -> Redirect
+    ensures { result ≡ redirect_kind operator }
+{
+    match operator {
+        RedirectOperator::Input => Redirect::Reads,
+        RedirectOperator::Output => Redirect::Makes,
+        RedirectOperator::Append => Redirect::Appends,
+        RedirectOperator::Duplicate => Redirect::Copies,
+        RedirectOperator::HereDocument => Redirect::Here,
+    }
+}
+
+/// The next of the redirections, or what they were made for.
+pub fn next_redirect(
+    alloc: Global,
+    place: Place,
+    left: Making,
+    stack: &mut Vec<Frame>,
+    state: &State,
+) -> Result<Control, NoMemory>
+    ensures { IfOk result (Goes (making left left.ran place (context stack.old.items) (shell_of state.now)) (context stack.new.items) (shell_of state.now)) }
+{
+    let redirects = left.redirects.clone()?;
+    match redirects.get(left.at) {
+        Some(r) => {
+            let word = r.operand.clone()?;
+            let next = behind(left.at)?;
+            let mut left = left;
+            left.at = next;
+            let aim = Aim::Operand(left, r.descriptor, kind_of(r.operator), state.env.next);
+            let control = begin(alloc, word, Mode::Value, place, aim)?;
+            Ok(control)
+        }
+        None => {
+            let control = all_made(place, left, stack, state)?;
+            Ok(control)
+        }
+    }
+}
+
+fn refusal_flow(made: &Made) -> Flow
+    ensures { result ≡ made_flow made.now }
+{
+    match made {
+        Made::Simple(_, doing) => doing.kind.refusal_flow(),
+        Made::Compound(_) => Flow::Normal,
+    }
+}
+
+// A redirection was refused, which was told.
+fn refused(
+    place: Place,
+    left: Making,
+    stack: &mut Vec<Frame>,
+    state: &mut State,
+) -> Result<Acted, NoMemory>
+    ensures talk { IfOk result (Steps (when_refused left place (context stack.old.items) (shell_of state.old)) (context stack.new.items) (shell_of state.new)) }
+    ensures costly { IfOk result (λ t. IsStep t.turn) }
+{
+    let flow = refusal_flow(&left.made);
+    let Making {
+        redirects,
+        at: _,
+        before,
+        ran: _,
+        made: _,
+    } = left;
+    put_around(stack, Around::Watch(place))?;
+    put_undo(stack, Undo::Redirected(redirects, before))?;
+    Ok(end(flow, 1, state))
+}
+
+/// A redirection goes on with the answer that was heard.
+pub fn go_on(
+    place: Place,
+    left: Making,
+    r: Redirecting,
+    answer: Answer,
+    stack: &mut Vec<Frame>,
+    state: &mut State,
+) -> Result<Acted, NoMemory>
+    ensures talk { IfOk result (Steps (redirecting left place (context stack.old.items) r answer (shell_of state.old)) (context stack.new.items) (shell_of state.new)) }
+    ensures costly { IfOk result (λ t. IsStep t.turn) }
+{
+    let mut r = r;
+    let turn = r.resume(&mut state.descriptors, &state.env, answer)?;
+    match turn {
+        sh_redirect::Turn::Ask(call, cost) => Ok(Acted {
+            turn: Turn::Ask(call, cost),
+            control: Control::Waits(Wait::Redirects(place, left, r)),
+        }),
+        sh_redirect::Turn::Made => Ok(free(Control::Wordy(Wordy::Make(place, left)))),
+        sh_redirect::Turn::Refused => {
+            let acted = refused(place, left, stack, state)?;
+            Ok(acted)
+        }
+    }
+}
