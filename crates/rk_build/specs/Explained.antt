@@ -2,9 +2,9 @@
 use Rattle.std.specs.Prelude.{ℕ, List, [], ◌++◌, length, if◌then◌else◌}
 use Rattle.std.specs.List.{flat_map}
 use Rattle.rk_base.specs.Text.{Text}
-use Rattle.rk_lines.specs.Ran.{ran_line, launched_line}
-use Rattle.rk_lines.specs.declared.ran.Why.{Why}
-use Rattle.rk_lines.specs.declared.ran.Why.TheVariants as why
+use Rattle.rk_show.specs.Ran.{ran_line, launched_line}
+use Rattle.rk_show.specs.declared.ran.Why.{Why}
+use Rattle.rk_show.specs.declared.ran.Why.TheVariants as why
 use Rattle.rk_replay.specs.declared.ran.Cause.{Cause}
 use Rattle.rk_replay.specs.declared.ran.Cause.TheVariants.{NoRecord, Differs}
 use Rattle.rk_replay.specs.declared.ran.Ran.{Ran}

@@ -5,7 +5,7 @@ use Rattle.std.specs.Fmt.{decimal}
 use Rattle.hex.specs.Hex.{encode_lower}
 use Rattle.tr_codec.specs.declared.fault.Damage.{Damage}
 use Rattle.tr_codec.specs.declared.fault.Damage.TheVariants as damage
-use Rattle.rk_lines.specs.Shown.{shown}
+use Rattle.rk_show.specs.Shown.{shown}
 use Rattle.rk_build.specs.declared.outcome.StateFile.{StateFile}
 use Rattle.rk_build.specs.declared.outcome.StateFile.TheVariants as file
 use Rattle.rk_build.specs.declared.outcome.Outcome.{Outcome}

@@ -6,7 +6,7 @@ ghost use Rattle.rk_build.specs.Telling.{PutsLine, Tells};
 use crate::{Outcome, StateFile};
 use rk_base::{Bytes, NoMemory, Path};
 use rk_folder::Sink;
-use rk_lines::shown;
+use rk_show::shown;
 use std::alloc::Global;
 use tr_codec::Damage;
 

@@ -1,1 +1,4 @@
 pub mod DrawLemmas
+pub mod PathLemmas
+pub mod PlainLemmas
+pub mod FileLemmas

@@ -4,3 +4,5 @@ pub mod Scripts
 pub mod Start
 pub mod Edits
 pub mod Summary
+pub mod Changed
+pub mod Visible

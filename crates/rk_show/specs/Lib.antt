@@ -1,2 +1,5 @@
 pub mod Traces
 pub mod Json
+pub mod Shown
+pub mod Commands
+pub mod Ran

@@ -4,7 +4,7 @@ use Rattle.std.specs.Fmt.{decimal}
 use Rattle.hex.specs.Hex.{encode_lower}
 use Rattle.rk_base.specs.Text.{Text}
 use Rattle.tr_record.specs.declared.records.Record.{Record}
-use Rattle.rk_lines.specs.Commands.{command_name}
+use Rattle.rk_show.specs.Commands.{command_name}
 use Rattle.rk_runs.specs.Own.{own}
 
 -- what it paid is a number of 64 bits, as that of each record that is read from a database

@@ -7,9 +7,9 @@ ghost use Rattle.serde_json.specs.Written.{compact_text};
 ghost use Rattle.rk_show.specs.Json.{json_text, record_data, record_members, records_data, text_data};
 ghost use Rattle.rk_show.specs.Traces.{IsCounted};
 
+use crate::showing::shown;
 use crate::turns::own;
 use rk_base::{Bytes, NoMemory};
-use rk_lines::shown;
 use serde_json::{Map, Value, put};
 use std::alloc::Global;
 use tr_record::Record;

@@ -15,8 +15,8 @@ use Rattle.rk_gen.specs.Start.{Made, files_of, made_of}
 use Rattle.rk_gen.specs.Summary.{Sums, added, no_figures}
 use Rattle.rk_gen.specs.declared.edits.Edit.{Edit}
 use Rattle.rk_gen.specs.declared.files.File.{File}
-use Rattle.rk_made.specs.Changed.{changed, with_files}
-use Rattle.rk_made.proofs.PlainLemmas.{edits-plainly, starts-plainly}
+use Rattle.rk_gen.specs.Changed.{changed, with_files}
+use Rattle.rk_gen.proofs.PlainLemmas.{edits-plainly, starts-plainly}
 use Rattle.rk_build.specs.Holdings.{IsAfter}
 use Rattle.rk_build.proofs.HiddenLemmas.{attrs_hidden, db_hidden}
 use Rattle.rk_kernel.specs.World.{World}

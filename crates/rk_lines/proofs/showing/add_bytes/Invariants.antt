@@ -1,6 +1,0 @@
-use Rattle.std.proofs.Common.{◌≡◌, ◌++◌, drop}
-use Rattle.rk_lines.specs.Shown.{shown_bytes}
-use Rattle.rk_lines.proofs.showing.add_bytes.Given as goal
-
-abbrev pub invariant-loop-b : goal.invariant-loop-b
-invariant-loop-b l = l.out.items ++ shown_bytes (drop l.b-index l.text) ≡ l.fn.out.items ++ shown_bytes l.text

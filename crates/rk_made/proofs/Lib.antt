@@ -1,3 +1,0 @@
-pub mod PathLemmas
-pub mod PlainLemmas
-pub mod FileLemmas
