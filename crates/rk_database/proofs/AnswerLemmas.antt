@@ -1,12 +1,12 @@
 -- How the answers come together.
-use Rattle.std.proofs.Common.{◌≡◌, ℕ, List, length, Option, Some, None, Result, Ok, Err, refl, sym, subst, inl, inr}
+use Rattle.std.proofs.Common.{◌≡◌, ℕ, List, [], length, Bool, true, false, Option, Some, None, is_some, Result, Ok, Err, refl, sym, subst, inl, inr, ◌∙◌}
 use Rattle.rk_base.specs.Text.{Text}
 use Rattle.rk_folder.specs.Sinks.{with_bytes}
 use Rattle.rk_folder.specs.Told.{Held}
 use Rattle.rk_runs.specs.Started.{started}
 use Rattle.tr_record.specs.declared.records.Record.{Record}
 use Rattle.rk_database.specs.Texts.{Spells, StartsRecords, TextOf, no_trace}
-use Rattle.rk_database.specs.Answers.{Calls, Checks, FindsDb, Forgets, Front, Halts, Holds, IsSomeOf, PutsNone, PutSo, SaysNone, Shows, db_in}
+use Rattle.rk_database.specs.Answers.{Calls, Checks, FindsDb, FindsWhether, Forgets, Front, Halts, Holds, IsSomeOf, PutsNone, PutSo, SaysNone, Shows, db_in}
 use Rattle.rk_database.specs.declared.stop.Said.{Said}
 use Rattle.rk_database.specs.declared.stop.Said.TheVariants as said
 use Rattle.rk_database.specs.declared.stop.Stop.{Stop}
@@ -114,6 +114,30 @@ checks-cut told before now text old new stop.NoMemory put = tt
 pub checks-done : (told : Option Held) (before now : ℕ) (db text : Text) → FindsDb told (Ok (Some db)) → StartsRecords db before now (Ok text) → Checks told before now (Ok said.Done)
 checks-done told before now db text h so =
     holds-more told (λ it. Some db ≡ it) (λ it. IsSomeOf it (λ db. (table : List Record) × (Spells db table × (now ≡ started (length table) before)))) (λ it e. subst (λ (o : Option Text). IsSomeOf o (λ db. (table : List Record) × (Spells db table × (now ≡ started (length table) before)))) e so) h
+
+-- Whether it stands.
+
+pub stands-none : (told : Option Held) (b : Bool) → b ≡ false → FindsWhether told (Ok b) → FindsDb told (Ok None)
+stands-none None b is h = tt
+stands-none (Some held) b is h = (h.0, absent (db_in held) (sym h.1 ∙ is)) where
+  absent : (it : Option Text) → is_some it ≡ false → None ≡ it
+  absent None e = refl
+  absent (Some db) e = cc
+
+pub stands-some : (told : Option Held) (b : Bool) → b ≡ true → FindsWhether told (Ok b) → (db : Text) × FindsDb told (Ok (Some db))
+stands-some None b is h = ([], tt)
+stands-some (Some held) b is h = let e = there (db_in held) (sym h.1 ∙ is) in (e.0, (h.0, e.1)) where
+  there : (it : Option Text) → is_some it ≡ true → (db : Text) × (Some db ≡ it)
+  there None e = absurd cc
+  there (Some db) e = (db, refl)
+
+pub stands-stops : (told : Option Held) (e : Stop) → FindsWhether told (Err e) → FindsDb told (Err e)
+stands-stops told (stop.Special path) h = h
+stands-stops told (stop.Damaged damage) h = h
+stands-stops told (stop.Forged rec step) h = h
+stands-stops told stop.ReadFault h = h
+stands-stops told stop.WriteFault h = h
+stands-stops told stop.NoMemory h = h
 
 -- The removal.
 

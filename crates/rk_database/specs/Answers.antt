@@ -1,5 +1,5 @@
 -- What each answer says of the folder, the output and the counts.
-use Rattle.std.specs.Prelude.{◌≡◌, ◌⊎◌, ◌≤◌, ◌+◌, ℕ, take, length, List, Option, Some, None, IfSome, IsSome, option_map, Result, Ok, Err}
+use Rattle.std.specs.Prelude.{◌≡◌, ◌⊎◌, ◌≤◌, ◌+◌, ℕ, take, length, List, Bool, Option, Some, None, IfSome, IsSome, is_some, option_map, Result, Ok, Err}
 use Rattle.rk_base.specs.Text.{Text}
 use Rattle.rk_runs.specs.Started.{started}
 use Rattle.rk_folder.specs.Counts.{Rose}
@@ -38,6 +38,14 @@ FindsDb told (Err (stop.Special path)) = IsSpecial told path
 FindsDb told (Err stop.ReadFault) = Unit {0}
 FindsDb told (Err stop.NoMemory) = Unit {0}
 FindsDb told (Err other) = ⊥
+
+-- What looking for it finds: whether it stands.
+abbrev pub FindsWhether : Option Held → Result Bool Stop → Type 0
+FindsWhether told (Ok stands) = Holds told (λ it. stands ≡ is_some it)
+FindsWhether told (Err (stop.Special path)) = IsSpecial told path
+FindsWhether told (Err stop.ReadFault) = Unit {0}
+FindsWhether told (Err stop.NoMemory) = Unit {0}
+FindsWhether told (Err other) = ⊥
 
 -- What a text that is put leaves.
 

@@ -1,11 +1,12 @@
 // The database of a folder.
 ghost use Rattle.std.specs.Prelude.{◌≡◌, IfErr, IfOk, true};
-ghost use Rattle.rk_database.specs.Answers.{FindsDb, IsNoFault, ReadsCounted};
+ghost use Rattle.rk_database.specs.Answers.{FindsDb, FindsWhether, IsNoFault, ReadsCounted};
+ghost use Rattle.rk_folder.specs.Schedule.{MakesCalls};
 ghost use Rattle.rk_database.specs.Texts.{NoTrace, Spells};
 
 use crate::stop::Stop;
 use rk_base::Bytes;
-use rk_folder::{Folder, Hidden, ImportErr, State, state};
+use rk_folder::{Folder, Hidden, ImportErr, State, has_database, state};
 use std::alloc::Global;
 use tr_codec::{CodecErr, read_db};
 use tr_record::Table;
@@ -18,12 +19,31 @@ pub(crate) fn database<F: Folder>(alloc: Global, folder: &mut F) -> Result<Optio
     ensures writes { F.write_faults folder.new ≡ F.write_faults folder.old }
     ensures steady { F.steady folder.new ≡ F.steady folder.old }
     ensures no_fault { F.steady folder.old ≡ true → IsNoFault result }
+    ensures calls { MakesCalls 4 (F.schedule folder.old) (F.schedule folder.new) }
 {
     match state(alloc, folder) {
         Ok(Hidden { state, .. }) => {
             let State { db, .. } = state;
             Ok(db)
         }
+        Err(ImportErr::Special(path)) => Err(Stop::Special(path)),
+        Err(ImportErr::ReadFault) => Err(Stop::ReadFault),
+        Err(ImportErr::NoMemory) => Err(Stop::NoMemory),
+    }
+}
+
+/// Whether the database stands, by the listings of the root and of `.rkr`: no file is read.
+pub(crate) fn database_stands<F: Folder>(alloc: Global, folder: &mut F) -> Result<bool, Stop>
+    ensures stands { FindsWhether (F.told folder.old) result }
+    ensures held { F.told folder.new ≡ F.told folder.old }
+    ensures reads { ReadsCounted (F.read_faults folder.old) (F.read_faults folder.new) result }
+    ensures writes { F.write_faults folder.new ≡ F.write_faults folder.old }
+    ensures steady { F.steady folder.new ≡ F.steady folder.old }
+    ensures no_fault { F.steady folder.old ≡ true → IsNoFault result }
+    ensures calls { MakesCalls 2 (F.schedule folder.old) (F.schedule folder.new) }
+{
+    match has_database(alloc, folder) {
+        Ok(stands) => Ok(stands),
         Err(ImportErr::Special(path)) => Err(Stop::Special(path)),
         Err(ImportErr::ReadFault) => Err(Stop::ReadFault),
         Err(ImportErr::NoMemory) => Err(Stop::NoMemory),

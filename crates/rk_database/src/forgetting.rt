@@ -1,9 +1,10 @@
 // The database, removed.
 ghost use Rattle.std.specs.Prelude.{◌≡◌, true, IfOk};
 ghost use Rattle.rk_folder.specs.Hidden as paths;
+ghost use Rattle.rk_folder.specs.Schedule.{MakesCalls};
 ghost use Rattle.rk_database.specs.Answers.{EitherCounted, Forgets, IsNoFault, ReadsCounted, SaysNone};
 
-use crate::database::database;
+use crate::database::database_stands;
 use crate::output::say_none;
 use crate::stop::{Said, Stop};
 use rk_base::{NoMemory, Path};
@@ -27,24 +28,24 @@ pub fn db_file(alloc: Global) -> Result<Path, NoMemory>
     Ok(path)
 }
 
-/// Removes the folder's database, which isn't decoded, and leaves all else; or puts `no trace` on the output where there is
-/// no database. Only `.rkr` and its state files are looked at.
+/// Removes the folder's database, and leaves all else; or puts `no trace` on the output where there is no database. No file is
+/// read: the root and `.rkr` are listed, and the database is removed.
 pub fn forget<F: Folder, O: Sink>(alloc: Global, folder: &mut F, out: &mut O) -> Result<Said, Stop>
     ensures folder { Forgets (F.told folder.old) (F.told folder.new) result }
     ensures output { SaysNone (F.told folder.old) (O.so_far out.old) (O.so_far out.new) result }
     ensures reads { ReadsCounted (F.read_faults folder.old) (F.read_faults folder.new) result }
     ensures writes { EitherCounted (F.write_faults folder.old) (F.write_faults folder.new) (O.faults out.old) (O.faults out.new) result }
     ensures steady { F.steady folder.old ≡ true → O.steady out.old ≡ true → IsNoFault result }
+    ensures calls { MakesCalls 3 (F.schedule folder.old) (F.schedule folder.new) }
 {
-    match database(alloc, folder)? {
-        None => say_none(out),
-        Some(_) => {
-            let file = db_file(alloc)?;
-            match folder.remove_file(alloc, &file) {
-                Ok(()) => Ok(Said::Done),
-                Err(FolderErr::Failed) => Err(Stop::WriteFault),
-                Err(FolderErr::NoMemory) => Err(Stop::NoMemory),
-            }
-        }
+    let stands = database_stands(alloc, folder)?;
+    if !stands {
+        return say_none(out);
+    }
+    let file = db_file(alloc)?;
+    match folder.remove_file(alloc, &file) {
+        Ok(()) => Ok(Said::Done),
+        Err(FolderErr::Failed) => Err(Stop::WriteFault),
+        Err(FolderErr::NoMemory) => Err(Stop::NoMemory),
     }
 }

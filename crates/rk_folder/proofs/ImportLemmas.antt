@@ -1,5 +1,5 @@
 -- What a whole import tells, by what is listed in the root, where the folder tells what it holds.
-use Rattle.std.proofs.Common.{◌≡◌, List, Bool, true, false, Option, Some, None, IfSome, Result, Ok, Err, option_map, refl, sym, ap, subst, ◌∙◌}
+use Rattle.std.proofs.Common.{◌≡◌, List, Bool, true, false, Option, Some, None, IfSome, is_some, Result, Ok, Err, option_map, refl, sym, ap, subst, ◌∙◌}
 use Rattle.std.specs.FinMap.{get}
 use Rattle.std.specs.List.{list_all, list_any}
 use Rattle.rk_base.specs.Text.{Text, root, hidden, depth, is_within}
@@ -13,7 +13,7 @@ use Rattle.rk_folder.specs.Whole.{IsWhole, TellsWhole}
 use Rattle.rk_folder.specs.Hidden.{hidden_dir, attrs_name, db_name}
 use Rattle.rk_folder.specs.Listing.{IsFirst}
 use Rattle.rk_folder.specs.Specials.{is_fault, first_special, state_special, hidden_fault, hidden_special}
-use Rattle.rk_folder.specs.Import.{Tells, snapshot_of, state_of}
+use Rattle.rk_folder.specs.Import.{Tells, has_database, snapshot_of, state_of}
 use Rattle.rk_folder.specs.Steps.{ListsRoot, agrees, is_dir_item, is_odd_item, item_named, first_within, first_fault, special_in, with_within, with_items, nothing_special, root_entry}
 use Rattle.rk_folder.specs.declared.hidden_files.Hidden.{Hidden}
 use Rattle.rk_folder.specs.declared.folder.Item.{Item}
@@ -96,24 +96,34 @@ pub told-lists_hidden_dir : (told : Option Held) → IfSome told (λ held. stand
 told-lists_hidden_dir None dir = tt
 told-lists_hidden_dir (Some held) dir = ap is_dir dir
 
-pub told-looked : (told : Option Held) (result : Result (Unit {0}) ImportErr) → IfSome told (λ held. standing held hidden_dir ≡ Some Dir) → Tells told state_special (λ held it. Unit {0}) result → Tells told hidden_special (λ held it. Unit {0}) result
-told-looked None (Ok it) dir tells = tt
-told-looked None (Err (err.Special path)) dir tells = tt
-told-looked None (Err err.ReadFault) dir tells = tt
-told-looked None (Err err.NoMemory) dir tells = tt
-told-looked (Some held) (Ok it) dir tells = (dir_fault held dir ∙ tells.0, tt)
-told-looked (Some held) (Err (err.Special path)) dir tells = dir_fault held dir ∙ tells
-told-looked (Some held) (Err err.ReadFault) dir tells = tt
-told-looked (Some held) (Err err.NoMemory) dir tells = tt
+-- where `.rkr` is a directory, what is told of its state files is told of it
+pub told-looked : {T : Type 0} (told : Option Held) (P : Held → T → Type 0) (result : Result T ImportErr) → IfSome told (λ held. standing held hidden_dir ≡ Some Dir) → Tells told state_special P result → Tells told hidden_special P result
+told-looked None P (Ok it) dir tells = tt
+told-looked None P (Err (err.Special path)) dir tells = tt
+told-looked None P (Err err.ReadFault) dir tells = tt
+told-looked None P (Err err.NoMemory) dir tells = tt
+told-looked (Some held) P (Ok it) dir tells = (dir_fault held dir ∙ tells.0, tells.1)
+told-looked (Some held) P (Err (err.Special path)) dir tells = dir_fault held dir ∙ tells
+told-looked (Some held) P (Err err.ReadFault) dir tells = tt
+told-looked (Some held) P (Err err.NoMemory) dir tells = tt
+
+-- where nothing is special, nothing is, whatever else is told
+pub told-special_alone : {T : Type 0} (told : Option Held) (special : Held → Option Text) (P : Held → T → Type 0) (it : T) → Tells told special P (Ok it) → IfSome told (λ held. (special held ≡ None) × Unit {0})
+told-special_alone None special P it tells = tt
+told-special_alone (Some held) special P it tells = (tells.0, tt)
 
 -- nothing stands there
 no_item : (o : Option Standing) → option_map (item_of hidden) o ≡ None → o ≡ None
 no_item None h = refl
 no_item (Some it) h = cc
 
-pub told-no_hidden : (told : Option Held) (items : List Item) → TellsWhole told → ListsRoot told items → item_named hidden items ≡ None → IfSome told (λ held. (hidden_special held ≡ None) × Unit {0})
+pub told-no_hidden : (told : Option Held) (items : List Item) → TellsWhole told → ListsRoot told items → item_named hidden items ≡ None → IfSome told (λ held. (hidden_special held ≡ None) × (false ≡ has_database held))
 told-no_hidden None items whole listed none = tt
-told-no_hidden (Some held) items whole listed none = (ap (λ (o : Option Standing). hidden_fault o (state_special held)) (no_item (standing held hidden_dir) (sym (hidden_item held items whole listed) ∙ none)), tt)
+told-no_hidden (Some held) items whole listed none =
+    let gone : standing held hidden_dir ≡ None = no_item (standing held hidden_dir) (sym (hidden_item held items whole listed) ∙ none) in (
+      ap (λ (o : Option Standing). hidden_fault o (state_special held)) gone,
+      sym (ap (λ (o : Option Standing). is_some (bytes_in o)) (nothing_below held db_name whole db-named gone)),
+    )
 
 -- The whole folder.
 

@@ -1,5 +1,5 @@
 -- What the parts of an import tell, where the folder tells what it holds.
-use Rattle.std.proofs.Common.{◌≡◌, List, Bool, true, false, Option, Some, None, IfSome, option_map, refl, sym, ap, subst, ◌∙◌, cond}
+use Rattle.std.proofs.Common.{◌≡◌, List, Bool, true, false, Option, Some, None, IfSome, is_some, option_map, refl, sym, ap, subst, ◌∙◌, cond}
 use Rattle.std.specs.List.{list_all}
 use Rattle.rk_base.specs.Text.{Text, root, hidden}
 use Rattle.rk_base.proofs.CanonicalLemmas.{root-canonical}
@@ -7,7 +7,7 @@ use Rattle.rk_folder.specs.Told.{Held, standing, is_dir, bytes_in, item_of, item
 use Rattle.rk_folder.specs.Whole.{IsWhole, TellsWhole}
 use Rattle.rk_folder.specs.Hidden.{hidden_dir, attrs_name, db_name, attrs_file, db_file}
 use Rattle.rk_folder.specs.Specials.{or_else, state_fault, state_special, hidden_fault, hidden_special}
-use Rattle.rk_folder.specs.Import.{state_of}
+use Rattle.rk_folder.specs.Import.{has_database, state_of}
 use Rattle.rk_folder.specs.Steps.{agrees, item_named, is_no_file, special_file, nothing_special}
 use Rattle.rk_folder.specs.declared.hidden_files.Hidden.{Hidden}
 use Rattle.rk_folder.specs.declared.importing.StateFile.{StateFile}
@@ -67,9 +67,26 @@ pub told-state : (told : Option Held) (items : List Item) (o : Option StateFile)
 told-state None items o file path whole listed o_is is at = tt
 told-state (Some held) items o file path whole listed o_is is at = state_is held items o whole listed.1 o_is ∙ ap (option_map file_path) is ∙ ap (λ (p : Text). Some p) (sym at)
 
-pub told-no_state : (told : Option Held) (items : List Item) (o : Option StateFile) → TellsWhole told → ToldItems told hidden_dir items → o ≡ special_file (item_named attrs_name items) (item_named db_name items) → o ≡ None → IfSome told (λ held. (state_special held ≡ None) × Unit {0})
-told-no_state None items o whole listed o_is none = tt
-told-no_state (Some held) items o whole listed o_is none = (state_is held items o whole listed.1 o_is ∙ ap (option_map file_path) none, tt)
+or_else-some : (first : Option Text) (path : Text) → or_else first (Some path) ≡ None → ⊥
+or_else-some None path h = cc
+or_else-some (Some other) path h = cc
+
+-- where neither state file is special, the database stands where it is listed
+db_listed : (a d : Option Standing) → or_else (state_fault attrs_file a) (state_fault db_file d) ≡ None → is_some (option_map (item_of db_name) d) ≡ is_some (bytes_in d)
+db_listed a None plain = refl
+db_listed a (Some (File bytes)) plain = refl
+db_listed a (Some Dir) plain = absurd (or_else-some (state_fault attrs_file a) db_file plain)
+db_listed a (Some Special) plain = absurd (or_else-some (state_fault attrs_file a) db_file plain)
+
+pub told-no_state : (told : Option Held) (items : List Item) (o : Option StateFile) (b : Bool) → TellsWhole told → ToldItems told hidden_dir items → o ≡ special_file (item_named attrs_name items) (item_named db_name items) → o ≡ None → b ≡ is_some (item_named db_name items)
+    → IfSome told (λ held. (state_special held ≡ None) × (b ≡ has_database held))
+told-no_state None items o b whole listed o_is none b_is = tt
+told-no_state (Some held) items o b whole listed o_is none b_is =
+    let plain : state_special held ≡ None = state_is held items o whole listed.1 o_is ∙ ap (option_map file_path) none in
+    let d : item_named db_name items ≡ option_map (item_of db_name) (standing held db_file) = ap (item_named db_name) listed.1 ∙ item_named-is held hidden_dir db_name whole hidden-canonical db-named in (
+      plain,
+      b_is ∙ ap (λ (x : Option Item). is_some x) d ∙ db_listed (standing held attrs_file) (standing held db_file) plain,
+    )
 
 -- The state files.
 

@@ -1,5 +1,5 @@
 -- What a folder is to a build: its files and directories outside `.rkr`, and its state files.
-use Rattle.std.specs.Prelude.{◌≡◌, ◌≤◌, ℕ, Bool, true, Option, Some, None, IfSome, option_map, Result, Ok, Err, if◌then◌else◌}
+use Rattle.std.specs.Prelude.{◌≡◌, ◌≤◌, ℕ, Bool, true, Option, Some, None, IfSome, is_some, option_map, Result, Ok, Err, if◌then◌else◌}
 use Rattle.std.specs.List.{filter_map}
 use Rattle.std.specs.FinMap.{entries}
 use Rattle.rk_base.specs.Text.{Text, is_within}
@@ -37,6 +37,10 @@ state_of held = record {
   rkr = is_dir (standing held hidden_dir);
   state = record { db = bytes_in (standing held db_file); attrs = bytes_in (standing held attrs_file) };
 }
+
+-- whether a database stands
+abbrev pub has_database : Held → Bool
+has_database held = is_some (bytes_in (standing held db_file))
 
 -- Where the folder tells what it holds: Ok only where nothing is special, with what is true of it then,
 -- and Special only with the first that is.

@@ -1,5 +1,5 @@
 -- Which calls of a folder are to be faults.
-use Rattle.std.specs.Prelude.{zero, suc, ◌≡◌, ◌==◌, ℕ, List, Bool, Option, Some, None, Result, Ok, Err, IsSome, find, option_map, MatchBool}
+use Rattle.std.specs.Prelude.{zero, suc, ◌≡◌, ◌≤◌, ◌==◌, ℕ, List, Bool, Option, Some, None, Result, Ok, Err, IsSome, find, option_map, MatchBool}
 use Rattle.rk_base.specs.Text.{Text}
 use Rattle.rk_folder.specs.Counts.{one_more}
 use Rattle.rk_folder.specs.Told.{Held, with_standing}
@@ -31,6 +31,10 @@ after_call schedule = record schedule { calls = one_more schedule.calls }
 abbrev pub after_calls : ℕ → Schedule → Schedule
 after_calls zero schedule = schedule
 after_calls (suc n) schedule = after_call (after_calls n schedule)
+
+-- where a folder tells its schedule, it counted no more calls than this, and what is to fail stays
+abbrev pub MakesCalls : ℕ → Option Schedule → Option Schedule → Type 0
+MakesCalls most before now = (n : ℕ) × (n ≤ most) × (now ≡ option_map (after_calls n) before)
 
 -- a call that is allowed is a fault where one is scheduled, and only there
 abbrev pub GoesAsScheduled : {T : Type 0} → Schedule → Bool → Result T FolderErr → Type 0

@@ -1,5 +1,5 @@
 // What a folder holds for a build.
-ghost use Rattle.std.specs.Prelude.{◌≡◌, ◌≤◌, ◌+◌, IfOk, OnOk, option_copied, true, false};
+ghost use Rattle.std.specs.Prelude.{◌≡◌, ◌≤◌, ◌+◌, IfOk, OnOk, is_some, option_copied, true, false};
 ghost use Rattle.std.specs.FinMap.{get};
 ghost use Rattle.std.specs.List.{list_all, list_any};
 ghost use Rattle.rk_base.specs.Text as text;
@@ -10,7 +10,8 @@ ghost use Rattle.rk_tree.specs.Entries.{IsWholeSnapshot};
 ghost use Rattle.rk_folder.specs.Told as told;
 ghost use Rattle.rk_folder.specs.Hidden.{hidden_dir, attrs_name, db_name};
 ghost use Rattle.rk_folder.specs.Specials.{first_special, state_special};
-ghost use Rattle.rk_folder.specs.Import.{Tells, ReadCaused, MemoryCounted, ReadSteadily, snapshot_of};
+ghost use Rattle.rk_folder.specs.Import.{Tells, ReadCaused, MemoryCounted, ReadSteadily, has_database, snapshot_of};
+ghost use Rattle.rk_folder.specs.Schedule.{MakesCalls};
 ghost use Rattle.rk_folder.specs.Steps as steps;
 ghost use Rattle.rk_folder.specs.Steps.{MayCall};
 ghost use Rattle.rk_folder.specs.declared.folder.Item.TheVariants as item;
@@ -68,6 +69,7 @@ pub(crate) fn list<F: Folder>(
     ensures held { F.told folder.new ≡ F.told folder.old }
     ensures writes { F.write_faults folder.new ≡ F.write_faults folder.old }
     ensures reach { F.reach folder.new ≡ F.reach folder.old }
+    ensures calls { MakesCalls 1 (F.schedule folder.old) (F.schedule folder.new) }
 {
     let items = folder.list(alloc, dir)?;
     Ok(items)
@@ -86,6 +88,7 @@ pub(crate) fn bytes_of<F: Folder>(
     ensures steady { ReadSteadily (F.steady folder.old) (F.steady folder.new) result }
     ensures held { F.told folder.new ≡ F.told folder.old }
     ensures writes { F.write_faults folder.new ≡ F.write_faults folder.old }
+    ensures calls { MakesCalls 1 (F.schedule folder.old) (F.schedule folder.new) }
 {
     match folder.read(alloc, file)? {
         Got::Content(bytes) => Ok(Some(bytes)),
@@ -160,6 +163,12 @@ fn is_no_file(item: Option<&Item>) -> bool
     }
 }
 
+fn is_listed(item: Option<&Item>) -> bool
+    ensures { result ≡ is_some (option_copied item.entry) }
+{
+    item.is_some()
+}
+
 // The first state file in `.rkr` that is special.
 fn special_state(items: &[Item]) -> Option<StateFile>
     ensures { result ≡ steps.special_file (steps.item_named attrs_name items.now) (steps.item_named db_name items.now) }
@@ -173,6 +182,26 @@ fn special_state(items: &[Item]) -> Option<StateFile>
     None
 }
 
+/// Whether the database stands in `.rkr`, by its listing: no file is read.
+pub(crate) fn database_listed<F: Folder>(alloc: Global, folder: &mut F) -> Result<bool, ImportErr>
+    requires { MayCall (F.told folder.old) (told.can_list hidden_dir) }
+    ensures listed { Tells (F.told folder.old) state_special (λ held stands. stands ≡ has_database held) result }
+    ensures cause { ReadCaused (F.read_faults folder.old) (F.read_faults folder.new) result }
+    ensures memory { MemoryCounted (F.memory_failures folder.old) (F.memory_failures folder.new) result }
+    ensures steady { ReadSteadily (F.steady folder.old) (F.steady folder.new) result }
+    ensures held { F.told folder.new ≡ F.told folder.old }
+    ensures writes { F.write_faults folder.new ≡ F.write_faults folder.old }
+    ensures reach { F.reach folder.new ≡ F.reach folder.old }
+    ensures calls { MakesCalls 1 (F.schedule folder.old) (F.schedule folder.new) }
+{
+    let items = list(alloc, folder, &hidden_dir(alloc)?)?;
+    match special_state(&items) {
+        None => Ok(is_listed(named(&items, DB))),
+        Some(StateFile::Attrs) => Err(ImportErr::Special(attrs_file(alloc)?)),
+        Some(StateFile::Db) => Err(ImportErr::Special(db_file(alloc)?)),
+    }
+}
+
 /// Looks at the state files in `.rkr`.
 pub(crate) fn look_at_state<F: Folder>(alloc: Global, folder: &mut F) -> Result<(), ImportErr>
     requires { MayCall (F.told folder.old) (told.can_list hidden_dir) }
@@ -184,12 +213,8 @@ pub(crate) fn look_at_state<F: Folder>(alloc: Global, folder: &mut F) -> Result<
     ensures writes { F.write_faults folder.new ≡ F.write_faults folder.old }
     ensures reach { F.reach folder.new ≡ F.reach folder.old }
 {
-    let items = list(alloc, folder, &hidden_dir(alloc)?)?;
-    match special_state(&items) {
-        None => Ok(()),
-        Some(StateFile::Attrs) => Err(ImportErr::Special(attrs_file(alloc)?)),
-        Some(StateFile::Db) => Err(ImportErr::Special(db_file(alloc)?)),
-    }
+    let _listed = database_listed(alloc, folder)?;
+    Ok(())
 }
 
 // Whether it is the path of `.rkr`.

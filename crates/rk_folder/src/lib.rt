@@ -22,4 +22,4 @@ pub use memory::{Change, MemFolder};
 pub use real::RealFolder;
 pub use sink::{MemSink, RealSink, Sink, SinkErr};
 pub use specials::special_is_first;
-pub use state_files::state;
+pub use state_files::{has_database, state};

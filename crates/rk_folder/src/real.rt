@@ -17,6 +17,10 @@ const DEEPEST: usize = 4096;
 /// A directory has at most so many names.
 const MOST_NAMES: usize = 1 << 20;
 
+/// A read asks for at least and at most so many bytes.
+const SHORTEST_PIECE: usize = 1 << 12;
+const LONGEST_PIECE: usize = 1 << 20;
+
 /// A file has at most so many bytes.
 const LONGEST: u64 = 1 << 32;
 
@@ -44,7 +48,7 @@ fn place_of(alloc: Global, top: &str, path: &Path) -> io::Result<String> {
 // All bytes of a reader, of which there are not too many: about so many.
 fn all_bytes(alloc: Global, reader: &mut impl Read, about: usize) -> io::Result<Vec<u8>> {
     let mut bytes = Vec::with_capacity(alloc, about)?;
-    let mut piece = [0u8; 4096];
+    let mut piece = vec![in alloc; 0u8; about.max(SHORTEST_PIECE).min(LONGEST_PIECE)]?;
     for _ in 0..u64::MAX {
         let n = reader.read(&mut piece)?;
         if n == 0 {

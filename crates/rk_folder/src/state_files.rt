@@ -5,10 +5,11 @@ ghost use Rattle.rk_folder.specs.Hidden.{hidden_dir};
 ghost use Rattle.rk_folder.specs.declared.folder.Standing.TheVariants.{Dir};
 ghost use Rattle.rk_folder.specs.Specials.{hidden_special, state_special};
 ghost use Rattle.rk_folder.specs.Steps.{ListsRoot, is_dir_item, nothing_special};
-ghost use Rattle.rk_folder.specs.Import.{Tells, ReadCaused, MemoryCounted, ReadSteadily, state_of};
+ghost use Rattle.rk_folder.specs.Import.{Tells, ReadCaused, MemoryCounted, ReadSteadily, has_database, state_of};
+ghost use Rattle.rk_folder.specs.Schedule.{MakesCalls};
 
 use crate::hidden_files::{HIDDEN, attrs_file, db_file, hidden_dir};
-use crate::importing::{bytes_of, list, look_at_state, named};
+use crate::importing::{bytes_of, database_listed, list, named};
 use crate::{Folder, Hidden, ImportErr, Item, State};
 use rk_base::{Bytes, Path};
 use std::alloc::Global;
@@ -39,25 +40,32 @@ fn state_read<F: Folder>(alloc: Global, folder: &mut F) -> Result<Hidden, Import
     ensures steady { ReadSteadily (F.steady folder.old) (F.steady folder.new) result }
     ensures held { F.told folder.new ≡ F.told folder.old }
     ensures writes { F.write_faults folder.new ≡ F.write_faults folder.old }
+    ensures calls { MakesCalls 2 (F.schedule folder.old) (F.schedule folder.new) }
 {
     let attrs = bytes_of(alloc, folder, &attrs_file(alloc)?)?;
     let db = bytes_of(alloc, folder, &db_file(alloc)?)?;
     Ok(found(true, db, attrs))
 }
 
-// Looks at `.rkr`, and at the state files in it, by what is listed in the root.
-fn look_at_hidden<F: Folder>(alloc: Global, folder: &mut F, items: &[Item]) -> Result<(), ImportErr>
+// Looks at `.rkr`, and at the state files in it, by what is listed in the root; and whether the database stands there. No file
+// is read.
+fn look_at_hidden<F: Folder>(
+    alloc: Global,
+    folder: &mut F,
+    items: &[Item],
+) -> Result<bool, ImportErr>
     requires { ListsRoot (F.told folder.old) items.now }
-    ensures look { Tells (F.told folder.old) hidden_special (λ held it. Unit {0}) result }
+    ensures look { Tells (F.told folder.old) hidden_special (λ held stands. stands ≡ has_database held) result }
     ensures cause { ReadCaused (F.read_faults folder.old) (F.read_faults folder.new) result }
     ensures memory { MemoryCounted (F.memory_failures folder.old) (F.memory_failures folder.new) result }
     ensures steady { ReadSteadily (F.steady folder.old) (F.steady folder.new) result }
     ensures held { F.told folder.new ≡ F.told folder.old }
     ensures writes { F.write_faults folder.new ≡ F.write_faults folder.old }
+    ensures calls { MakesCalls 1 (F.schedule folder.old) (F.schedule folder.new) }
 {
     match named(items, HIDDEN) {
-        None => Ok(()),
-        Some(Item::Dir(_)) => look_at_state(alloc, folder),
+        None => Ok(false),
+        Some(Item::Dir(_)) => database_listed(alloc, folder),
         Some(Item::File(_)) => Err(ImportErr::Special(hidden_dir(alloc)?)),
         Some(Item::Special(_)) => Err(ImportErr::Special(hidden_dir(alloc)?)),
         Some(Item::Odd) => Err(ImportErr::Special(hidden_dir(alloc)?)),
@@ -78,6 +86,7 @@ pub(crate) fn state_listed<F: Folder>(
     ensures steady { ReadSteadily (F.steady folder.old) (F.steady folder.new) result }
     ensures held { F.told folder.new ≡ F.told folder.old }
     ensures writes { F.write_faults folder.new ≡ F.write_faults folder.old }
+    ensures calls { MakesCalls 2 (F.schedule folder.old) (F.schedule folder.new) }
 {
     if !is_dir(named(items, HIDDEN)) {
         return Ok(found(false, None, None));
@@ -96,9 +105,32 @@ pub fn state<F: Folder>(alloc: Global, folder: &mut F) -> Result<Hidden, ImportE
     ensures steady { ReadSteadily (F.steady folder.old) (F.steady folder.new) result }
     ensures held { F.told folder.new ≡ F.told folder.old }
     ensures writes { F.write_faults folder.new ≡ F.write_faults folder.old }
+
+    // The root and `.rkr` are listed, and two files read, at most.
+    ensures calls { MakesCalls 4 (F.schedule folder.old) (F.schedule folder.new) }
 {
     let items = list(alloc, folder, &Path::root(alloc)?)?;
-    look_at_hidden(alloc, folder, &items)?;
+    let _listed = look_at_hidden(alloc, folder, &items)?;
     let hidden = state_listed(alloc, folder, &items)?;
     Ok(hidden)
+}
+
+/// Whether a folder has a database. The state files are looked at by the listings of the root and of `.rkr` alone: no file
+/// is read, however large.
+pub fn has_database<F: Folder>(alloc: Global, folder: &mut F) -> Result<bool, ImportErr>
+    ensures told { Tells (F.told folder.old) hidden_special (λ held stands. stands ≡ has_database held) result }
+
+    // A read fault comes only where the count of them rose.
+    ensures cause { ReadCaused (F.read_faults folder.old) (F.read_faults folder.new) result }
+    ensures memory { MemoryCounted (F.memory_failures folder.old) (F.memory_failures folder.new) result }
+    ensures steady { ReadSteadily (F.steady folder.old) (F.steady folder.new) result }
+    ensures held { F.told folder.new ≡ F.told folder.old }
+    ensures writes { F.write_faults folder.new ≡ F.write_faults folder.old }
+
+    // Two directories are listed at most.
+    ensures calls { MakesCalls 2 (F.schedule folder.old) (F.schedule folder.new) }
+{
+    let items = list(alloc, folder, &Path::root(alloc)?)?;
+    let listed = look_at_hidden(alloc, folder, &items)?;
+    Ok(listed)
 }

@@ -1,4 +1,5 @@
-use Rattle.std.proofs.Common.{Some, sym, ap, refl, ◌∙◌}
+use Rattle.std.proofs.Common.{◌≡◌, Some, sym, ap, refl, ◌∙◌}
+use Rattle.rk_folder.specs.Import.{has_database}
 use Rattle.rk_folder.specs.declared.folder.Item.{Item}
 use Rattle.rk_folder.proofs.ReadingLemmas.{told-hidden_dir, told-no_dir}
 use Rattle.rk_folder.proofs.ImportLemmas.{told-listed, told-no_hidden, told-lists_hidden_dir, told-looked}
@@ -7,13 +8,13 @@ use Rattle.rk_folder.proofs.state_files.look_at_hidden.Goals as goal
 pub returns-in-None-clause-look : goal.returns-in-None-clause-look
 returns-in-None-clause-look g c = told-no_hidden _ c.args.items.now (g.met.F.Folder.whole c.args.folder.now) c.requires (sym c.in-None.ensures)
 
-pub look_at_state-requires : goal.look_at_state-requires
-look_at_state-requires g c =
+pub database_listed-requires : goal.database_listed-requires
+database_listed-requires g c =
     told-lists_hidden_dir _ (told-hidden_dir _ c.args.items.now c.in-Some-Dir.field-0-0 (g.met.F.Folder.whole c.args.folder.now) (told-listed _ c.args.items.now c.requires) (sym c.in-Some-Dir.ensures ∙ ap (λ (i : Item). Some i) c.in-Some-Dir.field-0-is))
 
 pub returns-in-Some-Dir-clause-look : goal.returns-in-Some-Dir-clause-look
 returns-in-Some-Dir-clause-look g c =
-    told-looked _ c.look_at_state.result (told-hidden_dir _ c.args.items.now c.in-Some-Dir.field-0-0 (g.met.F.Folder.whole c.args.folder.now) (told-listed _ c.args.items.now c.requires) (sym c.in-Some-Dir.ensures ∙ ap (λ (i : Item). Some i) c.in-Some-Dir.field-0-is)) c.look_at_state.ensures.look
+    told-looked _ (λ held stands. stands ≡ has_database held) c.database_listed.result (told-hidden_dir _ c.args.items.now c.in-Some-Dir.field-0-0 (g.met.F.Folder.whole c.args.folder.now) (told-listed _ c.args.items.now c.requires) (sym c.in-Some-Dir.ensures ∙ ap (λ (i : Item). Some i) c.in-Some-Dir.field-0-is)) c.database_listed.ensures.listed
 
 pub returns-in_ok-hidden_dir-in-Some-File-clause-look :
     goal.returns-in_ok-hidden_dir-in-Some-File-clause-look
