@@ -2,3 +2,4 @@ pub mod AskLemmas
 pub mod GeneratedLemmas
 pub mod OneLineLemmas
 pub mod QueryLemmas
+pub mod ServeLemmas

@@ -5,3 +5,5 @@ pub mod UnknownTalk
 pub mod Asks
 pub mod Queries
 pub mod Generated
+pub mod Outside
+pub mod Serves

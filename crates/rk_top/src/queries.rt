@@ -1,5 +1,6 @@
 // What is asked of the database alone.
 ghost use Rattle.std.specs.Prelude.{◌≡◌, ℕ, true};
+ghost use Rattle.rk_folder.specs.Schedule.{MakesCalls};
 ghost use Rattle.rk_top.specs.First.{first_talk};
 ghost use Rattle.rk_words.specs.declared.requests.Request.TheVariants as request;
 ghost use Rattle.rk_build.specs.Outcomes.{Counted, IsNoFault};
@@ -44,6 +45,7 @@ pub(crate) fn check_records<F: Folder, O: Sink>(
     ensures counts { (x : ℕ) → Counted (record { reads = F.read_faults folder.old; writes = F.write_faults folder.old; puts = O.faults out.old; error_puts = x })
         (record { reads = F.read_faults folder.new; writes = F.write_faults folder.new; puts = O.faults out.new; error_puts = x }) result }
     ensures steady { F.steady folder.old ≡ true → O.steady out.old ≡ true → IsNoFault result }
+    ensures calls { MakesCalls 4 (F.schedule folder.old) (F.schedule folder.new) }
 {
     let mut maker = Commands::new(alloc);
     outcome_of_answer(check(alloc, &mut maker, folder, out))
@@ -60,6 +62,7 @@ pub(crate) fn show_records<F: Folder, O: Sink>(
     ensures counts { (x : ℕ) → Counted (record { reads = F.read_faults folder.old; writes = F.write_faults folder.old; puts = O.faults out.old; error_puts = x })
         (record { reads = F.read_faults folder.new; writes = F.write_faults folder.new; puts = O.faults out.new; error_puts = x }) result }
     ensures steady { F.steady folder.old ≡ true → O.steady out.old ≡ true → IsNoFault result }
+    ensures calls { MakesCalls 4 (F.schedule folder.old) (F.schedule folder.new) }
 {
     outcome_of_answer(trace(alloc, folder, out, json))
 }
@@ -74,6 +77,7 @@ pub(crate) fn forget_records<F: Folder, O: Sink>(
     ensures counts { (x : ℕ) → Counted (record { reads = F.read_faults folder.old; writes = F.write_faults folder.old; puts = O.faults out.old; error_puts = x })
         (record { reads = F.read_faults folder.new; writes = F.write_faults folder.new; puts = O.faults out.new; error_puts = x }) result }
     ensures steady { F.steady folder.old ≡ true → O.steady out.old ≡ true → IsNoFault result }
+    ensures calls { MakesCalls 3 (F.schedule folder.old) (F.schedule folder.new) }
 {
     outcome_of_answer(forget(alloc, folder, out))
 }
