@@ -1,0 +1,11 @@
+pub mod Constants
+pub mod Environment
+pub mod Expression
+pub mod Grammar
+pub mod Laws
+pub mod Meaning
+pub mod Operators
+pub mod Reading
+pub mod Steps
+pub mod Told
+pub mod Tokens
