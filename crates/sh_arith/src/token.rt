@@ -6,10 +6,11 @@ use crate::Operator;
 use rk_base::Bytes;
 
 /// A token of a text.
-#[derive(Debug, Drop)]
+#[derive(Drop)]
 pub enum Token {
     /// A constant; `None` is past 64 bits.
     Constant(Option<i64>),
+    /// Letters, digits and `_`, no digit first.
     Name(Bytes),
     /// An operator; `+` and `-` may be signs too.
     Operator(Operator),
@@ -17,13 +18,21 @@ pub enum Token {
     Complement,
     /// `!`.
     Not,
+    /// `&&`.
     Both,
+    /// `||`.
     Either,
+    /// `?`.
     Question,
+    /// `:`.
     Colon,
+    /// `=`, alone or behind an operator.
     Assign(Option<Operator>),
+    /// `(`.
     Open,
+    /// `)`.
     Close,
+    /// The end of the text.
     End,
     /// No token of C's.
     Odd,

@@ -6,7 +6,9 @@ use crate::run::evaluate;
 use crate::{ArithErr, Names};
 use std::alloc::Global;
 
-/// The value of the expression that a text is. Its operands are evaluated from left to right.
+/// The value of the expression that a text is (XCU 2.6.4), evaluated over these names from left to right; with `nounset` an
+/// unset name is a fault. `Syntax` comes where the text is no expression, with the names as they were; each other fault
+/// where evaluation meets it first, with the names as it left them by then.
 pub fn value<N: Names>(
     alloc: Global,
     text: &[u8],
