@@ -2,11 +2,14 @@
 //! for each file how many steps there were, and what came otherwise.
 #![tactic(auto)]
 
+mod arithmetic;
 mod names;
+mod table;
 mod tokens;
 mod tree;
 mod world;
 
+use crate::arithmetic::Arithmetic;
 use crate::names::Names;
 use crate::tokens::Tokens;
 use crate::tree::Grown;
@@ -29,6 +32,7 @@ fn steps_of<S: Subject + Drop>(
 
 fn told_of(alloc: Global, name: &str, text: &str) -> Result<Option<Told>, NoMemory> {
     let told = match subject_of(text) {
+        "arithmetic" => steps_of(alloc, name, text, Arithmetic::new(alloc))?,
         "names" => steps_of(alloc, name, text, Names::new(alloc))?,
         "tokens" => steps_of(alloc, name, text, Tokens::new(alloc))?,
         "tree" => steps_of(alloc, name, text, Grown::new(alloc))?,
