@@ -1,6 +1,6 @@
 -- The tokens of an expression are read as it.
-use Rattle.std.proofs.Common.{◌≡◌, ℕ, zero, suc, ◌≤◌, ◌<◌, ◌+◌, List, [], ◌∷◌, refl, sym, ap, ◌∙◌, arith}
-use Rattle.std.specs.Prelude.{Bool, true, false, Option, Some, None, if◌then◌else◌}
+use Rattle.std.proofs.Common.{◌≡◌, ℕ, zero, suc, ◌≤◌, ◌+◌, List, [], ◌∷◌, refl, ap, ◌∙◌, arith}
+use Rattle.std.specs.Prelude.{Bool, true, false, Option, Some, None}
 use Rattle.std.proofs.lemmas.Bool.{le-leb, lt-leb}
 use Rattle.rk_base.specs.Text.{Text}
 use Rattle.sh_arith.specs.declared.operator.Operator.{Operator}
@@ -12,7 +12,7 @@ use Rattle.sh_arith.specs.declared.token.Token.TheVariants as token
 use Rattle.sh_arith.specs.Expression.{Expression, Constant, Name, Group, Signed, Applied, Both, Either, Choice, Assignment}
 use Rattle.sh_arith.specs.Grammar.{operator_level, level, IsProper, sign_token, times, spelled}
 use Rattle.sh_arith.specs.Reading.{ends_with}
-use Rattle.sh_arith.proofs.Trees.{Wait, InParentheses, WithSign, WithLeft, WithBoth, WithEither, WithQuestion, WithColon, WithName, Place, Wanted, Stands, Bare, made, is_ended, folded, kept, groups, tree_of, Read, go, goes_on, turned, tree_read}
+use Rattle.sh_arith.proofs.Trees.{Wait, InParentheses, WithSign, WithLeft, WithBoth, WithEither, WithQuestion, WithColon, WithName, Wanted, Stands, Bare, made, is_ended, folded, kept, groups, go, goes_on, tree_read}
 
 -- the level before which what waits ends
 abbrev pub asks : Token → Option ℕ

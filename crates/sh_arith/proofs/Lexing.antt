@@ -1,6 +1,6 @@
 -- Each text has one list of tokens.
-use Rattle.std.proofs.Common.{◌≡◌, ℕ, zero, suc, ◌+◌, ◌-◌, ◌≤◌, ◌<◌, List, [], ◌∷◌, ◌++◌, drop, length, map, refl, sym, ap, ◌∙◌, arith, subst, inl, inr, length-drop}
-use Rattle.std.specs.Prelude.{Bool, true, false, not, ◌==◌, Option, Some, None, if◌then◌else◌}
+use Rattle.std.proofs.Common.{◌≡◌, ℕ, zero, suc, ◌+◌, ◌≤◌, ◌<◌, List, [], ◌∷◌, drop, length, refl, sym, ap, ◌∙◌, arith, subst, inl, inr, length-drop}
+use Rattle.std.specs.Prelude.{Bool, true, false, ◌==◌, None, if◌then◌else◌}
 use Rattle.std.proofs.lemmas.Bool.Decides.{eqb_tells}
 use Rattle.std.proofs.lemmas.List.Sums.{prefix_len-le-length}
 use Rattle.rk_base.specs.Text.{Text}
@@ -9,7 +9,7 @@ use Rattle.sh_arith.specs.declared.operator.Operator.{Operator}
 use Rattle.sh_arith.specs.declared.operator.Operator.TheVariants as operator
 use Rattle.sh_arith.specs.declared.token.Token.{Token}
 use Rattle.sh_arith.specs.declared.token.Token.TheVariants as token
-use Rattle.sh_arith.specs.Tokens.{Lexeme, Placed, word_token, word_length, front, or_assign, angle, punctuator, lexeme, is_space, is_last, next_token, next_place, next_end, spaces, AreBehind, AreTokens}
+use Rattle.sh_arith.specs.Tokens.{Lexeme, Placed, word_length, front, or_assign, angle, punctuator, lexeme, is_space, is_last, next_token, next_place, next_end, spaces, AreBehind, AreTokens}
 
 -- how many bytes stand here, of which the next two are given, 0 where there is none
 abbrev room : ℕ → ℕ → ℕ

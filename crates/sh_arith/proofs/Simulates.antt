@@ -1,16 +1,13 @@
 -- The reader does with steps what is done with trees.
 use Rattle.std.proofs.Common.{◌≡◌, ℕ, zero, suc, List, [], ◌∷◌, ◌++◌, refl, sym, ap, ◌∙◌}
-use Rattle.std.specs.Prelude.{Bool, true, false, Option, Some, None, if◌then◌else◌}
+use Rattle.std.specs.Prelude.{Bool, true, false, Option, Some, None}
 use Rattle.std.proofs.lemmas.List.{append_assoc, append-nil}
 use Rattle.rk_base.specs.Text.{Text}
 use Rattle.sh_arith.specs.declared.operator.Operator.{Operator}
 use Rattle.sh_arith.specs.declared.operator.Operator.TheVariants as operator
-use Rattle.sh_arith.specs.declared.operator.Sign.{Sign}
-use Rattle.sh_arith.specs.declared.operator.Sign.TheVariants as sign
 use Rattle.sh_arith.specs.declared.token.Token.{Token}
 use Rattle.sh_arith.specs.declared.token.Token.TheVariants as token
 use Rattle.sh_arith.specs.declared.frame.Frame.{Frame}
-use Rattle.sh_arith.specs.declared.frame.Frame.TheVariants as frame
 use Rattle.sh_arith.specs.declared.frame.Reader.{Reader}
 use Rattle.sh_arith.specs.declared.frame.Reader.TheVariants as reader
 use Rattle.sh_arith.specs.declared.step.Step.{Step}
@@ -19,7 +16,7 @@ use Rattle.sh_arith.specs.Expression.{Expression, Constant, Name, Group, Signed,
 use Rattle.sh_arith.specs.Grammar.{operator_level}
 use Rattle.sh_arith.specs.Steps.{steps}
 use Rattle.sh_arith.specs.Reading.{ending, ended, left, loads, may_assign, begins, assigned_loads, assigns, shuts, goes, otherwise, closes, finishes, joins, turn, Turn, State}
-use Rattle.sh_arith.proofs.Trees.{Wait, InParentheses, WithSign, WithLeft, WithBoth, WithEither, WithQuestion, WithColon, WithName, Place, Wanted, Stands, Bare, frame_of, frames_of, reader_of, made, is_ended, folded, kept, groups, tree_of, Read, begin, assign, shut, go, colon, close, finish, turned, opening, openings, standing, state_of, read_state}
+use Rattle.sh_arith.proofs.Trees.{Wait, InParentheses, WithSign, WithLeft, WithBoth, WithEither, WithQuestion, WithColon, WithName, Place, Wanted, Stands, Bare, frame_of, frames_of, reader_of, made, is_ended, folded, kept, groups, tree_of, begin, assign, shut, go, colon, close, finish, turned, opening, openings, standing, state_of, read_state}
 
 -- where a turn leads
 abbrev pub turned_state : List Step → Option Turn → Option State

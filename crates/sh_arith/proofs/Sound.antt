@@ -1,6 +1,6 @@
 -- What is read is an expression, and none continues with a token that is refused.
 use Rattle.std.proofs.Common.{◌≡◌, ℕ, zero, suc, ◌≤◌, ◌<◌, List, [], ◌∷◌, ◌++◌, refl, sym, ap, ◌∙◌, arith}
-use Rattle.std.specs.Prelude.{Bool, true, false, Option, Some, None, if◌then◌else◌}
+use Rattle.std.specs.Prelude.{Bool, true, false, Option, Some, None}
 use Rattle.std.proofs.lemmas.List.{append_assoc}
 use Rattle.std.proofs.lemmas.Bool.{leb-true, leb-false}
 use Rattle.rk_base.specs.Text.{Text}
@@ -10,9 +10,9 @@ use Rattle.sh_arith.specs.declared.token.Token.{Token}
 use Rattle.sh_arith.specs.declared.token.Token.TheVariants as token
 use Rattle.sh_arith.specs.Expression.{Expression, Constant, Name, Group, Signed, Applied, Both, Either, Choice, Assignment}
 use Rattle.sh_arith.specs.Grammar.{operator_level, level, IsProper, sign_token, times, spelled, Spells, Continues}
-use Rattle.sh_arith.specs.Reading.{frame_level, ends_with, may_assign}
+use Rattle.sh_arith.specs.Reading.{ends_with}
 use Rattle.sh_arith.specs.Steps.{steps}
-use Rattle.sh_arith.proofs.Trees.{Wait, InParentheses, WithSign, WithLeft, WithBoth, WithEither, WithQuestion, WithColon, WithName, Place, Wanted, Stands, Bare, made, is_ended, folded, kept, groups, tree_of, Read, begin, colon, close, finish, assign, shut, go, goes_on, turned, tree_read, openings, standing}
+use Rattle.sh_arith.proofs.Trees.{Wait, InParentheses, WithSign, WithLeft, WithBoth, WithEither, WithQuestion, WithColon, WithName, Place, Wanted, Stands, Bare, made, is_ended, folded, kept, groups, tree_of, Read, begin, colon, close, finish, assign, shut, go, turned, tree_read, openings, standing}
 use Rattle.sh_arith.proofs.Complete.{wanted, wants, operator_least, operator_most, is_read}
 use Rattle.sh_arith.proofs.Simulates.{IsOperand}
 

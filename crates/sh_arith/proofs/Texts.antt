@@ -1,6 +1,6 @@
 -- A text is read as the one expression that it is, or as far as its one fault.
 use Rattle.std.proofs.Common.{◌≡◌, ℕ, zero, suc, ◌+◌, ◌≤◌, ◌<◌, List, [], ◌∷◌, ◌++◌, drop, length, length-drop, arith, refl, sym, ap, ◌∙◌, subst, ◌⊎◌, inl, inr}
-use Rattle.std.specs.Prelude.{Bool, true, false, Option, Some, None, Result, Ok, Err}
+use Rattle.std.specs.Prelude.{Bool, true, false, Option, Some, None}
 use Rattle.std.proofs.lemmas.List.{append_assoc, append-nil}
 use Rattle.rk_base.specs.Text.{Text}
 use Rattle.sh_arith.specs.declared.token.Token.{Token}
@@ -129,6 +129,34 @@ told_shorter text rest left at end s new t false last f p n h e l q d = absurd (
 told_shorter text rest left at end s new t true last f p n h e l q d =
     let some : (1 ≤ next_end rest) × (next_end rest ≤ length rest) = next_within rest (isn't_last text rest at s new f (subst (λ u. After true s new (turn s.reader u s.frames)) p h) (not_end rest t last p l q)) in
     omega (arith, some.0, some.1, n, ap length d, length-drop end rest)
+
+-- each text is read to its end, or to its fault
+abbrev IsOr : Text → Type 0
+IsOr text = ((x : Expression) × Is text x) ⊎ ((at : ℕ) × Stops text at)
+
+read_from : (most : ℕ) (text rest : Text) (at : ℕ) (s : State) → length rest < most → Far text rest at s → IsOr text
+read_from zero text rest at s le f = absurd (omega arith)
+read_from (suc n) text rest at s le f = by (turn s.reader (next_token rest) s.frames) refl (ends_with (next_token rest)) refl (read_from n text (drop (next_end rest) rest) (at + next_end rest))
+  where
+    by : (t : Option Turn) → turn s.reader (next_token rest) s.frames ≡ t → (b : Bool) → ends_with (next_token rest) ≡ b → ((new : State) → length (drop (next_end rest) rest) < n → Far text (drop (next_end rest) rest) (at + next_end rest) new → IsOr text) → IsOr text
+    by None q b e ih = inr (next_place at rest, stops text rest at s f q)
+    by (Some t) q b e ih = last b e
+      where
+        new : State
+        new = record { given = s.given ++ t.gives; frames = t.frames; reader = t.reader }
+
+        goes_there : After true s new (turn s.reader (next_token rest) s.frames)
+        goes_there = rw q refl
+
+        last : (b : Bool) → ends_with (next_token rest) ≡ b → IsOr text
+        last true e =
+            let d : (x : Expression) × Is text x × (new.given ≡ steps x []) = done text rest at s new f goes_there (is_end (next_token rest) e) in inl (d.0, d.1)
+        last false e =
+            let some : (1 ≤ next_end rest) × (next_end rest ≤ length rest) = next_within rest (isn't_last text rest at s new f goes_there e) in
+            ih new (omega (arith, some.0, some.1, length-drop (next_end rest) rest)) (far_next text rest at s new f goes_there e)
+
+pub is_or : (text : Text) → IsOr text
+is_or text = read_from (suc (length text)) text text 0 (record { given = []; frames = []; reader = reader.Wants }) (omega arith) (far_start text)
 
 -- One expression, or one fault.
 

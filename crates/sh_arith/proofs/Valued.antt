@@ -1,21 +1,20 @@
 -- No evaluation ends in a fault of reading, so the value of a text is that of its expression.
-use Rattle.std.proofs.Common.{◌≡◌, List, [], ◌∷◌, refl, sym, ap, ◌∙◌, subst}
-use Rattle.std.specs.Prelude.{ℕ, ℤ, pos, Bool, true, false, not, Option, Some, None, Result, Ok, Err, if◌then◌else◌}
+use Rattle.std.proofs.Common.{◌≡◌, List, [], ◌∷◌, ◌∙◌, subst}
+use Rattle.std.specs.Prelude.{ℕ, ℤ, pos, Bool, true, false, not, Option, Some, None, Ok, Err, if◌then◌else◌}
 use Rattle.std.specs.FinMap.{get}
 use Rattle.rk_base.specs.Text.{Text}
-use Rattle.sh_arith.specs.declared.error.ArithErr.{ArithErr}
 use Rattle.sh_arith.specs.declared.error.ArithErr.TheVariants as err
 use Rattle.sh_arith.specs.declared.operator.Operator.{Operator}
 use Rattle.sh_arith.specs.declared.operator.Operator.TheVariants as operator
 use Rattle.sh_arith.specs.declared.operator.Sign.{Sign}
 use Rattle.sh_arith.specs.declared.operator.Sign.TheVariants as sign
 use Rattle.sh_arith.specs.declared.step.Step.{Step}
-use Rattle.sh_arith.specs.Constants.{number, fitted, number_worth, text_worth, name_worth}
+use Rattle.sh_arith.specs.Constants.{number, fitted, number_worth, name_worth}
 use Rattle.sh_arith.specs.Environment.{Environment, assigned}
 use Rattle.sh_arith.specs.Expression.{Expression, Constant, Name, Group, Signed, Applied, Both, Either, Choice, Assignment}
 use Rattle.sh_arith.specs.Grammar.{Is}
 use Rattle.sh_arith.specs.Meaning.{Ends, Next, ends, on_with, stores, means, value_of}
-use Rattle.sh_arith.specs.Operators.{Worth, or_overflow, within, is_zero, truth, left_by, right_by, shift_count, applied, signed}
+use Rattle.sh_arith.specs.Operators.{Worth, or_overflow, is_zero, truth, left_by, right_by, shift_count, applied, signed}
 use Rattle.sh_arith.specs.Steps.{steps, Ended}
 use Rattle.sh_arith.specs.Told.{Valued}
 

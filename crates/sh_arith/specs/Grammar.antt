@@ -1,6 +1,6 @@
 -- Which tokens an expression is. Precedence is a level for each kind of expression (C 6.5.1 to 6.5.16): an operand has
 -- at least the level that its place asks for.
-use Rattle.std.specs.Prelude.{◌≡◌, ℕ, zero, suc, ◌≤◌, ◌<◌, ◌+◌, List, [], ◌∷◌, ◌++◌, map, Option}
+use Rattle.std.specs.Prelude.{◌≡◌, ℕ, zero, suc, ◌≤◌, ◌<◌, List, [], ◌∷◌, ◌++◌, map}
 use Rattle.rk_base.specs.Text.{Text}
 use Rattle.sh_arith.specs.declared.operator.Operator.{Operator}
 use Rattle.sh_arith.specs.declared.operator.Operator.TheVariants as operator

@@ -1,9 +1,8 @@
 -- How tokens are read into steps: frames are what waits for its last operand, innermost first.
-use Rattle.std.specs.Prelude.{ℕ, zero, suc, ◌≡◌, ◌++◌, List, [], ◌∷◌, Bool, true, false, Option, Some, None, Result, Ok, Err, nat_le, if◌then◌else◌}
+use Rattle.std.specs.Prelude.{ℕ, ◌≡◌, ◌++◌, List, [], ◌∷◌, Bool, true, false, Option, Some, None, Result, Ok, Err, nat_le, if◌then◌else◌}
 use Rattle.rk_base.specs.Text.{Text}
 use Rattle.sh_arith.specs.declared.operator.Operator.{Operator}
 use Rattle.sh_arith.specs.declared.operator.Operator.TheVariants as operator
-use Rattle.sh_arith.specs.declared.operator.Sign.{Sign}
 use Rattle.sh_arith.specs.declared.operator.Sign.TheVariants as sign
 use Rattle.sh_arith.specs.declared.token.Token.{Token}
 use Rattle.sh_arith.specs.declared.token.Token.TheVariants as token

@@ -1,6 +1,6 @@
 -- The tokens of a text (C 6.4): at each place, behind white space, the longest. What is none of C's is Odd. The end of
 -- the text is a token too, and nothing is read behind it or behind what is Odd.
-use Rattle.std.specs.Prelude.{◌≡◌, ℕ, ◌+◌, ◌==◌, ℤ, List, [], ◌∷◌, length, drop, take, Bool, true, false, ◌||◌, Option, Some, None, if◌then◌else◌}
+use Rattle.std.specs.Prelude.{◌≡◌, ℕ, ◌+◌, ◌==◌, ℤ, List, [], ◌∷◌, drop, take, Bool, true, false, ◌||◌, Option, Some, None, if◌then◌else◌}
 use Rattle.std.specs.List.{prefix_len}
 use Rattle.rk_base.specs.Text.{Text}
 use Rattle.rk_base.specs.Variables.{is_between, is_start, is_more}

@@ -1,5 +1,5 @@
 -- What the code tells; want of memory tells nothing.
-use Rattle.std.specs.Prelude.{◌≡◌, Bool, Ok, Err}
+use Rattle.std.specs.Prelude.{◌≡◌, Bool, Err}
 use Rattle.rk_base.specs.Text.{Text}
 use Rattle.sh_arith.specs.declared.error.ArithErr.{ArithErr}
 use Rattle.sh_arith.specs.declared.error.ArithErr.TheVariants.{NoMemory, Syntax}
