@@ -1,5 +1,5 @@
 -- Names for arithmetic, as the code keeps them.
-use Rattle.std.specs.Prelude.{ℕ, ◌==◌, List, [], ◌∷◌, map, Vec, Bool, true, false}
+use Rattle.std.specs.Prelude.{ℕ, ◌==◌, List, [], ◌∷◌, map, Vec, Bool, false}
 use Rattle.std.specs.FinMap.{FinMap, from_entries}
 use Rattle.rk_base.specs.Text.{Text, text_cmp}
 use Rattle.sh_arith.specs.Environment.{Environment}
