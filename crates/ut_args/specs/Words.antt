@@ -39,6 +39,8 @@ by_form forms.Number o given rest more = argued o given rest
 by_form forms.Ranges o given rest more = argued o given rest
 by_form forms.Byte o given rest more = argued o given rest
 by_form forms.Mode o given rest more = argued o given rest
+by_form forms.Signed o given rest more = argued o given rest
+by_form forms.Key o given rest more = argued o given rest
 
 abbrev pub by_letter : ℕ → Option Opt → List Given → Text → Lettered → Lettered
 by_letter letter None given rest more = record { given = given; end = Bad letter }

@@ -60,6 +60,8 @@ pub(crate) fn read_letters(
                 Form::Ranges => return argued(alloc, option, after, given),
                 Form::Byte => return argued(alloc, option, after, given),
                 Form::Mode => return argued(alloc, option, after, given),
+                Form::Signed => return argued(alloc, option, after, given),
+                Form::Key => return argued(alloc, option, after, given),
             },
         }
         rest = after;

@@ -12,7 +12,7 @@ mod words;
 
 pub use args::{Args, UsageOr};
 pub use complaint::Complaint;
-pub use form::{Form, Opt};
+pub use form::{Form, Opt, unsigned};
 pub use numbers::{number, number_or};
 pub use opts::{Given, OptList};
 pub use usage::begin;

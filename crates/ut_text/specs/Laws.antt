@@ -3,7 +3,7 @@ use Rattle.std.specs.Prelude.{List, [], ◌∷◌, codes, Option, Some, None, If
 use Rattle.rk_base.specs.Text.{Text, same_text}
 use Rattle.rk_calls.specs.Talk.{Says}
 use Rattle.rk_calls.specs.Views.{IsCommandTalk}
-use Rattle.ut_args.specs.declared.form.Form.TheVariants.{Number}
+use Rattle.ut_args.specs.declared.form.Form.TheVariants.{Number, Signed}
 use Rattle.ut_args.specs.Tables.{alone, taking}
 use Rattle.ut_args.specs.Opts.{ArgsValue, gives}
 use Rattle.ut_args.specs.Usage.{talk-begins, talk-complains}
@@ -16,7 +16,9 @@ use Rattle.ut_text.specs.Wcs.{wc_job}
 use Rattle.ut_text.specs.declared.cmp.Cmp.{Cmp}
 use Rattle.ut_text.specs.Uniqs.{uniq_job}
 use Rattle.ut_text.specs.Cmps.{cmp_job}
-use Rattle.ut_text.specs.Starts.{cats, heads, head_of, wcs, wc_of, uniqs, uniq_of, uniq_operands, cmps, cmp_operands, text_utility}
+use Rattle.ut_text.specs.declared.tail.Tail.{Tail}
+use Rattle.ut_text.specs.Tails.{tail_job}
+use Rattle.ut_text.specs.Starts.{cats, heads, head_of, wcs, wc_of, uniqs, uniq_of, uniq_operands, cmps, cmp_operands, tails, tail_of, tail_operands, text_utility}
 
 talk-cats : (wd : Text) (argv : List Text) → IsCommandTalk (cats wd argv)
 talk-cats wd argv = talk-begins (codes "cat") 1 (options (alone (codes "u")) argv) _ (λ args. talk-filters cat_job wd (or_dash args.operands))
@@ -42,6 +44,14 @@ talk-cmp_operands wd c (a ∷ []) = talk-complains _ 2
 talk-cmp_operands wd c (a ∷ b ∷ []) = talk-filters (cmp_job c) wd (a ∷ b ∷ [])
 talk-cmp_operands wd c (a ∷ b ∷ surplus ∷ more) = talk-complains _ 2
 
+talk-tail_operands : (wd : Text) (t : Tail) (operands : List Text) → IsCommandTalk (tail_operands wd t operands)
+talk-tail_operands wd t [] = talk-filters (tail_job t) wd (dash ∷ [])
+talk-tail_operands wd t (input ∷ []) = talk-filters (tail_job t) wd (input ∷ [])
+talk-tail_operands wd t (input ∷ surplus ∷ more) = talk-complains _ 1
+
+talk-tails : (wd : Text) (argv : List Text) → IsCommandTalk (tails wd argv)
+talk-tails wd argv = talk-begins (codes "tail") 1 (options (taking Signed (codes "n")) argv) _ (λ args. talk-tail_operands wd (tail_of args) args.operands)
+
 talk-cmps : (wd : Text) (argv : List Text) → IsCommandTalk (cmps wd argv)
 talk-cmps wd argv = talk-begins (codes "cmp") 2 (options (alone (codes "s")) argv) _ (λ args. talk-cmp_operands wd (record { silent = gives args (codes "s") }) args.operands)
 
@@ -56,7 +66,8 @@ talk-text_utility wd (name ∷ words) =
     (if_named (same_text name (codes "head")) _ _ (talk-heads wd (name ∷ words))
     (if_named (same_text name (codes "wc")) _ _ (talk-wcs wd (name ∷ words))
     (if_named (same_text name (codes "uniq")) _ _ (talk-uniqs wd (name ∷ words))
-    (if_named (same_text name (codes "cmp")) _ _ (talk-cmps wd (name ∷ words)) tt))))
+    (if_named (same_text name (codes "cmp")) _ _ (talk-cmps wd (name ∷ words))
+    (if_named (same_text name (codes "tail")) _ _ (talk-tails wd (name ∷ words)) tt)))))
 
 -- Whatever the words are, fewer turns only cut what the utility says, and its calls are proper.
 abbrev pub EachIsCommandTalk : Type 0

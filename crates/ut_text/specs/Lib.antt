@@ -4,6 +4,7 @@ pub mod Counts
 pub mod Heads
 pub mod Laws
 pub mod Starts
+pub mod Tails
 pub mod Uniqs
 pub mod Utilities
 pub mod Wcs

@@ -1,9 +1,10 @@
 -- What the text utilities say by their words, of which the first is the name.
-use Rattle.std.specs.Prelude.{List, [], ◌∷◌, length, codes, Option, Some, None, Bool, nat_lt, not, ◌||◌, if◌then◌else◌}
+use Rattle.std.specs.Prelude.{List, [], ◌∷◌, length, codes, Option, Some, None, Bool, false, nat_lt, not, ◌==◌, ◌||◌, if◌then◌else◌}
 use Rattle.rk_base.specs.Text.{Text, same_text}
 use Rattle.rk_calls.specs.Talk.{Says}
-use Rattle.ut_args.specs.declared.form.Form.TheVariants.{Number}
-use Rattle.ut_args.specs.Numbers.{number_or}
+use Rattle.ut_args.specs.declared.form.Form.TheVariants.{Number, Signed}
+use Rattle.ut_args.specs.Forms.{unsigned}
+use Rattle.ut_args.specs.Numbers.{number, number_or}
 use Rattle.ut_args.specs.Opts.{ArgsValue, gives, argument}
 use Rattle.ut_args.specs.Tables.{alone, taking}
 use Rattle.ut_args.specs.Usage.{begins, misuses}
@@ -11,6 +12,7 @@ use Rattle.ut_args.specs.Words.{options}
 use Rattle.ut_filter.specs.Filters.{Job, filters, dash, or_dash}
 use Rattle.ut_text.specs.declared.head.Head.{Head}
 use Rattle.ut_text.specs.declared.wc.Wc.{Wc}
+use Rattle.ut_text.specs.declared.tail.Tail.{Tail}
 use Rattle.ut_text.specs.declared.uniq.Uniq.{Uniq}
 use Rattle.ut_text.specs.declared.cmp.Cmp.{Cmp}
 use Rattle.ut_text.specs.Cats.{cat_job}
@@ -18,6 +20,7 @@ use Rattle.ut_text.specs.Heads.{head_job}
 use Rattle.ut_text.specs.Wcs.{wc_job}
 use Rattle.ut_text.specs.Uniqs.{uniq_job}
 use Rattle.ut_text.specs.Cmps.{cmp_job}
+use Rattle.ut_text.specs.Tails.{tail_job}
 
 -- a filter of the operands, or of the standard input where there is none
 abbrev pub filters_operands : Job → Text → ArgsValue → Says
@@ -82,6 +85,28 @@ cmp_operands wd c (a ∷ b ∷ surplus ∷ more) = misuses (codes "cmp") 2
 abbrev pub cmps : Text → List Text → Says
 cmps wd argv = begins (codes "cmp") 2 (options (alone (codes "s")) argv) (λ args. cmp_operands wd (record { silent = gives args (codes "s") }) args.operands)
 
+-- whether a text begins with a `+`
+abbrev pub is_plus : Text → Bool
+is_plus [] = false
+is_plus (b ∷ bs) = b == 43
+
+-- the last ten lines where no number is given; with a `+` it is that of the first line
+abbrev pub tail_by : Option Text → Tail
+tail_by None = record { from_front = false; number = 10 }
+tail_by (Some text) = record { from_front = is_plus text; number = number (unsigned text) }
+
+abbrev pub tail_of : ArgsValue → Tail
+tail_of args = tail_by (argument args (codes "n"))
+
+abbrev pub tail_operands : Text → Tail → List Text → Says
+tail_operands wd t [] = filters (tail_job t) wd (dash ∷ [])
+tail_operands wd t (input ∷ []) = filters (tail_job t) wd (input ∷ [])
+tail_operands wd t (input ∷ surplus ∷ more) = misuses (codes "tail") 1
+
+-- `tail [-n N|-n -N|-n +N] [FILE]`
+abbrev pub tails : Text → List Text → Says
+tails wd argv = begins (codes "tail") 1 (options (taking Signed (codes "n")) argv) (λ args. tail_operands wd (tail_of args) args.operands)
+
 -- the utility of a name, where this crate has it
 abbrev pub named : Text → Text → List Text → Option Says
 named name wd argv =
@@ -89,7 +114,8 @@ named name wd argv =
     (if same_text name (codes "head") then Some (heads wd argv) else
     (if same_text name (codes "wc") then Some (wcs wd argv) else
     (if same_text name (codes "uniq") then Some (uniqs wd argv) else
-    (if same_text name (codes "cmp") then Some (cmps wd argv) else None))))
+    (if same_text name (codes "cmp") then Some (cmps wd argv) else
+    (if same_text name (codes "tail") then Some (tails wd argv) else None)))))
 
 -- the utility of some words in a working directory
 abbrev pub text_utility : Text → List Text → Option Says

@@ -13,9 +13,10 @@ pub struct Head {
     pub headed: bool,
 }
 
-// The first lines of a text.
-fn first_lines(number: u64, text: &[u8]) -> &[u8]
-    ensures { result.now ≡ first_lines number text.now }
+/// The first lines of a text.
+pub(crate) fn first_lines(number: u64, text: &[u8]) -> &[u8]
+    ensures lines { result.now ≡ first_lines number text.now }
+    ensures within { length result.now ≤ length text.now }
 {
     let mut left = number;
     let mut at = 0;

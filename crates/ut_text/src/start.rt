@@ -1,8 +1,8 @@
 // How the text utilities begin.
-ghost use Rattle.std.specs.Prelude.{◌≡◌, ◌∷◌, [], IfOk, option_map};
+ghost use Rattle.std.specs.Prelude.{◌≡◌, ◌∷◌, [], IfOk, option_map, option_copied};
 ghost use Rattle.ut_args.specs.Usage.{misuses};
 ghost use Rattle.ut_filter.specs.Filters.{filters, or_dash};
-ghost use Rattle.ut_text.specs.Starts.{cats, heads, head_of, wcs, wc_of, uniqs, uniq_of, uniq_operands, filters_runs, cmps, cmp_operands, named, text_utility};
+ghost use Rattle.ut_text.specs.Starts.{cats, heads, head_of, wcs, wc_of, uniqs, uniq_of, uniq_operands, filters_runs, cmps, cmp_operands, is_plus, tail_by, tail_of, tail_operands, tails, named, text_utility};
 ghost use Rattle.ut_text.specs.Cmps.{cmp_job};
 ghost use Rattle.ut_text.specs.Utilities.{text_talk};
 ghost use Rattle.ut_text.specs.Works.{text_job};
@@ -10,6 +10,7 @@ ghost use Rattle.ut_text.specs.Works.{text_job};
 use crate::cat::Cat;
 use crate::cmp::Cmp;
 use crate::head::Head;
+use crate::tail::Tail;
 use crate::uniq::Uniq;
 use crate::utility::TextUtility;
 use crate::wc::Wc;
@@ -17,7 +18,7 @@ use crate::work::TextWork;
 use rk_base::{Bytes, NoMemory, Path, WordList};
 use rk_calls::Answer;
 use std::alloc::Global;
-use ut_args::{Args, Complaint, Form, Opt, begin, number_or};
+use ut_args::{Args, Complaint, Form, Opt, begin, number, number_or, unsigned};
 use ut_filter::{Filter, or_dash};
 
 fn opt(letter: u8, form: Form) -> Opt
@@ -262,6 +263,66 @@ fn cmp(alloc: Global, wd: &Path, argv: &WordList) -> Result<TextUtility, NoMemor
     }
 }
 
+fn is_plus(text: &[u8]) -> bool
+    ensures { result ≡ is_plus text.now }
+{
+    match text {
+        [] => false,
+        [b, ..] => *b == b'+',
+    }
+}
+
+fn tail_by(argument: Option<&Bytes>) -> Result<Tail, NoMemory>
+    ensures { IfOk result (λ t. t ≡ tail_by (option_copied argument.entry)) }
+{
+    match argument {
+        None => Ok(Tail {
+            from_front: false,
+            number: 10,
+        }),
+        Some(text) => {
+            let number = number(unsigned(text.as_slice())).ok_or(NoMemory)?;
+            let from_front = is_plus(text.as_slice());
+            Ok(Tail { from_front, number })
+        }
+    }
+}
+
+fn tail_operands(
+    alloc: Global,
+    wd: &Path,
+    tail: Tail,
+    operands: &WordList,
+) -> Result<TextUtility, NoMemory>
+    ensures { IfOk result (λ u. text_talk u Answer.Go ≡ tail_operands wd.now tail operands.now) }
+{
+    match operands.as_slice() {
+        [] => {
+            let inputs = one(alloc, b"-")?;
+            filter_inputs(alloc, wd, TextWork::Tails(tail), &inputs)
+        }
+        [input] => {
+            let inputs = one(alloc, input.as_slice())?;
+            filter_inputs(alloc, wd, TextWork::Tails(tail), &inputs)
+        }
+        [_, _, ..] => misused(alloc, b"tail", 1),
+    }
+}
+
+fn tail(alloc: Global, wd: &Path, argv: &WordList) -> Result<TextUtility, NoMemory>
+    ensures { IfOk result (λ u. text_talk u Answer.Go ≡ tails wd.now argv.now) }
+{
+    let table = [opt(b'n', Form::Signed)];
+    let begun = begin(alloc, b"tail", 1, &table, argv)?;
+    match begun {
+        Ok(args) => {
+            let tail = tail_by(args.given.argument(b'n'))?;
+            tail_operands(alloc, wd, tail, &args.operands)
+        }
+        Err(complaint) => Ok(TextUtility::Complains(complaint)),
+    }
+}
+
 fn start_named(
     alloc: Global,
     name: &[u8],
@@ -288,6 +349,10 @@ fn start_named(
     }
     if name == b"cmp".as_slice() {
         let utility = cmp(alloc, wd, argv)?;
+        return Ok(Some(utility));
+    }
+    if name == b"tail".as_slice() {
+        let utility = tail(alloc, wd, argv)?;
         return Ok(Some(utility));
     }
     Ok(None)

@@ -4,6 +4,7 @@ ghost use Rattle.std.specs.Prelude.{◌≡◌};
 use crate::cat::Cat;
 use crate::cmp::Cmp;
 use crate::head::Head;
+use crate::tail::Tail;
 use crate::uniq::Uniq;
 use crate::wc::Wc;
 use rk_base::{Bytes, NoMemory};
@@ -18,6 +19,7 @@ pub enum TextWork {
     Wcs(Wc),
     Uniqs(Uniq),
     Cmps(Cmp),
+    Tails(Tail),
 }
 
 impl Work for TextWork {
@@ -32,6 +34,7 @@ impl Work for TextWork {
             TextWork::Wcs(work) => work.name(),
             TextWork::Uniqs(work) => work.name(),
             TextWork::Cmps(work) => work.name(),
+            TextWork::Tails(work) => work.name(),
         }
     }
 
@@ -42,6 +45,7 @@ impl Work for TextWork {
             TextWork::Wcs(work) => work.failed(),
             TextWork::Uniqs(work) => work.failed(),
             TextWork::Cmps(work) => work.failed(),
+            TextWork::Tails(work) => work.failed(),
         }
     }
 
@@ -52,6 +56,7 @@ impl Work for TextWork {
             TextWork::Wcs(work) => work.out(),
             TextWork::Uniqs(work) => work.out(),
             TextWork::Cmps(work) => work.out(),
+            TextWork::Tails(work) => work.out(),
         }
     }
 
@@ -62,6 +67,7 @@ impl Work for TextWork {
             TextWork::Wcs(work) => work.make(alloc, inputs),
             TextWork::Uniqs(work) => work.make(alloc, inputs),
             TextWork::Cmps(work) => work.make(alloc, inputs),
+            TextWork::Tails(work) => work.make(alloc, inputs),
         }
     }
 }

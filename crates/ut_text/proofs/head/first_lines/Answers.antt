@@ -12,8 +12,8 @@ no_lines (suc n) text h = absurd (omega arith)
 ended : (number left at : ℕ) (text : List ℕ) → take at text ++ first_lines left (drop at text) ≡ first_lines number text → first_lines left (drop at text) ≡ [] → take at text ≡ first_lines number text
 ended number left at text e f = sym (ap (λ x. take at text ++ x) f ∙ append-nil (take at text)) ∙ e
 
-pub returns : goal.returns
-returns c =
+pub returns-clause-lines : goal.returns-clause-lines
+returns-clause-lines c =
     c.split_at.ensures.front ∙ ended c.args.number c.bytes.left c.bytes.at c.args.text.now c.bytes.invariant.1
     (elim c.bytes-test.branch [
       | then-bytes-test+else-left-gt0 w ↦ no_lines c.bytes.left (drop c.bytes.at c.args.text.now) (omega arith)
