@@ -4,6 +4,7 @@ use rk_calls::{Answer, Call, Machine, Spoke, advance};
 use std::alloc::Global;
 use ut_grep::GrepUtility;
 use ut_select::SelectUtility;
+use ut_sort::SortUtility;
 use ut_text::TextUtility;
 
 // A read gives the text, and all else is done.
@@ -42,6 +43,9 @@ fn run_words(alloc: Global, argv: &WordList, text: &Bytes) -> Result<bool, NoMem
         return exits(&mut utility, text);
     }
     if let Some(mut utility) = SelectUtility::start(alloc, &root, argv)? {
+        return exits(&mut utility, text);
+    }
+    if let Some(mut utility) = SortUtility::start(alloc, &root, argv)? {
         return exits(&mut utility, text);
     }
     if let Some(mut utility) = GrepUtility::start(alloc, &root, argv)? {

@@ -3,7 +3,7 @@ ghost use Rattle.std.specs.Prelude.{◌≡◌, IfOk};
 ghost use Rattle.std.specs.List.{list_any};
 ghost use Rattle.rk_base.specs.Text.{is_slash};
 ghost use Rattle.rk_calls.specs.Keys.{takes_variables};
-ghost use Rattle.rk_top.specs.First.{says_of, named_of, copy_or, file_or, grep_or, select_or, plain_or, utility_or, builtin_or, first_talk};
+ghost use Rattle.rk_top.specs.First.{says_of, named_of, copy_or, file_or, grep_or, sort_or, select_or, plain_or, utility_or, builtin_or, first_talk};
 ghost use Rattle.rk_top.specs.Running.{running_talk, command_talk};
 ghost use Rattle.rk_top.specs.UnknownTalk.{is_unknown};
 
@@ -18,6 +18,7 @@ use ut_files::FileUtility;
 use ut_grep::GrepUtility;
 use ut_plain::PlainUtility;
 use ut_select::SelectUtility;
+use ut_sort::SortUtility;
 use ut_text::TextUtility;
 
 #[derive(Drop)]
@@ -28,6 +29,7 @@ enum Running {
     Texts(TextUtility),
     Plain(PlainUtility),
     Selects(SelectUtility),
+    Sorts(SortUtility),
     Greps(GrepUtility),
     Files(FileUtility),
     Copies(CopyUtility),
@@ -83,7 +85,18 @@ fn grep_utility(alloc: Global, wd: &Path, argv: &WordList, name: &[u8]) -> Resul
     }
 }
 
-// `sort`, `cut` or `tr`, `grep`, a file utility, or an unknown name.
+// `sort`, `grep`, a file utility, or an unknown name.
+fn sort_utility(alloc: Global, wd: &Path, argv: &WordList, name: &[u8]) -> Result<Running, NoMemory>
+    ensures { IfOk result (λ r. running_talk r Answer.Go ≡ sort_or wd.now argv.now (is_unknown name.now)) }
+{
+    let found = SortUtility::start(alloc, wd, argv)?;
+    match found {
+        Some(utility) => Ok(Running::Sorts(utility)),
+        None => grep_utility(alloc, wd, argv, name),
+    }
+}
+
+// `cut` or `tr`, a utility after these, or an unknown name.
 fn select_utility(
     alloc: Global,
     wd: &Path,
@@ -95,7 +108,7 @@ fn select_utility(
     let found = SelectUtility::start(alloc, wd, argv)?;
     match found {
         Some(utility) => Ok(Running::Selects(utility)),
-        None => grep_utility(alloc, wd, argv, name),
+        None => sort_utility(alloc, wd, argv, name),
     }
 }
 
@@ -200,6 +213,7 @@ impl Machine for Running {
             Running::Texts(machine) => machine.resume(answer),
             Running::Plain(machine) => machine.resume(answer),
             Running::Selects(machine) => machine.resume(answer),
+            Running::Sorts(machine) => machine.resume(answer),
             Running::Greps(machine) => machine.resume(answer),
             Running::Files(machine) => machine.resume(answer),
             Running::Copies(machine) => machine.resume(answer),

@@ -1,4 +1,3 @@
 pub mod FieldLemmas
 pub mod SetLemmas
-pub mod SortLemmas
 pub mod TrLemmas

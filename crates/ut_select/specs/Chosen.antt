@@ -4,15 +4,9 @@ use Rattle.rk_base.specs.Text.{Text}
 use Rattle.rk_base.specs.Canonical.{is_empty}
 use Rattle.ut_args.specs.declared.opts.Given.{Given}
 use Rattle.ut_args.specs.Opts.{ArgsValue, gives, argument}
-use Rattle.ut_select.specs.declared.sort.Sort.{Sort}
 use Rattle.ut_select.specs.Cuts.{CutValue, ranges_of}
 use Rattle.ut_select.specs.Sets.{set_of, has_class, complement}
 use Rattle.ut_select.specs.Trs.{TrValue}
-
--- `sort`
-
-abbrev pub sort_of : ArgsValue → Sort
-sort_of args = record { reversed = gives args (codes "r"); unique = gives args (codes "u"); out = argument args (codes "o") }
 
 -- `cut`
 

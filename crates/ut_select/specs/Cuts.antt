@@ -13,7 +13,11 @@ use Rattle.ut_filter.specs.Refusals.{refusals}
 use Rattle.ut_filter.specs.Statuses.{status_of}
 use Rattle.ut_select.specs.declared.ranges.Range.{Range}
 use Rattle.ut_select.specs.Fields.{fields, joined}
-use Rattle.ut_select.specs.Sorts.{text_of}
+
+-- each line and a newline
+abbrev pub text_of : List Text → Text
+text_of [] = []
+text_of (line ∷ more) = line ++ 10 ∷ text_of more
 
 abbrev pub is_dash : ℕ → Bool
 is_dash b = b == 45

@@ -10,15 +10,10 @@ use Rattle.ut_args.specs.Usage.{talk-begins, talk-complains}
 use Rattle.ut_args.specs.Words.{options}
 use Rattle.ut_filter.specs.Filters.{dash, or_dash}
 use Rattle.ut_filter.specs.Laws.{talk-filters}
-use Rattle.ut_select.specs.Chosen.{sort_of, is_list, cut_of, tr_of}
+use Rattle.ut_select.specs.Chosen.{is_list, cut_of, tr_of}
 use Rattle.ut_select.specs.Cuts.{cut_job}
-use Rattle.ut_select.specs.Sorts.{sort_job}
 use Rattle.ut_select.specs.Trs.{TrValue, tr_job}
-use Rattle.ut_select.specs.Starts.{sorts, cut_by, cuts, tr_by, trs, select_utility}
-
-talk-sorts : (wd : Text) (argv : List Text) → IsCommandTalk (sorts wd argv)
-talk-sorts wd argv =
-    talk-begins (codes "sort") 2 (options (alone (codes "ru") ++ taking forms.Text (codes "o")) argv) _ (λ args. talk-filters (sort_job (sort_of args)) wd (or_dash args.operands))
+use Rattle.ut_select.specs.Starts.{cut_by, cuts, tr_by, trs, select_utility}
 
 talk-cut_by : (wd : Text) (args : ArgsValue) → IsCommandTalk (cut_by wd args)
 talk-cut_by wd args = talk-if (count_by is_list args.given == 1) _ _ (talk-filters (cut_job (cut_of args)) wd (or_dash args.operands)) (talk-complains _ 1)
@@ -41,9 +36,8 @@ if_named false x o h k = k
 pub talk-select_utility : (wd : Text) (argv : List Text) → IfSome (select_utility wd argv) IsCommandTalk
 talk-select_utility wd [] = tt
 talk-select_utility wd (name ∷ words) =
-    if_named (same_text name (codes "sort")) _ _ (talk-sorts wd (name ∷ words))
-    (if_named (same_text name (codes "cut")) _ _ (talk-cuts wd (name ∷ words))
-    (if_named (same_text name (codes "tr")) _ _ (talk-trs wd (name ∷ words)) tt))
+    if_named (same_text name (codes "cut")) _ _ (talk-cuts wd (name ∷ words))
+    (if_named (same_text name (codes "tr")) _ _ (talk-trs wd (name ∷ words)) tt)
 
 -- Whatever the words are, fewer turns only cut what the utility says, and its calls are proper.
 abbrev pub EachIsCommandTalk : Type 0

@@ -4,7 +4,6 @@ pub mod Fields
 pub mod Items
 pub mod Laws
 pub mod Sets
-pub mod Sorts
 pub mod Starts
 pub mod Tables
 pub mod Trs

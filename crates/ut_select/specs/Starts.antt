@@ -8,14 +8,9 @@ use Rattle.ut_args.specs.Tables.{alone, taking}
 use Rattle.ut_args.specs.Usage.{begins, misuses}
 use Rattle.ut_args.specs.Words.{options}
 use Rattle.ut_filter.specs.Filters.{filters, dash, or_dash}
-use Rattle.ut_select.specs.Chosen.{sort_of, is_list, cut_of, tr_of}
+use Rattle.ut_select.specs.Chosen.{is_list, cut_of, tr_of}
 use Rattle.ut_select.specs.Cuts.{cut_job}
-use Rattle.ut_select.specs.Sorts.{sort_job}
 use Rattle.ut_select.specs.Trs.{TrValue, tr_job}
-
--- `sort [-r] [-u] [-o F] [FILE..]`
-abbrev pub sorts : Text → List Text → Says
-sorts wd argv = begins (codes "sort") 2 (options (alone (codes "ru") ++ taking forms.Text (codes "o")) argv) (λ args. filters (sort_job (sort_of args)) wd (or_dash args.operands))
 
 -- exactly one list is given
 abbrev pub cut_by : Text → ArgsValue → Says
@@ -37,9 +32,8 @@ trs wd argv = begins (codes "tr") 1 (options (alone (codes "cds")) argv) (λ arg
 -- the utility of a name, where this crate has it
 abbrev pub named : Text → Text → List Text → Option Says
 named name wd argv =
-    if same_text name (codes "sort") then Some (sorts wd argv) else
-    (if same_text name (codes "cut") then Some (cuts wd argv) else
-    (if same_text name (codes "tr") then Some (trs wd argv) else None))
+    if same_text name (codes "cut") then Some (cuts wd argv) else
+    (if same_text name (codes "tr") then Some (trs wd argv) else None)
 
 -- the utility of some words in a working directory
 abbrev pub select_utility : Text → List Text → Option Says

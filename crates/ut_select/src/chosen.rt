@@ -1,39 +1,15 @@
 // What options and operands choose.
 ghost use Rattle.std.specs.Prelude.{◌≡◌, count_by, option_copied, IfOk};
-ghost use Rattle.ut_select.specs.Chosen.{sort_of, is_list, or_text, list_text, first_or_tab, delimiter_of, cut_of, first_set, deletes, translates, also, tr_of_one, tr_of_two, tr_by_one, tr_by_two, tr_of};
+ghost use Rattle.ut_select.specs.Chosen.{is_list, or_text, list_text, first_or_tab, delimiter_of, cut_of, first_set, deletes, translates, also, tr_of_one, tr_of_two, tr_by_one, tr_by_two, tr_of};
 ghost use Rattle.ut_select.specs.Sets.{set_of};
 
 use crate::cut::Cut;
 use crate::ranges::ranges_of;
 use crate::sets::{complement, has_class, is_empty, set_of};
-use crate::sort::Sort;
 use crate::tr::Tr;
 use rk_base::{Bytes, NoMemory, WordList};
 use std::alloc::Global;
 use ut_args::{Args, Given};
-
-fn copied(text: Option<&Bytes>) -> Result<Option<Bytes>, NoMemory>
-    ensures { IfOk result (λ copy. copy ≡ option_copied text.entry) }
-{
-    match text {
-        None => Ok(None),
-        Some(text) => {
-            let copy = text.copy()?;
-            Ok(Some(copy))
-        }
-    }
-}
-
-pub(crate) fn sort_of(args: &Args) -> Result<Sort, NoMemory>
-    ensures { IfOk result (λ s. s ≡ sort_of args.now) }
-{
-    let out = copied(args.given.argument(b'o'))?;
-    Ok(Sort {
-        reversed: args.given.has(b'r'),
-        unique: args.given.has(b'u'),
-        out,
-    })
-}
 
 fn is_list(given: &Given) -> bool
     ensures { result ≡ is_list given.now }

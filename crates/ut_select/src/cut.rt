@@ -2,9 +2,8 @@
 ghost use Rattle.std.specs.Prelude.{◌≡◌, ◌∷◌, ◌++◌, [], List, IfOk, OnOk, if◌then◌else◌};
 ghost use Rattle.rk_base.specs.Text.{Text};
 ghost use Rattle.ut_filter.specs.Lines.{lines_of};
-ghost use Rattle.ut_select.specs.Cuts.{listed, whole_line, cut_line, cut_text, cut_inputs};
+ghost use Rattle.ut_select.specs.Cuts.{text_of, listed, whole_line, cut_line, cut_text, cut_inputs};
 ghost use Rattle.ut_select.specs.Fields.{fields, joined, joined_after};
-ghost use Rattle.ut_select.specs.Sorts.{text_of};
 
 use crate::fields::front_field;
 use crate::ranges::{Range, has, is_listed};

@@ -1,4 +1,4 @@
-//! Utilities that select: `sort`, `cut`, `tr`.
+//! Utilities that select: `cut`, `tr`.
 #![tactic(auto)]
 
 mod chosen;
@@ -7,7 +7,6 @@ mod fields;
 mod laws;
 mod ranges;
 mod sets;
-mod sort;
 mod start;
 mod table;
 mod tr;
@@ -17,7 +16,6 @@ mod work;
 pub use cut::Cut;
 pub use laws::select_utilities_say_what_commands_may;
 pub use ranges::Range;
-pub use sort::Sort;
 pub use tr::Tr;
 pub use utility::SelectUtility;
 pub use work::SelectWork;

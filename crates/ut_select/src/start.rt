@@ -2,11 +2,11 @@
 ghost use Rattle.std.specs.Prelude.{◌≡◌, ◌∷◌, [], IfOk, option_map};
 ghost use Rattle.ut_args.specs.Usage.{misuses};
 ghost use Rattle.ut_filter.specs.Filters.{filters, or_dash};
-ghost use Rattle.ut_select.specs.Starts.{sorts, cut_by, cuts, tr_by, trs, named, select_utility};
+ghost use Rattle.ut_select.specs.Starts.{cut_by, cuts, tr_by, trs, named, select_utility};
 ghost use Rattle.ut_select.specs.Utilities.{select_talk};
 ghost use Rattle.ut_select.specs.Works.{select_job};
 
-use crate::chosen::{cut_of, lists, sort_of, tr_of};
+use crate::chosen::{cut_of, lists, tr_of};
 use crate::tr::Tr;
 use crate::utility::SelectUtility;
 use crate::work::SelectWork;
@@ -41,24 +41,6 @@ fn misused(alloc: Global, name: &[u8], status: u8) -> Result<SelectUtility, NoMe
 {
     let complaint = Complaint::of_operands(alloc, name, status)?;
     Ok(SelectUtility::Complains(complaint))
-}
-
-fn sort(alloc: Global, wd: &Path, argv: &WordList) -> Result<SelectUtility, NoMemory>
-    ensures { IfOk result (λ u. select_talk u Answer.Go ≡ sorts wd.now argv.now) }
-{
-    let table = [
-        opt(b'r', Form::Alone),
-        opt(b'u', Form::Alone),
-        opt(b'o', Form::Text),
-    ];
-    let begun = begin(alloc, b"sort", 2, &table, argv)?;
-    match begun {
-        Ok(args) => {
-            let sort = sort_of(&args)?;
-            filter(alloc, wd, SelectWork::Sorts(sort), args.operands)
-        }
-        Err(complaint) => Ok(SelectUtility::Complains(complaint)),
-    }
 }
 
 fn cut_by(alloc: Global, wd: &Path, args: Args) -> Result<SelectUtility, NoMemory>
@@ -135,10 +117,6 @@ fn start_named(
 ) -> Result<Option<SelectUtility>, NoMemory>
     ensures { IfOk result (λ o. option_map (λ u. select_talk u Answer.Go) o ≡ named name.now wd.now argv.now) }
 {
-    if name == b"sort".as_slice() {
-        let utility = sort(alloc, wd, argv)?;
-        return Ok(Some(utility));
-    }
     if name == b"cut".as_slice() {
         let utility = cut(alloc, wd, argv)?;
         return Ok(Some(utility));

@@ -2,7 +2,6 @@
 ghost use Rattle.std.specs.Prelude.{◌≡◌};
 
 use crate::cut::Cut;
-use crate::sort::Sort;
 use crate::tr::Tr;
 use rk_base::{Bytes, NoMemory};
 use std::alloc::Global;
@@ -11,7 +10,6 @@ use ut_filter::{Input, Made, Work};
 /// A utility that selects, as a filter.
 #[derive(Drop)]
 pub enum SelectWork {
-    Sorts(Sort),
     Cuts(Cut),
     Trs(Tr),
 }
@@ -23,7 +21,6 @@ impl Work for SelectWork {
 
     fn name(&self) -> &'static [u8] {
         match self {
-            SelectWork::Sorts(work) => work.name(),
             SelectWork::Cuts(work) => work.name(),
             SelectWork::Trs(work) => work.name(),
         }
@@ -31,7 +28,6 @@ impl Work for SelectWork {
 
     fn failed(&self) -> u8 {
         match self {
-            SelectWork::Sorts(work) => work.failed(),
             SelectWork::Cuts(work) => work.failed(),
             SelectWork::Trs(work) => work.failed(),
         }
@@ -39,7 +35,6 @@ impl Work for SelectWork {
 
     fn out(&self) -> Option<&Bytes> {
         match self {
-            SelectWork::Sorts(work) => work.out(),
             SelectWork::Cuts(work) => work.out(),
             SelectWork::Trs(work) => work.out(),
         }
@@ -47,7 +42,6 @@ impl Work for SelectWork {
 
     fn make(&self, alloc: Global, inputs: &[Input]) -> Result<Made, NoMemory> {
         match self {
-            SelectWork::Sorts(work) => work.make(alloc, inputs),
             SelectWork::Cuts(work) => work.make(alloc, inputs),
             SelectWork::Trs(work) => work.make(alloc, inputs),
         }

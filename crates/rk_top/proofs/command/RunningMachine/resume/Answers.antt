@@ -1,7 +1,7 @@
 use Rattle.std.proofs.Common.{◌≡◌, ℕ, IfOk, sym, subst}
 use Rattle.rk_calls.specs.Talk.{after}
 use Rattle.rk_top.specs.declared.command.Running.{Running}
-use Rattle.rk_top.specs.declared.command.Running.TheVariants.{Complains, Shells, Builtins, Texts, Plain, Selects, Greps, Files, Copies}
+use Rattle.rk_top.specs.declared.command.Running.TheVariants.{Complains, Shells, Builtins, Texts, Plain, Selects, Sorts, Greps, Files, Copies}
 use Rattle.rk_top.specs.Running.{running_talk}
 use Rattle.rk_top.proofs.command.RunningMachine.resume.Goals as goal
 
@@ -44,6 +44,11 @@ pub returns-in-Selects-clause-talk : goal.returns-in-Selects-clause-talk
 returns-in-Selects-clause-talk c =
     let P : Running → Type 0 = λ r. IfOk c.resume-in-Selects.result (λ t. (p : ℕ) → running_talk r c.args.answer p ≡ after t (running_talk (Selects c.resume-in-Selects.new.self)) p) in
     subst P (sym c.in-Selects.is) c.resume-in-Selects.ensures.talk
+
+pub returns-in-Sorts-clause-talk : goal.returns-in-Sorts-clause-talk
+returns-in-Sorts-clause-talk c =
+    let P : Running → Type 0 = λ r. IfOk c.resume-in-Sorts.result (λ t. (p : ℕ) → running_talk r c.args.answer p ≡ after t (running_talk (Sorts c.resume-in-Sorts.new.self)) p) in
+    subst P (sym c.in-Sorts.is) c.resume-in-Sorts.ensures.talk
 
 pub returns-in-Greps-clause-talk : goal.returns-in-Greps-clause-talk
 returns-in-Greps-clause-talk c =

@@ -1,6 +1,0 @@
-use Rattle.std.proofs.Common.{◌≡◌, ◌++◌, drop}
-use Rattle.ut_select.specs.Sorts.{text_of, texts}
-use Rattle.ut_select.proofs.sort.put_lines.Given as goal
-
-abbrev pub invariant-lines : goal.invariant-lines
-invariant-lines l = l.output.items ++ text_of (texts (drop l.line-index l.lines)) ≡ l.initial.output.items ++ text_of (texts l.lines)

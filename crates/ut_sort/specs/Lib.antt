@@ -1,0 +1,11 @@
+pub mod Chosen
+pub mod Fields
+pub mod Laws
+pub mod Numbers
+pub mod Ordered
+pub mod Orders
+pub mod Runs
+pub mod Seen
+pub mod Sorts
+pub mod Starts
+pub mod Utilities
