@@ -35,7 +35,7 @@ fn begins_with(text: &[u8], front: &[u8]) -> bool
 
 impl Class {
     /// Whether a byte is in it.
-    pub(crate) fn holds(self, b: u8) -> bool
+    pub fn holds(self, b: u8) -> bool
         ensures { result ≡ in_class self b }
     {
         match self {
@@ -79,7 +79,7 @@ fn named(
 }
 
 /// The class that stands at the front of what comes after a `[` within a set, and how many bytes it takes.
-pub(crate) fn class_at(text: &[u8]) -> Option<(Class, usize)>
+pub fn class_at(text: &[u8]) -> Option<(Class, usize)>
     ensures value { result ≡ class_at text.now }
     ensures within { IfSome result (λ r. r.1 ≤ length text.now) }
 {

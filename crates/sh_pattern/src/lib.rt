@@ -12,7 +12,7 @@ mod set;
 mod special;
 mod walk;
 
-pub use class::Class;
+pub use class::{Class, class_at};
 pub use matching::{matches, prefix, suffix};
 pub use pathnames::{add_names, put_all, without_last};
 pub use paths::PathList;

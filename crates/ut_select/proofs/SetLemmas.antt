@@ -5,7 +5,7 @@ use Rattle.std.specs.List.{filter, range_with_len}
 use Rattle.std.proofs.lemmas.List.{append-nil}
 use Rattle.std.proofs.lemmas.List.Elements.{filter-append}
 use Rattle.std.proofs.lemmas.List.FromFn.{map-range_with_len_more, get_or-map-range_with_len, length-map-range_with_len}
-use Rattle.ut_select.specs.Sets.{set_within, is_member, all_bytes, complement}
+use Rattle.ut_select.specs.Sets.{class_in, part, set_within, is_unknown, misnamed_within, is_member, all_bytes}
 use Rattle.ut_select.specs.Tables.{IsTable, flag}
 
 range_first : (b n : ℕ) → n ≡ suc (n - 1) → range_with_len b n ≡ b ∷ range_with_len (b + 1) (n - 1)
@@ -30,6 +30,16 @@ pub nothing_within : (n : ℕ) → set_within n [] ≡ []
 nothing_within zero = refl
 nothing_within (suc n) = refl
 
+pub nothing_misnamed : (n : ℕ) → misnamed_within n [] ≡ false
+nothing_misnamed zero = refl
+nothing_misnamed (suc n) = refl
+
+-- one part more
+pub misnamed_step : (left left' b : ℕ) (after text rest : List ℕ) (total : Bool) → text ≡ b ∷ after → is_unknown (class_in b after) b after ≡ false → rest ≡ (part b after).rest → misnamed_within left text ≡ total → left ≡ suc left' → misnamed_within left' rest ≡ total
+misnamed_step left left' b after text rest total cut known is h e =
+    let f : misnamed_within (suc left') (b ∷ after) ≡ misnamed_within left' (part b after).rest = rw known refl in
+    ap (misnamed_within left') is ∙ (sym f ∙ (ap (misnamed_within (suc left')) (sym cut) ∙ (ap (λ n. misnamed_within n text) (sym e) ∙ h)))
+
 -- one item more
 pub set_step : (left left' : ℕ) (set set' text rest total : List ℕ) → ((n : ℕ) → set' ++ set_within n rest ≡ set ++ set_within (suc n) text) → set ++ set_within left text ≡ total → left ≡ suc left' → set' ++ set_within left' rest ≡ total
 set_step left left' set set' text rest total h k e = h left' ∙ (ap (λ n. set ++ set_within n text) (sym e) ∙ k)
@@ -50,9 +60,9 @@ others_step p n b set set' f h e =
     f ∙ (ap (λ z. z ++ filter p (b ∷ [])) h ∙ (ap (λ z. filter p (range_with_len 0 n) ++ filter p (z ∷ [])) e ∙ sym (filtered_more p n)))
 
 -- all bytes were passed
-pub others_whole : (set others : List ℕ) (n : ℕ) → n ≡ 256 → others ≡ filter (λ c. not (is_member set c)) (range_with_len 0 n) → others ≡ complement set
+pub others_whole : (p : ℕ → Bool) (others : List ℕ) (n : ℕ) → n ≡ 256 → others ≡ filter p (range_with_len 0 n) → others ≡ filter p all_bytes
 unfolding all_bytes
-others_whole set others n e h = h ∙ ap (λ m. filter (λ c. not (is_member set c)) (range_with_len 0 m)) e
+others_whole p others n e h = h ∙ ap (λ m. filter p (range_with_len 0 m)) e
 
 -- one entry more of a table
 pub table_step : (f : ℕ → ℕ) (n b v : ℕ) (t t' : List ℕ) → v ≡ f b → t' ≡ t ++ v ∷ [] → t ≡ map f (range_with_len 0 n) → b ≡ n → t' ≡ map f (range_with_len 0 (n + 1))

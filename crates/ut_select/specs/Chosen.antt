@@ -5,7 +5,7 @@ use Rattle.rk_base.specs.Canonical.{is_empty}
 use Rattle.ut_args.specs.declared.opts.Given.{Given}
 use Rattle.ut_args.specs.Opts.{ArgsValue, gives, argument}
 use Rattle.ut_select.specs.Cuts.{CutValue, ranges_of}
-use Rattle.ut_select.specs.Sets.{set_of, has_class, complement}
+use Rattle.ut_select.specs.Sets.{set_of, misnamed, complement}
 use Rattle.ut_select.specs.Trs.{TrValue}
 
 -- `cut`
@@ -71,12 +71,12 @@ tr_of_two args a b =
     else (if is_empty b then None else Some (translates a b (also args b)))
 
 abbrev pub tr_by_one : ArgsValue → Text → Option TrValue
-tr_by_one args a = if has_class 0 a then None else tr_of_one args (first_set args a)
+tr_by_one args a = if misnamed a then None else tr_of_one args (first_set args a)
 
 abbrev pub tr_by_two : ArgsValue → Text → Text → Option TrValue
-tr_by_two args a b = if has_class 0 a || has_class 0 b then None else tr_of_two args (first_set args a) (set_of b)
+tr_by_two args a b = if misnamed a || misnamed b then None else tr_of_two args (first_set args a) (set_of b)
 
--- none where the operands are too few or too many, where a class stands in a set, or where B is empty
+-- none where the operands are too few or too many, where a set names a class that there isn't, or where B is empty
 abbrev pub tr_of : ArgsValue → List Text → Option TrValue
 tr_of args [] = None
 tr_of args (a ∷ []) = tr_by_one args a

@@ -5,7 +5,7 @@ ghost use Rattle.ut_select.specs.Sets.{set_of};
 
 use crate::cut::Cut;
 use crate::ranges::ranges_of;
-use crate::sets::{complement, has_class, is_empty, set_of};
+use crate::sets::{complement, is_empty, misnamed, set_of};
 use crate::tr::Tr;
 use rk_base::{Bytes, NoMemory, WordList};
 use std::alloc::Global;
@@ -139,7 +139,7 @@ fn tr_of_two(alloc: Global, args: &Args, a: Vec<u8>, b: Vec<u8>) -> Result<Optio
 fn tr_by_one(alloc: Global, args: &Args, a: &[u8]) -> Result<Option<Tr>, NoMemory>
     ensures { IfOk result (λ o. o ≡ tr_by_one args.now a.now) }
 {
-    if has_class(a) {
+    if misnamed(a) {
         return Ok(None);
     }
     let a = first_set(alloc, args, a)?;
@@ -149,7 +149,7 @@ fn tr_by_one(alloc: Global, args: &Args, a: &[u8]) -> Result<Option<Tr>, NoMemor
 fn tr_by_two(alloc: Global, args: &Args, a: &[u8], b: &[u8]) -> Result<Option<Tr>, NoMemory>
     ensures { IfOk result (λ o. o ≡ tr_by_two args.now a.now b.now) }
 {
-    if has_class(a) || has_class(b) {
+    if misnamed(a) || misnamed(b) {
         return Ok(None);
     }
     let a = first_set(alloc, args, a)?;

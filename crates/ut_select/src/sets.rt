@@ -1,12 +1,14 @@
 // The sets of `tr`.
-ghost use Rattle.std.specs.Prelude.{◌≡◌, ◌++◌, ◌∷◌, [], ℕ, suc, not, IfOk, OnOk};
+ghost use Rattle.std.specs.Prelude.{◌≡◌, ◌++◌, ◌∷◌, ◌≤◌, [], ℕ, suc, not, length, IfOk, IfSome, MatchOption, OnOk};
 ghost use Rattle.std.specs.List.{filter};
 ghost use Rattle.rk_base.specs.Canonical.{is_empty};
+ghost use Rattle.sh_pattern.specs.Classes.{in_class};
 ghost use Rattle.ut_args.specs.Forms.{is_octal};
-ghost use Rattle.ut_select.specs.Sets.{unit, digit_more, two_more, letter, escaped, unit_of, ranged, item, range, set_within, set_of, has_class, is_member, complement};
+ghost use Rattle.ut_select.specs.Sets.{unit, digit_more, two_more, letter, escaped, unit_of, ranged, item, range, class_bytes, class_in, part, set_within, set_of, has_end, names_class, is_unknown, misnamed, is_member, complement};
 ghost use Rattle.ut_select.specs.Items.{IsUnit, IsItem};
 
 use rk_base::NoMemory;
+use sh_pattern::{Class, class_at};
 use std::alloc::Global;
 
 /// A byte as it is written in a set, and what stands after it.
@@ -179,18 +181,73 @@ fn push_range(low: u8, high: u8, set: &mut Vec<u8>) -> Result<(), NoMemory>
     Ok(())
 }
 
-// One item, and what stands after it.
+// The class that begins with this byte and this text, and how many bytes it takes beyond the first.
+fn class_in(b: u8, rest: &[u8]) -> Option<(Class, usize)>
+    ensures value { result ≡ class_in b rest.now }
+    ensures within { IfSome result (λ r. r.1 ≤ length rest.now) }
+{
+    if b == b'[' { class_at(rest) } else { None }
+}
+
+fn push_where(class: Class, b: u8, bytes: &mut Vec<u8>) -> Result<(), NoMemory>
+    ensures { OnOk result (bytes.new.items ≡ bytes.old.items ++ filter (in_class class) (b ∷ [])) }
+{
+    if class.holds(b) {
+        bytes.push(b)?;
+    }
+    Ok(())
+}
+
+// The bytes of a class, ascending.
+fn class_bytes(alloc: Global, class: Class) -> Result<Vec<u8>, NoMemory>
+    ensures { IfOk result (λ bytes. bytes.items ≡ class_bytes class) }
+{
+    let mut bytes = Vec::new(alloc);
+    for i in 0..256u16 {
+        push_where(class, i as u8, &mut bytes)?;
+    }
+    Ok(bytes)
+}
+
+fn push_class(alloc: Global, class: Class, set: &mut Vec<u8>) -> Result<(), NoMemory>
+    ensures { OnOk result (set.new.items ≡ set.old.items ++ class_bytes class) }
+{
+    let bytes = class_bytes(alloc, class)?;
+    set.extend_from_slice(bytes.as_slice())?;
+    Ok(())
+}
+
+// A part of a set that begins with this byte and this text, and what stands after it.
+fn push_part<'a>(
+    alloc: Global,
+    b: u8,
+    rest: &'a [u8],
+    set: &mut Vec<u8>,
+) -> Result<&'a [u8], NoMemory>
+    ensures bytes { OnOk result (set.new.items ≡ set.old.items ++ (part b rest.now).bytes) }
+    ensures rest { IfOk result (λ after. after.now ≡ (part b rest.now).rest) }
+{
+    match class_in(b, rest) {
+        Some((class, length)) => {
+            push_class(alloc, class, set)?;
+            Ok(rest.split_at(length).1)
+        }
+        None => {
+            let item = item_after(b, rest);
+            push_range(item.low, item.high, set)?;
+            Ok(item.rest)
+        }
+    }
+}
+
+// One part, and what stands after it.
 #[tactic(auto, using(crate::proofs::SetLemmas::nothing_within))]
-fn push_item<'a>(text: &'a [u8], set: &mut Vec<u8>) -> Result<&'a [u8], NoMemory>
+fn push_item<'a>(alloc: Global, text: &'a [u8], set: &mut Vec<u8>) -> Result<&'a [u8], NoMemory>
     ensures { IfOk result (λ rest. (n : ℕ) → set.new.items ++ set_within n rest.now ≡ set.old.items ++ set_within (suc n) text.now) }
 {
     match text {
         [] => Ok(text),
-        [b, rest @ ..] => {
-            let item = item_after(*b, rest);
-            push_range(item.low, item.high, set)?;
-            Ok(item.rest)
-        }
+        [b, rest @ ..] => push_part(alloc, *b, rest, set),
     }
 }
 
@@ -202,22 +259,82 @@ pub(crate) fn set_of(alloc: Global, text: &[u8]) -> Result<Vec<u8>, NoMemory>
     let mut rest = text;
     let mut left = text.len();
     'items: while left > 0 {
-        rest = push_item(rest, &mut set)?;
+        rest = push_item(alloc, rest, &mut set)?;
         left -= 1;
     }
     Ok(set)
 }
 
-/// Whether `[:` stands in a text.
-pub(crate) fn has_class(text: &[u8]) -> bool
-    ensures { result ≡ has_class 0 text.now }
+// Whether `:]` stands in a text.
+fn has_end(text: &[u8]) -> bool
+    ensures { result ≡ has_end 0 text.now }
 {
     let mut last = 0;
     for b in text {
-        if last == b'[' && *b == b':' {
+        if last == b':' && *b == b']' {
             return true;
         }
         last = *b;
+    }
+    false
+}
+
+fn names_class(text: &[u8]) -> bool
+    ensures { result ≡ names_class text.now }
+{
+    match text {
+        [] => false,
+        [b, rest @ ..] => *b == b':' && has_end(rest),
+    }
+}
+
+// Whether a class is named here that there isn't.
+fn is_unknown(b: u8, rest: &[u8]) -> bool
+    ensures { result ≡ is_unknown (class_in b rest.now) b rest.now }
+{
+    match class_in(b, rest) {
+        Some(_) => false,
+        None => b == b'[' && names_class(rest),
+    }
+}
+
+// What stands after the part of a set that begins with this byte and this text.
+fn after_part<'a>(b: u8, rest: &'a [u8]) -> &'a [u8]
+    ensures { result.now ≡ (part b rest.now).rest }
+{
+    match class_in(b, rest) {
+        Some((_, length)) => rest.split_at(length).1,
+        None => item_after(b, rest).rest,
+    }
+}
+
+fn front(text: &[u8]) -> Option<(u8, &[u8])>
+    ensures { MatchOption result (text.now ≡ []) (λ r. text.now ≡ r.0 ∷ r.1.now) }
+{
+    match text {
+        [] => None,
+        [b, rest @ ..] => Some((*b, rest)),
+    }
+}
+
+/// Whether a set names a class that there isn't.
+#[tactic(auto, using(crate::proofs::SetLemmas::nothing_misnamed))]
+pub(crate) fn misnamed(text: &[u8]) -> bool
+    ensures { result ≡ misnamed text.now }
+{
+    let mut rest = text;
+    let mut left = text.len();
+    'parts: while left > 0 {
+        match front(rest) {
+            None => return false,
+            Some((b, after)) => {
+                if is_unknown(b, after) {
+                    return true;
+                }
+                rest = after_part(b, after);
+            }
+        }
+        left -= 1;
     }
     false
 }

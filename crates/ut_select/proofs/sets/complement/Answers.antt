@@ -7,4 +7,4 @@ pub loop-i-preserved : goal.loop-i-preserved
 loop-i-preserved c = others_step (λ (b : ℕ). not (is_member c.args.set.now b)) c.loop-i.i _ _ _ c.in_ok-push_other.ensures c.loop-i.invariant (omega arith)
 
 pub returns : goal.returns
-returns c = others_whole c.args.set.now c.loop-i.others.items c.loop-i.i (omega arith) c.loop-i.invariant
+returns c = others_whole (λ (b : ℕ). not (is_member c.args.set.now b)) c.loop-i.others.items c.loop-i.i (omega arith) c.loop-i.invariant
