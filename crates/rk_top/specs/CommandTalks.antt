@@ -4,7 +4,7 @@ use Rattle.rk_base.specs.Text.{Text}
 use Rattle.rk_calls.specs.Keys.{KeyValue, takes_variables}
 use Rattle.rk_calls.specs.Talk.{Says}
 use Rattle.rk_calls.specs.Views.{IsCommandTalk, talk-pay, talk-if}
-use Rattle.rk_top.specs.First.{says_or, copy_or, file_or, grep_or, sort_or, select_or, plain_or, utility_or, builtin_or, named_of, says_of, first_talk}
+use Rattle.rk_top.specs.First.{says_or, find_or, copy_or, file_or, grep_or, sort_or, select_or, plain_or, utility_or, builtin_or, named_of, says_of, first_talk}
 use Rattle.rk_top.specs.UnknownTalk.{is_unknown}
 use Rattle.sh_builtin.specs.Commands.{builtin_command}
 use Rattle.sh_builtin.specs.Laws.{talk-builtin_command}
@@ -13,6 +13,8 @@ use Rattle.sh_means.specs.StartLaws.{shell-talk}
 use Rattle.ut_args.specs.Usage.{talk-complains}
 use Rattle.ut_copy.specs.Utilities.{copy_utility, talk-copy_utility}
 use Rattle.ut_files.specs.Utilities.{file_utility, talk-file_utility}
+use Rattle.ut_find.specs.Starts.{find_utility}
+use Rattle.ut_find.specs.Laws.{talk-find_utility}
 use Rattle.ut_grep.specs.Starts.{grep_utility}
 use Rattle.ut_grep.specs.Laws.{talk-grep_utility}
 use Rattle.ut_select.specs.Starts.{select_utility}
@@ -31,8 +33,11 @@ talk-says_or : (o : Option Says) (other : Says) → IfSome o IsCommandTalk → I
 talk-says_or (Some says) other is_talk other_is = is_talk
 talk-says_or None other is_talk other_is = other_is
 
+talk-find_or : (wd : Text) (argv : List Text) (other : Says) → IsCommandTalk other → IsCommandTalk (find_or wd argv other)
+talk-find_or wd argv other is_talk = talk-says_or (find_utility wd argv) other (talk-find_utility wd argv) is_talk
+
 talk-copy_or : (wd : Text) (argv : List Text) (other : Says) → IsCommandTalk other → IsCommandTalk (copy_or wd argv other)
-talk-copy_or wd argv other is_talk = talk-says_or (copy_utility wd argv) other (talk-copy_utility wd argv) is_talk
+talk-copy_or wd argv other is_talk = talk-says_or (copy_utility wd argv) _ (talk-copy_utility wd argv) (talk-find_or wd argv other is_talk)
 
 talk-file_or : (wd : Text) (argv : List Text) (other : Says) → IsCommandTalk other → IsCommandTalk (file_or wd argv other)
 talk-file_or wd argv other is_talk = talk-says_or (file_utility wd argv) _ (talk-file_utility wd argv) (talk-copy_or wd argv other is_talk)

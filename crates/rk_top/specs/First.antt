@@ -9,6 +9,7 @@ use Rattle.sh_tree.proofs.ReadAs.{reads}
 use Rattle.sh_means.specs.Starts.{shell_says}
 use Rattle.ut_copy.specs.Utilities.{copy_utility}
 use Rattle.ut_files.specs.Utilities.{file_utility}
+use Rattle.ut_find.specs.Starts.{find_utility}
 use Rattle.ut_grep.specs.Starts.{grep_utility}
 use Rattle.ut_plain.specs.Starts.{plain_utility}
 use Rattle.ut_select.specs.Starts.{select_utility}
@@ -20,9 +21,13 @@ abbrev pub says_or : Option Says → Says → Says
 says_or (Some says) other = says
 says_or None other = other
 
--- the utility of the first word that copies or moves, or else this
+-- `find`, or else this
+abbrev pub find_or : Text → List Text → Says → Says
+find_or wd argv other = says_or (find_utility wd argv) other
+
+-- the utility of the first word that copies or moves, or else `find`, or else this
 abbrev pub copy_or : Text → List Text → Says → Says
-copy_or wd argv other = says_or (copy_utility wd argv) other
+copy_or wd argv other = says_or (copy_utility wd argv) (find_or wd argv other)
 
 -- its file utility, or else one of those, or else this
 abbrev pub file_or : Text → List Text → Says → Says

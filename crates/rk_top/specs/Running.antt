@@ -4,13 +4,14 @@ use Rattle.rk_calls.specs.declared.answer.Answer.{Answer}
 use Rattle.rk_calls.specs.declared.answer.Answer.TheVariants.{Go}
 use Rattle.rk_calls.specs.Talk.{Says, pay}
 use Rattle.rk_top.specs.declared.command.Running.{Running}
-use Rattle.rk_top.specs.declared.command.Running.TheVariants.{Complains, Shells, Builtins, Texts, Plain, Selects, Sorts, Greps, Files, Copies}
+use Rattle.rk_top.specs.declared.command.Running.TheVariants.{Complains, Shells, Builtins, Texts, Plain, Selects, Sorts, Greps, Files, Copies, Finds}
 use Rattle.rk_top.specs.declared.command.Command.{Command}
 use Rattle.sh_builtin.specs.Commands.{command_talk as builtin_talk}
 use Rattle.sh_eval.specs.Starting.{shell_talk}
 use Rattle.ut_args.specs.Usage.{complaint_talk}
 use Rattle.ut_copy.specs.Utilities.{copy_talk}
 use Rattle.ut_files.specs.Utilities.{file_talk}
+use Rattle.ut_find.specs.Utilities.{find_talk}
 use Rattle.ut_grep.specs.Utilities.{grep_talk}
 use Rattle.ut_plain.specs.Utilities.{plain_talk}
 use Rattle.ut_select.specs.Utilities.{select_talk}
@@ -28,6 +29,7 @@ running_talk (Sorts m) a = sort_talk m a
 running_talk (Greps m) a = grep_talk m a
 running_talk (Files m) a = file_talk m a
 running_talk (Copies m) a = copy_talk m a
+running_talk (Finds m) a = find_talk m a
 
 -- before it has paid for its start, and afterwards
 abbrev pub paid_talk : Bool → (Answer → Says) → Answer → Says

@@ -3,7 +3,7 @@ ghost use Rattle.std.specs.Prelude.{◌≡◌, IfOk};
 ghost use Rattle.std.specs.List.{list_any};
 ghost use Rattle.rk_base.specs.Text.{is_slash};
 ghost use Rattle.rk_calls.specs.Keys.{takes_variables};
-ghost use Rattle.rk_top.specs.First.{says_of, named_of, copy_or, file_or, grep_or, sort_or, select_or, plain_or, utility_or, builtin_or, first_talk};
+ghost use Rattle.rk_top.specs.First.{says_of, named_of, find_or, copy_or, file_or, grep_or, sort_or, select_or, plain_or, utility_or, builtin_or, first_talk};
 ghost use Rattle.rk_top.specs.Running.{running_talk, command_talk};
 ghost use Rattle.rk_top.specs.UnknownTalk.{is_unknown};
 
@@ -15,6 +15,7 @@ use std::alloc::Global;
 use ut_args::Complaint;
 use ut_copy::CopyUtility;
 use ut_files::FileUtility;
+use ut_find::FindUtility;
 use ut_grep::GrepUtility;
 use ut_plain::PlainUtility;
 use ut_select::SelectUtility;
@@ -33,6 +34,7 @@ enum Running {
     Greps(GrepUtility),
     Files(FileUtility),
     Copies(CopyUtility),
+    Finds(FindUtility),
 }
 
 /// The command of a key, as a machine (XCU 2.9.1): a shell where the first word is `sh` or has a slash, else the builtin or
@@ -52,14 +54,25 @@ fn unknown(alloc: Global, name: &[u8]) -> Result<Running, NoMemory>
     Ok(Running::Complains(complaint))
 }
 
-// A utility that copies or moves, or an unknown name.
+// `find`, or an unknown name.
+fn find_utility(alloc: Global, wd: &Path, argv: &WordList, name: &[u8]) -> Result<Running, NoMemory>
+    ensures { IfOk result (λ r. running_talk r Answer.Go ≡ find_or wd.now argv.now (is_unknown name.now)) }
+{
+    let found = FindUtility::start(alloc, wd, argv)?;
+    match found {
+        Some(utility) => Ok(Running::Finds(utility)),
+        None => unknown(alloc, name),
+    }
+}
+
+// A utility that copies or moves, `find`, or an unknown name.
 fn copy_utility(alloc: Global, wd: &Path, argv: &WordList, name: &[u8]) -> Result<Running, NoMemory>
     ensures { IfOk result (λ r. running_talk r Answer.Go ≡ copy_or wd.now argv.now (is_unknown name.now)) }
 {
     let found = ut_copy::start(alloc, wd, argv)?;
     match found {
         Some(utility) => Ok(Running::Copies(utility)),
-        None => unknown(alloc, name),
+        None => find_utility(alloc, wd, argv, name),
     }
 }
 
@@ -217,6 +230,7 @@ impl Machine for Running {
             Running::Greps(machine) => machine.resume(answer),
             Running::Files(machine) => machine.resume(answer),
             Running::Copies(machine) => machine.resume(answer),
+            Running::Finds(machine) => machine.resume(answer),
         }
     }
 }

@@ -1,7 +1,7 @@
 use Rattle.std.proofs.Common.{◌≡◌, ℕ, IfOk, sym, subst}
 use Rattle.rk_calls.specs.Talk.{after}
 use Rattle.rk_top.specs.declared.command.Running.{Running}
-use Rattle.rk_top.specs.declared.command.Running.TheVariants.{Complains, Shells, Builtins, Texts, Plain, Selects, Sorts, Greps, Files, Copies}
+use Rattle.rk_top.specs.declared.command.Running.TheVariants.{Complains, Shells, Builtins, Texts, Plain, Selects, Sorts, Greps, Files, Copies, Finds}
 use Rattle.rk_top.specs.Running.{running_talk}
 use Rattle.rk_top.proofs.command.RunningMachine.resume.Goals as goal
 
@@ -34,6 +34,11 @@ pub returns-in-Copies-clause-talk : goal.returns-in-Copies-clause-talk
 returns-in-Copies-clause-talk c =
     let P : Running → Type 0 = λ r. IfOk c.resume-in-Copies.result (λ t. (p : ℕ) → running_talk r c.args.answer p ≡ after t (running_talk (Copies c.resume-in-Copies.new.self)) p) in
     subst P (sym c.in-Copies.is) c.resume-in-Copies.ensures.talk
+
+pub returns-in-Finds-clause-talk : goal.returns-in-Finds-clause-talk
+returns-in-Finds-clause-talk c =
+    let P : Running → Type 0 = λ r. IfOk c.resume-in-Finds.result (λ t. (p : ℕ) → running_talk r c.args.answer p ≡ after t (running_talk (Finds c.resume-in-Finds.new.self)) p) in
+    subst P (sym c.in-Finds.is) c.resume-in-Finds.ensures.talk
 
 pub returns-in-Plain-clause-talk : goal.returns-in-Plain-clause-talk
 returns-in-Plain-clause-talk c =
