@@ -3,6 +3,7 @@ use Rattle.std.proofs.Common.{◌≡◌, ℕ, zero, suc, ◌+◌, Bool, true, fa
 use Rattle.std.proofs.Math.Seq.{drop-nil}
 use Rattle.std.specs.declared.rc.Rc.{Rc}
 use Rattle.std.specs.declared.alloc.Global.{Global}
+use Rattle.std.specs.Global.{Box}
 use Rattle.std.specs.List.{slice_get}
 use Rattle.rk_calls.specs.declared.answer.Answer.TheVariants.{Go}
 use Rattle.rk_calls.specs.declared.call.Call.TheVariants.{Pipe}
@@ -68,7 +69,7 @@ stage_more l t u at input pl k e p ht hu =
     ∙ ap (λ (L : List Means). asks Pipe 1 (λ a. waits_on (command_in run t ∷ L) L pl input e.env.next k) e p) (sym h2)
     ∙ ap (λ (L : List Means). asks Pipe 1 (λ a. waits_on L (commands_from l.value (at + 1)) pl input e.env.next k) e p) (sym h1)
 
-pub stage_last : (l : Rc CommandList Global) (t : tree.CommandTree) (at : ℕ) (saved : SavedState) (input : Option ℕ) (pl : Place) (k k' : Next) (e e' : Shell) (p : ℕ) → Some t ≡ command_at (tree.commands l.value) at → None ≡ command_at (tree.commands l.value) (at + 1) → ((x : Shell) → back_to saved x ≡ back e x) → k' ≡ undone (undo.Subshell saved) k → e' ≡ with_input input e → stages_mean input (commands_from l.value at) pl k e p ≡ resumed (control.One pl l at) k' Go e' p
+pub stage_last : (l : Rc CommandList Global) (t : tree.CommandTree) (at : ℕ) (saved : Box SavedState) (input : Option ℕ) (pl : Place) (k k' : Next) (e e' : Shell) (p : ℕ) → Some t ≡ command_at (tree.commands l.value) at → None ≡ command_at (tree.commands l.value) (at + 1) → ((x : Shell) → back_to saved.value x ≡ back e x) → k' ≡ undone (undo.Subshell saved) k → e' ≡ with_input input e → stages_mean input (commands_from l.value at) pl k e p ≡ resumed (control.One pl l at) k' Go e' p
 stage_last l t at saved input pl k k' e e' p ht hn hs hk he =
     let cs = tree.commands l.value in
     let h1 = commands_some cs at t ht in
@@ -79,7 +80,7 @@ stage_last l t at saved input pl k k' e e' p ht hn hs hk he =
     ∙ ap (λ (L : List Means). first_of L pl e' k' p) (sym h1)
 
 -- a stage begins, above a frame for those behind it
-pub stage_begun : (l rest : Rc CommandList Global) (at : ℕ) (saved : SavedState) (input : Option ℕ) (n w : ℕ) (pl : Place) (k k' : Next) (e e1 e' : Shell) (p : ℕ) → rest.value ≡ l.value → ((x : Shell) → back_to saved x ≡ back e x) → w ≡ n + 1 → k' ≡ surrounded (around.Stage pl rest (at + 1) n e.env.status saved) k → e1 ≡ with_input input e → e' ≡ with_slot 1 (Some w) e1 → first_of (commands_from l.value at) pl (with_slot 1 (Some (n + 1)) (with_input input e)) (λ f x. stages_mean (Some n) (commands_from l.value (at + 1)) pl k (past_stage e x)) p ≡ first_of (commands_from l.value at) pl e' k' p
+pub stage_begun : (l rest : Rc CommandList Global) (at : ℕ) (saved : Box SavedState) (input : Option ℕ) (n w : ℕ) (pl : Place) (k k' : Next) (e e1 e' : Shell) (p : ℕ) → rest.value ≡ l.value → ((x : Shell) → back_to saved.value x ≡ back e x) → w ≡ n + 1 → k' ≡ surrounded (around.Stage pl rest (at + 1) n e.env.status saved) k → e1 ≡ with_input input e → e' ≡ with_slot 1 (Some w) e1 → first_of (commands_from l.value at) pl (with_slot 1 (Some (n + 1)) (with_input input e)) (λ f x. stages_mean (Some n) (commands_from l.value (at + 1)) pl k (past_stage e x)) p ≡ first_of (commands_from l.value at) pl e' k' p
 stage_begun l rest at saved input n w pl k k' e e1 e' p hr hs hw hk h1 he =
     let ms = commands_from l.value at in
     let e0 = with_slot 1 (Some (n + 1)) (with_input input e) in

@@ -3,6 +3,7 @@ use Rattle.std.proofs.Common.{◌≡◌, ℕ, ◌+◌, ◌<◌, ◌≤◌, Bool,
 use Rattle.std.proofs.lemmas.List.{drop_all}
 use Rattle.std.specs.declared.rc.Rc.{Rc}
 use Rattle.std.specs.declared.alloc.Global.{Global}
+use Rattle.std.specs.Global.{Box}
 use Rattle.std.specs.List.{slice_get}
 use Rattle.rk_base.specs.Text.{Text}
 use Rattle.rk_calls.specs.Lines.{error_line}
@@ -34,7 +35,7 @@ use Rattle.sh_means.specs.Views.{back_to}
 use Rattle.sh_means.specs.Words.{assigns}
 use Rattle.sh_compound.proofs.Branching.{get_drop, get_none}
 
-pub subshell_entered : (l0 : CommandList) (l : Rc CommandList Global) (saved : SavedState) (pl : Place) (k k1 k2 : Next) (e : Shell) (p : ℕ) → l.value ≡ l0 → ((x : Shell) → back_to saved x ≡ back e x) → k1 ≡ surrounded (around.Watch pl) k → k2 ≡ undone (undo.Subshell saved) k1 → subshell_means (whole l0) pl e k p ≡ whole l.value pl e k2 p
+pub subshell_entered : (l0 : CommandList) (l : Rc CommandList Global) (saved : Box SavedState) (pl : Place) (k k1 k2 : Next) (e : Shell) (p : ℕ) → l.value ≡ l0 → ((x : Shell) → back_to saved.value x ≡ back e x) → k1 ≡ surrounded (around.Watch pl) k → k2 ≡ undone (undo.Subshell saved) k1 → subshell_means (whole l0) pl e k p ≡ whole l.value pl e k2 p
 subshell_entered l0 l saved pl k k1 k2 e p hl hs h1 h2 =
     ap (λ (c : CommandList). whole c pl e (λ f x. surrounded (around.Watch pl) k Normal (back e x)) p) (sym hl)
     ∙ ap (λ (K : Next). whole l.value pl e (λ f x. K Normal (back e x)) p) (sym h1)

@@ -2,6 +2,7 @@
 use Rattle.std.proofs.Common.{◌≡◌, ℕ, ◌+◌, Bool, true, false, List, [], drop, Some, None, refl, sym, ap, subst, ◌∙◌}
 use Rattle.std.specs.declared.rc.Rc.{Rc}
 use Rattle.std.specs.declared.alloc.Global.{Global}
+use Rattle.std.specs.Global.{Box}
 use Rattle.rk_base.specs.Text.{Text}
 use Rattle.rk_calls.specs.Talk.{Says, pay}
 use Rattle.rk_calls.specs.declared.answer.Answer.TheVariants.{Go}
@@ -23,7 +24,8 @@ use Rattle.sh_means.specs.declared.control.Then.TheVariants as then
 use Rattle.sh_means.specs.declared.control.Wordy.TheVariants as wordy
 use Rattle.sh_means.specs.declared.flow.Flow.TheVariants.{Normal}
 use Rattle.sh_means.specs.declared.flow.Place.{Place}
-use Rattle.sh_means.specs.Compound.{seq_all, and_or_means, links_mean, piped_means, pipeline_means, stages_mean, compound_means, define_means}
+use Rattle.sh_redirect.specs.declared.descriptors.Descriptors.{Descriptors}
+use Rattle.sh_means.specs.Compound.{seq_all, and_or_means, links_mean, piped_means, pipeline_means, stages_mean, made_compound, refused_compound, compound_means, define_means}
 use Rattle.sh_means.specs.Eval.{command_in, commands_in, compound_in, redirects_in, simple_in, whole_in}
 use Rattle.sh_means.specs.Flows.{Next, Means, and_then, ignoring}
 use Rattle.sh_means.specs.Run.{run}
@@ -31,7 +33,7 @@ use Rattle.sh_means.specs.Simple.{redirects_and_works}
 use Rattle.sh_means.specs.Stack.{Goes, commands_from, words_from, assigns_from, redirects_from, then_means, first_of, whole, surrounded, resumed}
 use Rattle.sh_means.specs.State.{Shell, with_status, define, function_tree}
 use Rattle.sh_means.specs.Trees.{is_one, cleared}
-use Rattle.sh_means.specs.Words.{expand_words}
+use Rattle.sh_means.specs.Words.{expand_words, named, redirect_all}
 use Rattle.sh_means.proofs.Folding.{simple_is}
 use Rattle.sh_means.proofs.Places.{commands_some, commands_none}
 
@@ -42,10 +44,11 @@ simple_entered c r ws fields pl k e p hr hw hf =
     ∙ ap (λ (w : Words). pay 1 (expand_words (words_from w 0) [] false pl (then_means (then.Simple r) pl k) k e) p) (ap (λ (c : SimpleCommand). (out-SimpleCommand c).words.value) hr ∙ sym hw)
     ∙ ap (λ (fs : List Text). pay 1 (expand_words (words_from ws.value 0) fs false pl (then_means (then.Simple r) pl k) k e) p) (sym hf)
 
-pub compound_entered : (rs0 : Redirects) (b0 : a_compound.Compound) (rs : Rc Redirects Global) (b : Rc a_compound.Compound Global) (pl : Place) (k : Next) (e : Shell) (p : ℕ) → rs.value ≡ rs0 → b.value ≡ b0 → compound_means (redirects_in run (tree.redirects rs0)) (compound_in run (tree.compound b0)) pl e k p ≡ pay 1 (resumed (control.Wordy (wordy.Make pl (record { redirects = rs; at = 0; before = e.descriptors; ran = false; made = made.Compound b }))) k Go e) p
-compound_entered rs0 b0 rs b pl k e p hr hb =
+pub compound_entered : (rs0 : Redirects) (b0 : a_compound.Compound) (rs : Rc Redirects Global) (b : Rc a_compound.Compound Global) (before : Box Descriptors) (pl : Place) (k : Next) (e : Shell) (p : ℕ) → rs.value ≡ rs0 → b.value ≡ b0 → before.value ≡ e.descriptors → compound_means (redirects_in run (tree.redirects rs0)) (compound_in run (tree.compound b0)) pl e k p ≡ pay 1 (resumed (control.Wordy (wordy.Make pl (record { redirects = rs; at = 0; before = before; ran = false; made = made.Compound b }))) k Go e) p
+compound_entered rs0 b0 rs b before pl k e p hr hb hd =
     ap (λ (R : Redirects). compound_means (redirects_from R 0) (compound_in run (tree.compound b0)) pl e k p) (sym hr)
     ∙ ap (λ (B : a_compound.Compound). compound_means (redirects_from rs.value 0) (compound_in run (tree.compound B)) pl e k p) (sym hb)
+    ∙ ap (λ (ds : Descriptors). pay 1 (redirect_all (redirects_from rs.value 0) false pl (made_compound (compound_in run (tree.compound b.value)) (named (redirects_from rs.value 0)) ds pl k) (refused_compound (named (redirects_from rs.value 0)) ds pl k) k e) p) (sym hd)
 
 pub function_defined : (name name' : Text) (b0 : a_compound.Compound) (b : Rc a_compound.Compound Global) (rs0 : Redirects) (rs : Rc Redirects Global) (pl : Place) (k : Next) (e e' : Shell) (p : ℕ) → name' ≡ name → b.value ≡ b0 → rs.value ≡ rs0 → e' ≡ define name' (function_tree (tree.compound b.value) (tree.redirects rs.value)) e → define_means name (function_tree (tree.compound b0) (tree.redirects rs0)) pl e k p ≡ pay 1 (k Normal (with_status 0 e')) p
 function_defined name name' b0 b rs0 rs pl k e e' p hn hb hr he =

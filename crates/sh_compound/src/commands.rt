@@ -48,6 +48,7 @@ fn act_simple(alloc: Global, place: Place, command: &Rc<SimpleCommand>) -> Resul
 
 /// A compound command begins with its redirections.
 pub fn act_compound(
+    alloc: Global,
     place: Place,
     body: &Rc<Compound>,
     redirects: &Rc<Redirects>,
@@ -58,12 +59,13 @@ pub fn act_compound(
 {
     let redirects = redirects.clone()?;
     let body = body.clone()?;
+    let before = Box::new(alloc, state.descriptors)?;
     Ok(paid(Control::Wordy(Wordy::Make(
         place,
         Making {
             redirects,
             at: 0,
-            before: state.descriptors,
+            before,
             ran: false,
             made: Made::Compound(body),
         },
@@ -172,7 +174,7 @@ fn act_command(
             Ok(acted)
         }
         Command::Compound(body, redirects) => {
-            let acted = act_compound(place, body, redirects, state)?;
+            let acted = act_compound(alloc, place, body, redirects, state)?;
             Ok(acted)
         }
         Command::Function(name, body, redirects) => {

@@ -54,6 +54,7 @@ fn act_inside(
             Ok(free(control))
         }
         Inside::Called(place, callee) => act_redirected(
+            alloc,
             place,
             &callee.body,
             &callee.redirects,
@@ -89,7 +90,7 @@ fn act_wordy(
             Ok(free(control))
         }
         Wordy::Expand(wording) => act_expand(alloc, wording, answer, stack, state),
-        Wordy::Deliver(place, aim, expanded) => deliver(alloc, place, aim, expanded, state),
+        Wordy::Deliver(wording, expanded) => deliver(alloc, wording, expanded, state),
         Wordy::Make(place, left) => {
             let control = next_redirect(alloc, place, left, stack, state)?;
             Ok(free(control))

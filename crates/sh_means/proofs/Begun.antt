@@ -2,6 +2,7 @@
 use Rattle.std.proofs.Common.{◌≡◌, ℕ, ◌+◌, Bool, List, ◌∷◌, Some, None, sym, ap, subst, ◌∙◌}
 use Rattle.std.specs.declared.rc.Rc.{Rc}
 use Rattle.std.specs.declared.alloc.Global.{Global}
+use Rattle.std.specs.Global.{Box}
 use Rattle.rk_base.specs.Text.{Text}
 use Rattle.rk_calls.specs.Talk.{Says}
 use Rattle.rk_calls.specs.declared.answer.Answer.TheVariants.{Go}
@@ -55,7 +56,7 @@ words_over f pl k e ws p hs is =
 pub assign_begun : (a : Assigning) (pl : Place) (k : Next) (e : Shell) (as' : Assignments) (x : Assignment) (name : Text) (w : Rc Word Global) (ctl : Control) (p : ℕ) → as' ≡ a.assignments.value → w.value ≡ (out-Assignment x).value.value → name ≡ (out-Assignment x).name → Some (tree.assignment x) ≡ assignment_at (tree.assignments as') a.at → Begins mode.Value w.value pl (aim.Value (record a { at = a.at + 1 }) name e.env.next) ctl → assigning a a.ran pl k e p ≡ resumed ctl k Go e p
 assign_begun a pl k e as' x name w ctl p hs hw hn is b =
     let is' = subst (λ (as' : Assignments). Some (tree.assignment x) ≡ assignment_at (tree.assignments as') a.at) hs is in
-    let W : Bool → Go_on = λ ran. works run (kind_of_code a.doing.kind) a.doing.fields ran pl k in
+    let W : Bool → Go_on = λ ran. works run (kind_of_code a.doing.value.kind) a.doing.value.fields ran pl k in
     let rest = assigns_from a.assignments.value (a.at + 1) in
     ap (λ (ms : List AssignMeant). assign_all ms a.exported a.ran pl W k e p) (assigns_some (tree.assignments a.assignments.value) a.at (tree.assignment x) is')
     ∙ ap (λ (s : tree.AssignmentTree). assign_all (assign_meant s ∷ rest) a.exported a.ran pl W k e p) (assignment_is x)
@@ -63,9 +64,9 @@ assign_begun a pl k e as' x name w ctl p hs hw hn is b =
     ∙ ap (λ (v : Word). assign_all (record { name = name; value = word_in run (tree.word v) } ∷ rest) a.exported a.ran pl W k e p) (sym hw)
     ∙ b k e p
 
-pub assigns_over : (a : Assigning) (pl : Place) (k : Next) (e : Shell) (as' : Assignments) (p : ℕ) → as' ≡ a.assignments.value → None ≡ assignment_at (tree.assignments as') a.at → assigning a a.ran pl k e p ≡ works run (kind_of_code a.doing.kind) a.doing.fields a.ran pl k e p
+pub assigns_over : (a : Assigning) (pl : Place) (k : Next) (e : Shell) (as' : Assignments) (p : ℕ) → as' ≡ a.assignments.value → None ≡ assignment_at (tree.assignments as') a.at → assigning a a.ran pl k e p ≡ works run (kind_of_code a.doing.value.kind) a.doing.value.fields a.ran pl k e p
 assigns_over a pl k e as' p hs is =
-    ap (λ (ms : List AssignMeant). assign_all ms a.exported a.ran pl (λ ran. works run (kind_of_code a.doing.kind) a.doing.fields ran pl k) k e p) (assigns_none (tree.assignments a.assignments.value) a.at (subst (λ (as' : Assignments). None ≡ assignment_at (tree.assignments as') a.at) hs is))
+    ap (λ (ms : List AssignMeant). assign_all ms a.exported a.ran pl (λ ran. works run (kind_of_code a.doing.value.kind) a.doing.value.fields ran pl k) k e p) (assigns_none (tree.assignments a.assignments.value) a.at (subst (λ (as' : Assignments). None ≡ assignment_at (tree.assignments as') a.at) hs is))
 
 pub redirect_begun : (m : Making) (pl : Place) (k : Next) (e : Shell) (rs : Redirects) (x : Redirect) (r : kind.Redirect) (w : Rc Word Global) (ctl : Control) (p : ℕ) → rs ≡ m.redirects.value → w.value ≡ (out-Redirect x).operand.value → r ≡ redirect_kind (out-Redirect x).operator → Some (tree.redirect x) ≡ redirect_at (tree.redirects rs) m.at → Begins mode.Value w.value pl (aim.Operand (record m { at = m.at + 1 }) (out-Redirect x).descriptor r e.env.next) ctl → making m m.ran pl k e p ≡ resumed ctl k Go e p
 redirect_begun m pl k e rs x r w ctl p hs hw hr is b =
@@ -81,10 +82,10 @@ pub redirects_over : (m : Making) (pl : Place) (k : Next) (e : Shell) (rs : Redi
 redirects_over m pl k e rs p hs is =
     ap (λ (ms : List RedirectMeant). redirect_all ms m.ran pl (when_made m pl k) (when_refused m pl k) k e p) (redirects_none (tree.redirects m.redirects.value) m.at (subst (λ (rs : Redirects). None ≡ redirect_at (tree.redirects rs) m.at) hs is))
 
-pub made_done : (as' : Rc Assignments Global) (doing : Doing) (ds : List ℕ) (before : Descriptors) (ran : Bool) (pl : Place) (k0 k1 k2 k3 : Next) (e : Shell) (plain exported : Bool) (p : ℕ) → plain ≡ is_plain (kind_of_code doing.kind) → exported ≡ exports (kind_of_code doing.kind) → k1 ≡ surrounded (around.Watch pl) k0 → k2 ≡ unless_kept (keeps (kind_of_code doing.kind)) ds before k1 → k3 ≡ for_its_time plain (names (assigns_from as'.value 0)) e.env.vars k2 → made_go (made.Simple as' doing) ds before pl k0 ran e p ≡ assigning (record { assignments = as'; at = 0; exported = exported; ran = ran; doing = doing }) ran pl k3 e p
+pub made_done : (as' : Rc Assignments Global) (doing : Box Doing) (ds : List ℕ) (before : Descriptors) (ran : Bool) (pl : Place) (k0 k1 k2 k3 : Next) (e : Shell) (plain exported : Bool) (p : ℕ) → plain ≡ is_plain (kind_of_code doing.value.kind) → exported ≡ exports (kind_of_code doing.value.kind) → k1 ≡ surrounded (around.Watch pl) k0 → k2 ≡ unless_kept (keeps (kind_of_code doing.value.kind)) ds before k1 → k3 ≡ for_its_time plain (names (assigns_from as'.value 0)) e.env.vars k2 → made_go (made.Simple as' doing) ds before pl k0 ran e p ≡ assigning (record { assignments = as'; at = 0; exported = exported; ran = ran; doing = doing }) ran pl k3 e p
 made_done as' doing ds before ran pl k0 k1 k2 k3 e plain exported p hp hx h1 h2 h3 =
-    let kd = kind_of_code doing.kind in
-    let done : Bool → Next → Says = λ x k. assign_all (assigns_from as'.value 0) x ran pl (λ ran. works run kd doing.fields ran pl k) k e in
+    let kd = kind_of_code doing.value.kind in
+    let done : Bool → Next → Says = λ x k. assign_all (assigns_from as'.value 0) x ran pl (λ ran. works run kd doing.value.fields ran pl k) k e in
     let k' : Bool → Next → Next = λ x k. for_its_time x (names (assigns_from as'.value 0)) e.env.vars k in
     ap (λ (x : Bool). done x (k' (is_plain kd) (unless_kept (keeps kd) ds before (surrounded (around.Watch pl) k0))) p) (sym hx)
     ∙ ap (λ (x : Bool). done exported (k' x (unless_kept (keeps kd) ds before (surrounded (around.Watch pl) k0))) p) (sym hp)

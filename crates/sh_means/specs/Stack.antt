@@ -107,24 +107,24 @@ abbrev pub fielding : Fielding → Place → Next → Go_on
 fielding f pl k = expand_words (words_from f.words.value f.at) f.fields f.ran pl (then_means f.then pl k) k
 
 abbrev pub made_go : Made → List ℕ → Descriptors → Place → Next → Bool → Go_on
-made_go (made.Simple as' doing) ds before pl k = made_simple run (kind_of_code doing.kind) (assigns_from as'.value 0) ds before doing.fields pl k
+made_go (made.Simple as' doing) ds before pl k = made_simple run (kind_of_code doing.value.kind) (assigns_from as'.value 0) ds before doing.value.fields pl k
 made_go (made.Compound b) ds before pl k = made_compound (compound_in run (tree.compound b.value)) ds before pl k
 
 abbrev pub refused_go : Made → List ℕ → Descriptors → Place → Next → Go_on
-refused_go (made.Simple as' doing) ds before pl k = refused_simple (kind_of_code doing.kind) ds before pl k
+refused_go (made.Simple as' doing) ds before pl k = refused_simple (kind_of_code doing.value.kind) ds before pl k
 refused_go (made.Compound b) ds before pl k = refused_compound ds before pl k
 
 abbrev pub when_made : Making → Place → Next → Bool → Go_on
-when_made m pl k = made_go m.made (named (redirects_from m.redirects.value 0)) m.before pl k
+when_made m pl k = made_go m.made (named (redirects_from m.redirects.value 0)) m.before.value pl k
 
 abbrev pub when_refused : Making → Place → Next → Go_on
-when_refused m pl k = refused_go m.made (named (redirects_from m.redirects.value 0)) m.before pl k
+when_refused m pl k = refused_go m.made (named (redirects_from m.redirects.value 0)) m.before.value pl k
 
 abbrev pub making : Making → Bool → Place → Next → Go_on
 making m ran pl k = redirect_all (redirects_from m.redirects.value m.at) ran pl (when_made m pl k) (when_refused m pl k) k
 
 abbrev pub assigning : Assigning → Bool → Place → Next → Go_on
-assigning a ran pl k = assign_all (assigns_from a.assignments.value a.at) a.exported ran pl (λ ran. works run (kind_of_code a.doing.kind) a.doing.fields ran pl k) k
+assigning a ran pl k = assign_all (assigns_from a.assignments.value a.at) a.exported ran pl (λ ran. works run (kind_of_code a.doing.value.kind) a.doing.value.fields ran pl k) k
 
 abbrev pub case_from : List CaseMeant → ℕ → Text → Place → Next → Go_on
 case_from [] i value pl k = ends Normal 0 k
@@ -168,10 +168,10 @@ waiting (wait.Launched f) k a e = ends f (joined a) k e
 waiting (wait.Stage pl l i input n) k a e = first_of (commands_from l.value i) pl (with_slot 1 (Some (n + 1)) (with_input input e)) (λ f e'. stages_mean (Some n) (commands_from l.value (i + 1)) pl k (past_stage e e'))
 waiting (wait.Opened pl file n) k a e = dot_opened run file n pl k (brought a) e
 waiting (wait.Read pl file) k a e = dot_read run file pl k (brought a) e
-waiting (wait.Redirects pl m r) k a e = redirecting m pl k r a e
+waiting (wait.Redirects pl m r) k a e = redirecting m pl k r.value a e
 waiting (wait.Fails parameter message) k a e = faults parameter message k e
-waiting (wait.Builtin b) k a e = building b k a e
-waiting (wait.Lacks b) k a e = building b k (answer.No BadRef) e
+waiting (wait.Builtin b) k a e = building b.value k a e
+waiting (wait.Lacks b) k a e = building b.value k (answer.No BadRef) e
 
 -- the body of a `for`, and then the fields behind the next one
 abbrev pub each_body : Each → Place → Next → Go_on
@@ -200,8 +200,8 @@ insiding (inside.Stages pl l i input) k e = stages_mean input (commands_from l.v
 
 abbrev pub wordily : Wordy → Next → Answer → Go_on
 wordily (wordy.Words pl f) k a e = fielding f pl k e
-wordily (wordy.Expand w) k a e = wording w k a e
-wordily (wordy.Deliver pl u x) k a e = aimed u pl k x e
+wordily (wordy.Expand w) k a e = wording w.value k a e
+wordily (wordy.Deliver w x) k a e = aimed w.value.aim w.value.place k x e
 wordily (wordy.Make pl m) k a e = making m m.ran pl k e
 wordily (wordy.Assign pl as') k a e = assigning as' as'.ran pl k e
 wordily (wordy.Text pl name text) k a e = run (Reads name text) pl e k
@@ -222,7 +222,7 @@ resumed (control.Leave f) k a e = k f e
 abbrev pub surrounded : Around → Next → Next
 surrounded (around.Rest pl l i) k = and_then (λ e. seq_all (commands_from l.value i) pl e k) k
 surrounded (around.Links pl l i connectors) k = and_then (links_mean (commands_from l.value (i + 1)) (drop i connectors.value.items.items) pl k) k
-surrounded (around.Stage pl l i n status saved) k = λ f e. stages_mean (Some n) (commands_from l.value i) pl k (with_status status (back_to saved e))
+surrounded (around.Stage pl l i n status saved) k = λ f e. stages_mean (Some n) (commands_from l.value i) pl k (with_status status (back_to saved.value e))
 surrounded (around.Watch pl) k = watched pl k
 surrounded around.Invert k = inverted k
 surrounded (around.Condition pl last l) k = after_condition (whole l.body.value) run last (looping l) (tree.commands l.condition.value) (tree.commands l.body.value) pl k
@@ -231,12 +231,12 @@ surrounded (around.Each pl each) k = let go = for_each each.name (drop each.at e
 surrounded (around.Choose pl body bs i otherwise) k = and_then (λ e. by_status e.env.status (λ e. whole body.value pl e k) (λ e. if_means (branches_from bs.value i) (whole otherwise.value) pl e k) e) k
 
 abbrev pub undone : Undo → Next → Next
-undone (undo.Redirected rs before) k = unredirected (named (redirects_from rs.value 0)) before k
+undone (undo.Redirected rs before) k = unredirected (named (redirects_from rs.value 0)) before.value k
 undone (undo.Assigned as' before) k = unassigned (names (assigns_from as'.value 0)) before k
 undone (undo.Function positional) k = λ f e. returned k f (with_positional positional e)
 undone undo.Script k = returned k
-undone (undo.Subshell saved) k = λ f e. k Normal (back_to saved e)
-undone (undo.Substitution w saved) k = λ f e. wording w k answer.Go (back_to saved e)
+undone (undo.Subshell saved) k = λ f e. k Normal (back_to saved.value e)
+undone (undo.Substitution w saved) k = λ f e. wording w.value k answer.Go (back_to saved.value e)
 
 abbrev pub above : Frame → Next → Next
 above (frame.Around x) k = surrounded x k

@@ -109,7 +109,7 @@ pub struct Doing {
 /// What redirections are made for.
 #[derive(Drop)]
 pub enum Made {
-    Simple(Rc<Assignments>, Doing),
+    Simple(Rc<Assignments>, Box<Doing>),
     Compound(Rc<Compound>),
 }
 
@@ -118,7 +118,7 @@ pub enum Made {
 pub struct Making {
     pub redirects: Rc<Redirects>,
     pub at: usize,
-    pub before: Descriptors,
+    pub before: Box<Descriptors>,
     pub ran: bool,
     pub made: Made,
 }
@@ -130,7 +130,7 @@ pub struct Assigning {
     pub at: usize,
     pub exported: bool,
     pub ran: bool,
-    pub doing: Doing,
+    pub doing: Box<Doing>,
 }
 
 /// A `case` at a pattern of an item.
@@ -192,13 +192,13 @@ pub enum Wait {
     /// It is read.
     Read(Place, Bytes),
     /// A redirection is made.
-    Redirects(Place, Making, Redirecting),
+    Redirects(Place, Making, Box<Redirecting>),
     /// An expansion fault is told: a parameter and a message.
     Fails(Bytes, Bytes),
     /// A builtin runs.
-    Builtin(Builtin),
+    Builtin(Box<Builtin>),
     /// It has named a descriptor that the map lacks.
-    Lacks(Builtin),
+    Lacks(Box<Builtin>),
 }
 
 /// A part of a compound command that comes next.
@@ -223,9 +223,9 @@ pub enum Inside {
 #[derive(Drop)]
 pub enum Wordy {
     Words(Place, Fielding),
-    Expand(Wording),
+    Expand(Box<Wording>),
     /// What a word gave.
-    Deliver(Place, Aim, Expanded),
+    Deliver(Box<Wording>, Expanded),
     Make(Place, Making),
     Assign(Place, Assigning),
     /// A text under its name.
@@ -271,7 +271,7 @@ pub enum Around {
     Rest(Place, Rc<CommandList>, usize),
     Links(Place, Rc<CommandList>, usize, Rc<Connectors>),
     /// After a stage, whose pipe has this read end; the status is the one before the pipeline.
-    Stage(Place, Rc<CommandList>, usize, u64, u8, SavedState),
+    Stage(Place, Rc<CommandList>, usize, u64, u8, Box<SavedState>),
     Watch(Place),
     Invert,
     Condition(Place, u8, Loop),
@@ -284,12 +284,12 @@ pub enum Around {
 /// What is undone after a command.
 #[derive(Drop)]
 pub enum Undo {
-    Redirected(Rc<Redirects>, Descriptors),
+    Redirected(Rc<Redirects>, Box<Descriptors>),
     Assigned(Rc<Assignments>, Saved),
     Function(WordList),
     Script,
-    Subshell(SavedState),
-    Substitution(Wording, SavedState),
+    Subshell(Box<SavedState>),
+    Substitution(Box<Wording>, Box<SavedState>),
 }
 
 /// What the control stack has: what is around a command, or what is undone behind it.

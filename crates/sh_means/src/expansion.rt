@@ -30,12 +30,16 @@ pub fn begin(
     ensures { IfOk result (λ c. (k : Next) (e : Shell) → Goes (expand_word mode (word_in run (tree.word word.value)) place (aimed aim place k) k e) k e c) }
 {
     let expander = Expander::start(alloc, &word, mode)?;
-    Ok(Control::Wordy(Wordy::Expand(Wording {
-        expander,
-        word,
-        place,
-        aim,
-    })))
+    let wording = Box::new(
+        alloc,
+        Wording {
+            expander,
+            word,
+            place,
+            aim,
+        },
+    )?;
+    Ok(Control::Wordy(Wordy::Expand(wording)))
 }
 
 /// A `for` over these fields; without one the status is 0.

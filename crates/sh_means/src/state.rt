@@ -77,15 +77,15 @@ fn push_copies(copies: &mut Vec<Function>, functions: &[Function]) -> Result<(),
 
 impl State {
     /// A copy for the time of a subshell. Bodies of functions are shared.
-    pub fn save(&self, alloc: Global) -> Result<SavedState, NoMemory>
-        ensures { IfOk result (λ s. (e : Shell) → back_to s e ≡ back (shell_of self.now) e) }
+    pub fn save(&self, alloc: Global) -> Result<Box<SavedState>, NoMemory>
+        ensures { IfOk result (λ s. (e : Shell) → back_to s.value e ≡ back (shell_of self.now) e) }
     {
         let vars = self.env.vars.save()?;
         let zero = self.env.zero.copy()?;
         let wd = self.env.wd.copy()?;
         let mut functions = Vec::new(alloc);
         push_copies(&mut functions, self.functions.as_slice())?;
-        Ok(SavedState {
+        let saved = SavedState {
             vars,
             zero,
             wd,
@@ -94,12 +94,14 @@ impl State {
             errexit: self.errexit,
             functions,
             descriptors: self.descriptors,
-        })
+        };
+        let boxed = Box::new(alloc, saved)?;
+        Ok(boxed)
     }
 
     /// All is as it was but the status and the next local number.
-    pub fn come_back(&mut self, saved: SavedState)
-        ensures { shell_of self.new ≡ back_to saved (shell_of self.old) }
+    pub fn come_back(&mut self, saved: Box<SavedState>)
+        ensures { shell_of self.new ≡ back_to saved.value (shell_of self.old) }
     {
         let SavedState {
             vars,
@@ -110,7 +112,7 @@ impl State {
             errexit,
             functions,
             descriptors,
-        } = saved;
+        } = Box::into_inner(saved);
         self.env.vars.restore(vars);
         self.env.zero = zero;
         self.env.wd = wd;

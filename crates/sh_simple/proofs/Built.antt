@@ -1,5 +1,6 @@
 -- Builtins, as they go on.
 use Rattle.std.proofs.Common.{◌≡◌, ℕ, Option, Some, None, sym, ap, ◌∙◌}
+use Rattle.rk_base.specs.declared.errno.Errno.TheVariants.{BadRef}
 use Rattle.rk_calls.specs.Talk.{pay}
 use Rattle.rk_calls.specs.declared.answer.Answer.{Answer}
 use Rattle.rk_calls.specs.declared.answer.Answer.TheVariants as answer
@@ -11,12 +12,10 @@ use Rattle.sh_redirect.specs.Descriptors.{slot}
 use Rattle.sh_builtin.specs.declared.builtin.Builtin.{Builtin}
 use Rattle.sh_builtin.specs.Doing as doing
 use Rattle.sh_builtin.specs.Stages.{builtin_does}
-use Rattle.sh_means.specs.declared.control.Control.TheVariants as control
-use Rattle.sh_means.specs.declared.control.Wait.TheVariants as wait
 use Rattle.sh_means.specs.declared.flow.Flow.TheVariants.{Normal}
-use Rattle.sh_means.specs.Flows.{Next, ends}
+use Rattle.sh_means.specs.Flows.{Next, asks, ends}
 use Rattle.sh_simple.specs.Launching.{through}
-use Rattle.sh_means.specs.Stack.{building, stepped, resumed}
+use Rattle.sh_means.specs.Stack.{building}
 use Rattle.sh_means.specs.State.{Shell, with_env}
 use Rattle.sh_simple.proofs.Hearing.{by_call, through_is}
 
@@ -24,9 +23,9 @@ use Rattle.sh_simple.proofs.Hearing.{by_call, through_is}
 abbrev pub end_of : Next → Shell → doing.Ended
 end_of k e = λ status env. ends Normal status k (with_env env e)
 
-module _ (k : Next) (b b' : Builtin) (a : Answer) (e : Shell) (env : Env) (t : calls.Turn) (h : (slots : doing.Slots) (x : doing.Ended) (p : ℕ) → builtin_does b a slots x e.env p ≡ doing.after slots t (λ a. builtin_does b' a slots x) x env p) where
+module _ (k : Next) (b b0 b' : Builtin) (a : Answer) (e : Shell) (env : Env) (t : calls.Turn) (hb : b0 ≡ b) (h : (slots : doing.Slots) (x : doing.Ended) (p : ℕ) → builtin_does b0 a slots x e.env p ≡ doing.after slots t (λ a. builtin_does b' a slots x) x env p) where
   so : (p : ℕ) → building b k a e p ≡ doing.after (slot e.descriptors) t (λ a. builtin_does b' a (slot e.descriptors) (end_of k e)) (end_of k e) env p
-  so p = h (slot e.descriptors) (end_of k e) p
+  so p = ap (λ (b : Builtin). building b k a e p) (sym hb) ∙ h (slot e.descriptors) (end_of k e) p
 
   asked : (c : Call) (cost : ℕ) (o : Option Call) (p : ℕ) → t ≡ calling.Ask c cost → o ≡ through c e.descriptors → building b k a e p ≡ by_call o cost (λ a. builtin_does b' a (slot e.descriptors) (end_of k e)) env p
   asked c cost o p is ho =
@@ -35,10 +34,10 @@ module _ (k : Next) (b b' : Builtin) (a : Answer) (e : Shell) (env : Env) (t : c
       ∙ through_is c e.descriptors cost (λ a. builtin_does b' a (slot e.descriptors) (end_of k e)) env p
       ∙ ap (λ (o : Option Call). by_call o cost (λ a. builtin_does b' a (slot e.descriptors) (end_of k e)) env p) (sym ho)
 
-  pub builtin_asks : (c d : Call) (cost : ℕ) (o : Option Call) (p : ℕ) → t ≡ calling.Ask c cost → o ≡ through c e.descriptors → o ≡ Some d → building b k a e p ≡ stepped (calling.Ask d cost) (control.Waits (wait.Builtin b')) k (with_env env e) p
+  pub builtin_asks : (c d : Call) (cost : ℕ) (o : Option Call) (p : ℕ) → t ≡ calling.Ask c cost → o ≡ through c e.descriptors → o ≡ Some d → building b k a e p ≡ asks d cost (λ a. building b' k a) (with_env env e) p
   builtin_asks c d cost o p is ho hd = asked c cost o p is ho ∙ ap (λ (o : Option Call). by_call o cost (λ a. builtin_does b' a (slot e.descriptors) (end_of k e)) env p) hd
 
-  pub builtin_lacks : (c : Call) (cost : ℕ) (o : Option Call) (p : ℕ) → t ≡ calling.Ask c cost → o ≡ through c e.descriptors → o ≡ None → building b k a e p ≡ resumed (control.Waits (wait.Lacks b')) k answer.Go (with_env env e) p
+  pub builtin_lacks : (c : Call) (cost : ℕ) (o : Option Call) (p : ℕ) → t ≡ calling.Ask c cost → o ≡ through c e.descriptors → o ≡ None → building b k a e p ≡ building b' k (answer.No BadRef) (with_env env e) p
   builtin_lacks c cost o p is ho hn = asked c cost o p is ho ∙ ap (λ (o : Option Call). by_call o cost (λ a. builtin_does b' a (slot e.descriptors) (end_of k e)) env p) hn
 
   pub builtin_pays : (cost : ℕ) (p : ℕ) → t ≡ calling.More cost → building b k a e p ≡ pay cost (building b' k answer.Go (with_env env e)) p

@@ -96,16 +96,16 @@ fn status_if(ran: bool, status: u8) -> u8
 /// What a simple command does, once its assignments were made.
 pub(crate) fn work(
     alloc: Global,
-    doing: Doing,
+    doing: Box<Doing>,
     ran: bool,
     place: Place,
     stack: &mut Vec<Frame>,
     state: &mut State,
 ) -> Result<Acted, NoMemory>
-    ensures talk { IfOk result (Steps (works run (kind_of_code doing.kind) doing.fields ran place (context stack.old.items) (shell_of state.old)) (context stack.new.items) (shell_of state.new)) }
+    ensures talk { IfOk result (Steps (works run (kind_of_code doing.value.kind) doing.value.fields ran place (context stack.old.items) (shell_of state.old)) (context stack.new.items) (shell_of state.new)) }
     ensures costly { IfOk result (λ t. IsStep t.turn) }
 {
-    let Doing { kind, fields } = doing;
+    let Doing { kind, fields } = Box::into_inner(doing);
     match kind {
         Kind::Bare => {
             let status = status_if(ran, state.env.status);
@@ -120,7 +120,7 @@ pub(crate) fn work(
             Ok(acted)
         }
         Kind::Builtin => {
-            let builtin = Builtin::start(alloc, &fields)?;
+            let builtin = Box::new(alloc, Builtin::start(alloc, &fields)?)?;
             Ok(free(Control::Waits(Wait::Builtin(builtin))))
         }
         Kind::Launches => {
@@ -157,8 +157,8 @@ fn slot(descriptors: &Descriptors, d: u64) -> Option<u64>
 }
 
 /// A builtin goes on with the answer that was heard.
-pub fn go_on(builtin: Builtin, answer: Answer, state: &mut State) -> Result<Acted, NoMemory>
-    ensures talk { IfOk result (λ t. (k : Next) → Steps (building builtin k answer (shell_of state.old)) k (shell_of state.new) t) }
+pub fn go_on(builtin: Box<Builtin>, answer: Answer, state: &mut State) -> Result<Acted, NoMemory>
+    ensures talk { IfOk result (λ t. (k : Next) → Steps (building builtin.value k answer (shell_of state.old)) k (shell_of state.new) t) }
     ensures costly { IfOk result (λ t. IsStep t.turn) }
 {
     let mut builtin = builtin;
@@ -186,8 +186,8 @@ pub fn go_on(builtin: Builtin, answer: Answer, state: &mut State) -> Result<Acte
 }
 
 /// The same where its call named a descriptor that the map lacks.
-pub fn go_on_without(builtin: Builtin, state: &mut State) -> Result<Acted, NoMemory>
-    ensures talk { IfOk result (λ t. (k : Next) → Steps (building builtin k (answers.No BadRef) (shell_of state.old)) k (shell_of state.new) t) }
+pub fn go_on_without(builtin: Box<Builtin>, state: &mut State) -> Result<Acted, NoMemory>
+    ensures talk { IfOk result (λ t. (k : Next) → Steps (building builtin.value k (answers.No BadRef) (shell_of state.old)) k (shell_of state.new) t) }
     ensures costly { IfOk result (λ t. IsStep t.turn) }
 {
     let acted = go_on(builtin, Answer::No(Errno::BadRef), state)?;

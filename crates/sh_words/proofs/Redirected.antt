@@ -1,11 +1,11 @@
 -- Redirections, as they go on.
 use Rattle.std.proofs.Common.{◌≡◌, ℕ, Bool, sym, ap, ◌∙◌}
+use Rattle.std.specs.Global.{Box}
 use Rattle.rk_base.specs.Text.{Text}
 use Rattle.rk_calls.specs.Talk.{ask}
 use Rattle.rk_calls.specs.declared.answer.Answer.{Answer}
 use Rattle.rk_calls.specs.declared.answer.Answer.TheVariants as answer
 use Rattle.rk_calls.specs.declared.call.Call.{Call}
-use Rattle.rk_calls.specs.declared.turn.Turn.TheVariants as calling
 use Rattle.sh_vars.specs.declared.env.Env.{Env}
 use Rattle.sh_expand.specs.Expands.{counted}
 use Rattle.sh_redirect.specs.declared.descriptors.Descriptors.{Descriptors}
@@ -20,8 +20,8 @@ use Rattle.sh_means.specs.declared.control.Control.TheVariants as control
 use Rattle.sh_means.specs.declared.control.Making.{Making}
 use Rattle.sh_means.specs.declared.control.Wait.TheVariants as wait
 use Rattle.sh_means.specs.declared.flow.Place.{Place}
-use Rattle.sh_means.specs.Flows.{Next}
-use Rattle.sh_means.specs.Stack.{making, when_refused, redirecting, stepped, resumed}
+use Rattle.sh_means.specs.Flows.{Next, asks}
+use Rattle.sh_means.specs.Stack.{making, when_refused, redirecting, resumed}
 use Rattle.sh_means.specs.State.{Shell}
 use Rattle.sh_means.specs.Words.{moved, redirect_to}
 use Rattle.sh_words.proofs.Hearing.{redirection_heard}
@@ -33,21 +33,25 @@ all_heard = λ i a env. redirection_heard a env i
 abbrev pub then_of : Making → Place → Next → Shell → After
 then_of m pl k e = record { made = λ ds env. making m m.ran pl k (moved ds env e); refused = λ ds env. when_refused m pl k (moved ds env e) }
 
-module _ (m : Making) (pl : Place) (k : Next) (r r' : Redirecting) (a : Answer) (e : Shell) (ds : Descriptors) (t : Turn) (h : (x : After) (p : ℕ) → redirecting_does r a x e.descriptors e.env p ≡ after t (redirecting_does r') x ds e.env p) where
-  pub redirect_asks : (c : Call) (cost : ℕ) (p : ℕ) → t ≡ turn.Ask c cost → redirecting m pl k r a e p ≡ stepped (calling.Ask c cost) (control.Waits (wait.Redirects pl m r')) k (record e { descriptors = ds }) p
+module _ (m : Making) (pl : Place) (k : Next) (r r0 r' : Redirecting) (a : Answer) (e : Shell) (ds : Descriptors) (t : Turn) (hr : r0 ≡ r) (h : (x : After) (p : ℕ) → redirecting_does r0 a x e.descriptors e.env p ≡ after t (redirecting_does r') x ds e.env p) where
+  from : (p : ℕ) → redirecting m pl k r a e p ≡ redirecting m pl k r0 a e p
+  from p = ap (λ (x : Redirecting). redirecting m pl k x a e p) (sym hr)
+
+  pub redirect_asks : (c : Call) (cost : ℕ) (p : ℕ) → t ≡ turn.Ask c cost → redirecting m pl k r a e p ≡ asks c cost (λ a. redirecting m pl k r' a) (record e { descriptors = ds }) p
   redirect_asks c cost p is =
-      h (then_of m pl k e) p
+      from p ∙ h (then_of m pl k e) p
       ∙ ap (λ (t : Turn). after t (redirecting_does r') (then_of m pl k e) ds e.env p) is
       ∙ ap (λ (f : Answer → Env → Env). ask c cost (λ a. redirecting_does r' a (then_of m pl k e) ds (f a e.env)) p) all_heard
 
   pub redirect_made : (p : ℕ) → t ≡ turn.Made → redirecting m pl k r a e p ≡ making m m.ran pl k (record e { descriptors = ds }) p
-  redirect_made p is = h (then_of m pl k e) p ∙ ap (λ (t : Turn). after t (redirecting_does r') (then_of m pl k e) ds e.env p) is
+  redirect_made p is = from p ∙ h (then_of m pl k e) p ∙ ap (λ (t : Turn). after t (redirecting_does r') (then_of m pl k e) ds e.env p) is
 
   pub redirect_refused : (p : ℕ) → t ≡ turn.Refused → redirecting m pl k r a e p ≡ when_refused m pl k (record e { descriptors = ds }) p
-  redirect_refused p is = h (then_of m pl k e) p ∙ ap (λ (t : Turn). after t (redirecting_does r') (then_of m pl k e) ds e.env p) is
+  redirect_refused p is = from p ∙ h (then_of m pl k e) p ∙ ap (λ (t : Turn). after t (redirecting_does r') (then_of m pl k e) ds e.env p) is
 
 -- a redirection begins, once its operand was expanded
-pub redirect_begun : (m : Making) (pl : Place) (kd : kinds.Redirect) (d : ℕ) (text : Text) (r : Redirecting) (b b' : Bool) (k : Next) (e : Shell) (p : ℕ) → ((a : Answer) → redirecting_does r a ≡ redirects kd d text) → b' ≡ b → redirect_to kd d text (making m b pl k) (when_refused m pl k) e p ≡ resumed (control.Waits (wait.Redirects pl (record m { ran = b' }) r)) k answer.Go e p
-redirect_begun m pl kd d text r b b' k e p h hb =
+pub redirect_begun : (m : Making) (pl : Place) (kd : kinds.Redirect) (d : ℕ) (text : Text) (r0 : Redirecting) (r : Box Redirecting) (b b' : Bool) (k : Next) (e : Shell) (p : ℕ) → ((a : Answer) → redirecting_does r0 a ≡ redirects kd d text) → r.value ≡ r0 → b' ≡ b → redirect_to kd d text (making m b pl k) (when_refused m pl k) e p ≡ resumed (control.Waits (wait.Redirects pl (record m { ran = b' }) r)) k answer.Go e p
+redirect_begun m pl kd d text r0 r b b' k e p h hr hb =
     ap (λ (x : Doing). x (record { made = λ ds env. making m b pl k (moved ds env e); refused = λ ds env. when_refused m pl k (moved ds env e) }) e.descriptors e.env p) (sym (h answer.Go))
-    ∙ ap (λ (c : Bool). redirecting (record m { ran = c }) pl k r answer.Go e p) (sym hb)
+    ∙ ap (λ (x : Redirecting). redirecting (record m { ran = b }) pl k x answer.Go e p) (sym hr)
+    ∙ ap (λ (c : Bool). redirecting (record m { ran = c }) pl k r.value answer.Go e p) (sym hb)

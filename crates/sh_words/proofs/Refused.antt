@@ -20,7 +20,7 @@ refused_is (Compound b) ds before pl k e p = refl
 
 pub refusal_leads : (m : Making) (pl : Place) (k k' k'' : Next) (flow : Flow) (e : Shell) (p : ℕ) → flow ≡ made_flow m.made → k' ≡ surrounded (around.Watch pl) k → k'' ≡ undone (undo.Redirected m.redirects m.before) k' → when_refused m pl k e p ≡ ends flow 1 k'' e p
 refusal_leads m pl k k' k'' flow e p hf h' h'' =
-    refused_is m.made (named (redirects_from m.redirects.value 0)) m.before pl k e p
+    refused_is m.made (named (redirects_from m.redirects.value 0)) m.before.value pl k e p
     ∙ ap (λ (f : Flow). ends f 1 (undone (undo.Redirected m.redirects m.before) (surrounded (around.Watch pl) k)) e p) (sym hf)
     ∙ ap (λ (k : Next). ends flow 1 (undone (undo.Redirected m.redirects m.before) k) e p) (sym h')
     ∙ ap (λ (k : Next). ends flow 1 k e p) (sym h'')

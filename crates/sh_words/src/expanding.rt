@@ -44,12 +44,12 @@ fn body_of(alloc: Global, word: &Word, number: u64) -> Result<Rc<CommandList>, N
 // A substitution's body begins in a subshell, with 1 on the pipe that was made last.
 fn enter_body(
     alloc: Global,
-    w: Wording,
+    w: Box<Wording>,
     number: u64,
     stack: &mut Vec<Frame>,
     state: &mut State,
 ) -> Result<Control, NoMemory>
-    ensures { IfOk result (Goes (in_subshell (body_at (word_in run (tree.word w.word.value)).bodies number) w.place (shell_of state.old) state.old.env (λ env. wording w (context stack.old.items) answers.Go (with_env env (shell_of state.old)))) (context stack.new.items) (shell_of state.new)) }
+    ensures { IfOk result (Goes (in_subshell (body_at (word_in run (tree.word w.value.word.value)).bodies number) w.value.place (shell_of state.old) state.old.env (λ env. wording w.value (context stack.old.items) answers.Go (with_env env (shell_of state.old)))) (context stack.new.items) (shell_of state.new)) }
 {
     let body = body_of(alloc, &w.word, number)?;
     let saved = state.save(alloc)?;
@@ -63,12 +63,12 @@ fn enter_body(
 /// An expander's next turn, with the answer that was heard.
 pub fn act_expand(
     alloc: Global,
-    w: Wording,
+    w: Box<Wording>,
     answer: Answer,
     stack: &mut Vec<Frame>,
     state: &mut State,
 ) -> Result<Acted, NoMemory>
-    ensures talk { IfOk result (Steps (wording w (context stack.old.items) answer (shell_of state.old)) (context stack.new.items) (shell_of state.new)) }
+    ensures talk { IfOk result (Steps (wording w.value (context stack.old.items) answer (shell_of state.old)) (context stack.new.items) (shell_of state.new)) }
     ensures costly { IfOk result (λ t. IsStep t.turn) }
 {
     let mut w = w;
@@ -86,18 +86,10 @@ pub fn act_expand(
             let control = enter_body(alloc, w, number, stack, state)?;
             Ok(free(control))
         }
-        Expanding::Done(expanded, cost) => {
-            let Wording {
-                expander: _,
-                word: _,
-                place,
-                aim,
-            } = w;
-            Ok(Acted {
-                turn: Turn::More(cost),
-                control: Control::Wordy(Wordy::Deliver(place, aim, expanded)),
-            })
-        }
+        Expanding::Done(expanded, cost) => Ok(Acted {
+            turn: Turn::More(cost),
+            control: Control::Wordy(Wordy::Deliver(w, expanded)),
+        }),
         Expanding::Fault(fault, cost) => {
             let ExpandFault { parameter, message } = fault;
             Ok(Acted {

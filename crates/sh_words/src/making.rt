@@ -6,7 +6,7 @@ ghost use Rattle.sh_means.specs.Simple.{unless_kept, for_its_time};
 ghost use Rattle.sh_means.specs.Stack.{Steps, Goes, IsStep, context, making, made_go, when_made, when_refused, redirecting, redirects_from, assigns_from};
 ghost use Rattle.sh_means.specs.declared.control.Made.TheVariants as mades;
 ghost use Rattle.sh_means.specs.Views.{shell_of};
-ghost use Rattle.sh_means.specs.Words.{named, names, redirect_kind};
+ghost use Rattle.sh_means.specs.Words.{named, names, redirect_kind, unredirected};
 
 use rk_base::NoMemory;
 use rk_calls::{Answer, Turn};
@@ -26,19 +26,36 @@ use sh_vars::Vars;
 use std::alloc::Global;
 use std::rc::Rc;
 
+// The map is put back, where there are redirections.
+fn put_map_back_later(
+    redirects: Rc<Redirects>,
+    before: Box<Descriptors>,
+    stack: &mut Vec<Frame>,
+) -> Result<(), NoMemory>
+    ensures { OnOk result (context stack.new.items ≡ unredirected (named (redirects_from redirects.value 0)) before.value (context stack.old.items)) }
+{
+    match redirects.get(0) {
+        None => Ok(()),
+        Some(_) => {
+            put_undo(stack, Undo::Redirected(redirects, before))?;
+            Ok(())
+        }
+    }
+}
+
 // The map is put back, unless the redirections stay.
 fn unless_kept(
     keeps: bool,
     redirects: Rc<Redirects>,
-    before: Descriptors,
+    before: Box<Descriptors>,
     stack: &mut Vec<Frame>,
 ) -> Result<(), NoMemory>
-    ensures { OnOk result (context stack.new.items ≡ unless_kept keeps (named (redirects_from redirects.value 0)) before (context stack.old.items)) }
+    ensures { OnOk result (context stack.new.items ≡ unless_kept keeps (named (redirects_from redirects.value 0)) before.value (context stack.old.items)) }
 {
     if keeps {
         return Ok(());
     }
-    put_undo(stack, Undo::Redirected(redirects, before))?;
+    put_map_back_later(redirects, before, stack)?;
     Ok(())
 }
 
@@ -81,14 +98,14 @@ fn for_its_time(
 fn made_simple(
     place: Place,
     redirects: Rc<Redirects>,
-    before: Descriptors,
+    before: Box<Descriptors>,
     ran: bool,
     assignments: Rc<Assignments>,
-    doing: Doing,
+    doing: Box<Doing>,
     stack: &mut Vec<Frame>,
     state: &State,
 ) -> Result<Control, NoMemory>
-    ensures { IfOk result (Goes (made_go (mades.Simple assignments doing) (named (redirects_from redirects.value 0)) before place (context stack.old.items) ran (shell_of state.now)) (context stack.new.items) (shell_of state.now)) }
+    ensures { IfOk result (Goes (made_go (mades.Simple assignments doing) (named (redirects_from redirects.value 0)) before.value place (context stack.old.items) ran (shell_of state.now)) (context stack.new.items) (shell_of state.now)) }
 {
     let plain = doing.kind.is_plain();
     let exported = doing.kind.exports();
@@ -139,7 +156,7 @@ fn all_made(
             Ok(control)
         }
         Made::Compound(body) => {
-            put_undo(stack, Undo::Redirected(redirects, before))?;
+            put_map_back_later(redirects, before, stack)?;
             Ok(Control::Inside(Inside::Compound(place, body)))
         }
     }
@@ -221,12 +238,12 @@ fn refused(
 pub fn go_on(
     place: Place,
     left: Making,
-    r: Redirecting,
+    r: Box<Redirecting>,
     answer: Answer,
     stack: &mut Vec<Frame>,
     state: &mut State,
 ) -> Result<Acted, NoMemory>
-    ensures talk { IfOk result (Steps (redirecting left place (context stack.old.items) r answer (shell_of state.old)) (context stack.new.items) (shell_of state.new)) }
+    ensures talk { IfOk result (Steps (redirecting left place (context stack.old.items) r.value answer (shell_of state.old)) (context stack.new.items) (shell_of state.new)) }
     ensures costly { IfOk result (λ t. IsStep t.turn) }
 {
     let mut r = r;

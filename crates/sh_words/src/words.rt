@@ -16,7 +16,7 @@ use sh_ast::CaseItems;
 use sh_expand::{Expanded, Mode};
 use sh_means::control::{
     Acted, Aim, Assigning, Casing, Control, Doing, Fielding, Inside, Made, Making, Then, Wait,
-    Wordy,
+    Wording, Wordy,
 };
 use sh_means::expansion::{begin, over_fields};
 use sh_means::flow::{Flow, Place};
@@ -45,14 +45,16 @@ fn then(
             let kind = kind_of(alloc, &fields, state.functions.as_slice())?;
             let redirects = command.redirects.clone()?;
             let assignments = command.assignments.clone()?;
+            let before = Box::new(alloc, state.descriptors)?;
+            let doing = Box::new(alloc, Doing { kind, fields })?;
             Ok(Control::Wordy(Wordy::Make(
                 place,
                 Making {
                     redirects,
                     at: 0,
-                    before: state.descriptors,
+                    before,
                     ran,
-                    made: Made::Simple(assignments, Doing { kind, fields }),
+                    made: Made::Simple(assignments, doing),
                 },
             )))
         }
@@ -180,13 +182,14 @@ fn redirect(
     next: u64,
     operand: Bytes,
     state: &State,
-) -> Control
-    ensures { (k : Next) → Goes (aimed (aims.Operand left descriptor kind next) place k (Value operand) (shell_of state.now)) k (shell_of state.now) result }
+) -> Result<Control, NoMemory>
+    ensures { IfOk result (λ c. (k : Next) → Goes (aimed (aims.Operand left descriptor kind next) place k (Value operand) (shell_of state.now)) k (shell_of state.now) c) }
 {
     let mut left = left;
     left.ran = ran_since(left.ran, next, state);
-    let redirecting = Redirecting::start(alloc, kind, descriptor, operand);
-    Control::Waits(Wait::Redirects(place, left, redirecting))
+    let started = Redirecting::start(alloc, kind, descriptor, operand);
+    let redirecting = Box::new(alloc, started)?;
+    Ok(Control::Waits(Wait::Redirects(place, left, redirecting)))
 }
 
 fn set(vars: &mut Vars, exported: bool, name: &[u8], value: &[u8]) -> Result<bool, NoMemory>
@@ -267,8 +270,8 @@ fn match_pattern(place: Place, casing: Casing, pattern: &Bytes) -> Result<Contro
     Ok(Control::Inside(Inside::Case(place, casing)))
 }
 
-/// What a word gave is used as it was meant.
-pub fn deliver(
+// What a word gave is used for its aim.
+fn deliver_to(
     alloc: Global,
     place: Place,
     aim: Aim,
@@ -285,7 +288,8 @@ pub fn deliver(
         }
         Aim::Operand(left, descriptor, kind, next) => {
             let operand = value_of(alloc, expanded)?;
-            Ok(free(redirect(alloc, place, left, descriptor, kind, next, operand, state)))
+            let control = redirect(alloc, place, left, descriptor, kind, next, operand, state)?;
+            Ok(free(control))
         }
         Aim::Value(left, name, next) => {
             let value = value_of(alloc, expanded)?;
@@ -302,4 +306,25 @@ pub fn deliver(
             Ok(free(control))
         }
     }
+}
+
+/// What a word gave is used as it was meant.
+pub fn deliver(
+    alloc: Global,
+    wording: Box<Wording>,
+    expanded: Expanded,
+    state: &mut State,
+) -> Result<Acted, NoMemory>
+    ensures talk { IfOk result (λ t. (k : Next) → Steps (aimed wording.value.aim wording.value.place k expanded (shell_of state.old)) k (shell_of state.new) t) }
+    ensures costly { IfOk result (λ t. IsStep t.turn) }
+{
+    let expanded_word = Box::into_inner(wording);
+    let Wording {
+        expander: _,
+        word: _,
+        place,
+        aim,
+    } = expanded_word;
+    let acted = deliver_to(alloc, place, aim, expanded, state)?;
+    Ok(acted)
 }

@@ -1,13 +1,21 @@
 use Rattle.std.proofs.Common.{◌∙◌}
 use Rattle.sh_means.specs.Views.{shell_of}
-use Rattle.sh_simple.proofs.Built.{builtin_asks, builtin_lacks}
+use Rattle.sh_simple.proofs.Built.{builtin_asks, builtin_lacks, builtin_pays, builtin_ends}
 use Rattle.sh_simple.proofs.launching.go_on.Goals as goal
 
 pub returns-in-Some-clause-talk : goal.returns-in-Some-clause-talk
 returns-in-Some-clause-talk c =
-    λ k p. builtin_asks k c.args.builtin c.resume.new.self c.args.answer (shell_of c.args.state.now) c.resume.new.env c.in_ok-turn.turn c.in_ok-turn.ensures.does c.in-Ask.call c.in-Some.call c.in-Ask.cost c.through.result p c.in-Ask.is c.through.ensures c.in-Some.is
+    λ k p. builtin_asks k c.args.builtin.value c.deref_mut.result.now c.resume.new.self c.args.answer (shell_of c.args.state.now) c.resume.new.env c.in_ok-turn.turn c.deref_mut.ensures.value c.in_ok-turn.ensures.does c.in-Ask.call c.in-Some.call c.in-Ask.cost c.through.result p c.in-Ask.is c.through.ensures c.in-Some.is
 
 pub returns-in-None-clause-talk : goal.returns-in-None-clause-talk
 returns-in-None-clause-talk c =
-    λ k p. builtin_lacks k c.args.builtin c.resume.new.self c.args.answer (shell_of c.args.state.now) c.resume.new.env c.in_ok-turn.turn c.in_ok-turn.ensures.does c.in-Ask.call c.in-Ask.cost c.through.result p c.in-Ask.is c.through.ensures c.in-None.is
+    λ k p. builtin_lacks k c.args.builtin.value c.deref_mut.result.now c.resume.new.self c.args.answer (shell_of c.args.state.now) c.resume.new.env c.in_ok-turn.turn c.deref_mut.ensures.value c.in_ok-turn.ensures.does c.in-Ask.call c.in-Ask.cost c.through.result p c.in-Ask.is c.through.ensures c.in-None.is
     ∙ c.free.ensures.talk k _ p
+
+pub returns-in-More-clause-talk : goal.returns-in-More-clause-talk
+returns-in-More-clause-talk c =
+    λ k p. builtin_pays k c.args.builtin.value c.deref_mut.result.now c.resume.new.self c.args.answer (shell_of c.args.state.now) c.resume.new.env c.in_ok-turn.turn c.deref_mut.ensures.value c.in_ok-turn.ensures.does c.in-More.cost p c.in-More.is
+
+pub returns-in-Exit-clause-talk : goal.returns-in-Exit-clause-talk
+returns-in-Exit-clause-talk c =
+    λ k p. builtin_ends k c.args.builtin.value c.deref_mut.result.now c.resume.new.self c.args.answer (shell_of c.args.state.now) c.resume.new.env c.in_ok-turn.turn c.deref_mut.ensures.value c.in_ok-turn.ensures.does c.in-Exit.status c.in-Exit.cost p c.in-Exit.is

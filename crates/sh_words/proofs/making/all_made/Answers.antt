@@ -11,9 +11,9 @@ use Rattle.sh_words.proofs.making.all_made.Goals as goal
 
 pub returns-in_ok-control-in-Simple : goal.returns-in_ok-control-in-Simple
 returns-in_ok-control-in-Simple c =
-    λ p. ap (λ (m : Made). made_go m (named (redirects_from c.args.left.redirects.value 0)) c.args.left.before c.args.place (context c.args.stack.now.items) c.args.left.ran (shell_of c.args.state.now) p) c.in-Simple.is ∙ c.in_ok-control-in-Simple.ensures p
+    λ p. ap (λ (m : Made). made_go m (named (redirects_from c.args.left.redirects.value 0)) c.args.left.before.value c.args.place (context c.args.stack.now.items) c.args.left.ran (shell_of c.args.state.now) p) c.in-Simple.is ∙ c.in_ok-control-in-Simple.ensures p
 
-pub returns-in_ok-put_undo-in-Compound : goal.returns-in_ok-put_undo-in-Compound
-returns-in_ok-put_undo-in-Compound c =
-    λ p. ap (λ (m : Made). made_go m (named (redirects_from c.args.left.redirects.value 0)) c.args.left.before c.args.place (context c.args.stack.now.items) c.args.left.ran (shell_of c.args.state.now) p) c.in-Compound.is
-    ∙ ap (λ (k : Next). compound_in run (tree.compound c.in-Compound.body.value) c.args.place (shell_of c.args.state.now) k p) (sym c.in_ok-put_undo-in-Compound.ensures)
+pub returns-in_ok-put_map_back_later-in-Compound : goal.returns-in_ok-put_map_back_later-in-Compound
+returns-in_ok-put_map_back_later-in-Compound c =
+    λ p. ap (λ (m : Made). made_go m (named (redirects_from c.args.left.redirects.value 0)) c.args.left.before.value c.args.place (context c.args.stack.now.items) c.args.left.ran (shell_of c.args.state.now) p) c.in-Compound.is
+    ∙ ap (λ (k : Next). compound_in run (tree.compound c.in-Compound.body.value) c.args.place (shell_of c.args.state.now) k p) (sym c.in_ok-put_map_back_later-in-Compound.ensures)

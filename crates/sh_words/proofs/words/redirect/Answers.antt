@@ -4,4 +4,4 @@ use Rattle.sh_words.proofs.words.redirect.Goals as goal
 
 pub returns : goal.returns
 returns c =
-    λ k p. redirect_begun c.args.left c.args.place c.args.kind c.args.descriptor c.args.operand c.start-redirecting.result _ c.ran_since.result k (shell_of c.args.state.now) p c.start-redirecting.ensures c.ran_since.ensures
+    λ k p. redirect_begun c.args.left c.args.place c.args.kind c.args.descriptor c.args.operand c.start-started.result c.in_ok-redirecting.redirecting _ c.ran_since.result k (shell_of c.args.state.now) p c.start-started.ensures c.in_ok-redirecting.ensures.ok c.ran_since.ensures

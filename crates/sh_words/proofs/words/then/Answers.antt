@@ -1,11 +1,14 @@
 use Rattle.std.proofs.Common.{◌≡◌, ℕ, Bool, List, sym, ap, ◌∙◌}
 use Rattle.std.specs.declared.rc.Rc.{Rc}
 use Rattle.std.specs.declared.alloc.Global.{Global}
+use Rattle.std.specs.Global.{Box}
 use Rattle.rk_base.specs.Text.{Text}
 use Rattle.rk_calls.specs.Talk.{Says}
 use Rattle.sh_ast.specs.declared.command.Assignments.{Assignments}
 use Rattle.sh_ast.specs.declared.command.Redirects.{Redirects}
 use Rattle.sh_ast.specs.declared.command.SimpleCommand.{SimpleCommand, out-SimpleCommand}
+use Rattle.sh_redirect.specs.declared.descriptors.Descriptors.{Descriptors}
+use Rattle.sh_means.specs.declared.control.Doing.{Doing}
 use Rattle.sh_means.specs.declared.control.Kind as code
 use Rattle.sh_means.specs.declared.control.Made.TheVariants as made
 use Rattle.sh_means.specs.declared.control.Then.{Then}
@@ -25,19 +28,27 @@ with_kind : List Text → Bool → Place → Next → Shell → Redirects → As
 with_kind fields ran pl k e R A kd =
     redirect_all (redirects_from R 0) ran pl (made_simple run kd (assigns_from A 0) (named (redirects_from R 0)) e.descriptors fields pl k) (refused_simple kd (named (redirects_from R 0)) e.descriptors pl k) k e
 
-simple_then : (x : SimpleCommand) (rs : Rc Redirects Global) (as' : Rc Assignments Global) (kd : code.Kind) (fields : List Text) (ran : Bool) (pl : Place) (k : Next) (e : Shell) (p : ℕ) → rs.value ≡ (out-SimpleCommand x).redirects.value → as'.value ≡ (out-SimpleCommand x).assignments.value → kind_of_code kd ≡ kind_of fields e.functions → with_kind fields ran pl k e (out-SimpleCommand x).redirects.value (out-SimpleCommand x).assignments.value (kind_of fields e.functions) p ≡ making (record { redirects = rs; at = 0; before = e.descriptors; ran = ran; made = made.Simple as' (record { kind = kd; fields = fields }) }) ran pl k e p
-unfolding with_kind
-simple_then x rs as' kd fields ran pl k e p hr ha hk =
+-- the same with the map and what the command is, where they lie behind pointers
+with_doing : Rc Redirects Global → Rc Assignments Global → Bool → Place → Next → Shell → Descriptors → Doing → Says
+with_doing rs as' ran pl k e ds d =
+    redirect_all (redirects_from rs.value 0) ran pl (made_simple run (kind_of_code d.kind) (assigns_from as'.value 0) (named (redirects_from rs.value 0)) ds d.fields pl k) (refused_simple (kind_of_code d.kind) (named (redirects_from rs.value 0)) ds pl k) k e
+
+simple_then : (x : SimpleCommand) (rs : Rc Redirects Global) (as' : Rc Assignments Global) (kd : code.Kind) (before : Box Descriptors) (doing : Box Doing) (fields : List Text) (ran : Bool) (pl : Place) (k : Next) (e : Shell) (p : ℕ) → rs.value ≡ (out-SimpleCommand x).redirects.value → as'.value ≡ (out-SimpleCommand x).assignments.value → kind_of_code kd ≡ kind_of fields e.functions → before.value ≡ e.descriptors → doing.value ≡ record { kind = kd; fields = fields } → with_kind fields ran pl k e (out-SimpleCommand x).redirects.value (out-SimpleCommand x).assignments.value (kind_of fields e.functions) p ≡ making (record { redirects = rs; at = 0; before = before; ran = ran; made = made.Simple as' doing }) ran pl k e p
+unfolding with_kind with_doing
+simple_then x rs as' kd before doing fields ran pl k e p hr ha hk hb hd =
     ap (λ (R : Redirects). with_kind fields ran pl k e R (out-SimpleCommand x).assignments.value (kind_of fields e.functions) p) (sym hr)
     ∙ ap (λ (A : Assignments). with_kind fields ran pl k e rs.value A (kind_of fields e.functions) p) (sym ha)
     ∙ ap (λ (kd : Kind). with_kind fields ran pl k e rs.value as'.value kd p) (sym hk)
+    ∙ ap (λ (d : Doing). with_doing rs as' ran pl k e e.descriptors d p) (sym hd)
+    ∙ ap (λ (ds : Descriptors). with_doing rs as' ran pl k e ds doing.value p) (sym hb)
 
-pub returns-in_ok-assignments-in-Simple : goal.returns-in_ok-assignments-in-Simple
+pub returns-in_ok-doing-in-Simple : goal.returns-in_ok-doing-in-Simple
 unfolding with_kind
-returns-in_ok-assignments-in-Simple c =
+returns-in_ok-doing-in-Simple c =
     let e = shell_of c.args.state.now in
     λ k p. ap (λ (t : Then). then_means t c.args.place k c.args.fields c.args.ran e p) c.in-Simple.is
-    ∙ simple_then c.in-Simple.command.value c.in_ok-redirects-in-Simple.redirects c.in_ok-assignments-in-Simple.assignments c.in_ok-kind-in-Simple.kind c.args.fields c.args.ran c.args.place k e p
+    ∙ simple_then c.in-Simple.command.value c.in_ok-redirects-in-Simple.redirects c.in_ok-assignments-in-Simple.assignments c.in_ok-kind-in-Simple.kind c.in_ok-before-in-Simple.before c.in_ok-doing-in-Simple.doing c.args.fields c.args.ran c.args.place k e p
     (c.in_ok-redirects-in-Simple.ensures.cases ∙ ap (λ (x : SimpleCommand). (out-SimpleCommand x).redirects.value) c.deref.ensures)
     (c.in_ok-assignments-in-Simple.ensures.cases ∙ ap (λ (x : SimpleCommand). (out-SimpleCommand x).assignments.value) c.deref-in-Simple.ensures)
     (c.in_ok-kind-in-Simple.ensures ∙ ap (λ (fs : List Function). kind_of c.args.fields (rows_of fs)) c.as_slice.ensures.value)
+    c.in_ok-before-in-Simple.ensures.ok c.in_ok-doing-in-Simple.ensures.ok

@@ -1,5 +1,10 @@
+use Rattle.std.proofs.Common.{ap, ◌∙◌}
+use Rattle.sh_means.specs.declared.state.SavedState.{SavedState}
+use Rattle.sh_means.specs.Views.{back_to}
 use Rattle.sh_means.proofs.Copied.{saved_is}
 use Rattle.sh_means.proofs.state.State.save.Goals as goal
 
 pub returns : goal.returns
-returns c = λ e. saved_is c.args.self.now c.in_ok-vars.vars c.in_ok-zero.zero c.in_ok-wd.wd c.push_copies.new.copies.items c.new-functions.result.items c.as_slice.result.now e c.in_ok-vars.ensures c.in_ok-zero.ensures c.in_ok-wd.ensures.copy c.in_ok-push_copies.ensures c.new-functions.ensures.items c.as_slice.ensures.value
+returns c =
+    λ e. ap (λ (s : SavedState). back_to s e) c.in_ok-boxed.ensures.ok
+    ∙ saved_is c.args.self.now c.in_ok-vars.vars c.in_ok-zero.zero c.in_ok-wd.wd c.push_copies.new.copies.items c.new-functions.result.items c.as_slice.result.now e c.in_ok-vars.ensures c.in_ok-zero.ensures c.in_ok-wd.ensures.copy c.in_ok-push_copies.ensures c.new-functions.ensures.items c.as_slice.ensures.value
