@@ -14,7 +14,7 @@ use crate::stage::{Move, Stage};
 use crate::telling::{complain, misuse, over};
 use rk_base::{Bytes, Errno, NoMemory, Path};
 use rk_calls::{Answer, Call, Turn, absolute};
-use sh_vars::{Env, Vars};
+use sh_vars::{Env, VarErr, Vars};
 use std::alloc::Global;
 
 /// A variable that isn't readonly has this value.
@@ -24,7 +24,8 @@ pub(crate) fn assign(vars: &mut Vars, x: &[u8], value: &[u8]) -> Result<(), NoMe
 {
     match vars.set(x, value) {
         Ok(()) => Ok(()),
-        Err(_) => Err(NoMemory),
+        Err(VarErr::NoMemory) => Err(NoMemory),
+        Err(VarErr::Readonly) => unreachable!(),
     }
 }
 

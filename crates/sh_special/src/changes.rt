@@ -6,7 +6,7 @@ ghost use Rattle.sh_special.specs.Changes.{is_barred, with_value, marked, declar
 use crate::{Declaration, Options};
 use rk_base::{Bytes, NoMemory};
 use sh_operands::copies;
-use sh_vars::{Env, Vars};
+use sh_vars::{Env, VarErr, Vars};
 use std::alloc::Global;
 
 fn is_barred(d: &Declaration, vars: &Vars) -> bool
@@ -24,7 +24,8 @@ fn assign(vars: &mut Vars, x: &[u8], value: &[u8]) -> Result<(), NoMemory>
 {
     match vars.set(x, value) {
         Ok(()) => Ok(()),
-        Err(_) => Err(NoMemory),
+        Err(VarErr::NoMemory) => Err(NoMemory),
+        Err(VarErr::Readonly) => unreachable!(),
     }
 }
 
