@@ -1,5 +1,5 @@
 // What happens to the words within words.
-ghost use Rattle.std.specs.Prelude.{◌≡◌, ◌++◌, [], ℕ, IfOk, OnOk, Some, None, Bool};
+ghost use Rattle.std.specs.Prelude.{◌≡◌, ◌++◌, [], ℕ, IfOk, OnOk, Some, None, Bool, false};
 ghost use Rattle.rk_base.specs.Text.{Text};
 ghost use Rattle.sh_vars.specs.Held.{assigned, is_readonly};
 ghost use Rattle.sh_split.specs.Marked.{given, text_of, pattern_of};
@@ -12,7 +12,7 @@ use crate::removal::all_removed;
 use rk_base::{Bytes, NoMemory, WordList};
 use sh_ast::{Parts, Removal};
 use sh_split::{Field, Mark, pattern_of, put_all, put_given, text_of};
-use sh_vars::Env;
+use sh_vars::{Env, VarErr};
 use std::alloc::Global;
 use std::mem;
 use std::rc::Rc;
@@ -53,11 +53,13 @@ pub(crate) fn take(marks: &mut Vec<Mark>) -> Field
 }
 
 fn set(env: &mut Env, name: &[u8], text: &[u8]) -> Result<(), NoMemory>
+    requires { is_readonly env.old.vars name.now ≡ false }
     ensures { OnOk result (env.new ≡ record env.old { vars = assigned name.now text.now env.old.vars }) }
 {
     match env.vars.set(name, text) {
-        Ok(_) => Ok(()),
-        Err(_) => Err(NoMemory),
+        Ok(()) => Ok(()),
+        Err(VarErr::NoMemory) => Err(NoMemory),
+        Err(VarErr::Readonly) => unreachable!(),
     }
 }
 
