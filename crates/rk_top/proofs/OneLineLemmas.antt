@@ -1,18 +1,16 @@
 -- A session has one line: no two stages are reached.
-use Rattle.std.proofs.Common.{◌≡◌, ℕ, zero, suc, List, refl, sym, ap, subst, ◌∙◌}
-use Rattle.rk_base.specs.Text.{Text}
+use Rattle.std.proofs.Common.{◌≡◌, ℕ, zero, suc, List, sym, ap, subst, ◌∙◌}
 use Rattle.rk_calls.specs.Keys.{KeyValue}
 use Rattle.rk_calls.specs.Talk.{Says}
 use Rattle.tr_record.specs.declared.records.Record.{Record}
 use Rattle.rk_folder.specs.Attributes.{with_rows}
 use Rattle.rk_folder.specs.Import.{snapshot_of}
-use Rattle.rk_folder.specs.Told.{Held}
 use Rattle.rk_build.specs.Fresh.{held_after}
 use Rattle.rk_build.specs.Run.{fresh_run}
 use Rattle.rk_build.proofs.HoldingLemmas.{after-one}
 use Rattle.rk_kernel.specs.World.{World}
 use Rattle.rk_runs.specs.Run.{Outcome as Run, Done, Spent}
-use Rattle.rk_top.specs.Generated.{ComesTo, Ends, HaveOneLine, IsBuilt, IsLine, Reaches, Stage, edit_after, edited_stage, line_of_stage, plain_build, start_of}
+use Rattle.rk_top.specs.Generated.{ComesTo, HaveOneLine, IsBuilt, Reaches, Stage, edit_after, edited_stage, line_of_stage, plain_build, start_of}
 use Rattle.rk_top.proofs.GeneratedLemmas.{one-kept, same-stage}
 
 comes-one : (r : Run World) (old : List Record) (before a b : Stage) → ComesTo r old before a → ComesTo r old before b → a ≡ b
