@@ -6,8 +6,8 @@ ghost use Rattle.rk_build.specs.Explained.{explained, explanation, line_of_ran, 
 use crate::options::explains;
 use crate::run::Finished;
 use rk_base::{Bytes, NoMemory};
-use rk_show::{Why, add_launched, add_ran};
 use rk_replay::{Cause, Ran, RanList};
+use rk_show::{Why, add_launched, add_ran};
 use rk_words::Request;
 use std::alloc::Global;
 

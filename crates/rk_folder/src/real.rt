@@ -19,6 +19,7 @@ const MOST_NAMES: usize = 1 << 20;
 
 /// A read asks for at least and at most so many bytes.
 const SHORTEST_PIECE: usize = 1 << 12;
+
 const LONGEST_PIECE: usize = 1 << 20;
 
 /// A file has at most so many bytes.
