@@ -10,7 +10,7 @@ use Rattle.sh_ast.specs.declared.word.Substitute as by
 use Rattle.sh_ast.specs.declared.word.Removal.{Removal}
 use Rattle.sh_ast.specs.declared.word.Part.{Part}
 use Rattle.sh_ast.specs.declared.word.Parts.{Parts}
-use Rattle.sh_ast.specs.declared.word.Part.TheOpen.{Part-F, Literal, Value, Length, Substitute, Remove, Command, Parts-F}
+use Rattle.sh_ast.specs.declared.word.Part.TheOpen.{Part-F, Literal, Value, Length, Substitute, Remove, Command, Arithmetic, Parts-F}
 use Rattle.sh_ast.specs.declared.word.Part.TheFolds.{fold-Part, fold-Parts}
 
 mutual
@@ -22,6 +22,7 @@ mutual
     substitute : (quoting : Quoting) (parameter : Parameter) (condition : Condition) (by : by.Substitute) (word : OperatorWord) → PartTree
     without : (quoting : Quoting) (parameter : Parameter) (removal : Removal) (pattern : PartsTree) → PartTree
     output_of : (quoting : Quoting) (body : ℕ) → PartTree
+    arithmetic : (quoting : Quoting) (expression : PartsTree) → PartTree
 
   -- the word of an operator, where one stands
   pub data OperatorWord : Type 0 where
@@ -48,6 +49,7 @@ part_step (Length quoting parameter) = length_of quoting parameter
 part_step (Substitute quoting parameter condition by word) = substitute quoting parameter condition by (operator_word word)
 part_step (Remove quoting parameter removal pattern) = without quoting parameter removal pattern.value
 part_step (Command quoting body) = output_of quoting body
+part_step (Arithmetic quoting expression) = arithmetic quoting expression.value
 
 abbrev pub parts_step : Parts-F PartTree PartsTree → PartsTree
 parts_step parts = parts_of parts.items.items

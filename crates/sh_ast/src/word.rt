@@ -59,6 +59,8 @@ pub enum Part {
     Remove(Quoting, Parameter, Removal, Rc<Parts>),
     /// A command substitution (XCU 2.6.3), by its number among those of the whole word, from 0.
     Command(Quoting, u64),
+    /// An arithmetic expansion (XCU 2.6.4), of the expression that these parts make up.
+    Arithmetic(Quoting, Rc<Parts>),
 }
 
 /// The parts of a word, one after another.

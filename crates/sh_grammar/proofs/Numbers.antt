@@ -78,6 +78,12 @@ numbered k.BraceStartText = refl
 numbered k.BraceText = refl
 numbered k.QuotedBraceText = refl
 numbered k.QuotedBraceEscape = refl
+numbered k.Arithmetic = refl
+numbered k.ArithmeticText = refl
+numbered k.ArithmeticEscape = refl
+numbered k.ParenthesisOpen = refl
+numbered k.ParenthesisClose = refl
+numbered k.ArithmeticClose = refl
 numbered k.End = refl
 
 some_same : (a b : Kind) → Some a ≡ Some b → a ≡ b

@@ -1,5 +1,5 @@
 -- The table of choices is the one of the grammar.
-use Rattle.std.proofs.Common.{◌≡◌, List, Option, Some, None, Bool, true, false, refl}
+use Rattle.std.proofs.Common.{◌≡◌, List, Option, Some, None, true, refl}
 use Rattle.sh_rules.specs.declared.kind.Kind.{Kind}
 use Rattle.sh_rules.specs.Parts.{Part}
 use Rattle.sh_rules.specs.Rules.{Rule}

@@ -45,6 +45,7 @@ part_named part.QuotedParts = p.quoted_parts
 part_named part.BraceStart = p.brace_start
 part_named part.BraceParts = p.brace_parts
 part_named part.QuotedBraceParts = p.quoted_brace_parts
+part_named part.Arithmetic = p.arithmetic
 
 abbrev pub rule_named : dr.Rule → r.Rule
 rule_named rule.NothingMore = r.Nothing_more
@@ -141,6 +142,7 @@ rule_named rule.BracedParameter = r.Braced_parameter
 rule_named rule.Substitution = r.Substitution
 rule_named rule.Dollar = r.Dollar
 rule_named rule.PatternBraces = r.Pattern_braces
+rule_named rule.Arithmetic = r.Arithmetic
 rule_named rule.QuoteEnd = r.Quote_end
 rule_named rule.QuotedText = r.Quoted_text
 rule_named rule.QuotedEscape = r.Quoted_escape
@@ -158,6 +160,13 @@ rule_named rule.QuotedBraceEscape = r.Quoted_brace_escape
 rule_named rule.InnerQuoted = r.Inner_quoted
 rule_named rule.InnerBraces = r.Inner_braces
 rule_named rule.InnerExpansion = r.Inner_expansion
+rule_named rule.ArithmeticEnd = r.Arithmetic_end
+rule_named rule.ArithmeticText = r.Arithmetic_text
+rule_named rule.ArithmeticEscape = r.Arithmetic_escape
+rule_named rule.ParenthesisOpen = r.Parenthesis_open
+rule_named rule.ParenthesisClose = r.Parenthesis_close
+rule_named rule.ArithmeticBraces = r.Arithmetic_braces
+rule_named rule.ArithmeticExpansion = r.Arithmetic_expansion
 
 abbrev pub symbol_named : ds.Symbol → Symbol Kind p.Part
 symbol_named (symbol.Want kind) = Want kind

@@ -208,6 +208,7 @@ fn choices(part: Part) -> &'static [(Begins, Rule)]
             (Begins::Token(Kind::Substitution), Rule::Substitution),
             (Begins::Token(Kind::Dollar), Rule::Dollar),
             (Begins::Token(Kind::PatternBrace), Rule::PatternBraces),
+            (Begins::Token(Kind::Arithmetic), Rule::Arithmetic),
         ],
         Part::QuotedParts => &[
             (Begins::Token(Kind::QuoteClose), Rule::QuoteEnd),
@@ -236,6 +237,21 @@ fn choices(part: Part) -> &'static [(Begins, Rule)]
             (Begins::Token(Kind::QuoteOpen), Rule::InnerQuoted),
             (Begins::Token(Kind::QuotedBrace), Rule::InnerBraces),
             (Begins::Expansion, Rule::InnerExpansion),
+        ],
+        Part::Arithmetic => &[
+            (Begins::Token(Kind::ArithmeticClose), Rule::ArithmeticEnd),
+            (Begins::Token(Kind::ArithmeticText), Rule::ArithmeticText),
+            (
+                Begins::Token(Kind::ArithmeticEscape),
+                Rule::ArithmeticEscape,
+            ),
+            (Begins::Token(Kind::ParenthesisOpen), Rule::ParenthesisOpen),
+            (
+                Begins::Token(Kind::ParenthesisClose),
+                Rule::ParenthesisClose,
+            ),
+            (Begins::Token(Kind::QuotedBrace), Rule::ArithmeticBraces),
+            (Begins::Expansion, Rule::ArithmeticExpansion),
         ],
     }
 }
@@ -297,5 +313,6 @@ pub fn mode(part: Part) -> Mode
         Part::BraceStart => Mode::BraceStart,
         Part::BraceParts => Mode::InBraces,
         Part::QuotedBraceParts => Mode::InQuotedBraces,
+        Part::Arithmetic => Mode::InArithmetic,
     }
 }

@@ -71,4 +71,6 @@ pub enum Part {
     BraceParts,
     /// The same in double quotes.
     QuotedBraceParts,
+    /// What stands in an arithmetic expansion, and the closing parentheses (XCU 2.6.4).
+    Arithmetic,
 }

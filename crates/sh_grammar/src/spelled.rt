@@ -278,6 +278,7 @@ pub fn spelling(rule: Rule) -> &'static [Symbol]
             Symbol::Want(Kind::PatternBrace),
             Symbol::Do(Part::BraceStart),
         ],
+        Rule::Arithmetic => &[Symbol::Want(Kind::Arithmetic), Symbol::Do(Part::Arithmetic)],
         // quoted_parts
         Rule::QuoteEnd => &[Symbol::Want(Kind::QuoteClose)],
         Rule::QuotedText => &[
@@ -329,5 +330,29 @@ pub fn spelling(rule: Rule) -> &'static [Symbol]
             Symbol::Do(Part::Expansion),
             Symbol::Do(Part::QuotedBraceParts),
         ],
+        // arithmetic
+        Rule::ArithmeticEnd => &[Symbol::Want(Kind::ArithmeticClose)],
+        Rule::ArithmeticText => &[
+            Symbol::Want(Kind::ArithmeticText),
+            Symbol::Do(Part::Arithmetic),
+        ],
+        Rule::ArithmeticEscape => &[
+            Symbol::Want(Kind::ArithmeticEscape),
+            Symbol::Do(Part::Arithmetic),
+        ],
+        Rule::ParenthesisOpen => &[
+            Symbol::Want(Kind::ParenthesisOpen),
+            Symbol::Do(Part::Arithmetic),
+        ],
+        Rule::ParenthesisClose => &[
+            Symbol::Want(Kind::ParenthesisClose),
+            Symbol::Do(Part::Arithmetic),
+        ],
+        Rule::ArithmeticBraces => &[
+            Symbol::Want(Kind::QuotedBrace),
+            Symbol::Do(Part::QuotedBraceParts),
+            Symbol::Do(Part::Arithmetic),
+        ],
+        Rule::ArithmeticExpansion => &[Symbol::Do(Part::Expansion), Symbol::Do(Part::Arithmetic)],
     }
 }

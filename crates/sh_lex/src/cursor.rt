@@ -89,6 +89,7 @@ impl<'a> Cursor<'a> {
             tried(mode, front),
             self.is_whole(),
             self.is_closed(),
+            self.is_nested(),
             self.words,
             &self.awaited,
             &self.text,

@@ -1,6 +1,7 @@
 // What opens and closes: levels, quotes, substitutions and braces.
 ghost use Rattle.std.specs.Prelude.{◌≡◌, ◌≤◌, ◌<◌, ◌-◌, length, IfOk};
 ghost use Rattle.sh_token.specs.declared.effect.Effect.TheVariants as e;
+ghost use Rattle.sh_token.specs.Places.{last_paren};
 ghost use Rattle.sh_token.specs.Steps as lem;
 
 use crate::cursor::Stop;
@@ -143,6 +144,49 @@ impl<'a> Cursor<'a> {
         self.levels = less_one(self.levels);
         self.inside(n);
     }
+
+    #[tactic(auto, unfolding(sh_token::specs::Steps::after))]
+    pub(crate) fn opens_arithmetic(&mut self, n: usize) -> Result<(), Stop>
+        requires within { n ≤ length self.old.text }
+        requires room { self.old.levels < 64 }
+        ensures { IfOk result (λ _. self.new ≡ lem.after e.OpensArithmetic n self.old) }
+    {
+        self.parens.push(true)?;
+        self.opened.push(self.at)?;
+        self.levels += 1;
+        self.inside(n);
+        Ok(())
+    }
+
+    #[tactic(auto, unfolding(sh_token::specs::Steps::after))]
+    pub(crate) fn closes_arithmetic(&mut self, n: usize)
+        requires within { n ≤ length self.old.text }
+        ensures { self.new ≡ lem.after e.ClosesArithmetic n self.old }
+    {
+        let _ = pop_paren(&mut self.parens);
+        pop_place(&mut self.opened);
+        self.levels = less_one(self.levels);
+        self.inside(n);
+    }
+
+    #[tactic(auto, unfolding(sh_token::specs::Steps::after))]
+    pub(crate) fn opens_parenthesis(&mut self, n: usize) -> Result<(), Stop>
+        requires within { n ≤ length self.old.text }
+        ensures { IfOk result (λ _. self.new ≡ lem.after e.OpensParenthesis n self.old) }
+    {
+        self.parens.push(false)?;
+        self.inside(n);
+        Ok(())
+    }
+
+    #[tactic(auto, unfolding(sh_token::specs::Steps::after))]
+    pub(crate) fn closes_parenthesis(&mut self, n: usize)
+        requires within { n ≤ length self.old.text }
+        ensures { self.new ≡ lem.after e.ClosesParenthesis n self.old }
+    {
+        let _ = pop_paren(&mut self.parens);
+        self.inside(n);
+    }
 }
 
 fn or_false(last: Option<bool>) -> bool
@@ -156,7 +200,7 @@ fn or_false(last: Option<bool>) -> bool
 
 // The last parenthesis goes: whether it opened a substitution.
 fn pop_paren(parens: &mut Vec<bool>) -> bool
-    ensures last { result ≡ lem.last_paren parens.old.items }
+    ensures last { result ≡ last_paren parens.old.items }
     ensures rest { parens.new.items ≡ lem.popped parens.old.items }
 {
     or_false(parens.pop())

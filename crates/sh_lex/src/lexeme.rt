@@ -85,17 +85,30 @@ fn pattern_bar(text: &[u8]) -> Look
     token_if(byte(text, 1) != b'|', Kind::PatternBar, 1)
 }
 
+fn closing(nested: bool, next: u8) -> Look
+    ensures { result ≡ lem.closing nested next }
+{
+    if nested {
+        Some((Kind::ParenthesisClose, 1))
+    } else if next == b')' {
+        Some((Kind::ArithmeticClose, 2))
+    } else {
+        Some((Kind::ArithmeticText, 1))
+    }
+}
+
 // What a recognizer finds, and how many bytes it has, as the text is read or as it stands.
 #[tactic(auto, unfolding(sh_token::specs::Lexemes::recognized))]
 fn recognized(
     recognizer: Recognizer,
     whole: bool,
     closed: bool,
+    nested: bool,
     words: Words,
     awaited: &Queue,
     text: &Unread,
 ) -> Look
-    ensures { result ≡ lem.recognized recognizer whole closed words awaited.now text.now }
+    ensures { result ≡ lem.recognized recognizer whole closed nested words awaited.now text.now }
 {
     let bytes = text.bytes();
     match recognizer {
@@ -147,6 +160,15 @@ fn recognized(
         Recognizer::QuotedBraceText => {
             Some((Kind::QuotedBraceText, run_on(Class::QuotedBraceText, bytes)))
         }
+        Recognizer::ArithmeticBackslash => {
+            let quotes = is_quotable_in_body(raw_byte(bytes, 1));
+            backslash(quotes, Kind::ArithmeticEscape, Kind::ArithmeticText)
+        }
+        Recognizer::ArithmeticText => {
+            Some((Kind::ArithmeticText, run_on(Class::ArithmeticText, bytes)))
+        }
+        Recognizer::ParenthesisOpen => Some((Kind::ParenthesisOpen, 1)),
+        Recognizer::ParenthesisClose => closing(nested, byte(bytes, 1)),
         Recognizer::Name => name_look(bytes),
         Recognizer::FunctionOpen => Some((Kind::FunctionOpen, 1)),
         Recognizer::FunctionClose => Some((Kind::FunctionClose, 1)),
@@ -159,14 +181,15 @@ pub(crate) fn measured(
     recognizer: Recognizer,
     whole: bool,
     closed: bool,
+    nested: bool,
     words: Words,
     awaited: &Queue,
     text: &Unread,
 ) -> Look
-    ensures found { result ≡ lem.measured text.now (lem.recognized recognizer whole closed words awaited.now text.now) }
+    ensures found { result ≡ lem.measured text.now (lem.recognized recognizer whole closed nested words awaited.now text.now) }
     ensures within { IfSome result (λ x. x.1 ≤ length text.now) }
 {
-    match recognized(recognizer, whole, closed, words, awaited, text) {
+    match recognized(recognizer, whole, closed, nested, words, awaited, text) {
         None => None,
         Some((kind, n)) => Some((kind, extent(is_raw(kind), n, text.bytes()))),
     }

@@ -120,6 +120,16 @@ impl<'a> Cursor<'a> {
                 self.closes_braces(n);
                 Ok(())
             }
+            Effect::OpensArithmetic => self.opens_arithmetic(n),
+            Effect::ClosesArithmetic => {
+                self.closes_arithmetic(n);
+                Ok(())
+            }
+            Effect::OpensParenthesis => self.opens_parenthesis(n),
+            Effect::ClosesParenthesis => {
+                self.closes_parenthesis(n);
+                Ok(())
+            }
             Effect::EndsWord => {
                 self.ends_word(n);
                 Ok(())

@@ -91,4 +91,21 @@ impl<'a> Cursor<'a> {
     {
         self.is_closed() && self.around.is_empty()
     }
+
+    /// In an arithmetic expansion, parentheses of its own are open.
+    pub(crate) fn is_nested(&self) -> bool
+        ensures { result ≡ lem.is_nested self.now }
+    {
+        !last_paren(self.parens.as_slice())
+    }
+}
+
+// The parentheses that were opened last begin an expansion.
+fn last_paren(parens: &[bool]) -> bool
+    ensures { result ≡ lem.last_paren parens.now }
+{
+    match parens.last() {
+        None => false,
+        Some(last) => *last,
+    }
 }

@@ -58,6 +58,19 @@ fn quoted_in_body(at: Quote) -> Recognizer
     }
 }
 
+// In an arithmetic expansion (XCU 2.6.4).
+fn quoted_in_arithmetic(at: Quote) -> Recognizer
+    ensures { result ≡ lem.quoted_in_arithmetic at }
+{
+    match at {
+        Quote::Backslash => Recognizer::ArithmeticBackslash,
+        Quote::Single => Recognizer::ArithmeticText,
+        Quote::Double => Recognizer::ArithmeticText,
+        Quote::Backquote => Recognizer::Nothing,
+        Quote::Dollar => Recognizer::ExpandsQuoted,
+    }
+}
+
 // Among commands (XCU 2.10.1), by what an opening parenthesis is.
 fn break_among(paren: Recognizer, at: Break) -> Recognizer
     ensures { result ≡ lem.break_among paren at }
@@ -287,6 +300,35 @@ fn within_body(front: Front) -> Recognizer
     }
 }
 
+// Within an arithmetic expansion.
+fn break_in_arithmetic(at: Break) -> Recognizer
+    ensures { result ≡ lem.break_in_arithmetic at }
+{
+    match at {
+        Break::Blank => Recognizer::ArithmeticText,
+        Break::Newline => Recognizer::ArithmeticText,
+        Break::Semi => Recognizer::ArithmeticText,
+        Break::And => Recognizer::ArithmeticText,
+        Break::Bar => Recognizer::ArithmeticText,
+        Break::Angle => Recognizer::ArithmeticText,
+        Break::OpenParen => Recognizer::ParenthesisOpen,
+        Break::CloseParen => Recognizer::ParenthesisClose,
+    }
+}
+
+fn within_arithmetic(front: Front) -> Recognizer
+    ensures { result ≡ lem.within_arithmetic front }
+{
+    match front {
+        Front::End => Recognizer::Nothing,
+        Front::Nul => Recognizer::Nothing,
+        Front::Break(x) => break_in_arithmetic(x),
+        Front::Quote(x) => quoted_in_arithmetic(x),
+        Front::Tilde => Recognizer::ArithmeticText,
+        Front::Plain(_) => Recognizer::ArithmeticText,
+    }
+}
+
 // Behind a pattern.
 fn behind_pattern(front: Front) -> Recognizer
     ensures { result ≡ lem.at_break lem.break_behind_pattern front }
@@ -365,6 +407,7 @@ pub(crate) fn tried(mode: Mode, front: Front) -> Recognizer
         Mode::BraceStart => within_braces(Recognizer::Nothing, Recognizer::BraceStartText, front),
         Mode::InBraces => within_braces(Recognizer::BraceText, Recognizer::BraceText, front),
         Mode::InQuotedBraces => within_quoted_braces(front),
+        Mode::InArithmetic => within_arithmetic(front),
         Mode::ForName => of_name(front),
         Mode::FunctionOpen => of_parenthesis(Recognizer::FunctionOpen, Recognizer::Nothing, front),
         Mode::FunctionClose => of_parenthesis(

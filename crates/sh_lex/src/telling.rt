@@ -45,8 +45,6 @@ fn dollar_out(text: &[u8]) -> usize
     let d = byte(text, 1);
     if d == b'$' || d == b'!' || d == b'-' {
         2
-    } else if d == b'(' && byte(text, 2) == b'(' {
-        3
     } else {
         0
     }

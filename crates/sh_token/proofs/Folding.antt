@@ -62,6 +62,7 @@ no_end cl.QuotedText h = cc
 no_end cl.BraceText h = cc
 no_end cl.QuotedBraceText h = cc
 no_end cl.BodyText h = cc
+no_end cl.ArithmeticText h = cc
 no_end cl.Tab h = cc
 no_end cl.Unquoted h = cc
 

@@ -21,7 +21,7 @@ use Rattle.sh_token.specs.Quoting.{escape, single, not_quote}
 use Rattle.sh_token.specs.Commands.{command_word, prefix_word, argument_word, text_of, name_look, redirection, opening, is_in, name_or_text, function_name, long_number, opens_parenthesis}
 use Rattle.sh_token.specs.Words.{backslash}
 use Rattle.sh_token.specs.HereDocuments.{Awaited, walk, body}
-use Rattle.sh_token.specs.Lexemes.{recognized, token_if, body_found, bodies_look, delimiter_look}
+use Rattle.sh_token.specs.Lexemes.{recognized, token_if, body_found, bodies_look, delimiter_look, closing}
 
 -- tokens that may have no byte
 abbrev pub may_have_none : Kind → Bool
@@ -171,7 +171,7 @@ of_argument_word words text =
 
 -- what expands: the kind of braces that is given, and the others
 abbrev dollars : Kind → List ℕ
-dollars brace = 54 ∷ 55 ∷ 56 ∷ 57 ∷ 58 ∷ number brace ∷ []
+dollars brace = 54 ∷ 55 ∷ 56 ∷ 57 ∷ 58 ∷ 67 ∷ number brace ∷ []
 
 of_brace : (brace : Kind) (n : ℕ) → Finds (dollars brace) brace → 1 ≤ n → Of (dollars brace) (token brace n)
 of_brace _ n h one = (h.0, subst (λ b. Wide b n) (sym h.1) one)
@@ -204,7 +204,7 @@ of_dollar brace text h =
     of_if (dollars brace) (is_letter (slice_index text 1)) _ _ (refl, omega arith)
     (of_if (dollars brace) (is_digit (slice_index text 1) or is_special (slice_index text 1)) _ _ (refl, some_bytes _)
     (of_if (dollars brace) (slice_index text 1 == 36 or slice_index text 1 == 33 or slice_index text 1 == 45) _ _ tt
-    (of_if (dollars brace) (slice_index text 1 == 40) _ _ (of_if (dollars brace) (slice_index text 2 == 40) _ _ tt (refl, some_bytes _))
+    (of_if (dollars brace) (slice_index text 1 == 40) _ _ (of_if (dollars brace) (slice_index text 2 == 40) _ _ (refl, some_bytes _) (refl, some_bytes _))
     (of_if (dollars brace) (slice_index text 1 == 123) _ _ (of_braced brace text h) (refl, some_bytes _)))))
 
 of_backslash : (ks : List ℕ) (b : Bool) (quoted alone : Kind) → Finds ks quoted → Finds ks alone → Of ks (backslash b quoted alone)
@@ -245,10 +245,18 @@ of_delimiter text = of_count (walk w.Bare text).ends (walk w.Bare text).count
 of_name : (text : List ℕ) → Of (29 ∷ []) (name_look text)
 of_name text = of_if (29 ∷ []) (is_letter (slice_index text 0) also is_end (slice_index text (run_on is_name text))) _ _ (refl, some_bytes _) tt
 
+-- what a closing parenthesis is in an arithmetic expansion
+abbrev closings : List ℕ
+closings = 68 ∷ 71 ∷ 72 ∷ []
+
+of_closing : (nested : Bool) (next : ℕ) → Of closings (closing nested next)
+of_closing true next = (refl, some_bytes _)
+of_closing false next = of_if closings (next == 41) _ _ (refl, some_bytes _) (refl, some_bytes _)
+
 -- the kinds that each finds
 abbrev pub kinds_by : Recognizer → List ℕ
 kinds_by r.Nothing = []
-kinds_by r.AtEnd = 67 ∷ []
+kinds_by r.AtEnd = 73 ∷ []
 kinds_by r.Newline = 1 ∷ []
 kinds_by r.Operator = op
 kinds_by r.Redirects = rd
@@ -284,51 +292,59 @@ kinds_by r.BraceStartText = 63 ∷ []
 kinds_by r.BraceText = 64 ∷ []
 kinds_by r.QuotedBraceBackslash = 65 ∷ 66 ∷ []
 kinds_by r.QuotedBraceText = 65 ∷ []
+kinds_by r.ArithmeticBackslash = 68 ∷ 69 ∷ []
+kinds_by r.ArithmeticText = 68 ∷ []
+kinds_by r.ParenthesisOpen = 70 ∷ []
+kinds_by r.ParenthesisClose = closings
 kinds_by r.Name = 29 ∷ []
 kinds_by r.FunctionOpen = 14 ∷ []
 kinds_by r.FunctionClose = 15 ∷ []
 kinds_by r.Delimiter = 44 ∷ []
 
-pub of_recognized : (x : Recognizer) (whole closed : Bool) (words : Words) (awaited : List Awaited) (text : List ℕ) → Of (kinds_by x) (recognized x whole closed words awaited text)
+pub of_recognized : (x : Recognizer) (whole closed nested : Bool) (words : Words) (awaited : List Awaited) (text : List ℕ) → Of (kinds_by x) (recognized x whole closed nested words awaited text)
 unfolding recognized
-of_recognized r.Nothing whole closed words awaited text = tt
-of_recognized r.AtEnd whole closed words awaited text = of_token_if (67 ∷ []) whole k.End 0 refl tt
-of_recognized r.Newline whole closed words awaited text = (refl, some_bytes _)
-of_recognized r.Operator whole closed words awaited text = of_operator (slice_index (folded text) 0) (slice_index (folded text) 1)
-of_recognized r.Redirects whole closed words awaited text = of_redirection (folded text)
-of_recognized r.LeftParen whole closed words awaited text = (refl, some_bytes _)
-of_recognized r.Escape whole closed words awaited text = of_escape text
-of_recognized r.Single whole closed words awaited text = of_single text
-of_recognized r.QuoteOpen whole closed words awaited text = (refl, some_bytes _)
-of_recognized r.Expands whole closed words awaited text = of_dollar k.Brace (folded text) (refl, refl)
-of_recognized r.ExpandsQuoted whole closed words awaited text = of_dollar k.QuotedBrace (folded text) (refl, refl)
-of_recognized r.Closer whole closed words awaited text = of_closer (folded text)
-of_recognized r.Esac whole closed words awaited text = (refl, some_bytes _)
-of_recognized r.Assignment whole closed words awaited text = (refl, some_bytes _)
-of_recognized r.CommandWord whole closed words awaited text = of_command_word words (folded text)
-of_recognized r.PrefixWord whole closed words awaited text = of_prefix_word (folded text)
-of_recognized r.ArgumentWord whole closed words awaited text = of_argument_word words (folded text)
-of_recognized r.PatternOpen whole closed words awaited text = (refl, some_bytes _)
-of_recognized r.PatternText whole closed words awaited text = of_text (38 ∷ []) is_plain k.PatternText (folded text) (refl, refl)
-of_recognized r.CaseIn whole closed words awaited text = of_if (35 ∷ []) (is_word (codes "in") (folded text)) _ _ (refl, some_bytes _) tt
-of_recognized r.PatternClose whole closed words awaited text = (refl, some_bytes _)
-of_recognized r.PatternBar whole closed words awaited text = of_if (40 ∷ []) (slice_index (folded text) 1 == 124) _ _ tt (refl, some_bytes _)
-of_recognized r.Bodies whole closed words awaited text = of_bodies awaited text
-of_recognized r.BodyClose whole closed words awaited text = of_token_if (5 ∷ []) closed k.BodyClose 0 refl tt
-of_recognized r.BodyBackslash whole closed words awaited text = of_backslash (6 ∷ 7 ∷ []) _ k.BodyEscape k.BodyText (refl, refl) (refl, refl)
-of_recognized r.BodyText whole closed words awaited text = (refl, some_bytes _)
-of_recognized r.WordEnd whole closed words awaited text = (refl, tt)
-of_recognized r.ValueText whole closed words awaited text = of_text (48 ∷ []) is_plain k.ValueText (folded text) (refl, refl)
-of_recognized r.Text whole closed words awaited text = of_text (49 ∷ []) is_plain k.Text (folded text) (refl, refl)
-of_recognized r.QuoteClose whole closed words awaited text = (refl, some_bytes _)
-of_recognized r.QuotedBackslash whole closed words awaited text = of_backslash (60 ∷ 61 ∷ []) _ k.QuotedEscape k.QuotedText (refl, refl) (refl, refl)
-of_recognized r.QuotedText whole closed words awaited text = (refl, some_bytes _)
-of_recognized r.BraceClose whole closed words awaited text = (refl, some_bytes _)
-of_recognized r.BraceStartText whole closed words awaited text = of_text (63 ∷ []) is_brace_text k.BraceStartText (folded text) (refl, refl)
-of_recognized r.BraceText whole closed words awaited text = of_text (64 ∷ []) is_brace_text k.BraceText (folded text) (refl, refl)
-of_recognized r.QuotedBraceBackslash whole closed words awaited text = of_backslash (65 ∷ 66 ∷ []) _ k.QuotedBraceEscape k.QuotedBraceText (refl, refl) (refl, refl)
-of_recognized r.QuotedBraceText whole closed words awaited text = (refl, some_bytes _)
-of_recognized r.Name whole closed words awaited text = of_name (folded text)
-of_recognized r.FunctionOpen whole closed words awaited text = (refl, some_bytes _)
-of_recognized r.FunctionClose whole closed words awaited text = (refl, some_bytes _)
-of_recognized r.Delimiter whole closed words awaited text = of_delimiter text
+of_recognized r.Nothing whole closed nested words awaited text = tt
+of_recognized r.AtEnd whole closed nested words awaited text = of_token_if (73 ∷ []) whole k.End 0 refl tt
+of_recognized r.Newline whole closed nested words awaited text = (refl, some_bytes _)
+of_recognized r.Operator whole closed nested words awaited text = of_operator (slice_index (folded text) 0) (slice_index (folded text) 1)
+of_recognized r.Redirects whole closed nested words awaited text = of_redirection (folded text)
+of_recognized r.LeftParen whole closed nested words awaited text = (refl, some_bytes _)
+of_recognized r.Escape whole closed nested words awaited text = of_escape text
+of_recognized r.Single whole closed nested words awaited text = of_single text
+of_recognized r.QuoteOpen whole closed nested words awaited text = (refl, some_bytes _)
+of_recognized r.Expands whole closed nested words awaited text = of_dollar k.Brace (folded text) (refl, refl)
+of_recognized r.ExpandsQuoted whole closed nested words awaited text = of_dollar k.QuotedBrace (folded text) (refl, refl)
+of_recognized r.Closer whole closed nested words awaited text = of_closer (folded text)
+of_recognized r.Esac whole closed nested words awaited text = (refl, some_bytes _)
+of_recognized r.Assignment whole closed nested words awaited text = (refl, some_bytes _)
+of_recognized r.CommandWord whole closed nested words awaited text = of_command_word words (folded text)
+of_recognized r.PrefixWord whole closed nested words awaited text = of_prefix_word (folded text)
+of_recognized r.ArgumentWord whole closed nested words awaited text = of_argument_word words (folded text)
+of_recognized r.PatternOpen whole closed nested words awaited text = (refl, some_bytes _)
+of_recognized r.PatternText whole closed nested words awaited text = of_text (38 ∷ []) is_plain k.PatternText (folded text) (refl, refl)
+of_recognized r.CaseIn whole closed nested words awaited text = of_if (35 ∷ []) (is_word (codes "in") (folded text)) _ _ (refl, some_bytes _) tt
+of_recognized r.PatternClose whole closed nested words awaited text = (refl, some_bytes _)
+of_recognized r.PatternBar whole closed nested words awaited text = of_if (40 ∷ []) (slice_index (folded text) 1 == 124) _ _ tt (refl, some_bytes _)
+of_recognized r.Bodies whole closed nested words awaited text = of_bodies awaited text
+of_recognized r.BodyClose whole closed nested words awaited text = of_token_if (5 ∷ []) closed k.BodyClose 0 refl tt
+of_recognized r.BodyBackslash whole closed nested words awaited text = of_backslash (6 ∷ 7 ∷ []) _ k.BodyEscape k.BodyText (refl, refl) (refl, refl)
+of_recognized r.BodyText whole closed nested words awaited text = (refl, some_bytes _)
+of_recognized r.WordEnd whole closed nested words awaited text = (refl, tt)
+of_recognized r.ValueText whole closed nested words awaited text = of_text (48 ∷ []) is_plain k.ValueText (folded text) (refl, refl)
+of_recognized r.Text whole closed nested words awaited text = of_text (49 ∷ []) is_plain k.Text (folded text) (refl, refl)
+of_recognized r.QuoteClose whole closed nested words awaited text = (refl, some_bytes _)
+of_recognized r.QuotedBackslash whole closed nested words awaited text = of_backslash (60 ∷ 61 ∷ []) _ k.QuotedEscape k.QuotedText (refl, refl) (refl, refl)
+of_recognized r.QuotedText whole closed nested words awaited text = (refl, some_bytes _)
+of_recognized r.BraceClose whole closed nested words awaited text = (refl, some_bytes _)
+of_recognized r.BraceStartText whole closed nested words awaited text = of_text (63 ∷ []) is_brace_text k.BraceStartText (folded text) (refl, refl)
+of_recognized r.BraceText whole closed nested words awaited text = of_text (64 ∷ []) is_brace_text k.BraceText (folded text) (refl, refl)
+of_recognized r.QuotedBraceBackslash whole closed nested words awaited text = of_backslash (65 ∷ 66 ∷ []) _ k.QuotedBraceEscape k.QuotedBraceText (refl, refl) (refl, refl)
+of_recognized r.QuotedBraceText whole closed nested words awaited text = (refl, some_bytes _)
+of_recognized r.ArithmeticBackslash whole closed nested words awaited text = of_backslash (68 ∷ 69 ∷ []) _ k.ArithmeticEscape k.ArithmeticText (refl, refl) (refl, refl)
+of_recognized r.ArithmeticText whole closed nested words awaited text = (refl, some_bytes _)
+of_recognized r.ParenthesisOpen whole closed nested words awaited text = (refl, some_bytes _)
+of_recognized r.ParenthesisClose whole closed nested words awaited text = of_closing nested (slice_index (folded text) 1)
+of_recognized r.Name whole closed nested words awaited text = of_name (folded text)
+of_recognized r.FunctionOpen whole closed nested words awaited text = (refl, some_bytes _)
+of_recognized r.FunctionClose whole closed nested words awaited text = (refl, some_bytes _)
+of_recognized r.Delimiter whole closed nested words awaited text = of_delimiter text

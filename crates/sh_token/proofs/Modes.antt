@@ -27,7 +27,7 @@ use Rattle.sh_token.specs.Expansions.{dollar, braced, operation, operated, lengt
 use Rattle.sh_token.specs.Fronts.{front_of}
 use Rattle.sh_token.specs.Recognizers.{recognizer}
 use Rattle.sh_token.specs.Lexemes.{recognized, is_raw, extent, measured, look}
-use Rattle.sh_token.specs.Places.{Place, is_whole, is_closed}
+use Rattle.sh_token.specs.Places.{Place, is_whole, is_closed, is_nested}
 use Rattle.sh_token.specs.Steps.{lexed, lex, over, token_of}
 use Rattle.sh_token.proofs.Found.{Of, kinds_by, of_recognized}
 
@@ -70,13 +70,17 @@ num r.BraceStartText = 33
 num r.BraceText = 34
 num r.QuotedBraceBackslash = 35
 num r.QuotedBraceText = 36
-num r.Name = 37
-num r.FunctionOpen = 38
-num r.FunctionClose = 39
-num r.Delimiter = 40
+num r.ArithmeticBackslash = 37
+num r.ArithmeticText = 38
+num r.ParenthesisOpen = 39
+num r.ParenthesisClose = 40
+num r.Name = 41
+num r.FunctionOpen = 42
+num r.FunctionClose = 43
+num r.Delimiter = 44
 
 abbrev all : List Recognizer
-all = r.Nothing ∷ r.AtEnd ∷ r.Newline ∷ r.Operator ∷ r.Redirects ∷ r.LeftParen ∷ r.Escape ∷ r.Single ∷ r.QuoteOpen ∷ r.Expands ∷ r.ExpandsQuoted ∷ r.Closer ∷ r.Esac ∷ r.Assignment ∷ r.CommandWord ∷ r.PrefixWord ∷ r.ArgumentWord ∷ r.PatternOpen ∷ r.PatternText ∷ r.CaseIn ∷ r.PatternClose ∷ r.PatternBar ∷ r.Bodies ∷ r.BodyClose ∷ r.BodyBackslash ∷ r.BodyText ∷ r.WordEnd ∷ r.ValueText ∷ r.Text ∷ r.QuoteClose ∷ r.QuotedBackslash ∷ r.QuotedText ∷ r.BraceClose ∷ r.BraceStartText ∷ r.BraceText ∷ r.QuotedBraceBackslash ∷ r.QuotedBraceText ∷ r.Name ∷ r.FunctionOpen ∷ r.FunctionClose ∷ r.Delimiter ∷ []
+all = r.Nothing ∷ r.AtEnd ∷ r.Newline ∷ r.Operator ∷ r.Redirects ∷ r.LeftParen ∷ r.Escape ∷ r.Single ∷ r.QuoteOpen ∷ r.Expands ∷ r.ExpandsQuoted ∷ r.Closer ∷ r.Esac ∷ r.Assignment ∷ r.CommandWord ∷ r.PrefixWord ∷ r.ArgumentWord ∷ r.PatternOpen ∷ r.PatternText ∷ r.CaseIn ∷ r.PatternClose ∷ r.PatternBar ∷ r.Bodies ∷ r.BodyClose ∷ r.BodyBackslash ∷ r.BodyText ∷ r.WordEnd ∷ r.ValueText ∷ r.Text ∷ r.QuoteClose ∷ r.QuotedBackslash ∷ r.QuotedText ∷ r.BraceClose ∷ r.BraceStartText ∷ r.BraceText ∷ r.QuotedBraceBackslash ∷ r.QuotedBraceText ∷ r.ArithmeticBackslash ∷ r.ArithmeticText ∷ r.ParenthesisOpen ∷ r.ParenthesisClose ∷ r.Name ∷ r.FunctionOpen ∷ r.FunctionClose ∷ r.Delimiter ∷ []
 
 abbrev at : ℕ → List Recognizer → Recognizer
 at n [] = r.Nothing
@@ -121,6 +125,10 @@ is_at r.BraceStartText = refl
 is_at r.BraceText = refl
 is_at r.QuotedBraceBackslash = refl
 is_at r.QuotedBraceText = refl
+is_at r.ArithmeticBackslash = refl
+is_at r.ArithmeticText = refl
+is_at r.ParenthesisOpen = refl
+is_at r.ParenthesisClose = refl
 is_at r.Name = refl
 is_at r.FunctionOpen = refl
 is_at r.FunctionClose = refl
@@ -228,7 +236,7 @@ abbrev expands : Recognizer → Bool
 expands x = either (nat_eq (num x) (num r.Expands)) (nat_eq (num x) (num r.ExpandsQuoted))
 
 abbrev plainly : List ℕ
-plainly = 54 ∷ 55 ∷ 56 ∷ 57 ∷ 58 ∷ []
+plainly = 54 ∷ 55 ∷ 56 ∷ 57 ∷ 58 ∷ 67 ∷ []
 
 abbrev alike : Recognizer → Recognizer → Kind → Bool
 alike x y j = either (nat_eq (num x) (num y)) (both (both (expands x) (expands y)) (member (number j) plainly))
@@ -260,6 +268,7 @@ modes_hold m.InQuotes = refl
 modes_hold m.BraceStart = refl
 modes_hold m.InBraces = refl
 modes_hold m.InQuotedBraces = refl
+modes_hold m.InArithmetic = refl
 modes_hold m.ForName = refl
 modes_hold m.FunctionOpen = refl
 modes_hold m.FunctionClose = refl
@@ -324,7 +333,7 @@ like_dollar c d text h =
     (like_if (slice_index text 1 == 123) _ _ _ _ (like_braced c d text h) (like_same _)))))
 
 abbrev pub found : Recognizer → Place → Look
-found x p = recognized x (is_whole p) (is_closed p) p.words p.awaited p.text
+found x p = recognized x (is_whole p) (is_closed p) (is_nested p) p.words p.awaited p.text
 
 dollars_like : (x y : Recognizer) (p : Place) → (x ≡ r.Expands) ⊎ (x ≡ r.ExpandsQuoted) → (y ≡ r.Expands) ⊎ (y ≡ r.ExpandsQuoted) → Like (found y p) (found x p)
 unfolding recognized
@@ -351,7 +360,7 @@ finds x y p j n h e = by (either_cases (nat_eq (num x) (num y)) (both (both (exp
         dollars_like x y p (which x t.0) (which y t.1) j n s.1 e
 
 pub kind_of : (x : Recognizer) (p : Place) (j : Kind) (n : ℕ) → found x p ≡ Some (j, n) → member (number j) (kinds_by x) ≡ true
-kind_of x p j n e = (subst (Of (kinds_by x)) e (of_recognized x (is_whole p) (is_closed p) p.words p.awaited p.text)).0
+kind_of x p j n e = (subst (Of (kinds_by x)) e (of_recognized x (is_whole p) (is_closed p) (is_nested p) p.words p.awaited p.text)).0
 
 from_both : (a b : Bool) → a ≡ true → b ≡ true → both a b ≡ true
 from_both a b h i = ap (λ a. both a b) h ∙ i

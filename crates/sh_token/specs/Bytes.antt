@@ -60,6 +60,10 @@ is_quoted_brace_text c = not_so (c == 0 or c == 125 or c == 36 or c == 96 or c =
 abbrev pub is_body_text : ℕ → Bool
 is_body_text c = not_so (c == 0 or c == 36 or c == 96 or c == 92)
 
+-- in an arithmetic expansion: the same but for parentheses (XCU 2.6.4)
+abbrev pub is_arithmetic_text : ℕ → Bool
+is_arithmetic_text c = not_so (c == 0 or c == 36 or c == 96 or c == 92 or c == 40 or c == 41)
+
 -- a tab; a byte that quotes nothing in a delimiter: all but \ ' "
 abbrev pub is_tab : ℕ → Bool
 is_tab c = c == 9
@@ -77,5 +81,6 @@ class_is cl.QuotedText c = is_quoted_text c
 class_is cl.BraceText c = is_brace_text c
 class_is cl.QuotedBraceText c = is_quoted_brace_text c
 class_is cl.BodyText c = is_body_text c
+class_is cl.ArithmeticText c = is_arithmetic_text c
 class_is cl.Tab c = is_tab c
 class_is cl.Unquoted c = is_unquoted c

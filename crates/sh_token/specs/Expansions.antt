@@ -64,13 +64,13 @@ braced brace text = or_else (length_look text) (operated brace (parameter_in_bra
 abbrev pub named : List ℕ → Look
 named text = token k.Parameter (run is_name (drop 1 text) + 1)
 
--- a parameter, a command substitution, braces, or the dollar sign itself
+-- a parameter, an arithmetic expansion, which $(( always begins, a command substitution, braces, or the dollar sign itself
 unfoldable pub dollar : Kind → List ℕ → Look
 dollar brace text =
     let d = slice_index text 1 in
     if is_letter d then named text
     else if (is_digit d or is_special d) then token k.Parameter 2
     else if (d == 36 or d == 33 or d == 45) then None
-    else if d == 40 then (if slice_index text 2 == 40 then None else token k.Substitution 2)
+    else if d == 40 then (if slice_index text 2 == 40 then token k.Arithmetic 3 else token k.Substitution 2)
     else if d == 123 then braced brace text
     else token k.Dollar 1

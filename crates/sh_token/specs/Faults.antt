@@ -28,9 +28,9 @@ digits_out text =
 abbrev pub dollar_out : List ℕ → ℕ
 dollar_out text =
     let d = slice_index text 1 in
-    if (d == 36 or d == 33 or d == 45) then 2 else if (d == 40 also slice_index text 2 == 40) then 3 else 0
+    if (d == 36 or d == 33 or d == 45) then 2 else 0
 
--- what this profile leaves out, in front of a text as it is read: ` ~ & <> $$ $! $- $(( and long numbers of descriptors
+-- what this profile leaves out, in front of a text as it is read: ` ~ & <> $$ $! $- and long numbers of descriptors
 unfoldable pub left_out : List ℕ → ℕ
 left_out text =
     let c = slice_index text 0 in

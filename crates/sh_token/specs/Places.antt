@@ -2,7 +2,7 @@
 use Rattle.std.specs.Prelude.{ℕ, ◌+◌, List, [], ◌∷◌, Bool, true, false, drop, length}
 use Rattle.sh_token.specs.declared.place.Words.{Words}
 use Rattle.sh_token.specs.declared.place.Words.TheVariants.{All}
-use Rattle.sh_token.specs.Bytes.{◌also◌}
+use Rattle.sh_token.specs.Bytes.{◌also◌, not_so}
 use Rattle.sh_token.specs.Blanks.{joins, blanks}
 use Rattle.sh_token.specs.HereDocuments.{Awaited}
 
@@ -18,7 +18,7 @@ pub record Around : Type 0 where
 
 -- A place: what is left of the text, or of the body that is read, and how many bytes of the whole stand before it;
 -- which words are reserved there; how many levels are open; where the open quotes, substitutions and braces were opened, the outermost first;
--- which of the open parentheses are substitutions; the here-documents to come, and whether their bodies stand there;
+-- which of the open parentheses begin an expansion; the here-documents to come, and whether their bodies stand there;
 -- whether a word goes on there;
 -- whether a here-document's delimiter is due, where its operator stands, and whether it drops tabs;
 -- whether the tabs at the beginning of lines are dropped here;
@@ -49,6 +49,16 @@ is_closed p = is_none p.opened also is_none p.awaited
 
 abbrev pub is_whole : Place → Bool
 is_whole p = is_closed p also is_none p.around
+
+-- the parentheses that were opened last begin an expansion
+abbrev pub last_paren : List Bool → Bool
+last_paren [] = false
+last_paren (x ∷ []) = x
+last_paren (x ∷ (y ∷ xs)) = last_paren (y ∷ xs)
+
+-- in an arithmetic expansion, parentheses of its own are open
+abbrev pub is_nested : Place → Bool
+is_nested p = not_so (last_paren p.parens)
 
 -- so many bytes further
 abbrev pub moved : ℕ → Place → Place

@@ -44,6 +44,14 @@ quoted_in_body qu.Double = r.BodyText
 quoted_in_body qu.Backquote = r.Nothing
 quoted_in_body qu.Dollar = r.ExpandsQuoted
 
+-- in an arithmetic expansion (XCU 2.6.4)
+abbrev pub quoted_in_arithmetic : q.Quote → Recognizer
+quoted_in_arithmetic qu.Backslash = r.ArithmeticBackslash
+quoted_in_arithmetic qu.Single = r.ArithmeticText
+quoted_in_arithmetic qu.Double = r.ArithmeticText
+quoted_in_arithmetic qu.Backquote = r.Nothing
+quoted_in_arithmetic qu.Dollar = r.ExpandsQuoted
+
 -- among commands (XCU 2.10.1), by what an opening parenthesis is
 abbrev pub break_among : Recognizer → b.Break → Recognizer
 break_among paren br.Blank = r.Nothing
@@ -212,6 +220,25 @@ within_body (f.Quote x) = quoted_in_body x
 within_body f.Tilde = r.BodyText
 within_body (f.Plain x) = r.BodyText
 
+-- within an arithmetic expansion
+abbrev pub break_in_arithmetic : b.Break → Recognizer
+break_in_arithmetic br.Blank = r.ArithmeticText
+break_in_arithmetic br.Newline = r.ArithmeticText
+break_in_arithmetic br.Semi = r.ArithmeticText
+break_in_arithmetic br.And = r.ArithmeticText
+break_in_arithmetic br.Bar = r.ArithmeticText
+break_in_arithmetic br.Angle = r.ArithmeticText
+break_in_arithmetic br.OpenParen = r.ParenthesisOpen
+break_in_arithmetic br.CloseParen = r.ParenthesisClose
+
+abbrev pub within_arithmetic : Front → Recognizer
+within_arithmetic f.End = r.Nothing
+within_arithmetic f.Nul = r.Nothing
+within_arithmetic (f.Break x) = break_in_arithmetic x
+within_arithmetic (f.Quote x) = quoted_in_arithmetic x
+within_arithmetic f.Tilde = r.ArithmeticText
+within_arithmetic (f.Plain x) = r.ArithmeticText
+
 -- THE TABLE: what is tried, by the mode and the front
 unfoldable pub recognizer : Mode → Front → Recognizer
 recognizer m.CommandStart x = among r.LeftParen r.CommandWord r.Assignment x
@@ -228,6 +255,7 @@ recognizer m.InQuotes x = within_quotes x
 recognizer m.BraceStart x = within_braces r.Nothing r.BraceStartText x
 recognizer m.InBraces x = within_braces r.BraceText r.BraceText x
 recognizer m.InQuotedBraces x = within_quoted_braces x
+recognizer m.InArithmetic x = within_arithmetic x
 recognizer m.ForName x = of_name x
 recognizer m.FunctionOpen x = at_break (parenthesis r.FunctionOpen r.Nothing) x
 recognizer m.FunctionClose x = at_break (parenthesis r.Nothing r.FunctionClose) x

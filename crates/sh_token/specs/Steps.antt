@@ -13,18 +13,13 @@ use Rattle.sh_token.specs.Folded.{folded, run}
 use Rattle.sh_token.specs.HereDocuments.{Awaited, delimiter_of, is_quoted, lines, line}
 use Rattle.sh_token.specs.Tokens.{Look}
 use Rattle.sh_token.specs.Lexemes.{look, is_raw, extent}
-use Rattle.sh_token.specs.Places.{Place, Around, moved, past_joins, past_blanks}
+use Rattle.sh_token.specs.Places.{Place, Around, last_paren, moved, past_joins, past_blanks}
 
 -- but the last; and the last, where there is one
 abbrev pub popped : {A : Type 0} → List A → List A
 popped [] = []
 popped (x ∷ []) = []
 popped (x ∷ (y ∷ xs)) = x ∷ popped (y ∷ xs)
-
-abbrev pub last_paren : List Bool → Bool
-last_paren [] = false
-last_paren (x ∷ []) = x
-last_paren (x ∷ (y ∷ xs)) = last_paren (y ∷ xs)
 
 abbrev pub or_false : Option Bool → Bool
 or_false None = false
@@ -137,6 +132,10 @@ after e.Quotes n p = past_joins (record (moved n p) { opened = p.opened ++ p.at 
 after e.Unquotes n p = past_joins (record (moved n p) { opened = popped p.opened })
 after e.OpensBraces n p = past_joins (record (moved n p) { levels = suc p.levels; opened = p.opened ++ p.at ∷ [] })
 after e.ClosesBraces n p = past_joins (record (moved n p) { levels = p.levels - 1; opened = popped p.opened })
+after e.OpensArithmetic n p = past_joins (record (moved n p) { levels = suc p.levels; parens = p.parens ++ true ∷ []; opened = p.opened ++ p.at ∷ [] })
+after e.ClosesArithmetic n p = past_joins (record (moved n p) { levels = p.levels - 1; parens = popped p.parens; opened = popped p.opened })
+after e.OpensParenthesis n p = past_joins (record (moved n p) { parens = p.parens ++ false ∷ [] })
+after e.ClosesParenthesis n p = past_joins (record (moved n p) { parens = popped p.parens })
 after e.EndsWord n p = past_blanks (record (moved n p) { words = Ordinary })
 after e.EndsName n p = past_blanks (record (moved n p) { words = Closers })
 after e.Awaits n p = past_blanks (record (moved n p) { words = Ordinary; due = true; operator = p.at; dashed = ends_with_dash false (folded (take n p.text)) })
@@ -187,6 +186,7 @@ opens_level e.OpensWord = true
 opens_level e.OpensParen = true
 opens_level e.Substitutes = true
 opens_level e.OpensBraces = true
+opens_level e.OpensArithmetic = true
 opens_level e.Encloses = true
 opens_level other = false
 

@@ -4,7 +4,7 @@ use Rattle.sh_rules.specs.declared.kind.Kind.{Kind}
 use Rattle.sh_token.specs.Bytes.{◌or◌}
 use Rattle.sh_token.specs.Tokens.{Look, token}
 
--- in a here-document: $ ` \
+-- in a here-document and in an arithmetic expansion: $ ` \
 abbrev pub is_quotable_in_body : ℕ → Bool
 is_quotable_in_body d = d == 36 or d == 96 or d == 92
 

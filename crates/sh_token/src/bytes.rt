@@ -21,6 +21,8 @@ pub enum Class {
     QuotedBraceText,
     /// In a here-document that is expanded (XCU 2.7.4).
     BodyText,
+    /// In an arithmetic expansion (XCU 2.6.4).
+    ArithmeticText,
     Tab,
     /// What quotes nothing in a here-document's delimiter.
     Unquoted,
@@ -116,6 +118,12 @@ fn is_body_text(c: u8) -> bool
     !(c == 0 || c == b'$' || c == b'`' || c == b'\\')
 }
 
+fn is_arithmetic_text(c: u8) -> bool
+    ensures { result ≡ class.is_arithmetic_text c }
+{
+    !(c == 0 || c == b'$' || c == b'`' || c == b'\\' || c == b'(' || c == b')')
+}
+
 pub(crate) fn is_tab(c: u8) -> bool
     ensures { result ≡ class.is_tab c }
 {
@@ -140,6 +148,7 @@ pub(crate) fn is_in(class: Class, c: u8) -> bool
         Class::BraceText => is_brace_text(c),
         Class::QuotedBraceText => is_quoted_brace_text(c),
         Class::BodyText => is_body_text(c),
+        Class::ArithmeticText => is_arithmetic_text(c),
         Class::Tab => is_tab(c),
         Class::Unquoted => is_unquoted(c),
     }

@@ -32,6 +32,14 @@ pub enum Effect {
     OpensBraces,
     /// It closes it.
     ClosesBraces,
+    /// It opens an arithmetic expansion.
+    OpensArithmetic,
+    /// It closes it.
+    ClosesArithmetic,
+    /// It opens parentheses in one.
+    OpensParenthesis,
+    /// It closes them.
+    ClosesParenthesis,
     /// No word is reserved after it.
     EndsWord,
     /// A word that goes on is reserved after it.
@@ -124,6 +132,12 @@ pub fn effect_of(kind: Kind) -> Effect
         Kind::BraceText => Effect::Inside,
         Kind::QuotedBraceText => Effect::Inside,
         Kind::QuotedBraceEscape => Effect::Inside,
+        Kind::Arithmetic => Effect::OpensArithmetic,
+        Kind::ArithmeticText => Effect::Inside,
+        Kind::ArithmeticEscape => Effect::Inside,
+        Kind::ParenthesisOpen => Effect::OpensParenthesis,
+        Kind::ParenthesisClose => Effect::ClosesParenthesis,
+        Kind::ArithmeticClose => Effect::ClosesArithmetic,
         Kind::End => Effect::Inside,
     }
 }
@@ -145,6 +159,10 @@ pub fn opens_level(effect: Effect) -> bool
         Effect::Unquotes => false,
         Effect::OpensBraces => true,
         Effect::ClosesBraces => false,
+        Effect::OpensArithmetic => true,
+        Effect::ClosesArithmetic => false,
+        Effect::OpensParenthesis => false,
+        Effect::ClosesParenthesis => false,
         Effect::EndsWord => false,
         Effect::EndsName => false,
         Effect::Awaits => false,
@@ -174,6 +192,10 @@ pub fn takes_body(effect: Effect) -> bool
         Effect::Unquotes => false,
         Effect::OpensBraces => false,
         Effect::ClosesBraces => false,
+        Effect::OpensArithmetic => false,
+        Effect::ClosesArithmetic => false,
+        Effect::OpensParenthesis => false,
+        Effect::ClosesParenthesis => false,
         Effect::EndsWord => false,
         Effect::EndsName => false,
         Effect::Awaits => false,

@@ -168,7 +168,7 @@ pub fn dollar(brace: Kind, text: &[u8]) -> Option<(Kind, usize)>
         None
     } else if d == b'(' {
         if byte(text, 2) == b'(' {
-            None
+            Some((Kind::Arithmetic, 3))
         } else {
             Some((Kind::Substitution, 2))
         }

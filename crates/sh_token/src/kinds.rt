@@ -79,6 +79,12 @@ pub fn is_raw(kind: Kind) -> bool
         Kind::BraceText => false,
         Kind::QuotedBraceText => false,
         Kind::QuotedBraceEscape => true,
+        Kind::Arithmetic => false,
+        Kind::ArithmeticText => false,
+        Kind::ArithmeticEscape => true,
+        Kind::ParenthesisOpen => false,
+        Kind::ParenthesisClose => false,
+        Kind::ArithmeticClose => false,
         Kind::End => false,
     }
 }
@@ -155,6 +161,12 @@ pub fn mode_of(kind: Kind) -> Mode
         Kind::BraceText => Mode::InBraces,
         Kind::QuotedBraceText => Mode::InQuotedBraces,
         Kind::QuotedBraceEscape => Mode::InQuotedBraces,
+        Kind::Arithmetic => Mode::InWord,
+        Kind::ArithmeticText => Mode::InArithmetic,
+        Kind::ArithmeticEscape => Mode::InArithmetic,
+        Kind::ParenthesisOpen => Mode::InArithmetic,
+        Kind::ParenthesisClose => Mode::InArithmetic,
+        Kind::ArithmeticClose => Mode::InArithmetic,
         Kind::End => Mode::CommandStart,
     }
 }
@@ -231,6 +243,12 @@ pub fn text_class(kind: Kind) -> Option<Class>
         Kind::BraceText => Some(Class::BraceText),
         Kind::QuotedBraceText => None,
         Kind::QuotedBraceEscape => None,
+        Kind::Arithmetic => None,
+        Kind::ArithmeticText => None,
+        Kind::ArithmeticEscape => None,
+        Kind::ParenthesisOpen => None,
+        Kind::ParenthesisClose => None,
+        Kind::ArithmeticClose => None,
         Kind::End => None,
     }
 }

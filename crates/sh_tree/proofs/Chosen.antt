@@ -45,11 +45,12 @@ rules_of p.word = (refl, (refl, tt))
 rules_of p.value = (refl, (refl, (refl, tt)))
 rules_of p.parts = (refl, (refl, (refl, tt)))
 rules_of p.quoted = (refl, (refl, (refl, (refl, (refl, tt)))))
-rules_of p.expansion = (refl, (refl, (refl, (refl, (refl, tt)))))
+rules_of p.expansion = (refl, (refl, (refl, (refl, (refl, (refl, tt))))))
 rules_of p.quoted_parts = (refl, (refl, (refl, (refl, (refl, tt)))))
 rules_of p.brace_start = (refl, (refl, (refl, tt)))
 rules_of p.brace_parts = (refl, (refl, (refl, tt)))
 rules_of p.quoted_brace_parts = (refl, (refl, (refl, (refl, (refl, (refl, tt))))))
+rules_of p.arithmetic = (refl, (refl, (refl, (refl, (refl, (refl, (refl, tt)))))))
 
 rule_of : (n : Part) → RuleOf n (otherwise n)
 unfolding RuleOf
@@ -87,6 +88,7 @@ rule_of p.quoted_parts = tt
 rule_of p.brace_start = tt
 rule_of p.brace_parts = tt
 rule_of p.quoted_brace_parts = tt
+rule_of p.arithmetic = tt
 
 some_rule : (x y : Rule) → Some x ≡ Some y → x ≡ y
 some_rule x y h = cc

@@ -110,6 +110,7 @@ lighter r.Braced_parameter = omega arith
 lighter r.Substitution = omega arith
 lighter r.Dollar = omega arith
 lighter r.Pattern_braces = omega arith
+lighter r.Arithmetic = omega arith
 lighter r.Quote_end = omega arith
 lighter r.Quoted_text = omega arith
 lighter r.Quoted_escape = omega arith
@@ -127,6 +128,13 @@ lighter r.Quoted_brace_escape = omega arith
 lighter r.Inner_quoted = omega arith
 lighter r.Inner_braces = omega arith
 lighter r.Inner_expansion = omega arith
+lighter r.Arithmetic_end = omega arith
+lighter r.Arithmetic_text = omega arith
+lighter r.Arithmetic_escape = omega arith
+lighter r.Parenthesis_open = omega arith
+lighter r.Parenthesis_close = omega arith
+lighter r.Arithmetic_braces = omega arith
+lighter r.Arithmetic_expansion = omega arith
 
 rank_below : (n : Part) → rank n ≤ 6
 rank_below p.opt_list = omega arith
@@ -163,6 +171,7 @@ rank_below p.quoted_parts = omega arith
 rank_below p.brace_start = omega arith
 rank_below p.brace_parts = omega arith
 rank_below p.quoted_brace_parts = omega arith
+rank_below p.arithmetic = omega arith
 
 token_below : (b : Bool) → token_rank b ≤ 6
 token_below true = omega arith

@@ -45,6 +45,7 @@ quoted (w.length_of q p) = w.length_of Quoted p
 quoted (w.substitute q p c s x) = w.substitute Quoted p c s x
 quoted (w.without q p r x) = w.without Quoted p r x
 quoted (w.output_of q n) = w.output_of Quoted n
+quoted (w.arithmetic q x) = w.arithmetic Quoted x
 
 abbrev pub quoted_first : List PartTree → List PartTree → List PartTree
 quoted_first [] rest = rest
@@ -104,6 +105,10 @@ pattern_braces s = for_two (parts (w.without Unquoted (operand (text_in (top s))
 abbrev pub command_substitution : State → State
 command_substitution s =
     with (parts (w.output_of Unquoted (length (front s.bodies)) ∷ [])) (with_body (commands_of (commands_in (second s))) (less (less (less s))))
+
+-- an arithmetic expansion, by the parts of its expression
+abbrev pub arithmetic : State → State
+arithmetic s = for_two (parts (w.arithmetic Unquoted (parts_of (parts_in (second s))) ∷ [])) s
 
 -- WORDS
 
@@ -359,6 +364,7 @@ acted r.Braced_parameter s = braced s
 acted r.Substitution s = command_substitution s
 acted r.Dollar s = dollar s
 acted r.Pattern_braces s = pattern_braces s
+acted r.Arithmetic s = arithmetic s
 -- in double quotes
 acted r.Quote_end s = no_parts s
 acted r.Quoted_text s = text_part Quoted s
@@ -379,3 +385,11 @@ acted r.Quoted_brace_escape s = escape_part s
 acted r.Inner_quoted s = join_parts (double s)
 acted r.Inner_braces s = quoted_braces s
 acted r.Inner_expansion s = quoted_expansion s
+-- in an arithmetic expansion
+acted r.Arithmetic_end s = no_parts s
+acted r.Arithmetic_text s = text_part Quoted s
+acted r.Arithmetic_escape s = escape_part s
+acted r.Parenthesis_open s = text_part Quoted s
+acted r.Parenthesis_close s = text_part Quoted s
+acted r.Arithmetic_braces s = quoted_braces s
+acted r.Arithmetic_expansion s = quoted_expansion s

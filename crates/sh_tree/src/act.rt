@@ -14,9 +14,9 @@ use crate::compounds::{
 };
 use crate::lists::{alone, and_or, joined, more_commands, negated, no_commands, piped, plain};
 use crate::parts::{
-    braced, braces, command_substitution, dollar, double, escape, escape_part, inner_quoted,
-    join_parts, no_parts, parameter, pattern_braces, quoted_braces, quoted_expansion, single,
-    text_part,
+    arithmetic, braced, braces, command_substitution, dollar, double, escape, escape_part,
+    inner_quoted, join_parts, no_parts, parameter, pattern_braces, quoted_braces, quoted_expansion,
+    single, text_part,
 };
 use crate::simple::{
     argument, assigned, here, more_redirects, name_quoted, name_text, no_redirects, nothing_simple,
@@ -208,6 +208,7 @@ pub fn act(b: &mut Builder, alloc: Global, rule: Rule) -> Result<(), NoMemory>
         Rule::Substitution => command_substitution(b, alloc),
         Rule::Dollar => dollar(b, alloc),
         Rule::PatternBraces => pattern_braces(b, alloc),
+        Rule::Arithmetic => arithmetic(b, alloc),
         Rule::QuoteEnd => no_parts(b, alloc),
         Rule::QuotedText => text_part(b, alloc, Quoting::Quoted),
         Rule::QuotedEscape => escape_part(b, alloc),
@@ -225,5 +226,12 @@ pub fn act(b: &mut Builder, alloc: Global, rule: Rule) -> Result<(), NoMemory>
         Rule::InnerQuoted => inner_quoted(b, alloc),
         Rule::InnerBraces => quoted_braces(b, alloc),
         Rule::InnerExpansion => quoted_expansion(b, alloc),
+        Rule::ArithmeticEnd => no_parts(b, alloc),
+        Rule::ArithmeticText => text_part(b, alloc, Quoting::Quoted),
+        Rule::ArithmeticEscape => escape_part(b, alloc),
+        Rule::ParenthesisOpen => text_part(b, alloc, Quoting::Quoted),
+        Rule::ParenthesisClose => text_part(b, alloc, Quoting::Quoted),
+        Rule::ArithmeticBraces => quoted_braces(b, alloc),
+        Rule::ArithmeticExpansion => quoted_expansion(b, alloc),
     }
 }

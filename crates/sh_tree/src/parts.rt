@@ -89,6 +89,7 @@ fn quoted(part: Part) -> Part
             Part::Remove(Quoting::Quoted, parameter, removal, pattern)
         }
         Part::Command(_, body) => Part::Command(Quoting::Quoted, body),
+        Part::Arithmetic(_, expression) => Part::Arithmetic(Quoting::Quoted, expression),
     }
 }
 
@@ -263,4 +264,19 @@ pub fn pattern_braces(b: &mut Builder, alloc: Global) -> Result<(), NoMemory>
     )?;
     let part = Part::Remove(Quoting::Unquoted, parameter, removal, pattern);
     put_part(b, alloc, part)
+}
+
+/// `$((expression))`
+pub fn arithmetic(b: &mut Builder, alloc: Global) -> Result<(), NoMemory>
+    ensures { OnOk result (state b.new ≡ act.arithmetic (state b.old)) }
+{
+    b.skip();
+    let parts = parts_in(alloc, b.pop());
+    let expression = Rc::new(
+        alloc,
+        Parts {
+            items: parts.into_items(),
+        },
+    )?;
+    put_part(b, alloc, Part::Arithmetic(Quoting::Unquoted, expression))
 }
