@@ -10,3 +10,4 @@ mod Sound
 mod Texts
 mod Trees
 mod Valued
+pub mod Worths
