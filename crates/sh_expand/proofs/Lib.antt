@@ -1,3 +1,4 @@
+pub mod ArithmeticLemmas
 pub mod MachineLemmas
 pub mod NumberLemmas
 pub mod PartLemmas

@@ -1,6 +1,6 @@
 -- Parts of words, as they lie in memory.
 use Rattle.std.proofs.Common.{◌≡◌, ℕ, zero, suc, ◌+◌, ◌<◌, List, [], ◌∷◌, map, length, refl, sym, ap, ◌∙◌, rules, arith, subst, Bool, true, false}
-use Rattle.std.specs.Prelude.{Option, Some, None, unwrap_or}
+use Rattle.std.specs.Prelude.{Option, Some, None, Result, Ok, Err, IfOk, unwrap_or}
 use Rattle.std.specs.declared.rc.Rc.{Rc}
 use Rattle.std.specs.declared.alloc.Global.{Global}
 use Rattle.sh_ast.specs.declared.parameter.Parameter.{Parameter}
@@ -11,14 +11,14 @@ use Rattle.sh_ast.specs.declared.word.Parts.{Parts, out-Parts}
 use Rattle.sh_ast.specs.declared.word.Part.{Part}
 use Rattle.sh_ast.specs.declared.word.Part.TheVariants as part_of
 use Rattle.sh_ast.specs.declared.word.Part.TheFolds.{the_lemmas}
-use Rattle.sh_ast.specs.Words.{part, parts, parts_of, PartTree, PartsTree, no_parts, part_and, substitute, OperatorWord, no_word, the_word}
+use Rattle.sh_ast.specs.Words.{part, parts, parts_of, PartTree, PartsTree, no_parts, part_and, substitute, arithmetic, OperatorWord, no_word, the_word}
 use Rattle.sh_ast.specs.Lists.{part_at}
 use Rattle.sh_vars.specs.declared.env.Env.{Env}
 use Rattle.sh_split.specs.Cutting.{Marks}
 use Rattle.sh_split.specs.Marked.{text_of}
 use Rattle.sh_expand.specs.Values.{counts, value}
 use Rattle.sh_expand.specs.declared.acts.Acted.{Acted}
-use Rattle.sh_expand.specs.Expands.{Body, Failed, With_text, is_quoted, expand, expand_part, expand_text}
+use Rattle.sh_expand.specs.Expands.{Body, Failed, With_text, is_quoted, computed, expand, expand_part, expand_text}
 use Rattle.sh_expand.specs.Acting.{Does, word_of, parts_in, used_by, size_part, size_word}
 use Rattle.sh_expand.specs.Machine.{after}
 
@@ -66,3 +66,13 @@ operator_does it q parameter condition b word inner splits quoted e old new acte
 
 pub operator_less : (it : Part) (q : Quoting) (parameter : Parameter) (condition : Condition) (b : by.Substitute) (word : Option (Rc Parts Global)) (n : ℕ) → it ≡ part_of.Substitute q parameter condition b word → n < size_word (word_of word) + 2 → n < size_part (part it)
 operator_less it q parameter condition b word n is h = subst (λ (t : PartTree). n < size_part t) (sym (ap part is ∙ substitute_is q parameter condition b word)) h
+
+-- an expression of arithmetic
+arithmetic_is : (q : Quoting) (expression : Rc Parts Global) → part (part_of.Arithmetic q expression) ≡ arithmetic q (parts expression.value)
+arithmetic_is q expression = search (rules, the_lemmas)
+
+pub expression_does : {E : Type 0} (it : Part) (q : Quoting) (expression : Rc Parts Global) (inner splits quoted : Bool) (e : Env) (old new : Marks) (r : Result Acted E) → it ≡ part_of.Arithmetic q expression → quoted ≡ is_quoted q → IfOk r (λ acted. (e' : Env) → Does (λ body ms k fail e'. expand body true false (parts expression.value) [] (λ xs e'. computed quoted (text_of xs) ms k fail e') fail e') e' old new acted) → IfOk r (Does (λ body ms k fail e'. expand_part body inner splits (part it) ms k fail e') e old new)
+expression_does it q expression inner splits quoted e old new (Ok acted) is same h =
+    λ body k fail p.
+    ap (λ (t : PartTree). expand_part body inner splits t old k fail e p) (ap part is ∙ arithmetic_is q expression) ∙ (ap (λ (b : Bool). expand body true false (parts expression.value) [] (λ xs e'. computed b (text_of xs) old k fail e') fail e p) (sym same) ∙ h e body k fail p)
+expression_does it q expression inner splits quoted e old new (Err fault) is same h = tt

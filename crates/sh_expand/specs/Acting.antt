@@ -6,17 +6,17 @@ use Rattle.rk_base.specs.Text.{Text}
 use Rattle.sh_ast.specs.declared.parameter.Parameter.{Parameter}
 use Rattle.sh_ast.specs.declared.word.Parts.{Parts}
 use Rattle.sh_ast.specs.declared.word.Substitute.{Substitute}
-use Rattle.sh_ast.specs.Words.{parts, PartTree, literal, value_of, length_of, substitute, without, output_of, OperatorWord, no_word, the_word, PartsTree, no_parts, part_and}
+use Rattle.sh_ast.specs.Words.{parts, PartTree, literal, value_of, length_of, substitute, without, output_of, arithmetic, OperatorWord, no_word, the_word, PartsTree, no_parts, part_and}
 use Rattle.sh_vars.specs.declared.env.Env.{Env}
 use Rattle.sh_vars.specs.Held.{is_readonly}
 use Rattle.sh_split.specs.Cutting.{Marks}
 use Rattle.sh_split.specs.Marked.{text_of, pattern_of}
 use Rattle.sh_expand.specs.Values.{all_removed}
 use Rattle.sh_expand.specs.declared.acts.Then.{Then}
-use Rattle.sh_expand.specs.declared.acts.Then.TheVariants.{Keep, Assign, Message, Remove}
+use Rattle.sh_expand.specs.declared.acts.Then.TheVariants.{Keep, Assign, Message, Remove, Compute}
 use Rattle.sh_expand.specs.declared.acts.Acted.{Acted}
 use Rattle.sh_expand.specs.declared.acts.Acted.TheVariants.{Put, Enter, Subst, Fault}
-use Rattle.sh_expand.specs.Expands.{Go_on, Body, Ended, Failed, shown, put_by, used, not_set, substituted, expand, expand_word, expand_text}
+use Rattle.sh_expand.specs.Expands.{Go_on, Body, Ended, Failed, shown, put_by, computed, used, not_set, substituted, expand, expand_word, expand_text}
 
 -- what comes after a word within a word
 abbrev pub then_over : Then → Ended → Failed → Ended
@@ -24,6 +24,7 @@ then_over Keep k fail ms e = k ms e
 then_over (Assign quoted name outer) k fail ms e = put_by (is_readonly e.vars name) quoted name (text_of ms) outer k fail e
 then_over (Message parameter) k fail ms e = fail parameter (text_of ms) e
 then_over (Remove removal apart quoted words outer) k fail ms e = k (outer ++ shown apart quoted (all_removed removal (pattern_of ms) words) e) e
+then_over (Compute quoted outer) k fail ms e = computed quoted (text_of ms) outer k fail e
 
 -- what comes after a part
 abbrev pub acted_on : (ℕ → Body) → Acted → Marks → Ended → Failed → Go_on
@@ -76,6 +77,7 @@ abbrev mutual
   size_part (substitute quoting parameter condition by word) = size_word word + 2
   size_part (without quoting parameter removal pattern) = size pattern + 2
   size_part (output_of quoting n) = 1
+  size_part (arithmetic quoting expression) = size expression + 2
 
   pub size_word : OperatorWord → ℕ
   size_word no_word = 0

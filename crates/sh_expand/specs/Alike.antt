@@ -1,8 +1,8 @@
 -- What a word says is alike, in any view, where what its bodies say and what comes after it are. As it is this gives its
 -- unfolding, cut that fewer turns only cut it, and properly that its calls are proper.
 use Rattle.std.proofs.Common.{ℕ, ◌-◌, ◌≤◌, List, [], ◌∷◌, ◌++◌, Bool, true, false, arith}
-use Rattle.std.specs.Prelude.{Option, Some, None, codes, length, ◌&&◌, not}
-use Rattle.std.specs.Fmt.{decimal}
+use Rattle.std.specs.Prelude.{Option, Some, None, Ok, Err, codes, length, ◌&&◌, not}
+use Rattle.std.specs.Fmt.{decimal, signed_decimal}
 use Rattle.rk_base.specs.Text.{Text}
 use Rattle.rk_base.specs.Sorted.{sorted}
 use Rattle.rk_base.specs.Canonical.{is_empty}
@@ -18,15 +18,19 @@ use Rattle.sh_ast.specs.declared.word.Substitute.{Substitute}
 use Rattle.sh_ast.specs.declared.word.Substitute.TheVariants.{Default, Assign, Fault, Alternative}
 use Rattle.sh_ast.specs.declared.word.Removal.{Removal}
 use Rattle.sh_ast.specs.Parameters.{spelling}
-use Rattle.sh_ast.specs.Words.{PartTree, literal, value_of, length_of, substitute, without, output_of, OperatorWord, no_word, the_word, PartsTree, no_parts, part_and}
+use Rattle.sh_ast.specs.Words.{PartTree, literal, value_of, length_of, substitute, without, output_of, arithmetic, OperatorWord, no_word, the_word, PartsTree, no_parts, part_and}
 use Rattle.sh_vars.specs.declared.env.Env.{Env}
-use Rattle.sh_vars.specs.Held.{assigned, is_readonly}
+use Rattle.sh_vars.specs.Held.{Held, assigned, is_readonly}
 use Rattle.sh_split.specs.Marks.{kind}
 use Rattle.sh_split.specs.Cutting.{Marks}
 use Rattle.sh_split.specs.Pass.{cut_fields}
 use Rattle.sh_pattern.specs.Pathnames.{matching, put_all}
 use Rattle.sh_split.specs.Joining.{joined}
 use Rattle.sh_split.specs.Marked.{given, text_of, pattern_of, captured}
+use Rattle.sh_arith.specs.Meaning.{Ends}
+use Rattle.sh_arith.specs.Operators.{Worth}
+use Rattle.sh_arith.proofs.Worths.{worth_of}
+use Rattle.sh_expand.specs.Arithmetic.{variables_in, told_of, words_of}
 use Rattle.sh_expand.specs.declared.glob.Component.{Component}
 use Rattle.sh_expand.specs.declared.glob.Component.TheVariants as component
 use Rattle.sh_expand.specs.Globbing.{Numbered, Found, listed, kept, lists, stats, checked, globs}
@@ -36,7 +40,7 @@ use Rattle.sh_expand.specs.declared.mode.Mode.{Mode}
 use Rattle.sh_expand.specs.declared.mode.Mode.TheVariants as mode
 use Rattle.sh_expand.specs.declared.mode.Expanded.{Expanded}
 use Rattle.sh_expand.specs.declared.mode.Expanded.TheVariants as expanded
-use Rattle.sh_expand.specs.Expands.{Go_on, Body, Ended, Failed, With_text, counted, read_of, not_set, not_valid, readonly, is_quoted, literal_marks, unset, shown, got, unmeasured, measured, put_by, assigning, used, taken, substituted, expand, expand_part, expand_word, expand_text}
+use Rattle.sh_expand.specs.Expands.{Go_on, Body, Ended, Failed, With_text, counted, read_of, not_set, not_valid, readonly, is_quoted, literal_marks, unset, shown, got, unmeasured, measured, put_by, assigning, used, taken, worth_put, computed, substituted, expand, expand_part, expand_word, expand_text}
 use Rattle.sh_expand.specs.Fields.{With_fields, ifs, components, has_pattern, or_as_was, named, all_names}
 use Rattle.sh_expand.specs.Means.{With_expanded, all_bytes, pay_fields, splits, finished, expand_in}
 
@@ -116,6 +120,17 @@ module _ (v : View) where
       hw (λ xs e'. k (ms ++ shown (stay_apart cuts quoted parameter) quoted (all_removed removal (pattern_of xs) words) e') e') (λ xs e'. k' (ms ++ shown (stay_apart cuts quoted parameter) quoted (all_removed removal (pattern_of xs) words) e') e') (λ xs e' q lq. hk (ms ++ shown (stay_apart cuts quoted parameter) quoted (all_removed removal (pattern_of xs) words) e') e' q lq) e p le
   taken-alike P removal cuts quoted parameter None ms w w' k k' f f' hw hk hf e p le = unset-alike P e.nounset quoted parameter ms k k' f f' hk hf e p le
 
+  -- Arithmetic.
+
+  worth-alike : (P : ℕ) (quoted : Bool) (text : Text) (worth : Worth) (ms : Marks) (k k' : Ended) (f f' : Failed) → SameEnded P k k' → SameFailed P f f' → Goes P (worth_put quoted text worth ms k f) (worth_put quoted text worth ms k' f')
+  worth-alike P quoted text (Ok number) ms k k' f f' hk hf e p le = hk (ms ++ given quoted (signed_decimal number)) e p le
+  worth-alike P quoted text (Err fault) ms k k' f f' hk hf e p le = hf (told_of text fault) (words_of fault) e p le
+
+  computed-alike : (P : ℕ) (quoted : Bool) (text : Text) (ms : Marks) (k k' : Ended) (f f' : Failed) → SameEnded P k k' → SameFailed P f f' → Goes P (computed quoted text ms k f) (computed quoted text ms k' f')
+  computed-alike P quoted text ms k k' f f' hk hf e p le =
+      let ends : Ends Held = worth_of e.nounset text (variables_in e.vars) in
+      worth-alike P quoted text ends.worth ms k k' f f' hk hf (record e { vars = ends.leaves.state }) p le
+
   -- Substitutions.
 
   substituted-alike : (P : ℕ) (b b' : Body) (quoted : Bool) (ms : Marks) (k k' : Ended) → SameBody P b b' → SameEnded P k k' → Goes P (substituted b quoted ms k) (substituted b' quoted ms k')
@@ -149,6 +164,8 @@ module _ (v : View) where
     part-alike P b b' inner cuts (without quoting parameter removal pattern) ms k k' f f' hb hk hf e p le =
         taken-alike P removal cuts (is_quoted quoting) parameter (values e parameter) ms (λ j e'. expand b true false pattern [] j f e') (λ j e'. expand b' true false pattern [] j f' e') k k' f f' (λ j j' hj. expand-alike P b b' true false pattern [] j j' f f' hb hj hf) hk hf e p le
     part-alike P b b' inner cuts (output_of quoting n) ms k k' f f' hb hk hf e p le = substituted-alike P (b n) (b' n) (is_quoted quoting) ms k k' (hb n) hk e p le
+    part-alike P b b' inner cuts (arithmetic quoting expression) ms k k' f f' hb hk hf e p le =
+        expand-alike P b b' true false expression [] (λ xs e'. computed (is_quoted quoting) (text_of xs) ms k f e') (λ xs e'. computed (is_quoted quoting) (text_of xs) ms k' f' e') f f' hb (λ xs. computed-alike P (is_quoted quoting) (text_of xs) ms k k' f f' hk hf) hf e p le
 
     word-alike : (P : ℕ) (b b' : ℕ → Body) (cuts quoted : Bool) (w : OperatorWord) (ms : Marks) (k k' : Ended) (f f' : Failed) → ((n : ℕ) → SameBody P (b n) (b' n)) → SameEnded P k k' → SameFailed P f f' → Goes P (expand_word b cuts quoted w ms k f) (expand_word b' cuts quoted w ms k' f')
     word-alike P b b' cuts quoted no_word ms k k' f f' hb hk hf e p le = hk (ms ++ given quoted []) e p le

@@ -1,6 +1,6 @@
 -- What expansion of the parts of a word asks, and what it gives (XCU 2.6.2 and 2.6.3).
 use Rattle.std.specs.Prelude.{ℕ, List, [], ◌++◌, length, codes, Option, Some, None, Result, Ok, Err, Bool, true, false}
-use Rattle.std.specs.Fmt.{decimal}
+use Rattle.std.specs.Fmt.{decimal, signed_decimal}
 use Rattle.rk_base.specs.Text.{Text}
 use Rattle.rk_base.specs.declared.errno.Errno.{Errno}
 use Rattle.rk_calls.specs.declared.call.Call.TheVariants.{Pipe, Read}
@@ -15,12 +15,16 @@ use Rattle.sh_ast.specs.declared.word.Substitute.{Substitute}
 use Rattle.sh_ast.specs.declared.word.Substitute.TheVariants.{Default, Assign, Fault, Alternative}
 use Rattle.sh_ast.specs.declared.word.Removal.{Removal}
 use Rattle.sh_ast.specs.Parameters.{spelling}
-use Rattle.sh_ast.specs.Words.{PartTree, literal, value_of, length_of, substitute, without, output_of, OperatorWord, no_word, the_word, PartsTree, no_parts, part_and}
+use Rattle.sh_ast.specs.Words.{PartTree, literal, value_of, length_of, substitute, without, output_of, arithmetic, OperatorWord, no_word, the_word, PartsTree, no_parts, part_and}
 use Rattle.sh_vars.specs.declared.env.Env.{Env}
-use Rattle.sh_vars.specs.Held.{assigned, is_readonly}
+use Rattle.sh_vars.specs.Held.{Held, assigned, is_readonly}
 use Rattle.sh_split.specs.Cutting.{Marks}
 use Rattle.sh_split.specs.Joining.{joined}
 use Rattle.sh_split.specs.Marked.{as_literal, as_given, given, all_given, text_of, pattern_of, captured}
+use Rattle.sh_arith.specs.Meaning.{Ends}
+use Rattle.sh_arith.specs.Operators.{Worth}
+use Rattle.sh_arith.proofs.Worths.{worth_of}
+use Rattle.sh_expand.specs.Arithmetic.{variables_in, told_of, words_of}
 use Rattle.sh_expand.specs.Told.{numbered}
 use Rattle.sh_expand.specs.Values.{value, values, stay_apart, counts, separator, all_removed}
 
@@ -131,6 +135,19 @@ abbrev pub substituted : Body → Bool → Marks → Ended → Go_on
 substituted body quoted marks k e =
     ask Pipe 2 (λ a. body (counted a e) (λ e'. ask (Read e.next) 1 (λ b. k (marks ++ given quoted (captured (read_of (brought b)))) (counted b e'))))
 
+-- what an expression is worth stands there as a decimal number, or it has a fault (XCU 2.6.4)
+abbrev pub worth_put : Bool → Text → Worth → Marks → Ended → Failed → Go_on
+worth_put quoted text (Ok number) marks k fail e = k (marks ++ given quoted (signed_decimal number)) e
+worth_put quoted text (Err fault) marks k fail e = fail (told_of text fault) (words_of fault) e
+
+-- from the variables as the expression leaves them
+abbrev pub left_put : Bool → Text → Ends Held → Marks → Ended → Failed → Go_on
+left_put quoted text ends marks k fail e = worth_put quoted text ends.worth marks k fail (record e { vars = ends.leaves.state })
+
+-- the value of the expression that a text is
+abbrev pub computed : Bool → Text → Marks → Ended → Failed → Go_on
+computed quoted text marks k fail e = left_put quoted text (worth_of e.nounset text (variables_in e.vars)) marks k fail e
+
 abbrev mutual
   -- The parts of a word from left to right, after the marks so far, where bodies mean this; whether it is an operator's
   -- word, and whether fields are split.
@@ -151,6 +168,7 @@ abbrev mutual
   expand_part body inner splits (without quoting parameter removal pattern) marks k fail e =
       taken removal splits (is_quoted quoting) parameter (values e parameter) marks (λ k' e'. expand body true false pattern [] k' fail e') k fail e
   expand_part body inner splits (output_of quoting n) marks k fail e = substituted (body n) (is_quoted quoting) marks k e
+  expand_part body inner splits (arithmetic quoting expression) marks k fail e = expand body true false expression [] (λ ms e'. computed (is_quoted quoting) (text_of ms) marks k fail e') fail e
 
   -- an operator's word where it stands; nothing where it is left out
   pub expand_word : (ℕ → Body) → Bool → Bool → OperatorWord → Marks → Ended → Failed → Go_on

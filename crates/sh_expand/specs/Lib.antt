@@ -1,5 +1,6 @@
 pub mod Acting
 pub mod Alike
+pub mod Arithmetic
 pub mod Expands
 pub mod Fields
 pub mod Globbing

@@ -7,6 +7,7 @@ ghost use Rattle.sh_expand.specs.Values.{all_removed};
 ghost use Rattle.sh_expand.specs.Expands.{Ended, Failed, put_by, shown};
 ghost use Rattle.sh_expand.specs.Acting.{LeavesAs, left_on};
 
+use crate::arithmetic::compute;
 use crate::parameters::separator;
 use crate::removal::all_removed;
 use rk_base::{Bytes, NoMemory, WordList};
@@ -29,6 +30,8 @@ pub enum Then {
     /// It is the pattern whose match is taken away from these values, which stay apart or not and are quoted or not, after
     /// these marks.
     Remove(Removal, bool, bool, WordList, Field),
+    /// It is an expression of arithmetic, whose value stands, quoted or not, after these marks.
+    Compute(bool, Field),
 }
 
 /// What a part did.
@@ -117,6 +120,12 @@ pub(crate) fn leave(
                 marks,
             )?;
             Ok(None)
+        }
+        Then::Compute(quoted, outer) => {
+            let text = text_of(alloc, marks.as_slice())?;
+            *marks = outer.into_vec();
+            let left = compute(alloc, quoted, text.as_slice(), marks, env)?;
+            Ok(left)
         }
     }
 }

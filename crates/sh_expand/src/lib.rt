@@ -4,6 +4,7 @@
 
 mod acts;
 mod answers;
+mod arithmetic;
 mod decimal;
 mod expander;
 mod glob;

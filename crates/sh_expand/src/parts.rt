@@ -3,9 +3,10 @@ ghost use Rattle.std.specs.Prelude.{◌≡◌, ◌++◌, ◌+◌, ◌<◌, [], �
 ghost use Rattle.rk_base.specs.Text.{Text};
 ghost use Rattle.sh_ast.specs.Parameters.{spelling};
 ghost use Rattle.sh_ast.specs.Words.{part, parts};
+ghost use Rattle.sh_split.specs.Marked.{text_of};
 ghost use Rattle.sh_vars.specs.declared.env.Env.{Env};
 ghost use Rattle.sh_expand.specs.Values.{values, value, counts};
-ghost use Rattle.sh_expand.specs.Expands.{Body, Ended, Failed, is_quoted, literal_marks, unset, got, unmeasured, measured, assigning, taken, not_set, expand, expand_part, expand_word, expand_text};
+ghost use Rattle.sh_expand.specs.Expands.{Body, Ended, Failed, is_quoted, literal_marks, unset, got, unmeasured, measured, assigning, taken, computed, not_set, expand, expand_part, expand_word, expand_text};
 ghost use Rattle.sh_expand.specs.Acting.{Does, word_of, parts_in, used_by, acted_size, size, size_part, size_word};
 
 use crate::acts::{Acted, Then, take};
@@ -203,6 +204,19 @@ fn put_word(
             Ok(Acted::Enter(word, splits, Then::Keep))
         }
     }
+}
+
+// An expression of arithmetic.
+fn put_expression(
+    quoted: bool,
+    expression: &Rc<Parts>,
+    marks: &mut Vec<Mark>,
+) -> Result<Acted, NoMemory>
+    ensures less { IfOk result (λ acted. acted_size acted < size (parts expression.now.value) + 2) }
+    ensures does { IfOk result (λ acted. (e : Env) → Does (λ body ms k fail e'. expand body true false (parts expression.now.value) [] (λ xs e''. computed quoted (text_of xs) ms k fail e'') fail e') e marks.old.items marks.new.items acted) }
+{
+    let inner = share(expression)?;
+    Ok(Acted::Enter(inner, false, Then::Compute(quoted, take(marks))))
 }
 
 // The parts of an operator's word; none where it is left out.
@@ -404,5 +418,10 @@ pub(crate) fn act(
             Ok(acted)
         }
         Part::Command(quoting, number) => Ok(Acted::Subst(is_quoted(*quoting), *number)),
+        Part::Arithmetic(quoting, expression) => put_expression(
+            is_quoted(*quoting),
+            expression,
+            marks,
+        ),
     }
 }
