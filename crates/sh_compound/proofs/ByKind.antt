@@ -1,5 +1,5 @@
 -- Compound commands, by their kinds.
-use Rattle.std.proofs.Common.{◌≡◌, ℕ, ◌+◌, ◌<◌, ◌≤◌, Bool, true, false, not, List, [], ◌∷◌, length, drop, get_or, if◌then◌else◌, Option, Some, None, codes, refl, sym, ap, subst, ◌∙◌, add-one, drop-cons, arith}
+use Rattle.std.proofs.Common.{◌≡◌, ℕ, ◌+◌, ◌<◌, ◌≤◌, Bool, true, false, not, List, [], ◌∷◌, length, drop, get_or, if◌then◌else◌, Option, Some, None, codes, refl, sym, ap, subst, ◌∙◌, add-one, drop-cons}
 use Rattle.std.proofs.lemmas.List.{drop_all}
 use Rattle.std.specs.declared.rc.Rc.{Rc}
 use Rattle.std.specs.declared.alloc.Global.{Global}
@@ -29,7 +29,7 @@ use Rattle.sh_means.specs.Flows.{Next, Go_on, ends, tells, sh}
 use Rattle.sh_means.specs.Run.{run}
 use Rattle.sh_means.specs.Simple.{Round}
 use Rattle.sh_means.specs.Stack.{branches_from, fielding, whole, each_body, giving_to, giving, surrounded, undone}
-use Rattle.sh_means.specs.State.{Shell, with_status, back}
+use Rattle.sh_means.specs.State.{Shell, back}
 use Rattle.sh_means.specs.Trees.{for_words_of, given_if}
 use Rattle.sh_means.specs.Views.{back_to}
 use Rattle.sh_means.specs.Words.{assigns}

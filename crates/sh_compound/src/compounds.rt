@@ -64,7 +64,7 @@ fn act_for(
     let body = body.clone()?;
     match words {
         None => {
-            let fields = state.env.vars.positional().copy()?;
+            let fields = state.env.vars.copy_positional()?;
             Ok(over_fields(place, name, fields, body, state))
         }
         Some(words) => {

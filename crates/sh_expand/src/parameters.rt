@@ -1,5 +1,5 @@
 // Values of parameters.
-ghost use Rattle.std.specs.Prelude.{◌≡◌, ◌∷◌, [], IfOk, option_copied};
+ghost use Rattle.std.specs.Prelude.{◌≡◌, ◌∷◌, [], length, IfOk, option_copied};
 ghost use Rattle.sh_split.specs.Joining.{joined};
 ghost use Rattle.sh_expand.specs.Values.{number, positional_at, separator, some_joined, value, alone, values, stay_apart, counts};
 
@@ -10,13 +10,20 @@ use sh_split::{first_byte, joined};
 use sh_vars::Env;
 use std::alloc::Global;
 
+// How many positional parameters there are.
+fn how_many(env: &Env) -> usize
+    ensures { result ≡ length env.now.vars.positional }
+{
+    env.vars.positional().len()
+}
+
 fn numbered(env: &Env, n: usize) -> Option<&[u8]>
     ensures { option_copied result ≡ positional_at env.now n }
 {
     if n == 0 {
         return Some(env.zero.as_slice());
     }
-    match env.vars.positional().as_slice().get(n - 1) {
+    match env.vars.positional().get(n - 1) {
         None => None,
         Some(word) => Some(word.as_slice()),
     }
@@ -25,7 +32,7 @@ fn numbered(env: &Env, n: usize) -> Option<&[u8]>
 fn positional<'a>(env: &'a Env, digits: &[u8]) -> Option<&'a [u8]>
     ensures { option_copied result ≡ positional_at env.now (number digits.now) }
 {
-    let count = env.vars.positional().len();
+    let count = how_many(env);
     match number(digits) {
         None => None,
         Some(n) => if n > count { None } else { numbered(env, n) },
@@ -43,7 +50,7 @@ pub(crate) fn separator(env: &Env) -> &[u8]
 fn all_joined(alloc: Global, env: &Env) -> Result<Option<Bytes>, NoMemory>
     ensures { IfOk result (λ text. text ≡ some_joined (separator env.now) env.now.vars.positional) }
 {
-    let words = env.vars.positional().as_slice();
+    let words = env.vars.positional();
     if words.is_empty() {
         return Ok(None);
     }
@@ -78,7 +85,7 @@ pub(crate) fn value(
         Parameter::At => all_joined(alloc, env),
         Parameter::Asterisk => all_joined(alloc, env),
         Parameter::Count => {
-            let text = digits(alloc, env.vars.positional().len() as u64)?;
+            let text = digits(alloc, how_many(env) as u64)?;
             Ok(Some(text))
         }
         Parameter::Status => {
@@ -130,15 +137,15 @@ pub(crate) fn values(
             alone(alloc, text)
         }
         Parameter::At => {
-            let words = env.vars.positional().copy()?;
+            let words = env.vars.copy_positional()?;
             Ok(Some(words))
         }
         Parameter::Asterisk => {
-            let words = env.vars.positional().copy()?;
+            let words = env.vars.copy_positional()?;
             Ok(Some(words))
         }
         Parameter::Count => {
-            let text = digits(alloc, env.vars.positional().len() as u64)?;
+            let text = digits(alloc, how_many(env) as u64)?;
             let words = one(alloc, text)?;
             Ok(Some(words))
         }

@@ -74,7 +74,7 @@ fn call(
     ensures talk { IfOk result (Steps (calls run (function_of callee) fields.now place (shell_of state.old) (context stack.old.items)) (context stack.new.items) (shell_of state.new)) }
     ensures costly { IfOk result (λ t. IsStep t.turn) }
 {
-    let positional = state.env.vars.positional().copy()?;
+    let positional = state.env.vars.copy_positional()?;
     let words = behind_first(alloc, fields.as_slice())?;
     put_undo(stack, Undo::Function(positional))?;
     state.env.vars.set_positional(words);

@@ -93,7 +93,7 @@ fn shift_by(alloc: Global, n: u64, state: &mut State) -> Result<Acted, NoMemory>
     ensures talk { IfOk result (λ t. (k : Next) → Steps (shifts n k (shell_of state.old)) k (shell_of state.new) t) }
     ensures costly { IfOk result (λ t. IsStep t.turn) }
 {
-    if shift(alloc, &mut state.env.vars, n)? {
+    if shift(&mut state.env.vars, n) {
         return Ok(end(Flow::Normal, 0, state));
     }
     let acted = err(alloc, b"shift", b"not valid", state)?;

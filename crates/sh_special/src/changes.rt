@@ -5,9 +5,7 @@ ghost use Rattle.sh_special.specs.Changes.{is_barred, with_value, marked, declar
 
 use crate::{Declaration, Options};
 use rk_base::{Bytes, NoMemory};
-use sh_operands::copies;
 use sh_vars::{Env, VarErr, Vars};
-use std::alloc::Global;
 
 fn is_barred(d: &Declaration, vars: &Vars) -> bool
     ensures { result ≡ is_barred d.now.value d.now.name vars.now }
@@ -86,17 +84,16 @@ pub fn unset_all(vars: &mut Vars, names: &[Bytes]) -> Result<Option<Bytes>, NoMe
 }
 
 /// The first n positional parameters go. False, with nothing changed, exactly where there are fewer.
-pub fn shift(alloc: Global, vars: &mut Vars, n: u64) -> Result<bool, NoMemory>
-    ensures answer { IfOk result (λ done. done ≡ has_shift n vars.old) }
-    ensures held { OnOk result (vars.new ≡ shifted n vars.old) }
+pub fn shift(vars: &mut Vars, n: u64) -> bool
+    ensures answer { result ≡ has_shift n vars.old }
+    ensures held { vars.new ≡ shifted n vars.old }
 {
     let count = vars.positional().len();
     if n > count as u64 {
-        return Ok(false);
+        return false;
     }
-    let left = copies(alloc, vars.positional().as_slice().split_at(n as usize).1)?;
-    vars.set_positional(left);
-    Ok(true)
+    vars.shift(n as usize);
+    true
 }
 
 fn or_before(now: Option<bool>, before: bool) -> bool

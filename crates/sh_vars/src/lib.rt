@@ -3,6 +3,7 @@
 #![tactic(auto)]
 
 mod env;
+mod positional;
 mod rows;
 mod variable;
 mod vars;

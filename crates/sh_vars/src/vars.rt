@@ -1,9 +1,10 @@
 // The variables of a shell, and its positional parameters.
-ghost use Rattle.std.specs.Prelude.{◌≡◌, IfOk, OnOk, OnErr, not, if◌then◌else◌, option_copied};
+ghost use Rattle.std.specs.Prelude.{◌≡◌, ◌≤◌, drop, length, IfOk, OnOk, OnErr, not, if◌then◌else◌, option_copied};
 ghost use Rattle.sh_vars.specs.Held.{nothing, value_at, is_readonly, assigned, given, kept, without, exported_of, with_variable, with_entry, variable_at};
 ghost use Rattle.sh_vars.specs.Answers.{AnswersSet};
 
 use crate::Variable;
+use crate::positional::Positional;
 use crate::rows::Rows;
 use crate::variable::{is_given, is_kept, value_of};
 use rk_base::{Bytes, NoMemory as OutOfMemory, VarList, WordList};
@@ -33,7 +34,7 @@ impl From<OutOfMemory> for VarErr {
 pub struct Vars {
     alloc: Global,
     rows: Rows,
-    positional: WordList,
+    positional: Positional,
 }
 
 impl Model for Vars {
@@ -73,7 +74,7 @@ impl Vars {
         Vars {
             alloc,
             rows: Rows::new(alloc),
-            positional: WordList::new(Vec::new(alloc)),
+            positional: Positional::new(WordList::new(Vec::new(alloc))),
         }
     }
 
@@ -201,17 +202,32 @@ impl Vars {
     }
 
     /// The positional parameters, `$1` first.
-    pub fn positional(&self) -> &WordList
+    pub fn positional(&self) -> &[Bytes]
         ensures { result.now ≡ self.now.positional }
     {
-        &self.positional
+        self.positional.as_slice()
+    }
+
+    /// A copy of them.
+    pub fn copy_positional(&self) -> Result<WordList, OutOfMemory>
+        ensures { IfOk result (λ words. words ≡ self.now.positional) }
+    {
+        self.positional.copy(self.alloc)
     }
 
     /// These are the positional parameters from now on.
     pub fn set_positional(&mut self, words: WordList)
         ensures { self.new ≡ record self.old { positional = words } }
     {
-        self.positional = words;
+        self.positional = Positional::new(words);
+    }
+
+    /// The first n positional parameters go (XCU `shift`); the others stay where they are in memory.
+    pub fn shift(&mut self, n: usize)
+        requires { n ≤ length self.old.positional }
+        ensures { self.new ≡ record self.old { positional = drop n self.old.positional } }
+    {
+        self.positional.shift(n);
     }
 
     /// A copy of all of it.
@@ -219,7 +235,7 @@ impl Vars {
         ensures { IfOk result (λ saved. saved ≡ self.now) }
     {
         let rows = self.rows.copy()?;
-        let positional = self.positional.copy()?;
+        let positional = self.copy_positional()?;
         Ok(Saved { rows, positional })
     }
 
@@ -247,6 +263,6 @@ impl Vars {
     {
         let Saved { rows, positional } = saved;
         self.rows = rows;
-        self.positional = positional;
+        self.positional = Positional::new(positional);
     }
 }

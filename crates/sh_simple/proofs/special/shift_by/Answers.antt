@@ -17,4 +17,4 @@ shift_refused n k e held p h hv =
 
 pub returns-clause-talk : goal.returns-clause-talk
 returns-clause-talk c =
-    λ k p. shift_refused c.args.n k (shell_of c.args.state.now) c.shift.new.vars p (sym c.in_ok-shift.ensures.answer ∙ c.if-branch.false) c.in_ok-shift.ensures.held ∙ c.in_ok-acted.ensures.talk k p
+    λ k p. shift_refused c.args.n k (shell_of c.args.state.now) c.shift.new.vars p (sym c.shift.ensures.answer ∙ c.if-shift.false) c.shift.ensures.held ∙ c.in_ok-acted.ensures.talk k p
