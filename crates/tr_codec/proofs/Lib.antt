@@ -6,3 +6,4 @@ pub mod RecordLemmas
 pub mod RowLemmas
 pub mod SealLemmas
 pub mod TableAgain
+pub mod UseLemmas

@@ -1,6 +1,6 @@
 -- What pieces put one after the other make.
-use Rattle.std.proofs.Common.{◌≡◌, ◌∙◌, refl, sym, ap, subst, ℕ, ◌+◌, ◌<◌, ◌≤◌, true, false, not, ◌||◌, cond, List, [], ◌∷◌, ◌++◌, length, take, get_or, append_assoc}
-use Rattle.std.specs.List.{flat_map}
+use Rattle.std.proofs.Common.{◌≡◌, ◌∙◌, refl, sym, ap, subst, ℕ, zero, suc, ◌+◌, ◌<◌, ◌≤◌, true, false, not, ◌||◌, cond, List, [], ◌∷◌, ◌++◌, Some, slice_get, length, take, get_or, append_assoc, arith}
+use Rattle.std.specs.List.{flat_map, AllByRecursion, IsDistinct}
 use Rattle.std.proofs.lemmas.List.{append-nil, take_more, take_all}
 use Rattle.std.proofs.lemmas.Grind.{flat_map-append}
 use Rattle.std.specs.Cmp.Lexicographic.{bytes_decides}
@@ -43,6 +43,29 @@ with_uses_adds blobs (text ∷ texts) =
 pub with_uses-append : (blobs one two : List Text) → with_uses blobs (one ++ two) ≡ with_uses (with_uses blobs one) two
 with_uses-append blobs [] two = refl
 with_uses-append blobs (text ∷ texts) two = with_uses-append (with_use blobs text) texts two
+
+-- where each blob stands once, a text at a place has this place as its number, and isn't added
+elsewhere : (text : Text) (bs : List Text) (n : ℕ) → AllByRecursion (λ b. same_text text b ≡ false) bs → slice_get bs n ≡ Some text → ⊥
+elsewhere text [] n all at = cc
+elsewhere text (b ∷ bs) zero all at = let e : b ≡ text = cc in absurd (let t : same_text text b ≡ true = (bytes_decides text b).1 (sym e) in let f : same_text text b ≡ false = all.0 in cc)
+elsewhere text (b ∷ bs) (suc n) all at = elsewhere text bs n all.1 at
+
+pub numbered : (blobs : List Text) (n : ℕ) (text : Text) → IsDistinct same_text blobs → slice_get blobs n ≡ Some text → (has blobs text ≡ true) × (n ≡ number_of blobs text)
+unfolding IsDistinct
+numbered [] n text once at = cc
+numbered (b ∷ bs) zero text once at =
+    let e : b ≡ text = cc in
+    let t : same_text text b ≡ true = (bytes_decides text b).1 (sym e) in
+    (ap (λ x. x || has bs text) t, sym (ap (λ x. cond (not x) (1 + number_of bs text) 0) t))
+numbered (b ∷ bs) (suc n) text once at =
+    let rest = numbered bs n text once.1 at in
+    elim (same_text text b) as (λ x. same_text text b ≡ x → ((x || has bs text) ≡ true) × (suc n ≡ cond (not x) (1 + number_of bs text) 0)) [
+      | true ↦ λ e. absurd (elsewhere b bs n once.0 (at ∙ ap Some ((bytes_decides text b).0 e)))
+      | false ↦ λ e. (rest.0, (let k = rest.1 in omega arith))
+    ] refl
+
+pub stays_used : (blobs : List Text) (text : Text) → has blobs text ≡ true → with_use blobs text ≡ blobs
+stays_used blobs text h = ap (λ b. cond b blobs (blobs ++ text ∷ [])) h
 
 -- ---- pieces
 

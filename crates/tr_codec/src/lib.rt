@@ -24,4 +24,4 @@ pub use fault::{CodecErr, Damage};
 pub use laws::{one_attrs, one_table, read_back, read_back_attrs};
 pub use reading::read_db;
 pub use rows::{AttrRow, Attrs, DIR_MODE, FILE_MODE};
-pub use writing::write_db;
+pub use writing::{write_db, write_db_as};

@@ -1,20 +1,23 @@
 // A writer of pieces.
-ghost use Rattle.std.specs.Prelude.{◌≡◌, ◌<◌, ◌^◌, ◌++◌, ◌∷◌, [], length, true, IfOk, OnOk};
+ghost use Rattle.std.specs.Prelude.{◌≡◌, ◌<◌, ◌^◌, ◌++◌, ◌∷◌, [], length, true, option_copied, slice_get, IfOk, IfSome, OnOk};
 ghost use Rattle.std.specs.Int.{w16, w32, to_be_bytes};
-ghost use Rattle.std.specs.List.{flat_map};
+ghost use Rattle.std.specs.List.{flat_map, IsDistinct};
+ghost use Rattle.rk_base.specs.Text.{same_text};
 ghost use Rattle.rk_base.specs.Canonical.{is_canonical};
 ghost use Rattle.tr_codec.specs.Piece.{with_use, number_of, num, string, plain, blob, byte, mode, cost, number};
 ghost use Rattle.tr_codec.specs.Puts.{Puts};
 
-use indexmap::IndexSet;
+use indexmap::{IndexMap, IndexSet};
 use rk_base::{Bytes, Name, NoMemory, Path};
 use std::alloc::Global;
 use std::marker::Model;
 
-/// The blobs that were used so far, in the order of first use, and the bytes that were put.
+/// The blobs that were used so far, in the order of first use, and the bytes that were put. A long text that was used before
+/// is mostly found by its mark, so that it isn't hashed again.
 #[derive(Drop)]
 pub(crate) struct Writer {
     blobs: IndexSet<Bytes>,
+    recent: IndexMap<u64, usize>,
     out: Vec<u8>,
 }
 
@@ -26,19 +29,73 @@ impl Model for Writer {
     ghost view = { λ w. record { blobs = w.blobs.keys; bytes = w.out.items } };
 }
 
-// The number of a text, which is added where it is new.
-fn number_in(blobs: &mut IndexSet<Bytes>, text: &Bytes) -> Result<usize, NoMemory>
+// From so many bytes on a text is looked for by its mark before it is hashed.
+const LONG: usize = 256;
+
+// What tells most texts apart: the length, and a byte of each 32nd part. Nothing rests on it: what is found by it is compared.
+fn mark_of(text: &[u8]) -> u64 {
+    let part = text.len() / 32;
+    let mut mark = text.len() as u64;
+    for i in 0..32usize {
+        if let Some(byte) = text.get(i.wrapping_mul(part)) {
+            mark = mark.wrapping_mul(0x0100_0000_01b3) ^ u64::from(*byte);
+        }
+    }
+    mark
+}
+
+fn blob_at(blobs: &[Bytes], n: usize) -> Option<&Bytes>
+    ensures { option_copied result ≡ slice_get blobs.now n }
+{
+    blobs.get(n)
+}
+
+// The number of a text that was the last one with its mark.
+fn recalled(
+    blobs: &[Bytes],
+    recent: &IndexMap<u64, usize>,
+    mark: u64,
+    text: &Bytes,
+) -> Option<usize>
+    requires { IsDistinct same_text blobs.now }
+    ensures used { IfSome result (λ n. with_use blobs.now text.now ≡ blobs.now) }
+    ensures number { IfSome result (λ n. n ≡ number_of blobs.now text.now) }
+{
+    let n = *recent.get(&mark)?;
+    let blob = blob_at(blobs, n)?;
+    if blob.same(text) { Some(n) } else { None }
+}
+
+// The number of a text, which is added where it is new. It is hashed once.
+#[tactic(auto, using(crate::proofs::UseLemmas::number_used))]
+fn looked_up(blobs: &mut IndexSet<Bytes>, text: &Bytes) -> Result<usize, NoMemory>
     ensures blobs { OnOk result (blobs.new.keys ≡ with_use blobs.old.keys text.now) }
     ensures number { IfOk result (λ n. n ≡ number_of blobs.new.keys text.now) }
 {
-    match blobs.get_index_of(text) {
-        Some(number) => Ok(number),
-        None => {
-            let copy = text.copy()?;
-            let (number, _) = blobs.insert_full(copy)?;
-            Ok(number)
-        }
+    let copy = text.copy()?;
+    let (number, _) = blobs.insert_full(copy)?;
+    Ok(number)
+}
+
+// The same. A long text is hashed only where another one, or none, is known by its mark.
+fn number_in(
+    blobs: &mut IndexSet<Bytes>,
+    recent: &mut IndexMap<u64, usize>,
+    text: &Bytes,
+) -> Result<usize, NoMemory>
+    ensures blobs { OnOk result (blobs.new.keys ≡ with_use blobs.old.keys text.now) }
+    ensures number { IfOk result (λ n. n ≡ number_of blobs.new.keys text.now) }
+{
+    if text.len() < LONG {
+        return looked_up(blobs, text);
     }
+    let mark = mark_of(text.as_slice());
+    if let Some(n) = recalled(blobs.as_slice(), recent, mark, text) {
+        return Ok(n);
+    }
+    let n = looked_up(blobs, text)?;
+    recent.insert(mark, n)?;
+    Ok(n)
 }
 
 #[tactic(auto, unfolding(crate::specs::Piece::num))]
@@ -81,6 +138,7 @@ impl Writer {
     {
         Writer {
             blobs: IndexSet::new(alloc),
+            recent: IndexMap::new(alloc),
             out: Vec::new(alloc),
         }
     }
@@ -132,7 +190,7 @@ impl Writer {
     pub(crate) fn put_blob(&mut self, text: &Bytes) -> Result<(), NoMemory>
         ensures { OnOk result (Puts (blob text.now) self.old self.new) }
     {
-        let n = number_in(&mut self.blobs, text)?;
+        let n = number_in(&mut self.blobs, &mut self.recent, text)?;
         push_number(&mut self.out, n as u64)?;
         Ok(())
     }
