@@ -17,10 +17,13 @@ const DEEPEST: usize = 4096;
 /// A directory has at most so many names.
 const MOST_NAMES: usize = 1 << 20;
 
-/// A read asks for at least and at most so many bytes.
-const SHORTEST_PIECE: usize = 1 << 12;
+/// A read asks for at least and at most so many bytes. What it asks for is made zero before.
+const SHORTEST_PIECE: usize = 1 << 8;
 
 const LONGEST_PIECE: usize = 1 << 20;
+
+/// A listing is about so long.
+const LISTING: usize = 1 << 12;
 
 /// A file has at most so many bytes.
 const LONGEST: u64 = 1 << 32;
@@ -155,7 +158,7 @@ fn sorted_names(alloc: Global, listing: &[u8]) -> io::Result<Vec<&[u8]>> {
 // The place has no last slash, so that a link that was put there is not followed.
 fn items_at(rt: &impl Files, alloc: Global, place: &str) -> io::Result<Vec<Item>> {
     let mut dir = rt.open_dir(place)?;
-    let listing = all_bytes(alloc, &mut dir, 0)?;
+    let listing = all_bytes(alloc, &mut dir, LISTING)?;
     let mut items = Vec::new(alloc);
     let mut odd = false;
     for name in &sorted_names(alloc, &listing)? {
