@@ -1,13 +1,20 @@
 -- What a build finds in a folder.
-use Rattle.std.proofs.Common.{◌≡◌, Bool, Option, Some, None, Ok, Err, ap, subst}
+use Rattle.std.proofs.Common.{◌≡◌, Bool, List, Option, Some, None, IfSome, Ok, Err, ap, subst}
+use Rattle.rk_base.specs.Text.{Text}
+use Rattle.tr_record.specs.declared.records.Record.{Record}
+use Rattle.tr_codec.specs.Reads.{IsSealed}
+use Rattle.tr_codec.specs.Spelling.{body, table_piece}
+use Rattle.tr_codec.proofs.SealLemmas.{seal_right}
 use Rattle.rk_folder.specs.Told.{Held}
+use Rattle.rk_folder.specs.declared.hidden_files.State.{State}
 use Rattle.rk_build.specs.Imported.{holding_of}
 use Rattle.rk_build.specs.declared.holding.Holding.{Holding}
 use Rattle.rk_words.specs.declared.requests.Request.{Request}
 use Rattle.rk_words.specs.Asked.{is_fresh}
-use Rattle.rk_build.specs.Kept.{IsKept, ReadsState, state_in, decoded}
+use Rattle.rk_build.specs.Kept.{IsKept, ReadsState, Spells, state_in, decoded}
 use Rattle.rk_build.specs.Stages.{LooksSo, FindsSo}
 use Rattle.rk_build.specs.declared.found.Found.{Found}
+use Rattle.rk_build.specs.declared.kept.KeptState.{KeptState}
 use Rattle.rk_build.specs.declared.stop.Refusal.TheVariants as refusal
 use Rattle.rk_build.specs.declared.stop.Stop.{Stop}
 use Rattle.rk_build.specs.declared.stop.Stop.TheVariants as stop
@@ -41,6 +48,14 @@ kept-stops request told holding stop.NoMemory look kept = tt
 -- by a test of whether the build begins afresh
 pub kept-stops-so : (request : Request) (told : Option Held) (holding : Holding) (e : Stop) (fresh : Bool) → LooksSo told (Ok holding) → fresh ≡ is_fresh request → ReadsState (decoded fresh holding.state) (Err e) → FindsSo request told (Err e)
 kept-stops-so request told holding e fresh look same kept = kept-stops request told holding e look (subst (λ (b : Bool). ReadsState (decoded b holding.state) (Err e)) same kept)
+
+-- a database that was decoded ends with its digest
+spelling-sealed : (db : Option Text) (table : List Record) → Spells db table → IfSome db IsSealed
+spelling-sealed None table spells = tt
+spelling-sealed (Some bytes) table spells = seal_right bytes (body (table_piece table)) spells.1
+
+pub kept-sealed : (fresh asked : Bool) (state : State) (kept : KeptState) → fresh ≡ asked → ReadsState (decoded fresh state) (Ok kept) → IfSome (decoded asked state).db IsSealed
+kept-sealed fresh asked state kept same reads = subst (λ (b : Bool). IfSome (decoded b state).db IsSealed) same (spelling-sealed (decoded fresh state).db kept.old reads.1.0)
 
 -- all was found
 pub is_found : (request : Request) (told : Option Held) (found : Found) → LooksSo told (Ok found.holding) → ReadsState (decoded (is_fresh request) found.holding.state) (Ok (record { attrs = found.attrs; old = found.old })) → FindsSo request told (Ok found)

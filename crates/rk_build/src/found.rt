@@ -1,6 +1,9 @@
 // What a build finds in a folder.
-ghost use Rattle.std.specs.Prelude.{◌≡◌, IfOk, OnOk};
+ghost use Rattle.std.specs.Prelude.{◌≡◌, IfOk, IfSome, OnOk};
 ghost use Rattle.rk_tree.specs.Entries.{IsWholeSnapshot};
+ghost use Rattle.rk_words.specs.Asked.{is_fresh};
+ghost use Rattle.tr_codec.specs.Reads.{IsSealed};
+ghost use Rattle.rk_build.specs.Kept.{decoded};
 ghost use Rattle.rk_build.specs.Stages.{FindsSo, ReadsCounted, Steadily};
 
 use crate::holding::Holding;
@@ -36,6 +39,8 @@ pub(crate) fn find<F: Folder>(
     ensures steady { Steadily (F.steady folder.old) (F.steady folder.new) result }
     ensures finds { FindsSo request.now (F.told folder.old) result }
     ensures whole { IfOk result (λ found. IsWholeSnapshot found.holding.entries) }
+    // A database that was decoded ends with its digest.
+    ensures sealed { IfOk result (λ found. IfSome (decoded (is_fresh request.now) found.holding.state).db IsSealed) }
 {
     let holding = look(alloc, folder)?;
     let KeptState { attrs, old } = kept(alloc, is_fresh(request), &holding.state)?;

@@ -1,12 +1,15 @@
 // What is to be done once the script has run.
-ghost use Rattle.std.specs.Prelude.{◌≡◌, ◌<◌, ◌≤◌, ◌^◌, IfOk, OnOk, length};
+ghost use Rattle.std.specs.Prelude.{◌≡◌, ◌<◌, ◌≤◌, ◌^◌, IfOk, IfSome, OnOk, length, option_copied};
 ghost use Rattle.rk_tree.specs.Entries.{IsWholeSnapshot};
 ghost use Rattle.rk_build.specs.Attributes.{attrs_of};
 ghost use Rattle.rk_build.specs.Holdings.{IsBuilt};
 ghost use Rattle.std.specs.List.{AllByRecursion};
 ghost use Rattle.tr_codec.specs.Fits.{Fits};
 ghost use Rattle.tr_codec.specs.Sound.{IsSound};
-ghost use Rattle.rk_words.specs.Asked.{turns};
+ghost use Rattle.tr_codec.specs.Reads.{IsSealed};
+ghost use Rattle.tr_codec.specs.Spelling.{db_spelling};
+ghost use Rattle.rk_words.specs.Asked.{is_fresh, turns};
+ghost use Rattle.rk_build.specs.Kept.{decoded};
 ghost use Rattle.rk_build.specs.Stages.{StartsSo, PreparesSo, ReadsCounted, Steadily};
 ghost use Rattle.rk_build.specs.Fresh.{IsInMemory, attrs_bytes, held_after};
 
@@ -16,6 +19,7 @@ use crate::explain::error_text;
 use crate::found::{Found, find};
 use crate::holding::Holding;
 use crate::ops::Plan;
+use crate::options::is_fresh;
 use crate::planning::plan;
 use crate::run::{Finished, run};
 use crate::stop::Stop;
@@ -26,7 +30,7 @@ use rk_tree::Snapshot;
 use rk_words::Request;
 use std::alloc::Global;
 use std::sync::ledger::Ledger;
-use tr_codec::{write_attrs, write_db};
+use tr_codec::{write_attrs, write_db, write_db_as};
 use tr_record::Table;
 
 /// A run that ended, and the calls that lead the folder to what it leaves.
@@ -54,8 +58,35 @@ fn attrs_bytes(alloc: Global, entries: &Snapshot) -> Result<Option<Bytes>, NoMem
     }
 }
 
-// What the folder is to hold after the run.
-fn held_after(alloc: Global, finished: &Finished) -> Result<Holding, NoMemory>
+// The bytes of a database that was decoded.
+fn decoded_db<'a>(request: &Request, state: &'a State) -> Option<&'a Bytes>
+    ensures { option_copied result ≡ (decoded (is_fresh request.now) state.now).db }
+{
+    if is_fresh(request) {
+        return None;
+    }
+    match &state.db {
+        None => None,
+        Some(bytes) => Some(bytes),
+    }
+}
+
+// db as it is to stand. Where it is just what was decoded, its digest isn't computed again.
+fn db_bytes(alloc: Global, table: &Table, was: Option<&Bytes>) -> Result<Bytes, NoMemory>
+    requires { IfSome (option_copied was) IsSealed }
+    ensures bytes { IfOk result (λ bytes. bytes ≡ db_spelling table.now) }
+    ensures fits { OnOk result (AllByRecursion IsSound table.now → Fits table.now) }
+    ensures memory { IfOk result (λ bytes. length bytes < 2 ^ 64) }
+{
+    match was {
+        None => write_db(alloc, table),
+        Some(bytes) => write_db_as(alloc, table, bytes),
+    }
+}
+
+// What the folder is to hold after the run, where these were the bytes of the database.
+fn held_after(alloc: Global, finished: &Finished, was: Option<&Bytes>) -> Result<Holding, NoMemory>
+    requires { IfSome (option_copied was) IsSealed }
     ensures holding { IfOk result (λ holding. holding ≡ held_after finished.now.world finished.now.table) }
     ensures built { IfOk result IsBuilt }
     ensures memory { IfOk result (λ holding. IsInMemory holding.state.attrs × IsInMemory holding.state.db) }
@@ -63,7 +94,7 @@ fn held_after(alloc: Global, finished: &Finished) -> Result<Holding, NoMemory>
 {
     let entries = finished.world.snapshot()?;
     let attrs = attrs_bytes(alloc, &entries)?;
-    let db = write_db(alloc, &finished.table)?;
+    let db = db_bytes(alloc, &finished.table, was)?;
     Ok(Holding {
         entries,
         rkr: true,
@@ -100,7 +131,7 @@ pub(crate) fn prepare<M: Maker, F: Folder, L: Ledger>(
     } = find(alloc, request, folder)?;
     check_old(maker, request, &old)?;
     let finished = run(alloc, maker, request, &before.entries, &attrs, &old, live)?;
-    let after = held_after(alloc, &finished)?;
+    let after = held_after(alloc, &finished, decoded_db(request, &before.state))?;
     let plan = plan(alloc, &before, &after)?;
     let error_text = error_text(alloc, request, &finished)?;
     Ok(Prepared {

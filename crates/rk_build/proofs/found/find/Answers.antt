@@ -1,7 +1,7 @@
 use Rattle.std.proofs.Common.{Bool, Ok, subst}
 use Rattle.rk_build.specs.Kept.{ReadsState, decoded}
 use Rattle.std.proofs.lemmas.Result.{err_from_is_err_and}
-use Rattle.rk_build.proofs.FoundLemmas.{look-stops, kept-stops-so, is_found}
+use Rattle.rk_build.proofs.FoundLemmas.{look-stops, kept-stops-so, kept-sealed, is_found}
 use Rattle.rk_build.proofs.found.find.Goals as goal
 
 pub returns-in_err-holding-clause-finds : goal.returns-in_err-holding-clause-finds
@@ -16,3 +16,6 @@ returns-in_err-attrs-clause-finds g c =
 
 pub returns-clause-finds : goal.returns-clause-finds
 returns-clause-finds g c = is_found c.args.request.now _ (record { holding = c.in_ok-holding.holding; attrs = c.in_ok-attrs.field-0.attrs; old = c.in_ok-attrs.field-0.old }) c.in_ok-holding.ensures.look (subst (λ (b : Bool). ReadsState (decoded b c.in_ok-holding.holding.state) (Ok (record { attrs = c.in_ok-attrs.field-0.attrs; old = c.in_ok-attrs.field-0.old }))) c.is_fresh.ensures c.in_ok-attrs.ensures)
+
+pub returns-clause-sealed : goal.returns-clause-sealed
+returns-clause-sealed g c = kept-sealed c.is_fresh.result _ c.in_ok-holding.holding.state _ c.is_fresh.ensures c.in_ok-attrs.ensures

@@ -1,9 +1,14 @@
-use Rattle.std.proofs.Common.{length, refl}
+use Rattle.std.proofs.Common.{Option, IfSome, length, refl, subst, sym}
+use Rattle.rk_base.specs.Text.{Text}
+use Rattle.tr_codec.specs.Reads.{IsSealed}
 use Rattle.rk_build.specs.declared.prepare.Prepared.{Prepared}
 use Rattle.std.proofs.lemmas.Result.{err_from_is_err_and}
 use Rattle.rk_build.proofs.CheckLemmas.{check-no-fault, check-reads, check-starts, find-starts, run-starts, starts-both}
 use Rattle.rk_build.proofs.PrepareLemmas.{check-stops, find-stops, run-stops, is_prepared}
 use Rattle.rk_build.proofs.prepare.prepare.Goals as goal
+
+pub held_after-requires : goal.held_after-requires
+held_after-requires g c = subst (λ (db : Option Text). IfSome db IsSealed) (sym c.decoded_db.ensures) c.in_ok-before.ensures.sealed
 
 pub returns-in_err-before-clause-prepares : goal.returns-in_err-before-clause-prepares
 returns-in_err-before-clause-prepares g c =
