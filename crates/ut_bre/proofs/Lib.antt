@@ -1,0 +1,9 @@
+pub mod ItemLemmas
+pub mod Standing
+pub mod MarkLemmas
+pub mod Laws
+pub mod Walked
+pub mod CallLemmas
+pub mod FirstLemmas
+pub mod Latest
+pub mod Turning

@@ -1,0 +1,19 @@
+//! Basic regular expressions (XBD 9.3): what a text reads as, and the leftmost longest match in a line.
+#![tactic(auto)]
+
+mod bre;
+mod class;
+mod error;
+mod flow;
+mod group;
+mod groups;
+mod mark;
+mod pick;
+mod reader;
+mod run;
+mod set;
+mod tree;
+
+pub use bre::Bre;
+pub use error::BreErr;
+pub use group::{Found, GroupList, Span};
