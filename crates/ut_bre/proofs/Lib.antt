@@ -1,3 +1,4 @@
+pub mod ReadLemmas
 pub mod ItemLemmas
 pub mod Standing
 pub mod MarkLemmas
@@ -7,3 +8,4 @@ pub mod CallLemmas
 pub mod FirstLemmas
 pub mod Latest
 pub mod Turning
+pub mod Existing

@@ -1,12 +1,17 @@
 //! Basic regular expressions (XBD 9.3): what a text reads as, and the leftmost longest match in a line.
 #![tactic(auto)]
 
+mod bracket;
 mod bre;
 mod class;
 mod error;
+mod fault;
 mod flow;
 mod group;
 mod groups;
+mod interval;
+mod last;
+mod law;
 mod mark;
 mod pick;
 mod reader;
@@ -17,3 +22,4 @@ mod tree;
 pub use bre::Bre;
 pub use error::BreErr;
 pub use group::{Found, GroupList, Span};
+pub use law::one_match;
