@@ -9,3 +9,4 @@ pub mod FirstLemmas
 pub mod Latest
 pub mod Turning
 pub mod Existing
+pub mod Numbered

@@ -10,8 +10,8 @@ use Rattle.ut_bre.specs.declared.error.BreErr.TheVariants.{Bad, NoMemory}
 use Rattle.ut_bre.specs.declared.fault.Fault.{Fault}
 use Rattle.ut_bre.specs.declared.fault.Fault.TheVariants.{Unclosed}
 use Rattle.ut_bre.specs.Brackets.{Listing}
-use Rattle.ut_bre.specs.Reading.{Open, Reading, Outcome, good, bad, reads, bad_at, read, read_of, is_anchored, reads_behind, reads_from, Next, goes_on, stops, next_of, fresh, ended, leftmost, outermost, with_times, repeat_last}
-use Rattle.ut_bre.specs.ReadsAs.{open_of, opened_onto, opened_of, IsOutcome, ReadsAs}
+use Rattle.ut_bre.specs.Reading.{Open, Reading, Outcome, good, bad, reads, bad_at, read_folded, read_of, is_anchored, reads_behind, reads_from, Next, goes_on, stops, next_of, fresh, ended, leftmost, outermost, with_times, repeat_last}
+use Rattle.ut_bre.specs.ReadsAs.{open_of, opened_onto, opened_of, IsOutcome, IsRead}
 use Rattle.ut_bre.specs.Sets.{Part, listing, closes, listed_part, bracket_from}
 use Rattle.ut_bre.specs.Trees.{ItemTree, items_of, tree_of}
 use Rattle.ut_bre.specs.declared.tree.Times.{Times}
@@ -82,12 +82,12 @@ drop-shorter zero (x ∷ xs) = omega arith
 drop-shorter (suc k) [] = omega arith
 drop-shorter (suc k) (x ∷ xs) = let h : length (drop k xs) ≤ length xs = drop-shorter k xs in omega arith
 
-pub record TokensLeft (start : ℕ) (text left : Text) (r : Reading) : Type 0 where
+pub record TokensLeft (folded : Bool) (start : ℕ) (text left : Text) (r : Reading) : Type 0 where
   pub within : length left ≤ length text
-  pub same : reads_from r (start + length text - length left) 0 left ≡ reads_from fresh start 0 text
+  pub same : reads_from r (start + length text - length left) 0 left ≡ reads_from (fresh folded) start 0 text
 
-pub token-on : (start b more : ℕ) (text left rest after : Text) (r new : Reading) → left ≡ b ∷ rest → next_of (start + length text - length left) b rest r ≡ goes_on new more → after ≡ drop more rest → TokensLeft start text left r → TokensLeft start text after new
-token-on start b more text left rest after r new el en ea t =
+pub token-on : (folded : Bool) (start b more : ℕ) (text left rest after : Text) (r new : Reading) → left ≡ b ∷ rest → next_of (start + length text - length left) b rest r ≡ goes_on new more → after ≡ drop more rest → TokensLeft folded start text left r → TokensLeft folded start text after new
+token-on folded start b more text left rest after r new el en ea t =
     let end : ℕ = start + length text in
     let at : ℕ = end - length left in
     let size : length left ≡ length rest + 1 = ap (λ (xs : Text). length xs) el ∙ (let g : length (b ∷ rest) ≡ length rest + 1 = omega arith in g) in
@@ -102,12 +102,12 @@ token-on start b more text left rest after r new el en ea t =
       same = sym (one ∙ (two ∙ three)) ∙ t.same;
     }
 
-pub token-stops : (start b : ℕ) (text left rest : Text) (r : Reading) (o : Outcome) → left ≡ b ∷ rest → next_of (start + length text - length left) b rest r ≡ stops o → TokensLeft start text left r → reads_from fresh start 0 text ≡ o
-token-stops start b text left rest r o el en t =
+pub token-stops : (folded : Bool) (start b : ℕ) (text left rest : Text) (r : Reading) (o : Outcome) → left ≡ b ∷ rest → next_of (start + length text - length left) b rest r ≡ stops o → TokensLeft folded start text left r → reads_from (fresh folded) start 0 text ≡ o
+token-stops folded start b text left rest r o el en t =
     sym t.same ∙ (ap (λ xs. reads_from r (start + length text - length left) 0 xs) el ∙ ap (after_token (start + length text - length left) rest) en)
 
-pub tokens-end : (start : ℕ) (text left : Text) (r : Reading) → left ≡ [] → TokensLeft start text left r → reads_from fresh start 0 text ≡ ended r
-tokens-end start text left r el t = sym t.same ∙ ap (λ xs. reads_from r (start + length text - length left) 0 xs) el
+pub tokens-end : (folded : Bool) (start : ℕ) (text left : Text) (r : Reading) → left ≡ [] → TokensLeft folded start text left r → reads_from (fresh folded) start 0 text ≡ ended r
+tokens-end folded start text left r el t = sym t.same ∙ ap (λ xs. reads_from r (start + length text - length left) 0 xs) el
 
 -- one thing more that a bracket expression lists
 
@@ -152,14 +152,14 @@ pub listed-end : (negated : Bool) (start from : ℕ) (text left : Text) (listed 
 listed-end negated start from text left listed el t = sym t.same ∙ ap (λ xs. bracket_from negated start start (from + length text - length left) listed 0 xs) el
 
 -- at the end
-pub read-good : (text : Text) (a : Bool) (items : List ItemTree) (at_end : Bool) (groups : ℕ) → a ≡ is_anchored text → reads_behind a text ≡ good items at_end groups → read text ≡ reads (record { at_start = a; items = items_of items; at_end = at_end; groups = groups })
-unfolding read
-read-good text a items at_end groups e f = ap (λ b. read_of b (reads_behind b text)) (sym e) ∙ ap (read_of a) f
+pub read-good : (folded : Bool) (text : Text) (a : Bool) (items : List ItemTree) (at_end : Bool) (groups : ℕ) → a ≡ is_anchored text → reads_behind folded a text ≡ good items at_end groups → read_folded folded text ≡ reads (record { at_start = a; items = items_of items; at_end = at_end; groups = groups })
+unfolding read_folded
+read-good folded text a items at_end groups e f = ap (λ b. read_of b (reads_behind folded b text)) (sym e) ∙ ap (read_of a) f
 
-pub read-bad : (text : Text) (a : Bool) (at : ℕ) → a ≡ is_anchored text → reads_behind a text ≡ bad at → read text ≡ bad_at at
-unfolding read
-read-bad text a at e f = ap (λ b. read_of b (reads_behind b text)) (sym e) ∙ ap (read_of a) f
+pub read-bad : (folded : Bool) (text : Text) (a : Bool) (at : ℕ) → a ≡ is_anchored text → reads_behind folded a text ≡ bad at → read_folded folded text ≡ bad_at at
+unfolding read_folded
+read-bad folded text a at e f = ap (λ b. read_of b (reads_behind folded b text)) (sym e) ∙ ap (read_of a) f
 
-pub read-err : (text : Text) (a : Bool) (fault : BreErr) → a ≡ is_anchored text → IsOutcome (reads_behind a text) (Err fault) → ReadsAs text (Err fault)
-read-err text a (Bad at) e f = read-bad text a at e f
-read-err text a NoMemory e f = tt
+pub read-err : (folded : Bool) (text : Text) (a : Bool) (fault : BreErr) → a ≡ is_anchored text → IsOutcome (reads_behind folded a text) (Err fault) → IsRead (read_folded folded text) (Err fault)
+read-err folded text a (Bad at) e f = read-bad folded text a at e f
+read-err folded text a NoMemory e f = tt

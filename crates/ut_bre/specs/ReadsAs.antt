@@ -11,15 +11,19 @@ use Rattle.ut_bre.specs.declared.fault.Stop.{Stop}
 use Rattle.ut_bre.specs.declared.fault.Stop.TheVariants.{At, Full}
 use Rattle.ut_bre.specs.Brackets.{Listing}
 use Rattle.ut_bre.specs.Expressions.{expression}
-use Rattle.ut_bre.specs.Reading.{Open, Reading, Next, goes_on, stops, Outcome, good, bad, reads, bad_at, read}
+use Rattle.ut_bre.specs.Reading.{Open, Reading, Next, goes_on, stops, Outcome, good, bad, Read, reads, bad_at, read}
 use Rattle.ut_bre.specs.Sets.{Part}
 use Rattle.ut_bre.specs.Trees.{tree_of}
 
+-- what this is, as an expression, or the place of what is wrong
+abbrev pub IsRead : Read → Result Bre BreErr → Type 0
+IsRead read (Ok b) = read ≡ reads (expression b)
+IsRead read (Err (Bad at)) = read ≡ bad_at at
+IsRead read (Err NoMemory) = Unit {0}
+
 -- the expression of the text, or the place of what is wrong in it
 abbrev pub ReadsAs : Text → Result Bre BreErr → Type 0
-ReadsAs text (Ok b) = read text ≡ reads (expression b)
-ReadsAs text (Err (Bad at)) = read text ≡ bad_at at
-ReadsAs text (Err NoMemory) = Unit {0}
+ReadsAs text = IsRead (read text)
 
 abbrev pub open_of : Opened → Open
 open_of o = record { at = o.at; number = o.number; before = map tree_of o.before.items }
@@ -33,7 +37,7 @@ abbrev pub opened_of : List Opened → List Open
 opened_of = opened_onto []
 
 abbrev pub reading : Reader → Reading
-reading r = record { opened = opened_of r.opened.items; items = map tree_of r.items.items; last = r.last; groups = r.groups }
+reading r = record { opened = opened_of r.opened.items; items = map tree_of r.items.items; last = r.last; groups = r.groups; folded = r.folded }
 
 -- how a token is taken: it goes on behind so many more bytes, or the `$` that was taken ends it
 abbrev pub IsNext : Next → Reading → Result (Option ℕ) BreErr → Type 0

@@ -49,7 +49,7 @@ closes b [] = false
 closes b (l ∷ ls) = b == 93
 
 abbrev pub listing : Bool → List Listed → Listing
-listing negated listed = record { negated = negated; listed = listed }
+listing negated listed = record { negated = negated; listed = listed; folded = false }
 
 -- The bracket that lists these so far; the first bytes of the text belong to what was listed last. The size counts from the
 -- place `from`.

@@ -123,7 +123,11 @@ fn closes(b: u8, listed: &[Listed]) -> bool
 fn bracket_of(negated: bool, listed: Vec<Listed>) -> Bracket
     ensures { result ≡ listing negated listed.items }
 {
-    Bracket { negated, listed }
+    Bracket {
+        negated,
+        listed,
+        folded: false,
+    }
 }
 
 // A bracket expression from its first listed byte on: that byte and the bracket begin at these places.

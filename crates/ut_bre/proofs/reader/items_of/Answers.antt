@@ -8,4 +8,4 @@ use Rattle.ut_bre.proofs.reader.items_of.Goals as goal
 pub tokens-preserved : goal.tokens-preserved
 tokens-preserved c =
     let more : c.in-Ok-Some.field-0 ≡ Some c.in-Ok-Some.more = cc in
-    token-on c.args.start c.in-Some.b c.in-Ok-Some.more c.args.text.now c.tokens.left.now c.in-Some.rest.now c.behind-left.result.now (reading c.tokens.reader) (reading c.take.new.self) c.in-Some.ensures (subst (λ (o : Option ℕ). IsNext (next_of (c.args.start + length c.args.text.now - length c.tokens.left.now) c.in-Some.b c.in-Some.rest.now (reading c.tokens.reader)) (reading c.take.new.self) (Ok o)) more c.in-Ok-Some.ensures) c.behind-left.ensures c.tokens.invariant
+    token-on c.args.folded c.args.start c.in-Some.b c.in-Ok-Some.more c.args.text.now c.tokens.left.now c.in-Some.rest.now c.behind-left.result.now (reading c.tokens.reader) (reading c.take.new.self) c.in-Some.ensures (subst (λ (o : Option ℕ). IsNext (next_of (c.args.start + length c.args.text.now - length c.tokens.left.now) c.in-Some.b c.in-Some.rest.now (reading c.tokens.reader)) (reading c.take.new.self) (Ok o)) more c.in-Ok-Some.ensures) c.behind-left.ensures c.tokens.invariant
