@@ -1,0 +1,4 @@
+pub mod EditLemmas
+pub mod LineLemmas
+pub mod ScriptLemmas
+pub mod SubstituteLemmas

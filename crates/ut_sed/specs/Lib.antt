@@ -1,0 +1,11 @@
+pub mod Commands
+pub mod Editing
+pub mod Gathering
+pub mod Laws
+pub mod Reading
+pub mod Scanning
+pub mod Scripts
+pub mod Selecting
+pub mod Starts
+pub mod Substituting
+pub mod Utilities

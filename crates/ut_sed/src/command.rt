@@ -1,0 +1,60 @@
+// Commands of a script.
+use crate::address::Address;
+use rk_base::Bytes;
+use ut_bre::Bre;
+
+/// A part of a replacement.
+#[derive(Clone, Copy, Debug, Drop)]
+pub enum Part {
+    Byte(u8),
+    /// `&`: what was matched.
+    Whole,
+    /// What the group of this number took; the first has the number 1.
+    Group(usize),
+}
+
+/// What `y` changes: each byte of the first string to the byte in the same place of the second one.
+#[derive(Debug, Drop)]
+pub struct Change {
+    pub from: Bytes,
+    pub to: Bytes,
+}
+
+/// What `s` does.
+#[derive(Drop)]
+pub struct Substitution {
+    pub expression: Bre,
+    pub parts: Vec<Part>,
+    /// The number of the first match that is replaced, from 1 on.
+    pub first: u64,
+    /// `g`: each match after it is replaced too.
+    pub global: bool,
+    /// `p`: the line is written where a match was replaced.
+    pub prints: bool,
+}
+
+/// What a command does (XCU sed, "Editing Commands in sed").
+#[derive(Drop)]
+pub enum Act {
+    /// `p`
+    Print,
+    /// `d`
+    Delete,
+    /// `q`
+    Quit,
+    /// `=`
+    Count,
+    /// `y`
+    Change(Change),
+    /// `s`
+    Substitute(Substitution),
+}
+
+/// A command of a script: the lines that its addresses select, or with `!` the others, and what it does.
+#[derive(Drop)]
+pub struct Command {
+    pub first: Option<Address>,
+    pub second: Option<Address>,
+    pub negated: bool,
+    pub act: Act,
+}

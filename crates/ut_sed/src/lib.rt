@@ -1,0 +1,27 @@
+//! `sed` (XCU, "sed"): its scripts, what they make of lines, and how it gathers them.
+#![tactic(auto)]
+
+mod address;
+mod command;
+mod edit;
+mod gatherer;
+mod laws;
+mod pieces;
+mod reader;
+mod scan;
+mod sed;
+mod select;
+mod start;
+mod substitute;
+mod utility;
+
+pub use address::Address;
+pub use command::{Act, Change, Command, Part, Substitution};
+pub use edit::{Ends, Space};
+pub use gatherer::{Gathered, Gatherer, Source, Waits};
+pub use laws::sed_says_what_commands_may;
+pub use reader::{Addresses, Flags, Step};
+pub use scan::{Piece, Scan};
+pub use sed::Sed;
+pub use select::Selected;
+pub use utility::{Move, SedUtility};

@@ -1,0 +1,179 @@
+// What `s` makes of a line.
+ghost use Rattle.std.specs.Prelude.{◌≡◌, ◌∷◌, ◌++◌, ◌||◌, ◌<◌, [], length, MatchOption, IfSome, IfOk, OnOk};
+ghost use Rattle.ut_bre.specs.Expressions.{expression};
+ghost use Rattle.ut_sed.specs.Commands.{substitution_of};
+ghost use Rattle.ut_sed.specs.Substituting.{group_text, part_text, parts_text, not_empty_at, next_found, match_text, is_final, substituted, is_substituted, image, changed};
+
+use crate::command::{Change, Part, Substitution};
+use crate::pieces::{behind, piece};
+use rk_base::NoMemory;
+use ut_bre::{Bre, Found, Span};
+
+fn group_text(text: &[u8], span: Option<Span>) -> &[u8]
+    ensures { result.now ≡ group_text text.now span }
+{
+    match span {
+        None => &[],
+        Some(span) => piece(text, span.start, span.end),
+    }
+}
+
+fn put_part(text: &[u8], found: &Found, part: Part, made: &mut Vec<u8>) -> Result<(), NoMemory>
+    ensures { OnOk result (made.new.items ≡ made.old.items ++ part_text text.now found.now part) }
+{
+    match part {
+        Part::Byte(b) => made.push(b)?,
+        Part::Whole => made.extend_from_slice(piece(text, found.start, found.end))?,
+        Part::Group(number) => {
+            made.extend_from_slice(group_text(text, found.groups.get(number)))?
+        }
+    }
+    Ok(())
+}
+
+fn put_parts(text: &[u8], found: &Found, parts: &[Part], made: &mut Vec<u8>) -> Result<(), NoMemory>
+    ensures { OnOk result (made.new.items ≡ made.old.items ++ parts_text text.now found.now parts.now) }
+{
+    'parts: for part in parts {
+        put_part(text, found, *part, made)?;
+    }
+    Ok(())
+}
+
+// The match behind one that ends at a place, or the next one where this one is empty.
+fn not_empty_at(
+    bre: &Bre,
+    text: &[u8],
+    at: usize,
+    found: Option<Found>,
+) -> Result<Option<Found>, NoMemory>
+    ensures { IfOk result (λ f. f ≡ not_empty_at (expression bre.now) text.now at found) }
+{
+    match found {
+        None => Ok(None),
+        Some(found) => {
+            if found.end != at {
+                return Ok(Some(found));
+            }
+            let from = at.checked_add(1).ok_or(NoMemory)?;
+            bre.find(text, from)
+        }
+    }
+}
+
+fn next_found(bre: &Bre, text: &[u8], at: usize) -> Result<Option<Found>, NoMemory>
+    ensures { IfOk result (λ f. f ≡ next_found (expression bre.now) text.now at) }
+{
+    let found = bre.find(text, at)?;
+    not_empty_at(bre, text, at, found)
+}
+
+fn either(a: bool, b: bool) -> bool
+    ensures { result ≡ a || b }
+{
+    a || b
+}
+
+impl Substitution {
+    fn is_final(&self, passed: u64) -> bool
+        ensures { result ≡ is_final (substitution_of self.now) passed }
+    {
+        passed == 0 && !self.global
+    }
+
+    // What stands before a match, and the match, which is replaced where none is to be passed over.
+    fn put_match(
+        &self,
+        text: &[u8],
+        at: usize,
+        passed: u64,
+        found: &Found,
+        made: &mut Vec<u8>,
+    ) -> Result<(), NoMemory>
+        ensures { OnOk result (made.new.items ≡ made.old.items ++ match_text (substitution_of self.now) text.now at passed found.now) }
+    {
+        if passed == 0 {
+            made.extend_from_slice(piece(text, at, found.start))?;
+            put_parts(text, found, self.parts.as_slice(), made)
+        } else {
+            made.extend_from_slice(piece(text, at, found.end))?;
+            Ok(())
+        }
+    }
+
+    /// What it makes of a text, and whether a match is replaced.
+    pub(crate) fn rewrite(&self, text: &[u8], made: &mut Vec<u8>) -> Result<bool, NoMemory>
+        ensures made { OnOk result (made.new.items ≡ made.old.items ++ substituted (substitution_of self.now) text.now) }
+        ensures replaced { IfOk result (λ b. b ≡ is_substituted (substitution_of self.now) text.now) }
+    {
+        let mut next = self.expression.find(text, 0)?;
+        let mut at = 0;
+        let mut passed = self.first.saturating_sub(1);
+        let mut replaced = false;
+        let mut left = text.len() + 1;
+        'matches: while left > 0 {
+            left -= 1;
+            match next {
+                None => {
+                    made.extend_from_slice(behind(text, at))?;
+                    return Ok(replaced);
+                }
+                Some(found) => {
+                    self.put_match(text, at, passed, &found, made)?;
+                    at = found.end;
+                    if self.is_final(passed) {
+                        made.extend_from_slice(behind(text, at))?;
+                        return Ok(true);
+                    }
+                    replaced = either(replaced, passed == 0);
+                    passed = passed.saturating_sub(1);
+                    next = next_found(&self.expression, text, at)?;
+                }
+            }
+        }
+        made.extend_from_slice(behind(text, at))?;
+        Ok(replaced)
+    }
+}
+
+fn first_byte(text: &[u8]) -> Option<(u8, &[u8])>
+    ensures cut { MatchOption result (text.now ≡ []) (λ r. text.now ≡ r.0 ∷ r.1.now) }
+    ensures length { IfSome result (λ r. length r.1.now < length text.now) }
+{
+    match text {
+        [] => None,
+        [b, rest @ ..] => Some((*b, rest)),
+    }
+}
+
+impl Change {
+    fn image(&self, b: u8) -> u8
+        ensures { result ≡ image b self.now.from self.now.to }
+    {
+        let mut from = self.from.as_slice();
+        let mut to = self.to.as_slice();
+        'bytes: while let Some((a, after_a)) = first_byte(from) {
+            match first_byte(to) {
+                None => return b,
+                Some((c, after_c)) => {
+                    if a == b {
+                        return c;
+                    }
+                    to = after_c;
+                }
+            }
+            from = after_a;
+        }
+        b
+    }
+
+    /// Each byte of a text as what stands for it.
+    pub(crate) fn change(&self, text: &[u8], made: &mut Vec<u8>) -> Result<(), NoMemory>
+        ensures { OnOk result (made.new.items ≡ made.old.items ++ changed self.now text.now) }
+    {
+        'bytes: for b in text {
+            made.push(self.image(*b))?;
+        }
+        Ok(())
+    }
+}
