@@ -3,6 +3,7 @@ use rk_base::{Bytes, NoMemory, Path, WordList};
 use rk_calls::{Answer, Call, Machine, Spoke, advance};
 use std::alloc::Global;
 use ut_grep::GrepUtility;
+use ut_sed::SedUtility;
 use ut_select::SelectUtility;
 use ut_sort::SortUtility;
 use ut_text::TextUtility;
@@ -46,6 +47,9 @@ fn run_words(alloc: Global, argv: &WordList, text: &Bytes) -> Result<bool, NoMem
         return exits(&mut utility, text);
     }
     if let Some(mut utility) = SortUtility::start(alloc, &root, argv)? {
+        return exits(&mut utility, text);
+    }
+    if let Some(mut utility) = SedUtility::start(alloc, &root, argv)? {
         return exits(&mut utility, text);
     }
     if let Some(mut utility) = GrepUtility::start(alloc, &root, argv)? {

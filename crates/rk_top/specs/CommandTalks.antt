@@ -4,7 +4,7 @@ use Rattle.rk_base.specs.Text.{Text}
 use Rattle.rk_calls.specs.Keys.{KeyValue, takes_variables}
 use Rattle.rk_calls.specs.Talk.{Says}
 use Rattle.rk_calls.specs.Views.{IsCommandTalk, talk-pay, talk-if}
-use Rattle.rk_top.specs.First.{says_or, find_or, copy_or, file_or, grep_or, sort_or, select_or, plain_or, utility_or, builtin_or, named_of, says_of, first_talk}
+use Rattle.rk_top.specs.First.{says_or, find_or, copy_or, file_or, grep_or, sed_or, sort_or, select_or, plain_or, utility_or, builtin_or, named_of, says_of, first_talk}
 use Rattle.rk_top.specs.UnknownTalk.{is_unknown}
 use Rattle.sh_builtin.specs.Commands.{builtin_command}
 use Rattle.sh_builtin.specs.Laws.{talk-builtin_command}
@@ -17,6 +17,8 @@ use Rattle.ut_find.specs.Starts.{find_utility}
 use Rattle.ut_find.specs.Laws.{talk-find_utility}
 use Rattle.ut_grep.specs.Starts.{grep_utility}
 use Rattle.ut_grep.specs.Laws.{talk-grep_utility}
+use Rattle.ut_sed.specs.Starts.{sed_utility}
+use Rattle.ut_sed.specs.Laws.{talk-sed_utility}
 use Rattle.ut_select.specs.Starts.{select_utility}
 use Rattle.ut_select.specs.Laws.{talk-select_utility}
 use Rattle.ut_sort.specs.Starts.{sort_utility}
@@ -45,8 +47,11 @@ talk-file_or wd argv other is_talk = talk-says_or (file_utility wd argv) _ (talk
 talk-grep_or : (wd : Text) (argv : List Text) (other : Says) → IsCommandTalk other → IsCommandTalk (grep_or wd argv other)
 talk-grep_or wd argv other is_talk = talk-says_or (grep_utility wd argv) _ (talk-grep_utility wd argv) (talk-file_or wd argv other is_talk)
 
+talk-sed_or : (wd : Text) (argv : List Text) (other : Says) → IsCommandTalk other → IsCommandTalk (sed_or wd argv other)
+talk-sed_or wd argv other is_talk = talk-says_or (sed_utility wd argv) _ (talk-sed_utility wd argv) (talk-grep_or wd argv other is_talk)
+
 talk-sort_or : (wd : Text) (argv : List Text) (other : Says) → IsCommandTalk other → IsCommandTalk (sort_or wd argv other)
-talk-sort_or wd argv other is_talk = talk-says_or (sort_utility wd argv) _ (talk-sort_utility wd argv) (talk-grep_or wd argv other is_talk)
+talk-sort_or wd argv other is_talk = talk-says_or (sort_utility wd argv) _ (talk-sort_utility wd argv) (talk-sed_or wd argv other is_talk)
 
 talk-select_or : (wd : Text) (argv : List Text) (other : Says) → IsCommandTalk other → IsCommandTalk (select_or wd argv other)
 talk-select_or wd argv other is_talk = talk-says_or (select_utility wd argv) _ (talk-select_utility wd argv) (talk-sort_or wd argv other is_talk)

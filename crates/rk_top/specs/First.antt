@@ -12,6 +12,7 @@ use Rattle.ut_files.specs.Utilities.{file_utility}
 use Rattle.ut_find.specs.Starts.{find_utility}
 use Rattle.ut_grep.specs.Starts.{grep_utility}
 use Rattle.ut_plain.specs.Starts.{plain_utility}
+use Rattle.ut_sed.specs.Starts.{sed_utility}
 use Rattle.ut_select.specs.Starts.{select_utility}
 use Rattle.ut_sort.specs.Starts.{sort_utility}
 use Rattle.ut_text.specs.Starts.{text_utility}
@@ -37,9 +38,13 @@ file_or wd argv other = says_or (file_utility wd argv) (copy_or wd argv other)
 abbrev pub grep_or : Text → List Text → Says → Says
 grep_or wd argv other = says_or (grep_utility wd argv) (file_or wd argv other)
 
+-- `sed`, or else one of those, or else this
+abbrev pub sed_or : Text → List Text → Says → Says
+sed_or wd argv other = says_or (sed_utility wd argv) (grep_or wd argv other)
+
 -- `sort`, or else one of those, or else this
 abbrev pub sort_or : Text → List Text → Says → Says
-sort_or wd argv other = says_or (sort_utility wd argv) (grep_or wd argv other)
+sort_or wd argv other = says_or (sort_utility wd argv) (sed_or wd argv other)
 
 -- `cut` or `tr`, or else one of those, or else this
 abbrev pub select_or : Text → List Text → Says → Says

@@ -4,7 +4,7 @@ use Rattle.rk_calls.specs.declared.answer.Answer.{Answer}
 use Rattle.rk_calls.specs.declared.answer.Answer.TheVariants.{Go}
 use Rattle.rk_calls.specs.Talk.{Says, pay}
 use Rattle.rk_top.specs.declared.command.Running.{Running}
-use Rattle.rk_top.specs.declared.command.Running.TheVariants.{Complains, Shells, Builtins, Texts, Plain, Selects, Sorts, Greps, Files, Copies, Finds}
+use Rattle.rk_top.specs.declared.command.Running.TheVariants.{Complains, Shells, Builtins, Texts, Plain, Selects, Sorts, Seds, Greps, Files, Copies, Finds}
 use Rattle.rk_top.specs.declared.command.Command.{Command}
 use Rattle.sh_builtin.specs.Commands.{command_talk as builtin_talk}
 use Rattle.sh_eval.specs.Starting.{shell_talk}
@@ -14,6 +14,7 @@ use Rattle.ut_files.specs.Utilities.{file_talk}
 use Rattle.ut_find.specs.Utilities.{find_talk}
 use Rattle.ut_grep.specs.Utilities.{grep_talk}
 use Rattle.ut_plain.specs.Utilities.{plain_talk}
+use Rattle.ut_sed.specs.Utilities.{sed_talk}
 use Rattle.ut_select.specs.Utilities.{select_talk}
 use Rattle.ut_sort.specs.Utilities.{sort_talk}
 use Rattle.ut_text.specs.Utilities.{text_talk}
@@ -26,6 +27,7 @@ running_talk (Texts m) a = text_talk m a
 running_talk (Plain m) a = plain_talk m a
 running_talk (Selects m) a = select_talk m a
 running_talk (Sorts m) a = sort_talk m a
+running_talk (Seds m) a = sed_talk m a
 running_talk (Greps m) a = grep_talk m a
 running_talk (Files m) a = file_talk m a
 running_talk (Copies m) a = copy_talk m a

@@ -3,7 +3,7 @@ ghost use Rattle.std.specs.Prelude.{◌≡◌, IfOk};
 ghost use Rattle.std.specs.List.{list_any};
 ghost use Rattle.rk_base.specs.Text.{is_slash};
 ghost use Rattle.rk_calls.specs.Keys.{takes_variables};
-ghost use Rattle.rk_top.specs.First.{says_of, named_of, find_or, copy_or, file_or, grep_or, sort_or, select_or, plain_or, utility_or, builtin_or, first_talk};
+ghost use Rattle.rk_top.specs.First.{says_of, named_of, find_or, copy_or, file_or, grep_or, sed_or, sort_or, select_or, plain_or, utility_or, builtin_or, first_talk};
 ghost use Rattle.rk_top.specs.Running.{running_talk, command_talk};
 ghost use Rattle.rk_top.specs.UnknownTalk.{is_unknown};
 
@@ -18,6 +18,7 @@ use ut_files::FileUtility;
 use ut_find::FindUtility;
 use ut_grep::GrepUtility;
 use ut_plain::PlainUtility;
+use ut_sed::SedUtility;
 use ut_select::SelectUtility;
 use ut_sort::SortUtility;
 use ut_text::TextUtility;
@@ -31,6 +32,7 @@ enum Running {
     Plain(PlainUtility),
     Selects(SelectUtility),
     Sorts(SortUtility),
+    Seds(SedUtility),
     Greps(GrepUtility),
     Files(FileUtility),
     Copies(CopyUtility),
@@ -98,14 +100,25 @@ fn grep_utility(alloc: Global, wd: &Path, argv: &WordList, name: &[u8]) -> Resul
     }
 }
 
-// `sort`, `grep`, a file utility, or an unknown name.
+// `sed`, `grep`, a file utility, or an unknown name.
+fn sed_utility(alloc: Global, wd: &Path, argv: &WordList, name: &[u8]) -> Result<Running, NoMemory>
+    ensures { IfOk result (λ r. running_talk r Answer.Go ≡ sed_or wd.now argv.now (is_unknown name.now)) }
+{
+    let found = SedUtility::start(alloc, wd, argv)?;
+    match found {
+        Some(utility) => Ok(Running::Seds(utility)),
+        None => grep_utility(alloc, wd, argv, name),
+    }
+}
+
+// `sort`, a utility after it, or an unknown name.
 fn sort_utility(alloc: Global, wd: &Path, argv: &WordList, name: &[u8]) -> Result<Running, NoMemory>
     ensures { IfOk result (λ r. running_talk r Answer.Go ≡ sort_or wd.now argv.now (is_unknown name.now)) }
 {
     let found = SortUtility::start(alloc, wd, argv)?;
     match found {
         Some(utility) => Ok(Running::Sorts(utility)),
-        None => grep_utility(alloc, wd, argv, name),
+        None => sed_utility(alloc, wd, argv, name),
     }
 }
 
@@ -227,6 +240,7 @@ impl Machine for Running {
             Running::Plain(machine) => machine.resume(answer),
             Running::Selects(machine) => machine.resume(answer),
             Running::Sorts(machine) => machine.resume(answer),
+            Running::Seds(machine) => machine.resume(answer),
             Running::Greps(machine) => machine.resume(answer),
             Running::Files(machine) => machine.resume(answer),
             Running::Copies(machine) => machine.resume(answer),
