@@ -3,6 +3,7 @@
 #![tactic(auto)]
 
 mod arithmetic;
+mod expressions;
 mod names;
 mod table;
 mod tokens;
@@ -10,6 +11,7 @@ mod tree;
 mod world;
 
 use crate::arithmetic::Arithmetic;
+use crate::expressions::Expressions;
 use crate::names::Names;
 use crate::tokens::Tokens;
 use crate::tree::Grown;
@@ -33,6 +35,7 @@ fn steps_of<S: Subject + Drop>(
 fn told_of(alloc: Global, name: &str, text: &str) -> Result<Option<Told>, NoMemory> {
     let told = match subject_of(text) {
         "arithmetic" => steps_of(alloc, name, text, Arithmetic::new(alloc))?,
+        "expressions" => steps_of(alloc, name, text, Expressions::new(alloc))?,
         "names" => steps_of(alloc, name, text, Names::new(alloc))?,
         "tokens" => steps_of(alloc, name, text, Tokens::new(alloc))?,
         "tree" => steps_of(alloc, name, text, Grown::new(alloc))?,

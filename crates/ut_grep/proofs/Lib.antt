@@ -1,1 +1,2 @@
 pub mod OccursLemmas
+pub mod PatternLemmas

@@ -1,10 +1,13 @@
 -- What `grep -F` makes.
-use Rattle.std.specs.Prelude.{ℕ, ◌+◌, List, [], ◌∷◌, ◌++◌, map, codes, count_by, None, Result, Ok, Err, Bool, true, false, nat_le, nat_lt, ◌&&◌, ◌||◌, not, if◌then◌else◌}
+use Rattle.std.specs.Prelude.{ℕ, ◌+◌, List, [], ◌∷◌, ◌++◌, map, codes, count_by, None, Result, Ok, Err, Bool, true, false, nat_le, nat_lt, ◌&&◌, ◌||◌, not, if◌then◌else◌, ◌==◌, is_some, Option, Some, length}
 use Rattle.std.specs.Fmt.{decimal}
 use Rattle.std.specs.List.{list_any}
 use Rattle.rk_base.specs.Text.{Text, same_text, begins_with}
 use Rattle.rk_base.specs.Canonical.{is_empty}
 use Rattle.rk_base.specs.declared.errno.Errno.{Errno}
+use Rattle.ut_bre.specs.declared.group.Span.{Span}
+use Rattle.ut_bre.specs.Found.{span_found}
+use Rattle.ut_bre.specs.Trees.{Expression}
 use Rattle.ut_filter.specs.declared.made.Input.{Input}
 use Rattle.ut_filter.specs.declared.made.Made.{Made}
 use Rattle.ut_filter.specs.Filters.{Job, dash}
@@ -12,11 +15,16 @@ use Rattle.ut_filter.specs.Lines.{lines_of}
 use Rattle.ut_filter.specs.Parts.{part_of}
 use Rattle.ut_filter.specs.Refusals.{refusals}
 
--- How `grep` selects and tells: the patterns; whether letters count in either case (`-i`, the patterns are in small
--- letters then), lines that hold none are selected (`-v`), a pattern must be the whole line (`-x`); whether it tells
--- numbers of lines (`-n`), counts (`-c`), names (`-l`) or nothing (`-q`); and whether there are several inputs.
+-- a pattern: with `-F` a text, in small letters where case doesn't count, else a basic regular expression
+pub data PatternValue : Type 0 where
+  fixed : (text : Text) → PatternValue
+  basic : (e : Expression) → PatternValue
+
+-- How `grep` selects and tells: the patterns; whether letters count in either case (`-i`), lines that hold no pattern are
+-- selected (`-v`), a pattern must be the whole line (`-x`); whether it tells numbers of lines (`-n`), counts (`-c`), names
+-- (`-l`) or nothing (`-q`); and whether there are several inputs.
 pub record GrepValue : Type 0 where
-  pub patterns : List Text
+  pub patterns : List PatternValue
   pub folded : Bool
   pub inverted : Bool
   pub whole : Bool
@@ -39,12 +47,18 @@ abbrev pub occurs : Text → Text → Bool
 occurs pattern [] = begins_with [] pattern
 occurs pattern (b ∷ bs) = begins_with (b ∷ bs) pattern || occurs pattern bs
 
+-- the leftmost longest match is the whole line, where any match is
+abbrev pub is_whole : Text → Option Span → Bool
+is_whole line None = false
+is_whole line (Some span) = (span.start == 0) && (span.end == length line)
+
 -- whether a line holds a pattern, or is one
-abbrev pub holds : GrepValue → Text → Text → Bool
-holds g line pattern = if g.whole then same_text line pattern else occurs pattern line
+abbrev pub holds : GrepValue → Text → PatternValue → Bool
+holds g line (fixed text) = if g.whole then same_text (folded g.folded line) text else occurs text (folded g.folded line)
+holds g line (basic e) = if g.whole then is_whole line (span_found e line 0) else is_some (span_found e line 0)
 
 abbrev pub matches : GrepValue → Text → Bool
-matches g line = list_any (holds g (folded g.folded line)) g.patterns
+matches g line = list_any (holds g line) g.patterns
 
 abbrev pub selects : GrepValue → Text → Bool
 selects g line = if g.inverted then not (matches g line) else matches g line
@@ -104,5 +118,5 @@ grep_makes g inputs =
       status = status g (list_any (some_of g) inputs) (refusals (codes "grep") inputs);
     }
 
-abbrev pub grep_job : GrepValue → Job
-grep_job g = record { name = codes "grep"; failed = 2; out = None; makes = grep_makes g }
+abbrev pub value_job : GrepValue → Job
+value_job g = record { name = codes "grep"; failed = 2; out = None; makes = grep_makes g }

@@ -15,9 +15,9 @@ use Rattle.ut_filter.specs.Filters.{dash, or_dash}
 use Rattle.ut_filter.specs.Laws.{talk-filters_from}
 use Rattle.ut_filter.specs.Lines.{lines_of}
 use Rattle.ut_grep.specs.declared.grep.Manner.{Manner}
-use Rattle.ut_grep.specs.Chosen.{manner_of, patterns_in, all_patterns, grep_of}
-use Rattle.ut_grep.specs.Greps.{grep_job}
-use Rattle.ut_grep.specs.Starts.{patterns_read, patterns_opened, reads_patterns, gathers, grep_given, grep_first, grep_by, grep_options, greps, grep_utility}
+use Rattle.ut_grep.specs.Chosen.{manner_of, patterns_in, all_patterns, patterns_of, grep_of}
+use Rattle.ut_grep.specs.Greps.{PatternValue, value_job}
+use Rattle.ut_grep.specs.Starts.{seeks_by, patterns_read, patterns_opened, reads_patterns, gathers, grep_given, grep_first, grep_by, grep_options, greps, grep_utility}
 
 module _ (on : List Text → ℕ → Says) (goes : (ps : List Text) (n : ℕ) → IsCommandTalk (on ps n)) where
   talk-patterns_read : (file : Text) (patterns : List Text) (next : ℕ) (r : Result Text Errno) → IsCommandTalk (patterns_read file patterns (λ ps. on ps next) r)
@@ -33,8 +33,12 @@ module _ (on : List Text → ℕ → Says) (goes : (ps : List Text) (n : ℕ) �
       talk-if (same_text file dash) _ _ (talk-ask (Read 0) 1 _ tt (λ a. talk-patterns_read file patterns next (brought a)))
       (talk-ask (Open (absolute wd file) ForReading) 1 _ tt (λ a. talk-patterns_opened file patterns next (brought a)))
 
+talk-seeks_by : (wd : Text) (m : Manner) (operands : List Text) (next : ℕ) (r : Result (List PatternValue) Text) → IsCommandTalk (seeks_by wd m operands next r)
+talk-seeks_by wd m operands next (Ok patterns) = talk-filters_from next (value_job (grep_of m patterns)) wd (or_dash operands)
+talk-seeks_by wd m operands next (Err text) = talk-complains _ 2
+
 talk-gathers : (wd : Text) (m : Manner) (operands files patterns : List Text) (next : ℕ) → IsCommandTalk (gathers wd m operands files patterns next)
-talk-gathers wd m operands [] patterns next = talk-filters_from next (grep_job (grep_of m patterns)) wd (or_dash operands)
+talk-gathers wd m operands [] patterns next = talk-seeks_by wd m operands next (patterns_of m patterns)
 talk-gathers wd m operands (file ∷ files) patterns next = talk-reads_patterns (gathers wd m operands files) (talk-gathers wd m operands files) wd file patterns next
 
 talk-grep_given : (wd : Text) (args : ArgsValue) → IsCommandTalk (grep_given wd args)
@@ -47,9 +51,7 @@ talk-grep_first wd args (pattern ∷ operands) = talk-gathers wd (manner_of args
 
 talk-grep_by : (wd : Text) (args : ArgsValue) → IsCommandTalk (grep_by wd args)
 talk-grep_by wd args =
-    talk-if (gives args (codes "F")) _ _
-    (talk-if (gives args (codes "e") || gives args (codes "f")) _ _ (talk-grep_given wd args) (talk-grep_first wd args args.operands))
-    (talk-complains _ 2)
+    talk-if (gives args (codes "e") || gives args (codes "f")) _ _ (talk-grep_given wd args) (talk-grep_first wd args args.operands)
 
 talk-greps : (wd : Text) (argv : List Text) → IsCommandTalk (greps wd argv)
 talk-greps wd argv =

@@ -4,3 +4,5 @@ pub mod Greps
 pub mod Laws
 pub mod Starts
 pub mod Utilities
+pub mod Values
+pub mod Patterns

@@ -13,17 +13,21 @@ use Rattle.ut_args.specs.declared.form.Form.TheVariants as forms
 use Rattle.ut_args.specs.declared.form.Opt.{Opt}
 use Rattle.ut_args.specs.Opts.{ArgsValue, gives, arguments}
 use Rattle.ut_args.specs.Tables.{alone, taking}
-use Rattle.ut_args.specs.Usage.{begins, misuses, misuses_option, complains}
+use Rattle.ut_args.specs.Usage.{begins, misuses, complains}
 use Rattle.ut_args.specs.Words.{options}
 use Rattle.ut_filter.specs.Filters.{filters_from, dash, or_dash}
 use Rattle.ut_filter.specs.Lines.{lines_of}
 use Rattle.ut_grep.specs.declared.grep.Manner.{Manner}
-use Rattle.ut_grep.specs.Chosen.{manner_of, patterns_in, all_patterns, grep_of}
-use Rattle.ut_grep.specs.Greps.{grep_job}
+use Rattle.ut_grep.specs.Chosen.{manner_of, patterns_in, all_patterns, patterns_of, grep_of}
+use Rattle.ut_grep.specs.Greps.{PatternValue, value_job}
 
--- with its patterns; it opened files before, and the next one has this number
+-- with its patterns, or where a text is none; it opened files before, and the next one has this number
+abbrev pub seeks_by : Text → Manner → List Text → ℕ → Result (List PatternValue) Text → Says
+seeks_by wd m operands next (Ok patterns) = filters_from next (value_job (grep_of m patterns)) wd (or_dash operands)
+seeks_by wd m operands next (Err text) = complains (error_line (codes "grep") text (codes "not valid")) 2
+
 abbrev pub seeks : Text → Manner → List Text → List Text → ℕ → Says
-seeks wd m operands patterns next = filters_from next (grep_job (grep_of m patterns)) wd (or_dash operands)
+seeks wd m operands texts next = seeks_by wd m operands next (patterns_of m texts)
 
 -- once a file of patterns was read: after a refused one nothing else is asked
 abbrev pub patterns_read : Text → List Text → (List Text → Says) → Result Text Errno → Says
@@ -58,15 +62,13 @@ grep_first wd args (pattern ∷ operands) = gathers wd (manner_of args (length o
 
 abbrev pub grep_by : Text → ArgsValue → Says
 grep_by wd args =
-    if gives args (codes "F")
-    then (if gives args (codes "e") || gives args (codes "f") then grep_given wd args else grep_first wd args args.operands)
-    else misuses_option (codes "grep") (codes "-F") 2
+    if gives args (codes "e") || gives args (codes "f") then grep_given wd args else grep_first wd args args.operands
 
 -- its options: each stands alone, but `-e P` and `-f F`
 unfoldable pub grep_options : List Opt
 grep_options = alone (codes "Fcilnqvx") ++ taking forms.Text (codes "ef")
 
--- `grep -F [-c] [-i] [-l] [-n] [-q] [-v] [-x] [-e P] [-f F] [P] [FILE..]`
+-- `grep [-F] [-c] [-i] [-l] [-n] [-q] [-v] [-x] [-e P] [-f F] [P] [FILE..]`
 abbrev pub greps : Text → List Text → Says
 greps wd argv = begins (codes "grep") 2 (options grep_options argv) (grep_by wd)
 

@@ -8,7 +8,7 @@ use Rattle.ut_grep.specs.declared.utility.GrepUtility.{GrepUtility}
 use Rattle.ut_grep.specs.declared.utility.GrepUtility.TheVariants.{Complains, Filters, Gathers, Over}
 use Rattle.ut_grep.specs.declared.utility.Move.{Move}
 use Rattle.ut_grep.specs.Gathering.{gatherer_talk}
-use Rattle.ut_grep.specs.Greps.{grep_job}
+use Rattle.ut_grep.specs.Values.{grep_job}
 
 abbrev pub grep_talk : GrepUtility → Answer → Says
 grep_talk (Complains m) a = complaint_talk m a

@@ -12,6 +12,7 @@ pub(crate) fn manner_of(args: &Args, operands: usize) -> Manner
     ensures { result ≡ manner_of args.now operands }
 {
     Manner {
+        fixed: args.given.has(b'F'),
         folded: args.given.has(b'i'),
         inverted: args.given.has(b'v'),
         whole: args.given.has(b'x'),

@@ -1,5 +1,5 @@
 // How `grep` gathers its patterns.
-ghost use Rattle.std.specs.Prelude.{◌≡◌, ◌++◌, map, codes, IfOk, OnOk};
+ghost use Rattle.std.specs.Prelude.{◌≡◌, ◌++◌, codes, IfOk, OnOk};
 ghost use Rattle.rk_base.specs.Errno.{word};
 ghost use Rattle.rk_calls.specs.Brought.{brought};
 ghost use Rattle.rk_calls.specs.Costly.{IsCostly};
@@ -7,14 +7,13 @@ ghost use Rattle.rk_calls.specs.Lines.{error_line};
 ghost use Rattle.ut_args.specs.Usage.{complains, complaint_talk};
 ghost use Rattle.ut_filter.specs.Lines.{lines_of};
 ghost use Rattle.ut_filter.specs.Machine.{filter_talk};
-ghost use Rattle.ut_grep.specs.Chosen.{grep_of};
 ghost use Rattle.ut_grep.specs.Gathering.{goes_on, goes_on_with, gatherer_talk};
-ghost use Rattle.ut_grep.specs.Greps.{folded, grep_job};
+ghost use Rattle.ut_grep.specs.Values.{grep_job};
 ghost use Rattle.ut_grep.specs.Starts.{patterns_read, patterns_opened, reads_patterns, seeks};
 ghost use Rattle.ut_grep.specs.Utilities.{IsSaidBy};
 
 use crate::grep::{Grep, Manner};
-use crate::occurs::lower_all;
+use crate::pattern::patterns_of;
 use crate::utility::{GrepUtility, Move, complain, filter};
 use rk_base::{Bytes, Errno, NoMemory, Path, WordList};
 use rk_calls::{Answer, Call, How, Turn, absolute, brought};
@@ -67,33 +66,6 @@ pub(crate) fn add_lines(alloc: Global, text: &[u8], patterns: &mut WordList) -> 
     Ok(())
 }
 
-fn fold(alloc: Global, is_folded: bool, pattern: &Bytes) -> Result<Bytes, NoMemory>
-    ensures { IfOk result (λ text. text ≡ folded is_folded pattern.now) }
-{
-    if is_folded {
-        Bytes::new(alloc, lower_all(alloc, pattern.as_slice())?)
-    } else {
-        pattern.copy()
-    }
-}
-
-fn fold_all(alloc: Global, is_folded: bool, patterns: &[Bytes]) -> Result<WordList, NoMemory>
-    ensures { IfOk result (λ words. words ≡ map (folded is_folded) patterns.now) }
-{
-    let mut words = WordList::new(Vec::new(alloc));
-    for pattern in patterns {
-        words.push(fold(alloc, is_folded, pattern)?)?;
-    }
-    Ok(words)
-}
-
-fn grep_of(alloc: Global, manner: Manner, patterns: &WordList) -> Result<Grep, NoMemory>
-    ensures { IfOk result (λ g. g ≡ grep_of manner patterns.now) }
-{
-    let patterns = fold_all(alloc, manner.folded, patterns.as_slice())?;
-    Ok(Grep::new(patterns, manner))
-}
-
 // A file of patterns was refused: nothing else is asked.
 fn refuse(alloc: Global, file: &Bytes, errno: Errno) -> Result<Move, NoMemory>
     ensures talk { IfOk result (IsSaidBy (complains (error_line (codes "grep") file.now (word errno)) 2)) }
@@ -105,17 +77,32 @@ fn refuse(alloc: Global, file: &Bytes, errno: Errno) -> Result<Move, NoMemory>
     Ok(next_move)
 }
 
-// All patterns are there.
+// A text is no pattern: nothing else is asked.
+fn refuse_pattern(alloc: Global, text: &Bytes) -> Result<Move, NoMemory>
+    ensures talk { IfOk result (IsSaidBy (complains (error_line (codes "grep") text.now (codes "not valid")) 2)) }
+    ensures costly { IfOk result (λ move. IsCostly move.turn) }
+{
+    let complaint = Complaint::of_operand(alloc, b"grep", text.as_slice(), b"not valid", 2)?;
+    let next_move = complain(complaint, Answer::Go)?;
+    Ok(next_move)
+}
+
+// All texts of patterns are there.
 fn seek(gathered: Gathered) -> Result<Move, NoMemory>
     ensures talk { IfOk result (IsSaidBy (seeks gathered.wd gathered.manner gathered.operands gathered.patterns gathered.next)) }
     ensures costly { IfOk result (λ move. IsCostly move.turn) }
 {
     let alloc = gathered.alloc;
-    let grep = grep_of(alloc, gathered.manner, &gathered.patterns)?;
-    let inputs = or_dash(alloc, gathered.operands)?;
-    let machine = Filter::from_number(alloc, &gathered.wd, grep, &inputs, gathered.next)?;
-    let next_move = filter(machine, Answer::Go)?;
-    Ok(next_move)
+    match patterns_of(alloc, gathered.manner, gathered.patterns.as_slice())? {
+        Err(text) => refuse_pattern(alloc, &text),
+        Ok(patterns) => {
+            let grep = Grep::new(patterns, gathered.manner);
+            let inputs = or_dash(alloc, gathered.operands)?;
+            let machine = Filter::from_number(alloc, &gathered.wd, grep, &inputs, gathered.next)?;
+            let next_move = filter(machine, Answer::Go)?;
+            Ok(next_move)
+        }
+    }
 }
 
 fn read(gathered: Gathered, file: Bytes) -> Result<Move, NoMemory>

@@ -1,17 +1,23 @@
-// `grep -F`.
-ghost use Rattle.std.specs.Prelude.{◌≡◌, IfOk};
-ghost use Rattle.std.specs.List.{list_any};
-ghost use Rattle.ut_grep.specs.Greps.{holds, matches, selects};
+// `grep`: how it selects lines.
+ghost use Rattle.std.specs.Prelude.{◌≡◌, map, IfOk, if◌then◌else◌};
+ghost use Rattle.rk_base.specs.Text.{same_text};
+ghost use Rattle.ut_bre.specs.Expressions.{expression};
+ghost use Rattle.ut_grep.specs.Chosen.{grep_of};
+ghost use Rattle.ut_grep.specs.Greps.{folded, occurs, basic, holds, matches, selects};
+ghost use Rattle.ut_grep.specs.Values.{grep_value, pattern_value};
 
 use crate::occurs::{is_same, lower_all, occurs};
-use rk_base::{Bytes, NoMemory, WordList};
+use crate::pattern::{Pattern, is_whole};
+use rk_base::{Bytes, NoMemory};
 use std::alloc::Global;
-use std::marker::Model;
+use ut_bre::Bre;
 use ut_filter::{Input, Made, Work, refusal_lines};
 
 /// What `grep` tells of its lines, and how it selects them.
 #[derive(Clone, Copy, Debug, Drop)]
 pub struct Manner {
+    /// `-F`: patterns are texts.
+    pub fixed: bool,
     /// `-i`: letters count in either case.
     pub folded: bool,
     /// `-v`: lines that hold no pattern are selected.
@@ -30,62 +36,77 @@ pub struct Manner {
     pub many: bool,
 }
 
-/// `grep -F`: its patterns, and the rest of its options.
-#[derive(Debug, Drop)]
+/// Its patterns, and the rest of its options.
+#[derive(Drop)]
 pub struct Grep {
-    pub(crate) patterns: WordList,
+    pub(crate) patterns: Vec<Pattern>,
     pub(crate) manner: Manner,
 }
 
-impl Model for Grep {
-    ghost use Rattle.ut_grep.specs.Greps.{GrepValue};
-
-    ghost Value = { GrepValue };
-
-    ghost view = { λ g. record { patterns = g.patterns; folded = g.manner.folded; inverted = g.manner.inverted; whole = g.manner.whole; numbered = g.manner.numbered; counted = g.manner.counted; listed = g.manner.listed; quiet = g.manner.quiet; many = g.manner.many } };
-}
-
 impl Grep {
-    pub(crate) fn new(patterns: WordList, manner: Manner) -> Grep
-        ensures { result ≡ record { patterns = patterns; folded = manner.folded; inverted = manner.inverted; whole = manner.whole; numbered = manner.numbered; counted = manner.counted; listed = manner.listed; quiet = manner.quiet; many = manner.many } }
+    pub(crate) fn new(patterns: Vec<Pattern>, manner: Manner) -> Grep
+        ensures { grep_value result ≡ grep_of manner (map pattern_value patterns.items) }
     {
         Grep { patterns, manner }
     }
 
-    fn holds(&self, line: &[u8], pattern: &[u8]) -> bool
-        ensures { result ≡ holds self.now line.now pattern.now }
+    fn holds_text(&self, small: &[u8], text: &[u8]) -> bool
+        ensures { result ≡ (if (grep_value self.now).whole then same_text small.now text.now else occurs text.now small.now) }
     {
         if self.manner.whole {
-            is_same(line, pattern)
+            is_same(small, text)
         } else {
-            occurs(pattern, line)
+            occurs(text, small)
         }
     }
 
-    fn holds_any(&self, line: &[u8]) -> bool
-        ensures { result ≡ list_any (holds self.now line.now) self.now.patterns }
+    fn holds_basic(&self, line: &[u8], bre: &Bre) -> Result<bool, NoMemory>
+        ensures { IfOk result (λ b. b ≡ holds (grep_value self.now) line.now (basic (expression bre.now))) }
+    {
+        let span = bre.span(line, 0)?;
+        if self.manner.whole {
+            Ok(is_whole(line, span))
+        } else {
+            Ok(span.is_some())
+        }
+    }
+
+    // Whether a line, which is this one where case doesn't count, holds a pattern.
+    fn holds(&self, line: &[u8], small: &[u8], pattern: &Pattern) -> Result<bool, NoMemory>
+        requires { small.now ≡ folded (grep_value self.now).folded line.now }
+        ensures { IfOk result (λ b. b ≡ holds (grep_value self.now) line.now (pattern_value pattern.now)) }
+    {
+        match pattern {
+            Pattern::Fixed(text) => Ok(self.holds_text(small, text.as_slice())),
+            Pattern::Basic(bre) => self.holds_basic(line, bre),
+        }
+    }
+
+    fn holds_any(&self, line: &[u8], small: &[u8]) -> Result<bool, NoMemory>
+        requires { small.now ≡ folded (grep_value self.now).folded line.now }
+        ensures { IfOk result (λ b. b ≡ matches (grep_value self.now) line.now) }
     {
         for pattern in self.patterns.as_slice() {
-            if self.holds(line, pattern.as_slice()) {
-                return true;
+            if self.holds(line, small, pattern)? {
+                return Ok(true);
             }
         }
-        false
+        Ok(false)
     }
 
     fn matches(&self, alloc: Global, line: &[u8]) -> Result<bool, NoMemory>
-        ensures { IfOk result (λ b. b ≡ matches self.now line.now) }
+        ensures { IfOk result (λ b. b ≡ matches (grep_value self.now) line.now) }
     {
         if self.manner.folded {
-            let line = lower_all(alloc, line)?;
-            Ok(self.holds_any(line.as_slice()))
+            let small = lower_all(alloc, line)?;
+            self.holds_any(line, small.as_slice())
         } else {
-            Ok(self.holds_any(line))
+            self.holds_any(line, line)
         }
     }
 
     pub(crate) fn selects(&self, alloc: Global, line: &[u8]) -> Result<bool, NoMemory>
-        ensures { IfOk result (λ b. b ≡ selects self.now line.now) }
+        ensures { IfOk result (λ b. b ≡ selects (grep_value self.now) line.now) }
     {
         let matches = self.matches(alloc, line)?;
         if self.manner.inverted {
@@ -97,7 +118,7 @@ impl Grep {
 }
 
 impl Work for Grep {
-    ghost use Rattle.ut_grep.specs.Greps.{grep_job};
+    ghost use Rattle.ut_grep.specs.Values.{grep_job};
 
     ghost job = { grep_job };
 

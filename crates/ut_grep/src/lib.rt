@@ -1,4 +1,4 @@
-//! `grep -F`, and how it gathers its patterns.
+//! `grep`, and how it gathers its patterns.
 #![tactic(auto)]
 
 mod chosen;
@@ -6,6 +6,7 @@ mod gatherer;
 mod grep;
 mod laws;
 mod occurs;
+mod pattern;
 mod seek;
 mod start;
 mod told;
@@ -14,4 +15,5 @@ mod utility;
 pub use gatherer::{Gathered, Gatherer, Waits};
 pub use grep::{Grep, Manner};
 pub use laws::grep_says_what_commands_may;
+pub use pattern::Pattern;
 pub use utility::{GrepUtility, Move};

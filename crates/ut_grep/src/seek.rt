@@ -110,10 +110,6 @@ fn grep_first(
 pub(crate) fn grep_by(alloc: Global, wd: &Path, args: Args) -> Result<GrepUtility, NoMemory>
     ensures { IfOk result (λ u. grep_talk u Answer.Go ≡ grep_by wd.now args) }
 {
-    if !args.given.has(b'F') {
-        let complaint = Complaint::of_option(alloc, b"grep", b"-F", 2)?;
-        return Ok(GrepUtility::Complains(complaint));
-    }
     if args.given.has(b'e') || args.given.has(b'f') {
         return grep_given(alloc, wd, args);
     }

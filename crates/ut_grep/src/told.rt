@@ -3,6 +3,7 @@ ghost use Rattle.std.specs.Prelude.{◌≡◌, ◌+◌, ◌++◌, ◌||◌, IfOk
 ghost use Rattle.std.specs.Fmt.{decimal};
 ghost use Rattle.std.specs.List.{list_any};
 ghost use Rattle.ut_filter.specs.Lines.{lines_of};
+ghost use Rattle.ut_grep.specs.Values.{grep_value};
 ghost use Rattle.ut_grep.specs.Greps.{selects, prefix, number_of, row, rows, selected, count_line, told, name_of, brought_told, told_all, some_of, status};
 
 use crate::grep::Grep;
@@ -48,7 +49,7 @@ fn counted(count: u64, selects: bool) -> Result<u64, NoMemory>
 
 impl Grep {
     fn put_prefix(&self, name: &[u8], output: &mut Vec<u8>) -> Result<(), NoMemory>
-        ensures { OnOk result (output.new.items ≡ output.old.items ++ prefix self.now name.now) }
+        ensures { OnOk result (output.new.items ≡ output.old.items ++ prefix (grep_value self.now) name.now) }
     {
         if !self.manner.many {
             return Ok(());
@@ -59,7 +60,7 @@ impl Grep {
     }
 
     fn put_number_of(&self, alloc: Global, n: u64, output: &mut Vec<u8>) -> Result<(), NoMemory>
-        ensures { OnOk result (output.new.items ≡ output.old.items ++ number_of self.now n) }
+        ensures { OnOk result (output.new.items ≡ output.old.items ++ number_of (grep_value self.now) n) }
     {
         if !self.manner.numbered {
             return Ok(());
@@ -77,7 +78,7 @@ impl Grep {
         line: &[u8],
         output: &mut Vec<u8>,
     ) -> Result<(), NoMemory>
-        ensures { OnOk result (output.new.items ≡ output.old.items ++ row self.now name.now n line.now) }
+        ensures { OnOk result (output.new.items ≡ output.old.items ++ row (grep_value self.now) name.now n line.now) }
     {
         self.put_prefix(name, output)?;
         self.put_number_of(alloc, n, output)?;
@@ -95,8 +96,8 @@ impl Grep {
         line: &[u8],
         output: &mut Vec<u8>,
     ) -> Result<bool, NoMemory>
-        ensures output { OnOk result (output.new.items ≡ output.old.items ++ (if selects self.now line.now then row self.now name.now n line.now else [])) }
-        ensures selects { IfOk result (λ b. b ≡ selects self.now line.now) }
+        ensures output { OnOk result (output.new.items ≡ output.old.items ++ (if selects (grep_value self.now) line.now then row (grep_value self.now) name.now n line.now else [])) }
+        ensures selects { IfOk result (λ b. b ≡ selects (grep_value self.now) line.now) }
     {
         if !self.selects(alloc, line)? {
             return Ok(false);
@@ -113,8 +114,8 @@ impl Grep {
         text: &[u8],
         output: &mut Vec<u8>,
     ) -> Result<u64, NoMemory>
-        ensures output { OnOk result (output.new.items ≡ output.old.items ++ rows self.now name.now 1 (lines_of text.now)) }
-        ensures count { IfOk result (λ n. n ≡ selected self.now text.now) }
+        ensures output { OnOk result (output.new.items ≡ output.old.items ++ rows (grep_value self.now) name.now 1 (lines_of text.now)) }
+        ensures count { IfOk result (λ n. n ≡ selected (grep_value self.now) text.now) }
     {
         let mut number = 1u64;
         let mut count = 0u64;
@@ -130,7 +131,7 @@ impl Grep {
 
     // How many lines of a text are selected.
     fn count(&self, alloc: Global, text: &[u8]) -> Result<u64, NoMemory>
-        ensures { IfOk result (λ n. n ≡ selected self.now text.now) }
+        ensures { IfOk result (λ n. n ≡ selected (grep_value self.now) text.now) }
     {
         let mut count = 0u64;
         let mut rest = text;
@@ -150,8 +151,8 @@ impl Grep {
         text: &[u8],
         output: &mut Vec<u8>,
     ) -> Result<u64, NoMemory>
-        ensures output { OnOk result (output.new.items ≡ output.old.items ++ told self.now name.now text.now) }
-        ensures count { IfOk result (λ n. n ≡ selected self.now text.now) }
+        ensures output { OnOk result (output.new.items ≡ output.old.items ++ told (grep_value self.now) name.now text.now) }
+        ensures count { IfOk result (λ n. n ≡ selected (grep_value self.now) text.now) }
     {
         if self.manner.quiet {
             return self.count(alloc, text);
@@ -172,8 +173,8 @@ impl Grep {
         text: &[u8],
         output: &mut Vec<u8>,
     ) -> Result<u64, NoMemory>
-        ensures output { OnOk result (output.new.items ≡ output.old.items ++ (if nat_lt 0 (selected self.now text.now) then name.now ++ 10 ∷ [] else [])) }
-        ensures count { IfOk result (λ n. n ≡ selected self.now text.now) }
+        ensures output { OnOk result (output.new.items ≡ output.old.items ++ (if nat_lt 0 (selected (grep_value self.now) text.now) then name.now ++ 10 ∷ [] else [])) }
+        ensures count { IfOk result (λ n. n ≡ selected (grep_value self.now) text.now) }
     {
         let count = self.count(alloc, text)?;
         if count == 0 {
@@ -191,8 +192,8 @@ impl Grep {
         text: &[u8],
         output: &mut Vec<u8>,
     ) -> Result<u64, NoMemory>
-        ensures output { OnOk result (output.new.items ≡ output.old.items ++ count_line self.now name.now (selected self.now text.now)) }
-        ensures count { IfOk result (λ n. n ≡ selected self.now text.now) }
+        ensures output { OnOk result (output.new.items ≡ output.old.items ++ count_line (grep_value self.now) name.now (selected (grep_value self.now) text.now)) }
+        ensures count { IfOk result (λ n. n ≡ selected (grep_value self.now) text.now) }
     {
         let count = self.count(alloc, text)?;
         self.put_prefix(name, output)?;
@@ -207,8 +208,8 @@ impl Grep {
         input: &Input,
         output: &mut Vec<u8>,
     ) -> Result<bool, NoMemory>
-        ensures output { OnOk result (output.new.items ≡ output.old.items ++ brought_told self.now input.now.operand input.now.brought) }
-        ensures some { IfOk result (λ b. b ≡ some_of self.now input.now) }
+        ensures output { OnOk result (output.new.items ≡ output.old.items ++ brought_told (grep_value self.now) input.now.operand input.now.brought) }
+        ensures some { IfOk result (λ b. b ≡ some_of (grep_value self.now) input.now) }
     {
         match &input.brought {
             Err(_) => Ok(false),
@@ -226,8 +227,8 @@ impl Grep {
         inputs: &[Input],
         output: &mut Vec<u8>,
     ) -> Result<bool, NoMemory>
-        ensures output { OnOk result (output.new.items ≡ output.old.items ++ told_all self.now inputs.now) }
-        ensures some { IfOk result (λ b. b ≡ list_any (some_of self.now) inputs.now) }
+        ensures output { OnOk result (output.new.items ≡ output.old.items ++ told_all (grep_value self.now) inputs.now) }
+        ensures some { IfOk result (λ b. b ≡ list_any (some_of (grep_value self.now)) inputs.now) }
     {
         let mut some = false;
         'inputs: for input in inputs {
@@ -238,7 +239,7 @@ impl Grep {
     }
 
     pub(crate) fn status(&self, some: bool, errors: &Bytes) -> u8
-        ensures { result ≡ status self.now some errors.now }
+        ensures { result ≡ status (grep_value self.now) some errors.now }
     {
         if self.manner.quiet && some {
             return 0;

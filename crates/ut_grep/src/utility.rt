@@ -5,7 +5,7 @@ ghost use Rattle.ut_args.specs.Usage.{complaint_talk};
 ghost use Rattle.ut_filter.specs.Machine.{filter_talk};
 ghost use Rattle.ut_grep.specs.Gathering.{gatherer_talk};
 ghost use Rattle.ut_grep.specs.Utilities.{IsSaidBy, grep_talk};
-ghost use Rattle.ut_grep.specs.Greps.{grep_job};
+ghost use Rattle.ut_grep.specs.Values.{grep_job};
 
 use crate::gatherer::Gatherer;
 use crate::grep::Grep;

@@ -1,10 +1,11 @@
 use Rattle.std.proofs.Common.{◌≡◌, ◌+◌, length, count_by}
 use Rattle.ut_filter.specs.Lines.{lines_of}
 use Rattle.ut_grep.specs.Greps.{selects, selected}
+use Rattle.ut_grep.specs.Values.{grep_value}
 use Rattle.ut_grep.proofs.grep.Grep.count.Given as goal
 
 abbrev pub invariant-lines : goal.invariant-lines
-invariant-lines l = l.count + count_by (selects l.self) (lines_of l.rest) ≡ selected l.self l.text
+invariant-lines l = l.count + count_by (selects (grep_value l.self)) (lines_of l.rest) ≡ selected (grep_value l.self) l.text
 
 abbrev pub decreases-lines : goal.decreases-lines
 decreases-lines l = length l.rest
