@@ -88,7 +88,12 @@ impl Subject for Expressions {
             "find" => find(alloc, Bre::read(alloc, word(words, 1)), word(words, 2), 0),
             "from" => {
                 let from = usize::try_from(number(words, 1)).unwrap_or(0);
-                find(alloc, Bre::read(alloc, word(words, 2)), word(words, 3), from)
+                find(
+                    alloc,
+                    Bre::read(alloc, word(words, 2)),
+                    word(words, 3),
+                    from,
+                )
             }
             "folded" => {
                 let read = Bre::read_folded(alloc, true, word(words, 1));
