@@ -1,7 +1,7 @@
 use Rattle.std.proofs.Common.{◌≡◌, ℕ, IfOk, sym, subst}
 use Rattle.rk_calls.specs.Talk.{after}
 use Rattle.rk_top.specs.declared.command.Running.{Running}
-use Rattle.rk_top.specs.declared.command.Running.TheVariants.{Complains, Shells, Builtins, Texts, Plain, Selects, Sorts, Greps, Files, Copies, Finds}
+use Rattle.rk_top.specs.declared.command.Running.TheVariants.{Complains, Shells, Builtins, Texts, Plain, Selects, Sorts, Seds, Greps, Files, Copies, Finds}
 use Rattle.rk_top.specs.Running.{running_talk}
 use Rattle.rk_top.proofs.command.RunningMachine.resume.Goals as goal
 
@@ -59,3 +59,8 @@ pub returns-in-Greps-clause-talk : goal.returns-in-Greps-clause-talk
 returns-in-Greps-clause-talk c =
     let P : Running → Type 0 = λ r. IfOk c.resume-in-Greps.result (λ t. (p : ℕ) → running_talk r c.args.answer p ≡ after t (running_talk (Greps c.resume-in-Greps.new.self)) p) in
     subst P (sym c.in-Greps.is) c.resume-in-Greps.ensures.talk
+
+pub returns-in-Seds-clause-talk : goal.returns-in-Seds-clause-talk
+returns-in-Seds-clause-talk c =
+    let P : Running → Type 0 = λ r. IfOk c.resume-in-Seds.result (λ t. (p : ℕ) → running_talk r c.args.answer p ≡ after t (running_talk (Seds c.resume-in-Seds.new.self)) p) in
+    subst P (sym c.in-Seds.is) c.resume-in-Seds.ensures.talk
