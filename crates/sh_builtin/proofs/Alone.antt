@@ -1,6 +1,6 @@
 -- A builtin as a command by itself.
-use Rattle.std.proofs.Common.{◌≡◌, ℕ, ◌+◌, Option, Some, ◌-◌, refl, sym, ap, add-zero, arith, inl, inr}
-use Rattle.std.proofs.lemmas.Bool.{le-leb, lt-leb}
+use Rattle.std.proofs.Common.{◌≡◌, ℕ, Some, ◌-◌, refl, sym, ap, add-zero, arith, inl, inr}
+use Rattle.std.proofs.lemmas.Bool.{le-leb}
 use Rattle.std.proofs.lemmas.Bool.Decides.{leb_tells}
 use Rattle.rk_calls.specs.declared.answer.Answer.{Answer}
 use Rattle.rk_calls.specs.declared.answer.Answer.TheVariants.{Go}

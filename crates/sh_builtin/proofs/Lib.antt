@@ -1,3 +1,4 @@
 pub mod Alone
 pub mod Assigning
 pub mod Ending
+pub mod Paying

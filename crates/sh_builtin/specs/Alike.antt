@@ -1,20 +1,17 @@
 -- One pass over what builtins do: each keeps what is alike in any view, whatever comes after it.
-use Rattle.std.proofs.Common.{◌≡◌, ℕ, zero, suc, ◌+◌, ◌-◌, ◌≤◌, ◌<◌, List, [], ◌∷◌, ◌++◌, codes, Bool, true, false, if◌then◌else◌, Option, Some, None, Result, Ok, Err, refl, subst, arith}
+use Rattle.std.proofs.Common.{ℕ, ◌+◌, ◌-◌, ◌≤◌, Bool, true, false, if◌then◌else◌, Option, Some, None, arith}
 use Rattle.rk_base.specs.Text.{Text}
-use Rattle.rk_base.specs.declared.errno.Errno.{Errno}
 use Rattle.rk_base.specs.declared.errno.Errno.TheVariants.{BadRef}
 use Rattle.rk_calls.specs.declared.call.Call.{Call}
-use Rattle.rk_calls.specs.declared.call.Call.TheVariants.{Write, ReadLine}
+use Rattle.rk_calls.specs.declared.call.Call.TheVariants.{Write}
 use Rattle.rk_calls.specs.declared.answer.Answer.{Answer}
 use Rattle.rk_calls.specs.declared.answer.Answer.TheVariants as answer
-use Rattle.rk_calls.specs.Brought.{brought}
-use Rattle.rk_calls.specs.Fix.{AlikeBelow, Pays_first, fix-alike, fix-is}
 use Rattle.rk_calls.specs.Proper.{IsProper}
-use Rattle.rk_calls.specs.Talk.{Says, ask}
+use Rattle.rk_calls.specs.Talk.{Says}
 use Rattle.rk_calls.specs.Turns.{turns}
-use Rattle.rk_calls.specs.Views.{View, As_is, Alike, alike-ask, alike-if}
+use Rattle.rk_calls.specs.Views.{View, Alike, alike-ask, alike-pay}
 use Rattle.sh_vars.specs.declared.env.Env.{Env}
-use Rattle.sh_builtin.specs.Doing.{Slots, Ended, Doing, heard, at_slot, ends, asks}
+use Rattle.sh_builtin.specs.Doing.{Slots, Ended, Doing, heard, at_slot, ends, pays, asks}
 use Rattle.sh_builtin.specs.Telling.{tells}
 
 -- what comes after, wherever at most p turns are left
@@ -33,6 +30,10 @@ lower v p q k k' le h status env r le' = h status env r (omega arith)
 
 pub alike-ends : (status : ℕ) → IsAlike (ends status)
 alike-ends status v p slots k k' env h = h status env p (omega arith)
+
+pub alike-pays : (c : ℕ) (x : Doing) → IsAlike x → IsAlike (pays c x)
+alike-pays c x h v p slots k k' env hk =
+    alike-pay v p c (x slots k env) (x slots k' env) (λ le. h v (p - c) slots k k' env (lower v p (p - c) k k' (omega arith) hk))
 
 pub alike-choice : (b : Bool) (x y : Doing) → IsAlike x → IsAlike y → IsAlike (if b then x else y)
 alike-choice true x y h k = h

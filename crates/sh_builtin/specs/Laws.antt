@@ -1,5 +1,5 @@
 -- What holds of every builtin.
-use Rattle.std.proofs.Common.{ℕ, ◌+◌, ◌-◌, ◌≤◌, List, [], ◌∷◌, ◌++◌, codes, take, length, Bool, true, false, Option, Some, None, Result, Ok, Err, slice_get, IfSome, if◌then◌else◌, arith}
+use Rattle.std.proofs.Common.{ℕ, ◌+◌, ◌-◌, List, [], ◌∷◌, ◌++◌, codes, take, length, Bool, true, false, Option, Some, None, Result, Ok, Err, slice_get, IfSome, if◌then◌else◌, arith}
 use Rattle.rk_base.specs.Canonical.{is_empty}
 use Rattle.rk_base.specs.Errno.{word}
 use Rattle.rk_base.specs.Text.{Text, same_text}
@@ -12,7 +12,7 @@ use Rattle.rk_calls.specs.Lines.{error_line}
 use Rattle.rk_calls.specs.Places.{absolute}
 use Rattle.rk_calls.specs.Talk.{Says, exits}
 use Rattle.rk_calls.specs.Turns.{turns}
-use Rattle.rk_calls.specs.Views.{View, Alike, IsCommandTalk, alike-ask, alike-exits, alike-if}
+use Rattle.rk_calls.specs.Views.{IsCommandTalk, alike-ask, alike-exits, alike-if}
 use Rattle.sh_vars.specs.declared.env.Env.{Env}
 use Rattle.sh_vars.specs.Held.{is_readonly}
 use Rattle.sh_operands.specs.declared.format.Piece.{Piece}
@@ -20,18 +20,18 @@ use Rattle.sh_builtin.specs.declared.name.Name.{Name}
 use Rattle.sh_builtin.specs.declared.name.Name.TheVariants.{Cd, Read, Echo, Printf, Pwd, Test, Bracket, True, False, Unknown}
 use Rattle.sh_operands.specs.declared.verdict.Verdict.{Verdict}
 use Rattle.sh_operands.specs.declared.verdict.Verdict.TheVariants.{Holds, Asks, Misused}
-use Rattle.sh_builtin.specs.Alike.{EndsAlike, IsAlike, lower, alike-ends, alike-choice, alike-write, alike-tells}
+use Rattle.sh_builtin.specs.Alike.{IsAlike, lower, alike-ends, alike-pays, alike-choice, alike-write, alike-tells}
 use Rattle.sh_builtin.specs.Builtins.{named_does, does}
 use Rattle.sh_builtin.specs.Cds.{unless_readonly, with_value, pwd_name, moves, walked, walks, cds}
 use Rattle.sh_builtin.specs.Commands.{says, own_env, builtin_command}
-use Rattle.sh_builtin.specs.Doing.{Slots, Ended, Doing, heard, ends, asks}
-use Rattle.sh_builtin.specs.Echoes.{echoed, echoes, pwds}
+use Rattle.sh_builtin.specs.Doing.{Ended, Doing, heard, ends, pays, asks}
+use Rattle.sh_builtin.specs.Echoes.{echoed, pwds}
 use Rattle.sh_operands.specs.Formats.{pieces}
 use Rattle.sh_builtin.specs.Names.{name_of, is_builtin, text_of}
 use Rattle.sh_operands.specs.Primaries.{follows}
-use Rattle.sh_builtin.specs.Prints.{bad_line, tells_bad, status_of as failed, prints_pieces, prints}
+use Rattle.sh_builtin.specs.Prints.{bad_line, writes_made, puts_made, tells_bad, status_of as failed, prints_pieces, prints}
 use Rattle.sh_builtin.specs.ReadLaws.{alike-reads}
-use Rattle.sh_builtin.specs.Telling.{complains, tells, usage_line, written, puts}
+use Rattle.sh_builtin.specs.Telling.{complains, usage_line, written, puts}
 use Rattle.sh_builtin.specs.Tests.{holds, status_of, inverted_if, judges, is_closing, tests, brackets}
 use Rattle.sh_operands.specs.Printed.{prints_of}
 use Rattle.sh_operands.specs.Verdicts.{decides}
@@ -117,8 +117,17 @@ alike-brackets operands =
 
 -- `printf`.
 
+alike-writes_made : (output : Text) (status : ℕ) → IsAlike (writes_made output status)
+alike-writes_made output status v p =
+    alike-write v p 1 output 1 (λ a. written Printf status (brought a)) (λ a. written Printf status (brought a)) (λ a q le. alike-written Printf status (brought a) v q)
+
+alike-puts_made : (output : Text) (status : ℕ) → IsAlike (puts_made output status)
+alike-puts_made output status =
+    alike-choice (is_empty output) (ends status) (pays (turns output) (writes_made output status)) (alike-ends status)
+    (alike-pays (turns output) (writes_made output status) (alike-writes_made output status))
+
 alike-tells_bad : (words : List Text) (output : Text) (status : ℕ) → IsAlike (tells_bad words output status)
-alike-tells_bad [] output status v p slots k k' env hk = alike-puts Printf output status v p slots k k' env hk
+alike-tells_bad [] output status v p slots k k' env hk = alike-puts_made output status v p slots k k' env hk
 alike-tells_bad (w ∷ ws) output status v p slots k k' env hk =
     alike-write v p 2 (bad_line w) (1 + turns (bad_line w)) (λ a. tells_bad ws output status) (λ a. tells_bad ws output status) (λ a q le. alike-tells_bad ws output status v q) slots k k' env hk
 

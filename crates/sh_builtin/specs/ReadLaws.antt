@@ -1,14 +1,12 @@
 -- What holds of `read`.
-use Rattle.std.proofs.Common.{◌≡◌, ℕ, suc, ◌+◌, ◌-◌, ◌≤◌, ◌<◌, List, [], ◌∷◌, ◌++◌, drop, codes, Bool, true, false, Option, Some, None, Result, Ok, Err, refl, subst, arith}
+use Rattle.std.proofs.Common.{◌≡◌, ℕ, suc, ◌-◌, ◌<◌, List, [], ◌∷◌, ◌++◌, drop, codes, Bool, true, false, Option, Some, None, Result, Ok, Err, refl, subst, arith}
 use Rattle.rk_base.specs.Text.{Text, same_text}
 use Rattle.rk_base.specs.Errno.{word}
 use Rattle.rk_base.specs.declared.errno.Errno.{Errno}
 use Rattle.rk_base.specs.declared.errno.Errno.TheVariants.{BadRef}
 use Rattle.rk_calls.specs.declared.call.Call.TheVariants.{ReadLine}
-use Rattle.rk_calls.specs.declared.answer.Answer.{Answer}
-use Rattle.rk_calls.specs.declared.answer.Answer.TheVariants as answer
 use Rattle.rk_calls.specs.Brought.{brought}
-use Rattle.rk_calls.specs.Fix.{fix, AlikeBelow, Pays_first, fix-alike, fix-is}
+use Rattle.rk_calls.specs.Fix.{AlikeBelow, Pays_first, fix-alike, fix-is}
 use Rattle.rk_calls.specs.Lines.{error_line}
 use Rattle.rk_calls.specs.Talk.{Says}
 use Rattle.rk_calls.specs.Views.{View, As_is, Alike, alike-if}
@@ -21,13 +19,13 @@ use Rattle.sh_builtin.specs.declared.name.Name.{Name}
 use Rattle.sh_builtin.specs.declared.name.Name.TheVariants as name
 use Rattle.sh_builtin.specs.Alike.{EndsAlike, BothAlike, IsAlike, lower, alike-ends, alike-choice, alike-at_slot, alike-tells}
 use Rattle.sh_builtin.specs.Cds.{sets, with_value}
-use Rattle.sh_builtin.specs.Doing.{Slots, Ended, Doing, heard, ends}
+use Rattle.sh_builtin.specs.Doing.{Slots, Ended, Doing, heard}
 use Rattle.sh_builtin.specs.Fields.{values}
 use Rattle.sh_builtin.specs.Lines.{line_of}
 use Rattle.sh_builtin.specs.Names.{text_of}
 use Rattle.sh_operands.specs.Words.{first_that, is_misnamed}
-use Rattle.sh_builtin.specs.Reads.{At, Job, first_value, assigns, ifs_of, takes, from_here, by_end, line_read, reads_line, reads_on, reads_lines, unless_readonly, unless_misnamed, reads_named, reads_into, reads}
-use Rattle.sh_builtin.specs.Telling.{complains, tells, usage_line}
+use Rattle.sh_builtin.specs.Reads.{At, Job, first_value, assigns, ifs_of, takes, by_end, line_read, reads_line, reads_on, reads_lines, unless_readonly, unless_misnamed, reads_named, reads_into, reads}
+use Rattle.sh_builtin.specs.Telling.{complains, usage_line}
 
 alike-complains : (n : Name) (operand what : Text) (status : ℕ) → IsAlike (complains n operand what status)
 alike-complains n operand what status = alike-tells (error_line (text_of n) operand what) status

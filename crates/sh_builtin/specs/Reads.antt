@@ -1,5 +1,5 @@
 -- `read` (XCU 4, `read`).
-use Rattle.std.specs.Prelude.{ℕ, List, [], ◌∷◌, ◌++◌, codes, drop, Bool, true, false, not, Option, Some, None, Result, Ok, Err, if◌then◌else◌}
+use Rattle.std.specs.Prelude.{ℕ, List, [], ◌∷◌, ◌++◌, codes, drop, Bool, true, false, Option, Some, None, Result, Ok, Err, if◌then◌else◌}
 use Rattle.rk_base.specs.Text.{Text, same_text}
 use Rattle.rk_base.specs.Errno.{word}
 use Rattle.rk_base.specs.declared.errno.Errno.{Errno}
@@ -17,7 +17,7 @@ use Rattle.sh_builtin.specs.declared.line.End.TheVariants.{Whole, Short, Continu
 use Rattle.sh_builtin.specs.Cds.{sets}
 use Rattle.sh_builtin.specs.Doing.{Slots, Ended, Doing, ends, asks}
 use Rattle.sh_builtin.specs.Fields.{values, ifs_or_default}
-use Rattle.sh_builtin.specs.Lines.{Line, line_of}
+use Rattle.sh_builtin.specs.Lines.{line_of}
 use Rattle.sh_builtin.specs.Telling.{complains, tells, usage_line}
 
 -- the first of what is left; no bytes where nothing is

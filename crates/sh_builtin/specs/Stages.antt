@@ -4,13 +4,14 @@ use Rattle.rk_calls.specs.declared.answer.Answer.{Answer}
 use Rattle.rk_calls.specs.Brought.{brought}
 use Rattle.sh_vars.specs.declared.env.Env.{Env}
 use Rattle.sh_builtin.specs.declared.stage.Stage.{Stage}
-use Rattle.sh_builtin.specs.declared.stage.Stage.TheVariants.{Begins, Writing, Walking, Reading, Printing, Judging, Over}
+use Rattle.sh_builtin.specs.declared.stage.Stage.TheVariants.{Begins, Writing, Walking, Reading, Printing, Paid, Judging, Over}
 use Rattle.sh_builtin.specs.declared.stage.Move.{Move}
 use Rattle.sh_builtin.specs.declared.builtin.Builtin.{Builtin}
 use Rattle.sh_builtin.specs.Builtins.{does}
 use Rattle.sh_builtin.specs.Cds.{walked}
 use Rattle.sh_builtin.specs.Doing.{Slots, Ended, Doing, ends, after}
-use Rattle.sh_builtin.specs.Prints.{tells_bad}
+use Rattle.sh_operands.specs.Printed.{prints_of}
+use Rattle.sh_builtin.specs.Prints.{tells_bad, writes_made}
 use Rattle.sh_builtin.specs.Reads.{line_read, reads_on}
 use Rattle.sh_builtin.specs.Telling.{written}
 use Rattle.sh_builtin.specs.Tests.{holds, status_of, inverted_if}
@@ -21,7 +22,8 @@ stage_does (Begins words) a = does words
 stage_does (Writing name status) a = written name status (brought a)
 stage_does (Walking operand) a = walked operand a
 stage_does (Reading raw names marks) a = line_read reads_on raw names marks (brought a)
-stage_does (Printing bad at output status) a = tells_bad (drop at bad) output status
+stage_does (Printing bad at ps operands status) a = tells_bad (drop at bad) (prints_of ps operands).output status
+stage_does (Paid ps operands status) a = writes_made (prints_of ps operands).output status
 stage_does (Judging p negated) a = ends (status_of (inverted_if negated (holds p a)))
 stage_does (Over status) a = ends status
 

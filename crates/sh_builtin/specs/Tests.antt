@@ -1,5 +1,5 @@
 -- `test` and `[` (XCU 4, `test`).
-use Rattle.std.specs.Prelude.{ℕ, ◌-◌, List, [], ◌∷◌, codes, Bool, true, false, not, Option, Some, None, if◌then◌else◌, take, length, slice_get}
+use Rattle.std.specs.Prelude.{ℕ, ◌-◌, List, codes, Bool, true, false, not, Option, Some, None, if◌then◌else◌, take, length, slice_get}
 use Rattle.rk_base.specs.Text.{Text, same_text}
 use Rattle.rk_calls.specs.declared.answer.Answer.{Answer}
 use Rattle.rk_calls.specs.declared.answer.Answer.TheVariants as answer

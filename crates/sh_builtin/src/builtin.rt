@@ -9,7 +9,7 @@ ghost use Rattle.sh_builtin.specs.Stages.{stage_does, IsDoneBy, builtin_does};
 use crate::cd::{cd, walked};
 use crate::echo::{echo, pwd};
 use crate::name::{Name, name_of};
-use crate::printf::{printf, tell_bad};
+use crate::printf::{printf, tell_bad, write_made};
 use crate::read::{line_read, read};
 use crate::stage::{Move, Stage};
 use crate::telling::{complain, over, written};
@@ -87,7 +87,10 @@ fn go_on(alloc: Global, stage: Stage, env: &mut Env, answer: Answer) -> Result<M
         Stage::Writing(name, status) => written(alloc, name, status, answer),
         Stage::Walking(operand) => walked(alloc, operand, answer, env),
         Stage::Reading(raw, names, marks) => line_read(alloc, raw, names, marks, answer, env),
-        Stage::Printing(bad, at, output, status) => tell_bad(alloc, bad, at, output, status),
+        Stage::Printing(bad, at, pieces, operands, status) => {
+            tell_bad(alloc, bad, at, pieces, operands, status)
+        }
+        Stage::Paid(pieces, operands, status) => write_made(alloc, pieces, operands, status),
         Stage::Judging(primary, negated) => Ok(judged(primary, negated, answer)),
         Stage::Over(status) => Ok(over(status)),
     }

@@ -3,16 +3,17 @@ ghost use Rattle.std.specs.Prelude.{◌≡◌, IfOk, codes, drop};
 ghost use Rattle.rk_calls.specs.Costly.{IsCostly};
 ghost use Rattle.sh_vars.specs.declared.env.Env.{Env};
 ghost use Rattle.sh_builtin.specs.declared.name.Name.TheVariants.{Printf};
-ghost use Rattle.sh_builtin.specs.Prints.{bad_line, tells_bad, status_of, prints_made, prints_pieces, prints};
+ghost use Rattle.sh_operands.specs.Printed.{prints_of};
+ghost use Rattle.sh_builtin.specs.Prints.{bad_line, writes_made, puts_made, tells_bad, status_of, prints_pieces, prints};
 ghost use Rattle.sh_builtin.specs.Stages.{IsDoneBy};
 ghost use Rattle.sh_builtin.specs.Telling.{complains};
 
 use crate::name::Name;
 use crate::stage::{Move, Stage};
-use crate::telling::{complain, misuse, put};
+use crate::telling::{complain, misuse, over};
 use rk_base::{Bytes, NoMemory, WordList};
 use rk_calls::{Call, Turn, error_line, turns};
-use sh_operands::{Format, Made, pieces, printed};
+use sh_operands::{Format, copies, measured, pieces, printed};
 use std::alloc::Global;
 
 fn bad_line(alloc: Global, word: &[u8]) -> Result<Bytes, NoMemory>
@@ -21,26 +22,68 @@ fn bad_line(alloc: Global, word: &[u8]) -> Result<Bytes, NoMemory>
     error_line(alloc, b"printf", word, b"not valid")
 }
 
+// The output is paid for by its length, where there is any.
+fn pay_made(alloc: Global, pieces: Format, operands: WordList, status: u8) -> Result<Move, NoMemory>
+    ensures does { IfOk result (λ move. (env : Env) → IsDoneBy (puts_made (prints_of pieces operands).output status) env move env) }
+    ensures costly { IfOk result (λ move. IsCostly move.turn) }
+{
+    let (bytes, _) = measured(alloc, pieces.as_slice(), operands.as_slice())?;
+    if bytes == 0 {
+        return Ok(over(status));
+    }
+    Ok(Move {
+        turn: Turn::More(bytes.div_ceil(64)),
+        stage: Stage::Paid(pieces, operands, status),
+    })
+}
+
+/// The output, which is paid for.
+pub(crate) fn write_made(
+    alloc: Global,
+    pieces: Format,
+    operands: WordList,
+    status: u8,
+) -> Result<Move, NoMemory>
+    ensures does { IfOk result (λ move. (env : Env) → IsDoneBy (writes_made (prints_of pieces operands).output status) env move env) }
+    ensures costly { IfOk result (λ move. IsCostly move.turn) }
+{
+    let made = printed(alloc, pieces.as_slice(), operands.as_slice())?;
+    let (output, _) = made.into_parts();
+    let output = Bytes::new(alloc, output)?;
+    Ok(Move {
+        turn: Turn::Ask(Call::Write(1, output), 1),
+        stage: Stage::Writing(Name::Printf, status),
+    })
+}
+
 /// A line for each operand that is no number, from a place on, and then the output.
 pub(crate) fn tell_bad(
     alloc: Global,
     bad: WordList,
     at: usize,
-    output: Bytes,
+    pieces: Format,
+    operands: WordList,
     status: u8,
 ) -> Result<Move, NoMemory>
-    ensures does { IfOk result (λ move. (env : Env) → IsDoneBy (tells_bad (drop at bad) output status) env move env) }
+    ensures does { IfOk result (λ move. (env : Env) → IsDoneBy (tells_bad (drop at bad) (prints_of pieces operands).output status) env move env) }
     ensures costly { IfOk result (λ move. IsCostly move.turn) }
 {
     if at >= bad.len() {
-        return Ok(put(Name::Printf, output, status));
+        return pay_made(alloc, pieces, operands, status);
     }
     let line = bad_line(alloc, bad.as_slice()[at].as_slice())?;
     let cost = 1 + turns(line.as_slice());
     Ok(Move {
         turn: Turn::Ask(Call::Write(2, line), cost),
-        stage: Stage::Printing(bad, at + 1, output, status),
+        stage: Stage::Printing(bad, at + 1, pieces, operands, status),
     })
+}
+
+fn invalid(alloc: Global, format: &[u8]) -> Result<Move, NoMemory>
+    ensures does { IfOk result (λ move. (env : Env) → IsDoneBy (complains Printf format.now (codes "not valid") 1) env move env) }
+    ensures costly { IfOk result (λ move. IsCostly move.turn) }
+{
+    complain(alloc, Name::Printf, format, b"not valid", 1)
 }
 
 fn status_of(bad: &[Bytes]) -> u8
@@ -50,23 +93,6 @@ fn status_of(bad: &[Bytes]) -> u8
         [] => 0,
         [_, ..] => 1,
     }
-}
-
-fn print_made(alloc: Global, made: Made) -> Result<Move, NoMemory>
-    ensures does { IfOk result (λ move. (env : Env) → IsDoneBy (prints_made made) env move env) }
-    ensures costly { IfOk result (λ move. IsCostly move.turn) }
-{
-    let (output, bad) = made.into_parts();
-    let output = Bytes::new(alloc, output)?;
-    let status = status_of(bad.as_slice());
-    tell_bad(alloc, bad, 0, output, status)
-}
-
-fn invalid(alloc: Global, format: &[u8]) -> Result<Move, NoMemory>
-    ensures does { IfOk result (λ move. (env : Env) → IsDoneBy (complains Printf format.now (codes "not valid") 1) env move env) }
-    ensures costly { IfOk result (λ move. IsCostly move.turn) }
-{
-    complain(alloc, Name::Printf, format, b"not valid", 1)
 }
 
 fn print_pieces(
@@ -81,8 +107,10 @@ fn print_pieces(
     match pieces {
         None => invalid(alloc, format),
         Some(pieces) => {
-            let made = printed(alloc, pieces.as_slice(), operands)?;
-            print_made(alloc, made)
+            let (_, bad) = measured(alloc, pieces.as_slice(), operands)?;
+            let status = status_of(bad.as_slice());
+            let operands = copies(alloc, operands)?;
+            tell_bad(alloc, bad, 0, pieces, operands, status)
         }
     }
 }

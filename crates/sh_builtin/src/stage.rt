@@ -3,7 +3,7 @@ use crate::marks::Marks;
 use crate::name::Name;
 use rk_base::{Bytes, WordList};
 use rk_calls::Turn;
-use sh_operands::Primary;
+use sh_operands::{Format, Primary};
 
 /// What a builtin waits for, or does next.
 #[derive(Drop)]
@@ -16,8 +16,11 @@ pub enum Stage {
     Walking(Bytes),
     /// A line is read, as `-r` has it or not, for these variables, behind these bytes.
     Reading(bool, WordList, Marks),
-    /// These operands that are no numbers are told, from a place on; the output and the status come after them.
-    Printing(WordList, usize, Bytes, u8),
+    /// These operands that are no numbers are told, from a place on; what the pieces of a format make of operands, and the
+    /// status, come after them.
+    Printing(WordList, usize, Format, WordList, u8),
+    /// What the pieces of a format make of operands is paid for, and is made and written; it has this status then.
+    Paid(Format, WordList, u8),
     /// What stands at a path is looked up, which decides by this primary, or the opposite.
     Judging(Primary, bool),
     /// It has this status, whatever is answered.

@@ -1,3 +1,4 @@
 pub mod Capping
 pub mod Filling
 pub mod Values
+pub mod Widths

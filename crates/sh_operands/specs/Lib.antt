@@ -1,5 +1,6 @@
 pub mod Counts
 pub mod Formats
+pub mod Lengths
 pub mod Made
 pub mod Modes
 pub mod Numbers

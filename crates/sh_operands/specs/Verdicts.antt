@@ -1,5 +1,5 @@
 -- What `test` decides by its operands alone (XCU 4, `test`).
-use Rattle.std.specs.Prelude.{List, [], ◌∷◌, codes, Bool, true, false, not, Option, Some, None, if◌then◌else◌}
+use Rattle.std.specs.Prelude.{List, [], ◌∷◌, codes, Bool, false, not, Option, Some, None, if◌then◌else◌}
 use Rattle.rk_base.specs.Text.{Text, same_text}
 use Rattle.rk_base.specs.Canonical.{is_empty}
 use Rattle.sh_operands.specs.declared.number.Number.{Number}

@@ -172,7 +172,8 @@ fn hexadecimal(alloc: Global, c: Conversion, n: u64) -> Result<Vec<u8>, NoMemory
     filled(alloc, c, b"", digits.as_bytes())
 }
 
-fn converted(
+/// What it makes of an operand, or of none.
+pub(crate) fn converted(
     alloc: Global,
     kind: Kind,
     c: Conversion,
@@ -203,7 +204,8 @@ fn is_numeric(kind: Kind) -> bool
     }
 }
 
-fn noted(c: Conversion, operand: Option<&Bytes>, made: &mut Made) -> Result<(), NoMemory>
+/// Notes an operand that is no number where one is wanted.
+pub(crate) fn noted(c: Conversion, operand: Option<&Bytes>, made: &mut Made) -> Result<(), NoMemory>
     ensures { OnOk result (made.new ≡ noted c (option_copied operand.entry) made.old) }
 {
     if is_numeric(c.kind) {

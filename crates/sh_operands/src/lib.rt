@@ -5,6 +5,7 @@
 mod convert;
 mod count;
 mod format;
+mod length;
 mod made;
 mod number;
 mod primary;
@@ -14,6 +15,7 @@ mod words;
 
 pub use count::count_of;
 pub use format::{Conversion, Format, Kind, Piece, pieces};
+pub use length::measured;
 pub use made::Made;
 pub use number::{Number, number_of};
 pub use primary::{Operator, Primary, follows, holds_of};

@@ -8,8 +8,8 @@ use crate::made::Made;
 use rk_base::{Bytes, NoMemory};
 use std::alloc::Global;
 
-// What stands behind so many operands.
-fn behind(n: usize, operands: &[Bytes]) -> &[Bytes]
+/// What stands behind so many operands.
+pub(crate) fn behind(n: usize, operands: &[Bytes]) -> &[Bytes]
     ensures { result.now ≡ drop n operands.now }
 {
     let at = if n < operands.len() {
@@ -48,8 +48,8 @@ fn pass(
     Ok(())
 }
 
-// How often the format is used.
-fn how_often(n: usize, operands: usize) -> usize
+/// How often the format is used.
+pub(crate) fn how_often(n: usize, operands: usize) -> usize
     ensures { result ≡ how_often n operands }
 {
     if n == 0 {

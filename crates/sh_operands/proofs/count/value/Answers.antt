@@ -1,4 +1,3 @@
-use Rattle.std.proofs.Common.{arith}
 use Rattle.sh_operands.proofs.Capping.{capped_next, capped_done, capped_within}
 use Rattle.sh_operands.proofs.count.value.Goals as goal
 
