@@ -1,1 +1,1 @@
-mod NameMap
+mod AssignmentLemmas

@@ -21,7 +21,8 @@ pub(crate) struct NameTable {
 impl Model for NameTable {
     ghost use Rattle.std.specs.FinMap as map;
     ghost use Rattle.std.specs.Coded.{coded_list, coded_ℕ};
-    ghost use Rattle.rk_rows.specs.NameTable.{NameValues, named, map_of};
+    ghost use Rattle.sh_vars.specs.Rows.{named, map_of};
+    ghost use Rattle.rk_rows.specs.NameTable.{NameValues};
 
     ghost Value = { NameValues };
 

@@ -1,4 +1,5 @@
 pub mod ArithmeticLemmas
+pub mod AssignmentLemmas
 pub mod MachineLemmas
 pub mod NumberLemmas
 pub mod PartLemmas

@@ -1,96 +1,20 @@
--- The map of the variables, by the words of a `BTreeMap`.
-use Rattle.std.proofs.Common.{◌≡◌, ◌⊎◌, inl, inr, ℕ, List, [], ◌∷◌, ◌++◌, Bool, true, false, cond, Option, Some, None, refl, sym, ap, subst, ◌∙◌, append-nil, map, Vec, vec_len, Global, ◌&&◌}
+-- The variables in their order, and those that are exported.
+use Rattle.std.proofs.Common.{◌≡◌, ℕ, List, [], ◌∷◌, ◌++◌, Bool, true, false, cond, Option, Some, None, refl, sym, ap, subst, ◌∙◌, append-nil, map, vec_len, ◌&&◌}
 use lib.Dec.{T}
-use Rattle.std.specs.Ordering.{eq_by_cmp, is_eq, is_lt, match_ordering}
-use Rattle.std.specs.declared.cmp.Ordering.{Ordering}
-use Rattle.std.specs.declared.cmp.Ordering.TheVariants.{Less, Equal, Greater}
-use Rattle.std.specs.Cmp.{Equal-is}
-use Rattle.std.specs.Cmp.Lexicographic.{nat_list_cmp_total}
-use Rattle.std.specs.BTreeMap.{is_at, insert_entry}
+use Rattle.std.specs.Ordering.{is_lt}
+use Rattle.std.specs.declared.cmp.Ordering.TheVariants.{Less}
 use Rattle.std.specs.List.{AllByRecursion, AllZip, each_same, list_all, filter_map, cons_option}
 use Rattle.std.specs.List.Sorted.{IsStrictlySortedBy}
-use Rattle.std.specs.Map.{KeepsOthers, lookup}
-use Rattle.std.specs.FinMap.Entries.{below_all, by_order, find-put, put}
-use Rattle.std.specs.FinMap.{empty, entries, entries_sorted, find, get, insert, remove, from_entries, from_sorted, get-insert, get-remove, get-from_entries, get-from_sorted, entries-from_sorted, is_sorted, same_map}
+use Rattle.std.specs.FinMap.Entries.{below_all}
+use Rattle.std.specs.FinMap.{entries, entries_sorted, from_sorted, get-from_sorted, entries-from_sorted, is_sorted}
 use Rattle.rk_base.specs.Text.{Text, text_cmp}
 use Rattle.rk_base.specs.Names.{ascend, ascend_from}
 use Rattle.rk_base.specs.Variables.{is_variable, names_of, are_variables}
 use Rattle.rk_base.specs.declared.vars.Var.{Var}
-use Rattle.rk_base.proofs.WithinLemmas.{exact_texts}
 use Rattle.sh_vars.specs.declared.variable.Variable.{Variable}
 use Rattle.sh_vars.specs.Held.{Variables, exported_var, exported_of, with_value}
 use Rattle.sh_vars.specs.Rows.{named, map_of}
-
-abbrev pub Key : Type 0
-Key = Vec ℕ Global
-
--- how a text compares to a key, and keys to one another
-abbrev pub against : Text → Key → Ordering
-against name key = text_cmp name key.items
-
-abbrev pub by_items : Key → Key → Ordering
-by_items a b = text_cmp a.items b.items
-
-told_apart : (a b : Text) → ((a ≡ b) × (eq_by_cmp text_cmp a b ≡ true)) ⊎ (eq_by_cmp text_cmp a b ≡ false)
-told_apart a b = elim (eq_by_cmp text_cmp a b) as (λ (t : Bool). eq_by_cmp text_cmp a b ≡ t → ((a ≡ b) × (eq_by_cmp text_cmp a b ≡ true)) ⊎ (eq_by_cmp text_cmp a b ≡ false)) [
-  | true ↦ λ e. inl (exact_texts a b ((Equal-is (text_cmp a b)).0 e), e)
-  | false ↦ λ e. inr e
-] refl
-
-same_maps : (m n : Variables) → ((name : Text) → get m name ≡ get n name) → m ≡ n
-same_maps = same_map nat_list_cmp_total exact_texts
-
-get_found : (rows : List (Text × Variable)) (name : Text) → get (map_of rows) name ≡ find text_cmp name rows
-unfolding map_of
-get_found rows name = get-from_entries nat_list_cmp_total rows name
-
-lookup_named : (rows : List (Key × Variable)) (name : Text) → find text_cmp name (named rows) ≡ lookup (is_at (against name)) rows
-lookup_named [] name = refl
-lookup_named (row ∷ rows) name = ap (cond (eq_by_cmp text_cmp name row.0.items) (Some row.1)) (lookup_named rows name)
-
-pub get_named : (rows : List (Key × Variable)) (name : Text) → get (map_of (named rows)) name ≡ lookup (is_at (against name)) rows
-get_named rows name = get_found (named rows) name ∙ lookup_named rows name
-
-named_insert : (rows : List (Key × Variable)) (key : Key) (v : Variable) → named (insert_entry by_items rows key v) ≡ put text_cmp key.items v (named rows)
-named_insert [] key v = refl
-named_insert (row ∷ rows) key v = elim (text_cmp key.items row.0.items) as (λ (o : Ordering). named (match_ordering o ((key, v) ∷ row ∷ rows) ((row.0, v) ∷ rows) (row ∷ insert_entry by_items rows key v)) ≡ by_order o ((key.items, v) ∷ named (row ∷ rows)) ((row.0.items, v) ∷ named rows) ((row.0.items, row.1) ∷ put text_cmp key.items v (named rows))) [
-  | Less ↦ refl
-  | Equal ↦ refl
-  | Greater ↦ ap (λ (rest : List (Text × Variable)). (row.0.items, row.1) ∷ rest) (named_insert rows key v)
-]
-
-named_put : (rows : List (Key × Variable)) (key : Key) (v : Variable) → map_of (named (insert_entry by_items rows key v)) ≡ insert (map_of (named rows)) key.items v
-named_put rows key v = same_maps _ _ (λ q.
-    get_found (named (insert_entry by_items rows key v)) q
-    ∙ ap (find text_cmp q) (named_insert rows key v)
-    ∙ find-put text_cmp nat_list_cmp_total q key.items v (named rows)
-    ∙ sym (get-insert nat_list_cmp_total (map_of (named rows)) key.items v q ∙ ap (cond (eq_by_cmp text_cmp q key.items) (Some v)) (get_found (named rows) q)))
-
-pub put_is : (rows more : List (Key × Variable)) (key : Key) (v : Variable) (m : Variables) (name : Text) → map_of (named rows) ≡ m → key.items ≡ name → more ≡ insert_entry by_items rows key v → map_of (named more) ≡ insert m name v
-put_is rows more key v m name view text is = ap (λ (r : List (Key × Variable)). map_of (named r)) is ∙ named_put rows key v ∙ ap (λ (p : Variables). insert p key.items v) view ∙ ap (λ (t : Text). insert m t v) text
-
-is_test : (q : Text) (x y : Key) → is_at (against q) x ≡ true → is_at (against q) y ≡ is_eq (by_items x y)
-is_test q x y e = ap (λ (t : Text). is_eq (text_cmp t y.items)) (exact_texts q x.items ((Equal-is (text_cmp q x.items)).0 e))
-
-apart_at : (name q : Text) → eq_by_cmp text_cmp q name ≡ false → (key : Key) → is_at (against name) key ≡ true → is_at (against q) key ≡ false
-apart_at name q f key e = ap (λ (t : Text). is_eq (text_cmp q t)) (sym (exact_texts name key.items ((Equal-is (text_cmp name key.items)).0 e))) ∙ f
-
--- where a name is gone, and each other query finds what it found
-named_take : (rows more : List (Key × Variable)) (name : Text) → lookup (is_at (against name)) more ≡ None → KeepsOthers (eq_by_cmp by_items) (is_at (against name)) rows more → map_of (named more) ≡ remove (map_of (named rows)) name
-unfolding KeepsOthers
-named_take rows more name gone keeps = same_maps _ _ (λ q. elim (told_apart q name) [
-  | inl same ↦ get_named more q ∙ ap (λ (t : Text). lookup (is_at (against t)) more) same.0 ∙ gone
-      ∙ sym (get-remove nat_list_cmp_total (map_of (named rows)) name q ∙ ap (λ (b : Bool). cond b None (get (map_of (named rows)) q)) same.1)
-  | inr other ↦ get_named more q ∙ keeps (is_at (against q)) (is_test q) (apart_at name q other) ∙ sym (get_named rows q)
-      ∙ sym (get-remove nat_list_cmp_total (map_of (named rows)) name q ∙ ap (λ (b : Bool). cond b None (get (map_of (named rows)) q)) other)
-])
-
-pub take_is : (rows more : List (Key × Variable)) (name : Text) (m : Variables) → map_of (named rows) ≡ m → lookup (is_at (against name)) more ≡ None → KeepsOthers (eq_by_cmp by_items) (is_at (against name)) rows more → map_of (named more) ≡ remove m name
-take_is rows more name m view gone keeps = named_take rows more name gone keeps ∙ ap (λ (p : Variables). remove p name) view
-
-pub new_is : (rows : List (Key × Variable)) → rows ≡ [] → map_of (named rows) ≡ empty
-unfolding map_of
-new_is rows none = ap (λ (r : List (Key × Variable)). from_entries (named r)) none
+use Rattle.sh_vars.proofs.NameMap.{Key, by_items, get_found, same_maps}
 
 -- Rows in order are what the map lists.
 

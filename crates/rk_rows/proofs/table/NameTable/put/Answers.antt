@@ -1,4 +1,4 @@
-use Rattle.rk_rows.proofs.NameMap.{put_is}
+use Rattle.sh_vars.proofs.NameMap.{put_is}
 use Rattle.rk_rows.proofs.table.NameTable.put.Goals as goal
 
 pub returns-clause-ok : goal.returns-clause-ok

@@ -1,7 +1,7 @@
 use Rattle.std.proofs.Common.{sym, ap, ◌∙◌}
 use Rattle.std.specs.FinMap.{get}
 use Rattle.rk_rows.specs.NameTable.{NameValues}
-use Rattle.rk_rows.proofs.NameMap.{get_named}
+use Rattle.sh_vars.proofs.NameMap.{get_named}
 use Rattle.rk_rows.proofs.table.NameTable.value_of.Goals as goal
 
 pub returns : goal.returns

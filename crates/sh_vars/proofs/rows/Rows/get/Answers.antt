@@ -1,7 +1,7 @@
 use Rattle.std.proofs.Common.{sym, ap, ◌∙◌}
 use Rattle.std.specs.FinMap.{get}
 use Rattle.sh_vars.specs.Held.{Variables}
-use Rattle.sh_vars.proofs.RowsLemmas.{get_named}
+use Rattle.sh_vars.proofs.NameMap.{get_named}
 use Rattle.sh_vars.proofs.rows.Rows.get.Goals as goal
 
 pub returns : goal.returns

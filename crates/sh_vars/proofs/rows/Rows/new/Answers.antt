@@ -1,4 +1,4 @@
-use Rattle.sh_vars.proofs.RowsLemmas.{new_is}
+use Rattle.sh_vars.proofs.NameMap.{new_is}
 use Rattle.sh_vars.proofs.rows.Rows.new.Goals as goal
 
 pub returns : goal.returns

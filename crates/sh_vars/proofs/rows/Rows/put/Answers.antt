@@ -1,4 +1,4 @@
-use Rattle.sh_vars.proofs.RowsLemmas.{put_is}
+use Rattle.sh_vars.proofs.NameMap.{put_is}
 use Rattle.sh_vars.proofs.rows.Rows.put.Goals as goal
 
 pub returns-clause-ok : goal.returns-clause-ok

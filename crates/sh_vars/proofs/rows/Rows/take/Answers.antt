@@ -1,4 +1,4 @@
-use Rattle.sh_vars.proofs.RowsLemmas.{take_is}
+use Rattle.sh_vars.proofs.NameMap.{take_is}
 use Rattle.sh_vars.proofs.rows.Rows.take.Goals as goal
 
 pub returns : goal.returns
