@@ -3,3 +3,4 @@ pub mod AssignmentLemmas
 pub mod MachineLemmas
 pub mod NumberLemmas
 pub mod PartLemmas
+pub mod PlainLemmas

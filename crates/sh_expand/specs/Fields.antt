@@ -1,5 +1,5 @@
 -- The fields of an expanded word: splitting and pathname expansion (XCU 2.6.5 and 2.6.6).
-use Rattle.std.specs.Prelude.{List, [], ◌∷◌, ◌++◌, Bool, true, false, ◌==◌, ◌&&◌, not, Option, Some, None, if◌then◌else◌}
+use Rattle.std.specs.Prelude.{ℕ, List, [], ◌∷◌, ◌++◌, Bool, true, false, ◌==◌, ◌&&◌, ◌||◌, not, Option, Some, None, if◌then◌else◌}
 use Rattle.std.specs.List.{list_any}
 use Rattle.rk_base.specs.Text.{Text}
 use Rattle.rk_base.specs.Sorted.{sorted}
@@ -49,6 +49,17 @@ is_pattern (Pattern text) = true
 
 abbrev pub has_pattern : List Component → Bool
 has_pattern cs = list_any is_pattern cs
+
+-- no mark that makes a pattern, wherever it stands; so no component is one, whatever is quoted
+abbrev pub is_plain_byte : ℕ → Bool
+is_plain_byte b = not ((b == 42) || (b == 63) || (b == 91) || (b == 92))
+
+abbrev pub is_plain : Mark → Bool
+is_plain (mark.Literal b) = is_plain_byte b
+is_plain (mark.Quoted b) = is_plain_byte b
+is_plain (mark.Given b) = is_plain_byte b
+is_plain mark.Quote = true
+is_plain mark.Break = true
 
 -- no result leaves the field as it was
 abbrev pub or_as_was : Text → List Text → List Text

@@ -1,5 +1,5 @@
 // The machine that expands a word.
-ghost use Rattle.std.specs.Prelude.{◌≡◌, ◌++◌, [], ℕ, IfOk, OnOk};
+ghost use Rattle.std.specs.Prelude.{◌≡◌, ◌++◌, [], ℕ, length, IfOk, OnOk};
 ghost use Rattle.rk_calls.specs.Turns.{turns};
 ghost use Rattle.sh_ast.specs.Commands as tree;
 ghost use Rattle.sh_vars.specs.declared.env.Env.{Env};
@@ -74,24 +74,35 @@ fn splits(mode: Mode) -> bool
     }
 }
 
-// The bytes of all fields.
-fn all_bytes(alloc: Global, words: &[Bytes]) -> Result<Vec<u8>, NoMemory>
-    ensures { IfOk result (λ v. v.items ≡ all_bytes words.now) }
+// How many bytes the fields have. No memory holds more than there are numbers.
+fn length_of_all(words: &[Bytes]) -> Result<u64, NoMemory>
+    ensures { IfOk result (λ n. n ≡ length (all_bytes words.now)) }
 {
-    let mut bytes = Vec::new(alloc);
+    let mut n: u64 = 0;
     'words: for word in words {
-        bytes.extend_from_slice(word.as_slice())?;
+        match n.checked_add(word.as_slice().len() as u64) {
+            Some(sum) => n = sum,
+            None => return Err(NoMemory),
+        }
     }
-    Ok(bytes)
+    Ok(n)
+}
+
+// What the fields cost.
+#[tactic(auto, unfolding(rk_calls::specs::Turns::turns))]
+fn cost_of_all(words: &[Bytes]) -> Result<u64, NoMemory>
+    ensures { IfOk result (λ cost. cost ≡ turns (all_bytes words.now)) }
+{
+    let n = length_of_all(words)?;
+    Ok(n.div_ceil(64))
 }
 
 // All fields went by.
-fn end(alloc: Global, done: WordList) -> Result<(Step, Expanding), NoMemory>
+fn end(done: WordList) -> Result<(Step, Expanding), NoMemory>
     ensures talk { IfOk result (λ r. (m : Mode) (body : ℕ → Body) (k : With_expanded) (fail : Failed) (e : Env) (p : ℕ) → pay_fields k done e p ≡ after_step r.1 r.0 m body k fail e p) }
     ensures costly { IfOk result (λ r. IsCostly r.1) }
 {
-    let bytes = all_bytes(alloc, done.as_slice())?;
-    let cost = turns(bytes.as_slice());
+    let cost = cost_of_all(done.as_slice())?;
     Ok((Step::Over, Expanding::Done(Expanded::Fields(done), cost)))
 }
 
@@ -104,7 +115,7 @@ fn run(alloc: Global, env: &Env, names: Names) -> Result<(Step, Expanding), NoMe
     'fields: loop {
         match next_field(alloc, env, names)? {
             Named::Goes(next) => names = next,
-            Named::Ends(done) => return end(alloc, done),
+            Named::Ends(done) => return end(done),
             Named::Waits(glob, text, names, call) => {
                 return Ok((Step::Looks(glob, text, names), Expanding::Ask(call, 1)));
             }
@@ -119,7 +130,7 @@ fn on_named(alloc: Global, env: &Env, named: Named) -> Result<(Step, Expanding),
 {
     match named {
         Named::Goes(names) => run(alloc, env, names),
-        Named::Ends(done) => end(alloc, done),
+        Named::Ends(done) => end(done),
         Named::Waits(glob, text, names, call) => {
             Ok((Step::Looks(glob, text, names), Expanding::Ask(call, 1)))
         }

@@ -7,7 +7,7 @@ ghost use Rattle.sh_vars.specs.declared.env.Env.{Env};
 ghost use Rattle.sh_expand.specs.Turns.{fields_left, all_left, looks, named_talk, IsShorter};
 
 use crate::glob::{Component, Glob, Globbing};
-use crate::pieces::{components, has_pattern};
+use crate::pieces::patterned;
 use rk_base::{Bytes, NoMemory, WordList, sort_texts};
 use rk_calls::{Answer, Call};
 use sh_pattern::PathList;
@@ -105,14 +105,7 @@ pub(crate) fn look(
     }
 }
 
-// Whether names are looked for.
-fn has_names(env: &Env, components: &VecDeque<Component>) -> bool
-    ensures { result ≡ (has_pattern components.now.items && not env.now.noglob) }
-{
-    has_pattern(components) && !env.noglob
-}
-
-// The next field, of which this is the text and these are the components.
+// The next field, of which this is the text and these are the components, one of which is a pattern.
 fn name_one(
     alloc: Global,
     env: &Env,
@@ -120,17 +113,17 @@ fn name_one(
     components: VecDeque<Component>,
     names: Names,
 ) -> Result<Named, NoMemory>
-    ensures talk { IfOk result (λ r. (k : With_fields) (p : ℕ) → named (has_pattern components.items && not env.now.noglob) text components.items (λ found e'. all_names (fields_left names) (names.done ++ found) k e') env.now p ≡ named_talk r k env.now p) }
+    ensures talk { IfOk result (λ r. (k : With_fields) (p : ℕ) → named (not env.now.noglob) text components.items (λ found e'. all_names (fields_left names) (names.done ++ found) k e') env.now p ≡ named_talk r k env.now p) }
     ensures shorter { IfOk result (IsShorter (length (fields_left names) + 1)) }
 {
     let mut names = names;
-    if has_names(env, &components) {
-        let glob = Glob::start(alloc, &env.wd, components)?;
-        let named = look(alloc, glob, text, names, Answer::Go)?;
-        return Ok(named);
+    if env.noglob {
+        names.done.push(text)?;
+        return Ok(Named::Goes(names));
     }
-    names.done.push(text)?;
-    Ok(Named::Goes(names))
+    let glob = Glob::start(alloc, &env.wd, components)?;
+    let named = look(alloc, glob, text, names, Answer::Go)?;
+    Ok(named)
 }
 
 /// The next field.
@@ -144,8 +137,13 @@ pub(crate) fn next_field(alloc: Global, env: &Env, names: Names) -> Result<Named
     }
     let field = names.fields[names.at].as_slice();
     let text = text_of(alloc, field)?;
-    let components = components(alloc, field)?;
+    let patterned = patterned(alloc, field)?;
     names.at += 1;
-    let named = name_one(alloc, env, text, components, names)?;
-    Ok(named)
+    match patterned {
+        None => {
+            names.done.push(text)?;
+            Ok(Named::Goes(names))
+        }
+        Some(components) => name_one(alloc, env, text, components, names),
+    }
 }

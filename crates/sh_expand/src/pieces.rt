@@ -1,7 +1,8 @@
 // The components of a field.
-ghost use Rattle.std.specs.Prelude.{◌≡◌, ◌++◌, ◌∷◌, [], IfOk, OnOk};
+ghost use Rattle.std.specs.Prelude.{◌≡◌, ◌++◌, ◌∷◌, [], false, true, IfOk, OnOk, MatchOption};
+ghost use Rattle.std.specs.List.{list_all};
 ghost use Rattle.sh_split.specs.Marked.{pattern_of};
-ghost use Rattle.sh_expand.specs.Fields.{component_of, is_slash_mark, components_from, components, is_pattern, has_pattern};
+ghost use Rattle.sh_expand.specs.Fields.{component_of, is_slash_mark, components_from, components, is_pattern, has_pattern, is_plain_byte, is_plain};
 
 use crate::glob::Component;
 use rk_base::NoMemory;
@@ -48,8 +49,8 @@ fn end(
     Ok(())
 }
 
-/// The components of a field, cut at each slash.
-pub(crate) fn components(alloc: Global, field: &[Mark]) -> Result<VecDeque<Component>, NoMemory>
+// The components of a field, cut at each slash.
+fn components(alloc: Global, field: &[Mark]) -> Result<VecDeque<Component>, NoMemory>
     ensures { IfOk result (λ cs. cs.items ≡ components field.now) }
 {
     let mut components = VecDeque::new(alloc);
@@ -74,9 +75,52 @@ fn is_pattern(component: &Component) -> bool
     }
 }
 
-/// Whether one of the components is a pattern.
-pub(crate) fn has_pattern(components: &VecDeque<Component>) -> bool
+// Whether one of the components is a pattern.
+fn has_pattern(components: &VecDeque<Component>) -> bool
     ensures { result ≡ has_pattern components.now.items }
 {
     components.iter().any(|component| is_pattern(component))
+}
+
+fn is_plain_byte(b: u8) -> bool
+    ensures { result ≡ is_plain_byte b }
+{
+    !(b == b'*' || b == b'?' || b == b'[' || b == b'\\')
+}
+
+fn is_plain(mark: Mark) -> bool
+    ensures { result ≡ is_plain mark }
+{
+    match mark {
+        Mark::Literal(b) => is_plain_byte(b),
+        Mark::Quoted(b) => is_plain_byte(b),
+        Mark::Given(b) => is_plain_byte(b),
+        Mark::Quote => true,
+        Mark::Break => true,
+    }
+}
+
+fn are_plain(field: &[Mark]) -> bool
+    ensures { result ≡ list_all is_plain field.now }
+{
+    field.iter().all(|mark| is_plain(*mark))
+}
+
+/// The components of a field of which one is a pattern, and `None` of another. Where no byte may make one, as in most
+/// fields, it isn't cut.
+#[tactic(auto, using(crate::proofs::PlainLemmas::no_pattern))]
+pub(crate) fn patterned(
+    alloc: Global,
+    field: &[Mark],
+) -> Result<Option<VecDeque<Component>>, NoMemory>
+    ensures { IfOk result (λ o. MatchOption o (has_pattern (components field.now) ≡ false) (λ cs. (has_pattern (components field.now) ≡ true) × (cs.items ≡ components field.now))) }
+{
+    if are_plain(field) {
+        return Ok(None);
+    }
+    let components = components(alloc, field)?;
+    if has_pattern(&components) {
+        return Ok(Some(components));
+    }
+    Ok(None)
 }
