@@ -2,7 +2,7 @@
 use Rattle.std.specs.Prelude.{ℕ, ◌+◌, ◌-◌, ◌*◌, ◌==◌, ◌||◌, nat_lt, drop, [], ◌∷◌, Option, Some, None, if◌then◌else◌}
 use Rattle.rk_base.specs.Text.{Text}
 use Rattle.ut_bre.specs.declared.tree.Times.{Times}
-use Rattle.ut_bre.specs.Classes.{between}
+use Rattle.sh_pattern.specs.Classes.{between}
 use Rattle.ut_bre.specs.Sets.{begins}
 
 -- one digit more; past 255 it is 256

@@ -1,13 +1,13 @@
 -- What a bracket expression reads as (XBD 9.3.5).
 use Rattle.std.specs.Prelude.{ℕ, zero, suc, ◌+◌, ◌-◌, ◌==◌, ◌&&◌, ◌||◌, not, nat_lt, drop, List, [], ◌∷◌, ◌++◌, Bool, true, false, Option, Some, None, Result, Ok, Err, if◌then◌else◌}
 use Rattle.rk_base.specs.Text.{Text}
-use Rattle.ut_bre.specs.declared.class.Class.{Class}
+use Rattle.sh_pattern.specs.declared.class.Class.{Class}
 use Rattle.ut_bre.specs.declared.fault.Fault.{Fault}
 use Rattle.ut_bre.specs.declared.fault.Fault.TheVariants.{Wrong, Unclosed}
 use Rattle.ut_bre.specs.declared.set.Listed.{Listed}
 use Rattle.ut_bre.specs.declared.set.Listed.TheVariants.{Named, Range}
 use Rattle.ut_bre.specs.Brackets.{Listing}
-use Rattle.ut_bre.specs.Classes.{class_at}
+use Rattle.sh_pattern.specs.Classes.{class_at}
 
 -- a part that was read, and how many bytes it takes; or what is wrong
 abbrev pub Part : Type 0 → Type 0

@@ -3,9 +3,9 @@ ghost use Rattle.std.specs.Prelude.{◌≡◌, ◌+◌, ◌^◌, ◌<◌, ◌≤
 ghost use Rattle.ut_bre.specs.Sets.{begins, starts_range, class_part, high_part, listed_part, closes, listing, bracket_from, bracket_at};
 ghost use Rattle.ut_bre.specs.ReadsAs.{IsBracket};
 
-use crate::class::{Class, class_at};
 use crate::fault::{Fault, Stop};
 use crate::set::{Bracket, Listed};
+use sh_pattern::{Class, class_at};
 use std::alloc::Global;
 
 /// What is behind so many bytes.

@@ -3,7 +3,7 @@ ghost use Rattle.std.specs.Prelude.{◌≡◌, ◌+◌, ◌≤◌, length, None,
 ghost use Rattle.ut_bre.specs.Intervals.{more_digit, number_from, turns, interval_end, interval_comma, interval_at};
 
 use crate::bracket::{begins, behind};
-use crate::class::between;
+use crate::set::between;
 use crate::tree::Times;
 
 /// The greatest number of turns that can be written.

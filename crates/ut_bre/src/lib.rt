@@ -3,7 +3,6 @@
 
 mod bracket;
 mod bre;
-mod class;
 mod error;
 mod fault;
 mod flow;
