@@ -10,3 +10,4 @@ pub mod Latest
 pub mod Turning
 pub mod Existing
 pub mod Numbered
+pub mod StartLemmas

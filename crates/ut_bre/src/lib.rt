@@ -5,6 +5,7 @@ mod bracket;
 mod bre;
 mod error;
 mod fault;
+mod find;
 mod flow;
 mod group;
 mod groups;
@@ -16,6 +17,8 @@ mod pick;
 mod reader;
 mod run;
 mod set;
+mod starts;
+mod table;
 mod tree;
 
 pub use bre::Bre;

@@ -1,0 +1,53 @@
+// What an expression finds in a line.
+ghost use Rattle.std.specs.Prelude.{◌≡◌, IfOk};
+ghost use Rattle.ut_bre.specs.Expressions.{expression};
+ghost use Rattle.ut_bre.specs.Found.{span_found, found};
+ghost use Rattle.ut_bre.specs.Matching.{Finds};
+ghost use Rattle.ut_bre.specs.Picking.{FindsGroups};
+
+use crate::bre::Bre;
+use crate::group::{Found, Span};
+use rk_base::NoMemory;
+
+impl Bre {
+    /// How many groups it has.
+    pub fn groups(&self) -> usize
+        ensures { result ≡ (expression self.now).groups }
+    {
+        self.groups
+    }
+
+    /// The leftmost match from this place on, and the longest there (XBD 9.1).
+    pub fn span(&self, line: &[u8], from: usize) -> Result<Option<Span>, NoMemory>
+        ensures finds { IfOk result (λ r. Finds (expression self.now) line.now from r) }
+        ensures value { IfOk result (λ r. r ≡ span_found (expression self.now) line.now from) }
+    {
+        let span = self.scan(line, from)?;
+        Ok(span)
+    }
+
+    fn find_groups(&self, line: &[u8], from: usize) -> Result<Option<Found>, NoMemory>
+        ensures { IfOk result (λ r. FindsGroups (expression self.now) line.now from r) }
+    {
+        match self.scan(line, from)? {
+            None => Ok(None),
+            Some(span) => {
+                let groups = self.picked(line, span)?;
+                Ok(Some(Found {
+                    start: span.start,
+                    end: span.end,
+                    groups,
+                }))
+            }
+        }
+    }
+
+    /// The same match, with what its groups took: more work than `span`.
+    pub fn find(&self, line: &[u8], from: usize) -> Result<Option<Found>, NoMemory>
+        ensures finds { IfOk result (λ r. FindsGroups (expression self.now) line.now from r) }
+        ensures value { IfOk result (λ r. r ≡ found (expression self.now) line.now from) }
+    {
+        let found = self.find_groups(line, from)?;
+        Ok(found)
+    }
+}
