@@ -11,3 +11,4 @@ pub mod Turning
 pub mod Existing
 pub mod Numbered
 pub mod StartLemmas
+pub mod SpellLemmas

@@ -24,4 +24,4 @@ mod tree;
 pub use bre::Bre;
 pub use error::BreErr;
 pub use group::{Found, GroupList, Span};
-pub use law::{groups_have_places, one_match};
+pub use law::{groups_have_places, one_match, spelling_reads_back};
