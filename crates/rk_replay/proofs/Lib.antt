@@ -6,6 +6,7 @@ pub mod Linking
 pub mod PaidLemmas
 pub mod Replaying
 pub mod Standing
+pub mod Starting
 pub mod Stopping
 pub mod Telling
 pub mod Totalling

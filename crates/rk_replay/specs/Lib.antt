@@ -2,4 +2,5 @@ pub mod Activities
 pub mod Answers
 pub mod Ran
 pub mod Script
+pub mod Starts
 pub mod Stops

@@ -7,8 +7,9 @@ ghost use Rattle.tr_record.specs.Rec.{rec_at, begun, count_of};
 ghost use Rattle.rk_runs.specs.Own.{steps_cost};
 ghost use Rattle.rk_runs.specs.Spoken.{follow, Follows, step_at};
 ghost use Rattle.rk_runs.specs.Fed.{waits_at};
-ghost use Rattle.rk_runs.specs.Started.{started};
+ghost use Rattle.rk_runs.specs.Started.{started, StartsSome};
 ghost use Rattle.rk_replay.specs.Activities.{stands, waits, IsReady, IsWaiting, IsLaunched, made, Takes, given_up, counted, so_far, exit_counted};
+ghost use Rattle.rk_replay.specs.Starts.{StartsFor};
 ghost use Rattle.rk_replay.specs.Stops.{IsForged};
 ghost use Rattle.rk_replay.specs.declared.activity.Activity.TheVariants.{Replays};
 
@@ -37,6 +38,7 @@ fn launch<K: Maker>(
     ensures says { IfOk result (λ a. stands K.Made.talk K.first old.now a Answer.Go ≡ K.first key.now) }
     ensures launched { IfOk result (λ a. IsLaunched old.now key.now (count_of key.now table.now) a) }
     ensures starts { IfOk result (λ a. K.starts maker.new ≡ started (made a) (K.starts maker.old)) }
+    ensures none { OnErr result (K.starts maker.new ≡ K.starts maker.old) }
 {
     match old.place(key, table.count(key) as u64) {
         Some(rec) => Ok(Activity::Replays(rec, 0)),
@@ -58,6 +60,7 @@ pub(crate) fn begin<K: Maker>(
     ensures says { IfOk result (λ a. stands K.Made.talk K.first old.now a.machine Answer.Go ≡ K.first key.now) }
     ensures launched { IfOk result (λ a. IsLaunched old.now key.now (count_of key.now table.old) a.machine) }
     ensures starts { IfOk result (λ a. K.starts maker.new ≡ started (made a.machine) (K.starts maker.old)) }
+    ensures one { OnErr result (StartsSome 1 (K.starts maker.old) (K.starts maker.new)) }
     ensures refs { IfOk result (λ a. a.refs ≡ refs) }
     ensures place { IfOk result (λ a. a.place ≡ length table.old) }
     ensures table { OnOk result (table.new ≡ begun key.now table.old) }
@@ -84,6 +87,7 @@ pub(crate) fn machine_of<K: Maker>(
     ensures waits { IfOk result (λ m. 1 ≤ count → (a : Answer) → K.Made.talk m a ≡ waits_at (K.first (rec_at rec old.now).key) (rec_at rec old.now).steps count a) }
     ensures follows { IfOk result (λ _. Follows (K.first (rec_at rec old.now).key) (take count (rec_at rec old.now).steps)) }
     ensures starts { IfOk result (λ _. K.starts maker.new ≡ one_more (K.starts maker.old)) }
+    ensures started { OnErr result (StartsFor old.now (K.starts maker.old) (K.starts maker.new)) }
     ensures forged { IfErr result (IsForged K.first old.now) }
 {
     match feed(maker, old.at(rec), count) {
@@ -105,6 +109,7 @@ fn take_answer<K: Maker>(
     ensures state { IfOk result (λ now. stands K.Made.talk K.first old.now now answer.now ≡ goes_on (step_at at (rec_at rec old.now).steps).cost (follow (K.first (rec_at rec old.now).key) (take at (rec_at rec old.now).steps)) answer.now) }
     ensures takes { IfOk result (λ now. Takes old.now (Replays rec at) answer.now now) }
     ensures starts { IfOk result (λ now. K.starts maker.new ≡ started (made now) (K.starts maker.old)) }
+    ensures started { OnErr result (StartsFor old.now (K.starts maker.old) (K.starts maker.new)) }
     ensures forged { IfErr result (IsForged K.first old.now) }
 {
     let steps = old.at(rec).steps.as_slice();
@@ -156,6 +161,7 @@ pub(crate) fn settle<K: Maker, L: Ledger>(
     ensures state { IfOk result (λ _. stands K.Made.talk K.first old.now activity.new answer.now ≡ waits K.Made.talk K.first old.now activity.old answer.now) }
     ensures takes { IfOk result (λ _. Takes old.now activity.old answer.now activity.new) }
     ensures starts { IfOk result (λ _. K.starts maker.new ≡ started (given_up activity.old activity.new) (K.starts maker.old)) }
+    ensures started { OnErr result (StartsFor old.now (K.starts maker.old) (K.starts maker.new)) }
     ensures live { IfOk result (λ _. live.new ≡ live.old + counted activity.old activity.new cost (rec_at place table.now)) }
     ensures still { OnErr result (live.new ≡ live.old) }
     ensures forged { IfErr result (IsForged K.first old.now) }

@@ -1,5 +1,5 @@
 // Builds over an old table.
-ghost use Rattle.std.specs.Prelude.{◌≡◌, ◌+◌, ◌≤◌, length, IfOk, IfErr, IfSome};
+ghost use Rattle.std.specs.Prelude.{◌≡◌, ◌+◌, ◌-◌, ◌≤◌, length, IfOk, IfErr, IfSome};
 ghost use Rattle.std.specs.Option.{IsSomeAnd};
 ghost use Rattle.rk_calls.specs.Refs.{top_refs};
 ghost use Rattle.rk_runs.specs.Started.{started};
@@ -8,6 +8,7 @@ ghost use Rattle.rk_runs.specs.Purse.{left};
 ghost use Rattle.rk_runs.specs.Run.{game, fresh, Done, Spent};
 ghost use Rattle.rk_runs.specs.Spoken.{AreSpoken};
 ghost use Rattle.rk_replay.specs.Ran.{AreKept, ran_of, ran_total};
+ghost use Rattle.rk_replay.specs.Starts.{StartsStopped};
 ghost use Rattle.rk_replay.specs.Stops.{Stops};
 
 use crate::activity::{Activity, begin, exit_counted};
@@ -53,13 +54,17 @@ pub fn build_with<K: Maker, W: Answerer, L: Ledger>(
     ensures stops { IfErr result (Stops K.first old.now (IfSome (W.told world.old) (λ before. fresh (game K.first W.given) (left budget.old) key.now top_refs before ≡ Spent)) (W.Stops world.old world.new)) }
 
     // Whatever the world and the old table: what ran, and why; a machine was started for each, and their costs were
-    // counted.
+    // counted. Where it stops, a machine was started for each command that ran so far, of which no more were launched than
+    // turns were paid, and for each record that was looked at, and for none a second time.
     ensures ran { IfOk result (λ b. b.ran ≡ ran_of old.now b.table) }
     ensures starts { IfOk result (λ b. K.starts maker.new ≡ started (length b.ran) (K.starts maker.old)) }
+    ensures launched { IfOk result (λ b. length b.table ≤ total b.table + 1) }
+    ensures stopped { IfErr result (StartsStopped old.now (budget.new.used - budget.old.used) (K.starts maker.old) (K.starts maker.new)) }
     ensures live { IfOk result (λ b. live.new ≡ live.old + ran_total old.now b.table) }
     ensures paid { IfOk result (λ b. budget.new.used ≡ budget.old.used + total b.table) }
     ensures limit { budget.new.limit ≡ budget.old.limit }
     ensures within { IfOk result (λ b. budget.new.used ≤ budget.new.limit) }
+    ensures stays { budget.old.used ≤ budget.old.limit → budget.new.used ≤ budget.new.limit }
     ensures at_least { live.old ≤ live.new }
     ensures at_most { live.new ≤ live.old + left budget.old }
 {

@@ -1,10 +1,11 @@
 // What commands say that run or are replayed.
-ghost use Rattle.std.specs.Prelude.{◌≡◌, ◌≤◌, ◌<◌, length, take, IfOk, IfErr};
+ghost use Rattle.std.specs.Prelude.{◌≡◌, ◌≤◌, ◌<◌, length, take, IfOk, IfErr, OnErr};
 ghost use Rattle.rk_calls.specs.Saying.{speaks};
 ghost use Rattle.rk_calls.specs.Heard.{IsPaid, Goes};
 ghost use Rattle.tr_record.specs.Rec.{rec_at};
 ghost use Rattle.rk_runs.specs.Spoken.{follow, AreSpoken};
 ghost use Rattle.rk_replay.specs.Activities.{stands, waits, IsReady, IsNext, Speaks_on};
+ghost use Rattle.rk_replay.specs.Starts.{StartsFor};
 ghost use Rattle.rk_replay.specs.Stops.{IsForged};
 
 use crate::activity::{Activity, machine_of};
@@ -26,6 +27,7 @@ fn hear_record<K: Maker>(
     ensures next { IfOk result (λ x. IsNext (rec_at rec old.now) at x) }
     ensures spoke { IfOk result (λ x. AreSpoken K.first old.now → x ≡ speaks purse (follow (K.first (rec_at rec old.now).key) (take at (rec_at rec old.now).steps))) }
     ensures starts { IfOk result (λ _. K.starts maker.new ≡ K.starts maker.old) }
+    ensures started { OnErr result (StartsFor old.now (K.starts maker.old) (K.starts maker.new)) }
     ensures forged { IfErr result (IsForged K.first old.now) }
 {
     let record = old.at(rec);
@@ -64,6 +66,7 @@ pub(crate) fn hear<K: Maker>(
     ensures goes { IfOk result (λ x. Goes x (stands K.Made.talk K.first old.now activity.old answer) (waits K.Made.talk K.first old.now activity.new)) }
     ensures on { IfOk result (λ x. Speaks_on old.now activity.old activity.new x) }
     ensures starts { IfOk result (λ _. K.starts maker.new ≡ K.starts maker.old) }
+    ensures started { OnErr result (StartsFor old.now (K.starts maker.old) (K.starts maker.new)) }
     ensures forged { IfErr result (IsForged K.first old.now) }
 {
     match activity {

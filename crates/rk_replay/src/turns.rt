@@ -7,8 +7,9 @@ ghost use Rattle.rk_calls.specs.declared.answer.Answer.TheVariants.{Go, Joined};
 ghost use Rattle.rk_calls.specs.declared.call.Call.TheVariants.{Launch};
 ghost use Rattle.tr_record.specs.Rec.{rec_at, begun, stepped, count_of};
 ghost use Rattle.rk_runs.specs.Run.{step};
-ghost use Rattle.rk_runs.specs.Started.{started};
+ghost use Rattle.rk_runs.specs.Started.{started, StartsSome};
 ghost use Rattle.rk_replay.specs.Activities.{stands, waits, IsWaiting, IsLaunched, made, Takes, given_up, counted};
+ghost use Rattle.rk_replay.specs.Starts.{StartsFor};
 ghost use Rattle.rk_replay.specs.Stops.{Stops, IsForged};
 
 use crate::activity::{Activity, begin, settle};
@@ -34,6 +35,7 @@ pub(crate) fn launch_below<K: Maker>(
     ensures says { IfOk result (λ _. stands K.Made.talk K.first old.now top.new.machine Go ≡ K.first key) }
     ensures launched { IfOk result (λ _. IsLaunched old.now key (count_of key table.old) top.new.machine) }
     ensures starts { IfOk result (λ _. K.starts maker.new ≡ started (made top.new.machine) (K.starts maker.old)) }
+    ensures one { OnErr result (StartsSome 1 (K.starts maker.old) (K.starts maker.new)) }
     ensures refs { IfOk result (λ _. top.new.refs ≡ passed_refs top.old.refs map) }
     ensures place { IfOk result (λ _. top.new.place ≡ length table.old) }
     ensures table { IfOk result (λ _. table.new ≡ begun key table.old) }
@@ -70,6 +72,7 @@ pub(crate) fn answer_call<K: Maker, W: Answerer, L: Ledger>(
     ensures state { IfOk result (λ a. stands K.Made.talk K.first old.now top.new.machine a ≡ waits K.Made.talk K.first old.now top.old.machine a) }
     ensures takes { IfOk result (λ a. Takes old.now top.old.machine a top.new.machine) }
     ensures starts { IfOk result (λ _. K.starts maker.new ≡ started (given_up top.old.machine top.new.machine) (K.starts maker.old)) }
+    ensures started { OnErr result (StartsFor old.now (K.starts maker.old) (K.starts maker.new)) }
     ensures live { IfOk result (λ _. live.new ≡ live.old + counted top.old.machine top.new.machine cost (rec_at top.old.place table.new)) }
     ensures still { OnErr result (live.new ≡ live.old) }
     ensures stops { IfErr result (Stops K.first old.now ⊥ (W.Stops world.old world.new)) }
@@ -111,6 +114,7 @@ pub(crate) fn resume<K: Maker, L: Ledger>(
     ensures state { IfOk result (λ a. stands K.Made.talk K.first old.now a.machine (Joined status) ≡ waits K.Made.talk K.first old.now frame.waiting.machine (Joined status)) }
     ensures takes { IfOk result (λ a. Takes old.now frame.waiting.machine (Joined status) a.machine) }
     ensures starts { IfOk result (λ a. K.starts maker.new ≡ started (given_up frame.waiting.machine a.machine) (K.starts maker.old)) }
+    ensures started { OnErr result (StartsFor old.now (K.starts maker.old) (K.starts maker.new)) }
     ensures live { IfOk result (λ a. live.new ≡ live.old + (exited + counted frame.waiting.machine a.machine frame.cost (rec_at frame.waiting.place table.new))) }
     ensures still { OnErr result (live.new ≡ live.old) }
     ensures forged { IfErr result (IsForged K.first old.now) }

@@ -2,12 +2,14 @@ use Rattle.std.proofs.Common.{◌≡◌, length, arith, refl, ap, ◌∙◌, ◌
 use Rattle.std.proofs.lemmas.Result.{err_from_is_err_and}
 use Rattle.rk_runs.specs.Lasting.{all-last}
 use Rattle.rk_runs.specs.Freshing.{Freshing-start, Freshing-ask, Freshing-launch, Freshing-short, Freshing-end, Freshing-join}
+use Rattle.rk_runs.specs.Places.{length-begun, length-ended, length-stepped}
 use Rattle.rk_runs.specs.Purse.{left}
 use Rattle.rk_runs.specs.Run.{game}
 use Rattle.rk_runs.specs.Speaking.{fresh-spoken}
 use Rattle.rk_replay.proofs.Replaying.{ready, Replaying-start, Pays-start, Waiting-ask, Replaying-ask, Pays-ask, Replaying-launch, Pays-launch, Pays-end, join-place, Waiting-join, Replaying-join, Pays-join, pend, pend-push, pend-none, pend-empty, starts-first, starts-next, few-counted}
 use Rattle.rk_replay.proofs.Keeping.{all-kept}
 use Rattle.rk_replay.proofs.Stopping.{told-forged, stops-want, stops-forged, stops-since}
+use Rattle.rk_replay.proofs.Starting.{few-ran, fewer-ran, paid-some, ran-all, stopped-asked, stopped-checked, stopped-handed, stopped-launch, stopped-want}
 use Rattle.rk_replay.proofs.Telling.{told-start, told-still, told-last, told-asked, told-first, told-kept}
 use Rattle.rk_replay.proofs.Totalling.{ran_count-length}
 use Rattle.rk_replay.proofs.build.build_with.Goals as goal
@@ -24,6 +26,7 @@ turns-init g c =
       live = omega (arith, p.1);
       paid = omega (arith, p.2, z);
       limit = refl;
+      records = let n = ap length c.in_ok-top.ensures.table ∙ length-begun _ _ in let none = ap length c.new-table.ensures in omega (arith, p.2, z, n, none);
       few = omega arith;
     }
 
@@ -35,20 +38,40 @@ returns-in_err-refs-clause-stops g c =
     let p = err_from_is_err_and c.from_residual.result c.from_residual.ensures.1 in
     rw p.1 (stops-want _ _ _ _ _ (g.met.W.Answerer.memory _ _) _ p.2)
 
+pub returns-in_err-refs-clause-stopped : goal.returns-in_err-refs-clause-stopped
+returns-in_err-refs-clause-stopped g c =
+    let p = err_from_is_err_and c.from_residual.result c.from_residual.ensures.1 in
+    rw p.1 (stopped-want _ _ 0 _ _ _ (omega arith) refl _ _ p.2 refl)
+
 pub returns-in_err-top-clause-stops : goal.returns-in_err-top-clause-stops
 returns-in_err-top-clause-stops g c =
     let p = err_from_is_err_and c.from_residual-in_err-top.result c.from_residual-in_err-top.ensures.1 in
     rw p.1 (stops-want _ _ _ _ _ (g.met.W.Answerer.memory _ _) _ p.2)
+
+pub returns-in_err-top-clause-stopped : goal.returns-in_err-top-clause-stopped
+returns-in_err-top-clause-stopped g c =
+    let p = err_from_is_err_and c.from_residual-in_err-top.result c.from_residual-in_err-top.ensures.1 in
+    rw p.1 (stopped-launch _ _ _ 0 _ _ _ _ (omega arith) refl c.in_err-top.ensures.one p.2)
 
 pub returns-in_err-call-clause-stops : goal.returns-in_err-call-clause-stops
 returns-in_err-call-clause-stops g c =
     let p = err_from_is_err_and c.from_residual-in_err-call.result c.from_residual-in_err-call.ensures.1 in
     rw p.1 (stops-forged _ _ _ _ _ (g.met.W.Answerer.memory _ _) _ _ c.in_err-call.ensures.forged p.2)
 
+pub returns-in_err-call-clause-stopped : goal.returns-in_err-call-clause-stopped
+returns-in_err-call-clause-stopped g c =
+    let p = err_from_is_err_and c.from_residual-in_err-call.result c.from_residual-in_err-call.ensures.1 in
+    rw p.1 (stopped-handed _ _ _ _ _ _ (few-ran c.args.old.now c.turns.table (pend c.turns.stack.items) c.args.budget.now.used c.turns.budget.used c.turns.invariant.records (omega (arith, c.turns.invariant.paid))) c.turns.invariant.starts _ _ _ p.2 c.in_err-call.ensures.started)
+
 pub returns-in_err-launch_below-in-Launch-clause-stops : goal.returns-in_err-launch_below-in-Launch-clause-stops
 returns-in_err-launch_below-in-Launch-clause-stops g c =
     let p = err_from_is_err_and c.from_residual-in_err-launch_below-in-Launch.result c.from_residual-in_err-launch_below-in-Launch.ensures.1 in
     rw p.1 (stops-want _ _ _ _ _ (g.met.W.Answerer.memory _ _) _ p.2)
+
+pub returns-in_err-launch_below-in-Launch-clause-stopped : goal.returns-in_err-launch_below-in-Launch-clause-stopped
+returns-in_err-launch_below-in-Launch-clause-stopped g c =
+    let p = err_from_is_err_and c.from_residual-in_err-launch_below-in-Launch.result c.from_residual-in_err-launch_below-in-Launch.ensures.1 in
+    rw p.1 (let some = paid-some _ _ _ _ _ c.in_ok-call.ensures.paid c.in-Call.is c.pay-cost.ensures.cost in stopped-launch _ _ _ _ _ _ _ _ (fewer-ran c.args.old.now c.turns.table (pend c.turns.stack.items) c.args.budget.now.used c.pay-cost.new.budget.used c.turns.invariant.records (omega (arith, some, c.turns.invariant.paid, c.pay-cost.ensures.used, c.pay-cost.ensures.cost))) (c.in_ok-call.ensures.starts ∙ c.turns.invariant.starts) c.in_err-launch_below-in-Launch.ensures.one p.2)
 
 pub turns-preserved-in-Launch : goal.turns-preserved-in-Launch
 turns-preserved-in-Launch g c =
@@ -70,6 +93,7 @@ turns-preserved-in-Launch g c =
       live = omega (arith, p.counts.live);
       paid = omega (arith, p.total, n);
       limit = omega arith;
+      records = let m = ap length c.in_ok-launch_below-in-Launch.ensures.table ∙ length-begun _ _ in let some = paid-some _ _ _ _ _ c.in_ok-call.ensures.paid c.in-Call.is c.pay-cost.ensures.cost in omega (arith, p.total, n, m, some, c.turns.invariant.records);
       few = omega arith;
     }
 
@@ -97,6 +121,7 @@ turns-preserved-in_default g c =
       live = omega (arith, p.counts.live, c.in_ok-answer-in_default.ensures.live);
       paid = omega (arith, p.total);
       limit = omega arith;
+      records = let m = ap length c.in_ok-answer-in_default.ensures.table ∙ length-stepped _ _ _ in omega (arith, p.total, m, c.turns.invariant.records);
       few = few-counted c.args.old.now c.answer_call.new.table c.args.live.now c.answer_call.new.live c.args.budget.now c.pay-cost.new.budget (pend c.turns.stack.items) (omega (arith, p.counts.live, c.in_ok-answer-in_default.ensures.live)) (omega (arith, p.total)) (omega arith) c.pay-cost.ensures.within;
     }
 
@@ -110,10 +135,13 @@ returns-in_err-answer-in_default g c =
       stops = rw (p.1, p.2) (stops-since _ _ _ _ _ (λ reason h. c.turns.invariant.since _ reason h) _ c.in_err-answer-in_default.ensures.stops);
       ran = rw p.1 tt;
       starts = rw p.1 tt;
+      launched = rw p.1 tt;
+      stopped = rw (p.1, p.2) (stopped-asked _ _ _ _ _ _ (few-ran c.args.old.now c.turns.table (pend c.turns.stack.items) c.args.budget.now.used c.pay-cost.new.budget.used c.turns.invariant.records (omega (arith, c.turns.invariant.paid, c.pay-cost.ensures.used))) (c.in_ok-call.ensures.starts ∙ c.turns.invariant.starts) _ _ _ c.in_err-answer-in_default.ensures.stops c.in_err-answer-in_default.ensures.started);
       live = rw p.1 tt;
       paid = rw p.1 tt;
       limit = omega arith;
       within = rw p.1 tt;
+      stays = λ h. omega (arith, c.pay-cost.ensures.within);
       at_least = omega (arith, c.in_err-answer-in_default.ensures.still);
       at_most = omega (arith, c.in_err-answer-in_default.ensures.still);
     }
@@ -122,6 +150,11 @@ pub returns-in_err-ran-in-None-clause-stops : goal.returns-in_err-ran-in-None-cl
 returns-in_err-ran-in-None-clause-stops g c =
     let p = err_from_is_err_and c.from_residual-in_err-ran-in-None.result c.from_residual-in_err-ran-in-None.ensures.1 in
     rw p.1 (stops-want _ _ _ _ _ (g.met.W.Answerer.memory _ _) _ p.2)
+
+pub returns-in_err-ran-in-None-clause-stopped : goal.returns-in_err-ran-in-None-clause-stopped
+returns-in_err-ran-in-None-clause-stopped g c =
+    let p = err_from_is_err_and c.from_residual-in_err-ran-in-None.result c.from_residual-in_err-ran-in-None.ensures.1 in
+    rw p.1 (stopped-want _ _ _ _ _ _ (few-ran c.args.old.now c.turns.table (pend c.turns.stack.items) c.args.budget.now.used c.pay-cost-in-Exit.new.budget.used c.turns.invariant.records (omega (arith, c.turns.invariant.paid, c.pay-cost-in-Exit.ensures.used))) (c.in_ok-call.ensures.starts ∙ c.turns.invariant.starts) _ _ p.2 refl)
 
 -- the run, as it ends
 pub returns-in-None-clause-done : goal.returns-in-None-clause-done
@@ -178,6 +211,11 @@ returns-in_err-top-in-Some-clause-stops g c =
     let p = err_from_is_err_and c.from_residual-in_err-top-in-Some.result c.from_residual-in_err-top-in-Some.ensures.1 in
     rw p.1 (stops-forged _ _ _ _ _ (g.met.W.Answerer.memory _ _) _ _ c.in_err-top-in-Some.ensures.forged p.2)
 
+pub returns-in_err-top-in-Some-clause-stopped : goal.returns-in_err-top-in-Some-clause-stopped
+returns-in_err-top-in-Some-clause-stopped g c =
+    let p = err_from_is_err_and c.from_residual-in_err-top-in-Some.result c.from_residual-in_err-top-in-Some.ensures.1 in
+    rw p.1 (stopped-handed _ _ _ _ _ _ (few-ran c.args.old.now c.turns.table (pend c.turns.stack.items) c.args.budget.now.used c.pay-cost-in-Exit.new.budget.used c.turns.invariant.records (omega (arith, c.turns.invariant.paid, c.pay-cost-in-Exit.ensures.used))) (c.in_ok-call.ensures.starts ∙ c.turns.invariant.starts) _ _ _ p.2 c.in_err-top-in-Some.ensures.started)
+
 pub turns-preserved : goal.turns-preserved
 turns-preserved g c =
     let p = Pays-join _ _ _ _ c.turns.invariant.replays _ _ c.in_ok-call.ensures.on _ _ c.pay-cost-in-Exit.result _ _ _ c.in-Exit.is c.end.ensures c.in-Some.ensures.items _ _ c.in_ok-top-in-Some.ensures.table c.in_ok-top-in-Some.ensures.takes in
@@ -196,6 +234,7 @@ turns-preserved g c =
       live = omega (arith, p.counts.live, c.in_ok-top-in-Some.ensures.live, c.exit_counted-counted.ensures);
       paid = omega (arith, p.total, n);
       limit = omega arith;
+      records = let m = ap length c.in_ok-top-in-Some.ensures.table ∙ length-stepped _ _ _ ∙ ap length c.end.ensures ∙ length-ended _ _ _ _ in omega (arith, p.total, n, m, c.turns.invariant.records);
       few = few-counted c.args.old.now c.resume.new.table c.args.live.now c.resume.new.live c.args.budget.now c.pay-cost-in-Exit.new.budget (pend c.pop.new.self.items) (omega (arith, p.counts.live, c.in_ok-top-in-Some.ensures.live, c.exit_counted-counted.ensures)) (omega (arith, p.total, n)) (omega arith) c.pay-cost-in-Exit.ensures.within;
     }
 
@@ -203,6 +242,11 @@ pub returns-in_err-check_with-in-Short-clause-stops : goal.returns-in_err-check_
 returns-in_err-check_with-in-Short-clause-stops g c =
     let p = err_from_is_err_and c.from_residual-in_err-check_with-in-Short.result c.from_residual-in_err-check_with-in-Short.ensures.1 in
     rw p.1 (stops-forged _ _ _ _ _ (g.met.W.Answerer.memory _ _) _ _ (told-forged _ _ _ c.in_err-check_with-in-Short.ensures.first) p.2)
+
+pub returns-in_err-check_with-in-Short-clause-stopped : goal.returns-in_err-check_with-in-Short-clause-stopped
+returns-in_err-check_with-in-Short-clause-stopped g c =
+    let p = err_from_is_err_and c.from_residual-in_err-check_with-in-Short.result c.from_residual-in_err-check_with-in-Short.ensures.1 in
+    rw p.1 (stopped-checked _ _ _ _ _ _ (few-ran c.args.old.now c.turns.table (pend c.turns.stack.items) c.args.budget.now.used c.turns.budget.used c.turns.invariant.records (omega (arith, c.turns.invariant.paid))) (c.in_ok-call.ensures.starts ∙ c.turns.invariant.starts) _ _ _ p.2 c.in_err-check_with-in-Short.ensures.starts)
 
 pub returns-in-Short-clause-stops : goal.returns-in-Short-clause-stops
 returns-in-Short-clause-stops g c =
@@ -212,3 +256,14 @@ returns-in-Short-clause-stops g c =
           (λ before now i.
           Freshing-short _ _ _ _ _ _ _ _ _ _ _ i _ _ (λ q. rw c.left.ensures.left at (c.in_ok-call.ensures.spoke q)) c.in_ok-call.ensures.goes c.in-Short.is spoken),
     )
+
+pub returns-in-Short-clause-stopped : goal.returns-in-Short-clause-stopped
+returns-in-Short-clause-stopped g c = ran-all _ _ _ _ _ _ (few-ran c.args.old.now c.turns.table (pend c.turns.stack.items) c.args.budget.now.used c.turns.budget.used c.turns.invariant.records (omega (arith, c.turns.invariant.paid))) (c.in_ok-call.ensures.starts ∙ c.turns.invariant.starts) c.in_ok-check_with-in-Short.ensures.starts
+
+pub returns-in-None-clause-launched : goal.returns-in-None-clause-launched
+returns-in-None-clause-launched g c =
+    let z : length c.turns.stack.items ≡ 0 = omega (arith, c.in-None.ensures.cases.0, c.turns.stack.ok.0) in
+    let n = pend-empty _ z in
+    let m = ap length c.end.ensures ∙ length-ended _ _ _ _ in
+    let p = Pays-end _ _ _ _ c.turns.invariant.replays _ _ c.in_ok-call.ensures.on _ _ _ _ c.in-Exit.is c.end.ensures in
+    omega (arith, p.total, n, m, c.turns.invariant.records)

@@ -24,6 +24,7 @@ invariant-turns g l =
       live : l.live ≡ l.fn.live + ran_total l.fn.old l.table;
       paid : l.budget.used ≡ l.fn.budget.used + (total l.table + pend l.stack.items);
       limit : l.budget.limit ≡ l.fn.budget.limit;
+      records : length l.table ≤ total l.table + pend l.stack.items + 1;
       few : l.live ≤ l.fn.live + left l.fn.budget;
     }
 
