@@ -2,12 +2,14 @@
 #![tactic(auto)]
 
 mod address;
+mod addresses;
 mod command;
 mod edit;
 mod gatherer;
 mod laws;
 mod pieces;
 mod reader;
+mod replacement;
 mod scan;
 mod sed;
 mod select;

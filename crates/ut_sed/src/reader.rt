@@ -1,20 +1,17 @@
-// Scripts.
-ghost use Rattle.std.specs.Prelude.{◌≡◌, ◌≤◌, ◌++◌, [], length, List, MatchOption, Some, None, IfOk, OnOk, option_map, option_to_list, if◌then◌else◌};
+// Scripts, command by command.
+ghost use Rattle.std.specs.Prelude.{◌≡◌, ◌≤◌, ◌++◌, length, List, MatchOption, Some, None, IfOk, OnOk, option_map, option_to_list, if◌then◌else◌};
 ghost use Rattle.std.specs.List.{prefix_len};
-ghost use Rattle.ut_bre.specs.Expressions.{expression};
-ghost use Rattle.ut_sed.specs.Commands.{address_of, act_of, command_of, commands_of, CommandValue};
-ghost use Rattle.ut_sed.specs.declared.scan.Scan.TheVariants.{Raw};
+ghost use Rattle.ut_sed.specs.Commands.{act_of, command_of, commands_of, CommandValue};
 ghost use Rattle.ut_sed.specs.Reading.{addresses_of, IsStep};
-ghost use Rattle.ut_sed.specs.Scanning.{is_digit, text_from, expression_at, parts_at};
-ghost use Rattle.ut_sed.specs.Scripts.{is_blank, skipped, number_at, matched, lined, address_at, is_zero, after_comma, second_at, addresses_at, negation_at, change_of, change_to, change_at, number_flag, flag_at, flags_at, substitution_of_parts, substitution_for, substitution_at, act_by, act_at, command_with, command_at, some_command, is_separator, command_or_none, separated, step, script_after};
+ghost use Rattle.ut_sed.specs.Scanning.{is_digit};
+ghost use Rattle.ut_sed.specs.Scripts.{is_blank, skipped, number_at, negation_at, act_by, act_at, command_with, command_at, some_command, is_separator, command_or_none, separated, step, script_after};
 
 use crate::address::Address;
-use crate::command::{Act, Change, Command, Substitution};
-use crate::scan::{Scan, is_delimiter, is_digit};
-use rk_base::{Bytes, NoMemory};
+use crate::command::{Act, Command};
+use crate::scan::is_digit;
+use rk_base::NoMemory;
 use std::alloc::Global;
 use ut_args::number;
-use ut_bre::Bre;
 
 /// What is left of a script. Where something in it isn't valid, what is left then says nothing.
 #[derive(Drop)]
@@ -86,27 +83,15 @@ fn digits(text: &[u8]) -> usize
     at
 }
 
-impl Address {
-    fn is_zero(&self) -> bool
-        ensures { result ≡ is_zero (address_of self.now) }
-    {
-        match self {
-            Address::Line(number) => *number == 0,
-            Address::Last => false,
-            Address::Matching(_) => false,
-        }
-    }
-}
-
 impl<'t> Reader<'t> {
-    fn skip_blanks(&mut self)
+    pub(crate) fn skip_blanks(&mut self)
         ensures { self.new.rest.now ≡ skipped self.old.rest.now }
     {
         self.rest = skipped(self.rest);
     }
 
     // One to ten digits. A number that doesn't fit, which none of so few digits is, counts as want of memory.
-    fn number(&mut self) -> Result<Option<u64>, NoMemory>
+    pub(crate) fn number(&mut self) -> Result<Option<u64>, NoMemory>
         ensures { IfOk result (λ r. MatchOption r (number_at self.old.rest.now ≡ None) (λ n. number_at self.old.rest.now ≡ Some (n, self.new.rest.now))) }
     {
         let size = digits(self.rest);
@@ -117,102 +102,6 @@ impl<'t> Reader<'t> {
             return Ok(Some(value));
         }
         Ok(None)
-    }
-
-    fn matching(&mut self) -> Result<Option<Option<Address>>, NoMemory>
-        ensures { IfOk result (λ r. MatchOption r (matched (expression_at 47 self.old.rest.now) ≡ None) (λ a. matched (expression_at 47 self.old.rest.now) ≡ Some (option_map address_of a, self.new.rest.now))) }
-    {
-        match self.expression(b'/')? {
-            None => Ok(None),
-            Some(bre) => Ok(Some(Some(Address::Matching(bre)))),
-        }
-    }
-
-    fn lined(&mut self) -> Result<Option<Option<Address>>, NoMemory>
-        ensures { IfOk result (λ r. MatchOption r (lined (number_at self.old.rest.now) ≡ None) (λ a. lined (number_at self.old.rest.now) ≡ Some (option_map address_of a, self.new.rest.now))) }
-    {
-        match self.number()? {
-            None => Ok(None),
-            Some(number) => Ok(Some(Some(Address::Line(number)))),
-        }
-    }
-
-    // An address, or none; `None` where what stands here isn't valid.
-    fn address(&mut self) -> Result<Option<Option<Address>>, NoMemory>
-        ensures { IfOk result (λ r. MatchOption r (address_at self.old.rest.now ≡ None) (λ a. address_at self.old.rest.now ≡ Some (option_map address_of a, self.new.rest.now))) }
-    {
-        match self.rest {
-            [] => Ok(Some(None)),
-            [b, more @ ..] => {
-                if *b == b'$' {
-                    self.rest = more;
-                    return Ok(Some(Some(Address::Last)));
-                }
-                if *b == b'/' {
-                    self.rest = more;
-                    return self.matching();
-                }
-                if is_digit(*b) {
-                    return self.lined();
-                }
-                Ok(Some(None))
-            }
-        }
-    }
-
-    // What stands behind the comma.
-    fn second_of(&mut self, first: Address) -> Result<Option<Addresses>, NoMemory>
-        ensures { IfOk result (λ r. MatchOption r (after_comma (address_of first) (address_at (skipped self.old.rest.now)) ≡ None) (λ a. after_comma (address_of first) (address_at (skipped self.old.rest.now)) ≡ Some (addresses_of a, self.new.rest.now))) }
-    {
-        self.skip_blanks();
-        match self.address()? {
-            None => Ok(None),
-            Some(None) => Ok(None),
-            Some(Some(second)) => Ok(Some(Addresses {
-                first: Some(first),
-                second: Some(second),
-            })),
-        }
-    }
-
-    fn second(&mut self, first: Address) -> Result<Option<Addresses>, NoMemory>
-        ensures { IfOk result (λ r. MatchOption r (second_at (address_of first) self.old.rest.now ≡ None) (λ a. second_at (address_of first) self.old.rest.now ≡ Some (addresses_of a, self.new.rest.now))) }
-    {
-        match self.rest {
-            [] => Ok(Some(Addresses {
-                first: Some(first),
-                second: None,
-            })),
-            [b, more @ ..] => {
-                if *b == b',' {
-                    self.rest = more;
-                    return self.second_of(first);
-                }
-                Ok(Some(Addresses {
-                    first: Some(first),
-                    second: None,
-                }))
-            }
-        }
-    }
-
-    fn addresses(&mut self) -> Result<Option<Addresses>, NoMemory>
-        ensures { IfOk result (λ r. MatchOption r (addresses_at self.old.rest.now ≡ None) (λ a. addresses_at self.old.rest.now ≡ Some (addresses_of a, self.new.rest.now))) }
-    {
-        match self.address()? {
-            None => Ok(None),
-            Some(None) => Ok(Some(Addresses {
-                first: None,
-                second: None,
-            })),
-            Some(Some(first)) => {
-                if first.is_zero() {
-                    return Ok(None);
-                }
-                self.skip_blanks();
-                self.second(first)
-            }
-        }
     }
 
     // A `!`, behind which blanks may stand.
@@ -228,157 +117,6 @@ impl<'t> Reader<'t> {
                     return true;
                 }
                 false
-            }
-        }
-    }
-
-    // The second string of `y`.
-    fn change_of(&mut self, d: u8, from: &[u8]) -> Result<Option<Act>, NoMemory>
-        ensures { IfOk result (λ r. MatchOption r (change_of from.now (text_from d Raw [] self.old.rest.now) ≡ None) (λ a. change_of from.now (text_from d Raw [] self.old.rest.now) ≡ Some (act_of a, self.new.rest.now))) }
-    {
-        match self.text(d, Scan::Raw)? {
-            None => Ok(None),
-            Some(to) => {
-                if from.len() != to.len() {
-                    return Ok(None);
-                }
-                let from = Bytes::from_slice(self.alloc, from)?;
-                let to = Bytes::new(self.alloc, to)?;
-                Ok(Some(Act::Change(Change { from, to })))
-            }
-        }
-    }
-
-    fn change_to(&mut self, d: u8) -> Result<Option<Act>, NoMemory>
-        ensures { IfOk result (λ r. MatchOption r (change_to d (text_from d Raw [] self.old.rest.now) ≡ None) (λ a. change_to d (text_from d Raw [] self.old.rest.now) ≡ Some (act_of a, self.new.rest.now))) }
-    {
-        match self.text(d, Scan::Raw)? {
-            None => Ok(None),
-            Some(from) => self.change_of(d, from.as_slice()),
-        }
-    }
-
-    fn change(&mut self) -> Result<Option<Act>, NoMemory>
-        ensures { IfOk result (λ r. MatchOption r (change_at self.old.rest.now ≡ None) (λ a. change_at self.old.rest.now ≡ Some (act_of a, self.new.rest.now))) }
-    {
-        match self.rest {
-            [] => Ok(None),
-            [d, more @ ..] => {
-                if !is_delimiter(*d) {
-                    return Ok(None);
-                }
-                self.rest = more;
-                self.change_to(*d)
-            }
-        }
-    }
-
-    fn number_flag(&mut self, flags: Flags) -> Result<Flags, NoMemory>
-        ensures { IfOk result (λ f. number_flag flags flags.number self.old.rest.now ≡ (f, self.new.rest.now)) }
-    {
-        if flags.number.is_some() {
-            return Ok(flags);
-        }
-        let before = self.rest;
-        match self.number()? {
-            None => {
-                self.rest = before;
-                Ok(flags)
-            }
-            Some(number) => {
-                if number == 0 {
-                    self.rest = before;
-                    return Ok(flags);
-                }
-                Ok(Flags {
-                    number: Some(number),
-                    global: flags.global,
-                    prints: flags.prints,
-                })
-            }
-        }
-    }
-
-    // One flag that isn't there yet, where it stands here.
-    fn flag(&mut self, flags: Flags) -> Result<Flags, NoMemory>
-        ensures { IfOk result (λ f. flag_at flags self.old.rest.now ≡ (f, self.new.rest.now)) }
-    {
-        match self.rest {
-            [] => Ok(flags),
-            [b, more @ ..] => {
-                if *b == b'g' && !flags.global {
-                    self.rest = more;
-                    return Ok(Flags {
-                        number: flags.number,
-                        global: true,
-                        prints: flags.prints,
-                    });
-                }
-                if *b == b'p' && !flags.prints {
-                    self.rest = more;
-                    return Ok(Flags {
-                        number: flags.number,
-                        global: flags.global,
-                        prints: true,
-                    });
-                }
-                self.number_flag(flags)
-            }
-        }
-    }
-
-    fn flags(&mut self) -> Result<Flags, NoMemory>
-        ensures { IfOk result (λ f. flags_at self.old.rest.now ≡ (f, self.new.rest.now)) }
-    {
-        let none = Flags {
-            number: None,
-            global: false,
-            prints: false,
-        };
-        let one = self.flag(none)?;
-        let two = self.flag(one)?;
-        self.flag(two)
-    }
-
-    // What stands for an expression, and the flags.
-    fn substitution_of(&mut self, d: u8, bre: Bre) -> Result<Option<Act>, NoMemory>
-        ensures { IfOk result (λ r. MatchOption r (substitution_of_parts (expression bre) (parts_at d (expression bre).groups self.old.rest.now) ≡ None) (λ a. substitution_of_parts (expression bre) (parts_at d (expression bre).groups self.old.rest.now) ≡ Some (act_of a, self.new.rest.now))) }
-    {
-        match self.parts(d, bre.groups())? {
-            None => Ok(None),
-            Some(parts) => {
-                let flags = self.flags()?;
-                Ok(Some(Act::Substitute(Substitution {
-                    expression: bre,
-                    parts,
-                    first: flags.number.unwrap_or(1),
-                    global: flags.global,
-                    prints: flags.prints,
-                })))
-            }
-        }
-    }
-
-    fn substitution_for(&mut self, d: u8) -> Result<Option<Act>, NoMemory>
-        ensures { IfOk result (λ r. MatchOption r (substitution_for d (expression_at d self.old.rest.now) ≡ None) (λ a. substitution_for d (expression_at d self.old.rest.now) ≡ Some (act_of a, self.new.rest.now))) }
-    {
-        match self.expression(d)? {
-            None => Ok(None),
-            Some(bre) => self.substitution_of(d, bre),
-        }
-    }
-
-    fn substitution(&mut self) -> Result<Option<Act>, NoMemory>
-        ensures { IfOk result (λ r. MatchOption r (substitution_at self.old.rest.now ≡ None) (λ a. substitution_at self.old.rest.now ≡ Some (act_of a, self.new.rest.now))) }
-    {
-        match self.rest {
-            [] => Ok(None),
-            [d, more @ ..] => {
-                if !is_delimiter(*d) {
-                    return Ok(None);
-                }
-                self.rest = more;
-                self.substitution_for(*d)
             }
         }
     }
