@@ -2,3 +2,4 @@ pub mod EditLemmas
 pub mod LineLemmas
 pub mod ScriptLemmas
 pub mod SubstituteLemmas
+pub mod TakenLemmas

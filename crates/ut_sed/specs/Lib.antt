@@ -3,6 +3,7 @@ pub mod Editing
 pub mod Gathering
 pub mod Laws
 pub mod Reading
+pub mod Replacing
 pub mod Scanning
 pub mod Scripts
 pub mod Selecting

@@ -21,7 +21,7 @@ pub use address::Address;
 pub use command::{Act, Change, Command, Part, Substitution};
 pub use edit::{Ends, Space};
 pub use gatherer::{Gathered, Gatherer, Source, Waits};
-pub use laws::sed_says_what_commands_may;
+pub use laws::{s_replaces_each_match, sed_says_what_commands_may};
 pub use reader::{Addresses, Flags, Step};
 pub use scan::{Piece, Scan};
 pub use sed::Sed;
