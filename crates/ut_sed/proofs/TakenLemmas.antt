@@ -6,7 +6,7 @@ use Rattle.std.proofs.lemmas.List.{take-append-drop}
 use Rattle.rk_base.specs.Text.{Text}
 use Rattle.ut_bre.specs.declared.group.Found.{Found}
 use Rattle.ut_bre.specs.Found.{found}
-use Rattle.ut_bre.specs.Matching.{Matches, IsNoWorse}
+use Rattle.ut_bre.specs.Matching.{Matches}
 use Rattle.ut_bre.specs.Picking.{FindsGroups}
 use Rattle.ut_bre.specs.Trees.{Expression}
 use Rattle.ut_bre.proofs.Existing.{found-finds}
