@@ -31,6 +31,7 @@ use Rattle.rk_build.specs.declared.stop.Refusal.TheVariants as refusal
 use Rattle.rk_build.specs.declared.outcome.Outcome.{Outcome}
 use Rattle.rk_build.specs.declared.outcome.Outcome.TheVariants as out
 use Rattle.rk_build.specs.declared.build.Ended.{Ended}
+use Rattle.rk_build.proofs.CheckLemmas.{both-cut}
 use Rattle.rk_build.specs.declared.prepare.Prepared.{Prepared}
 use Rattle.rk_build.specs.declared.stop.Stop.{Stop}
 use Rattle.rk_build.specs.declared.stop.Stop.TheVariants as stop
@@ -207,30 +208,21 @@ ran-so first request (Some held) before now p is = record {
   };
 }
 
-pub put-starts : (first : KeyValue → Says) (request : Request) (told : Option Held) (live late before now : ℕ) (p : Prepared) (text : Text) (old new : SinkState) (e : Stop) → IfSome told (λ held. IsPrepared first request held live late p) → PutsOutput {T = Unit {0}} text old new (Err e) → StartsBoth request told before now (length p.finished.ran) → StartsSo {T = Ended} (λ e. length e.ran) first request told before now (Err e)
-put-starts first request told live late before now p text old new (stop.Refused refusal) is put starts = absurd put
-put-starts first request told live late before now p text old new (stop.Forged rec step) is put starts = absurd put
-put-starts first request told live late before now p text old new stop.Spent is put starts = absurd put
-put-starts first request told live late before now p text old new stop.ReadFault is put starts = absurd put
-put-starts first request told live late before now p text old new stop.WriteFault is put starts = (length p.finished.ran, (ran-so first request told live late p is, starts))
-put-starts first request told live late before now p text old new stop.NoMemory is put starts = tt
+pub put-starts : (first : KeyValue → Says) (request : Request) (told : Option Held) (live late before now : ℕ) (p : Prepared) (text : Text) (old new : SinkState) (e : Stop) → IfSome told (λ held. IsPrepared first request held live late p) → PutsOutput {T = Unit {0}} text old new (Err e) → length p.finished.ran ≤ turns request + 1 → StartsBoth request told before now (length p.finished.ran) → StartsSo {T = Ended} (λ e. length e.ran) first request told before now (Err e)
+put-starts first request told live late before now p text old new (stop.Refused refusal) is put few starts = absurd put
+put-starts first request told live late before now p text old new (stop.Forged rec step) is put few starts = absurd put
+put-starts first request told live late before now p text old new stop.Spent is put few starts = absurd put
+put-starts first request told live late before now p text old new stop.ReadFault is put few starts = absurd put
+put-starts first request told live late before now p text old new stop.WriteFault is put few starts = (length p.finished.ran, (ran-so first request told live late p is, starts))
+put-starts first request told live late before now p text old new stop.NoMemory is put few starts = both-cut request told before now (length p.finished.ran) starts few
 
-pub install-starts : (first : KeyValue → Says) (request : Request) (told h k : Option Held) (ops : List Op) (live late before now : ℕ) (p : Prepared) (e : Stop) → IfSome told (λ held. IsPrepared first request held live late p) → InstallsSo {T = Unit {0}} ops h k (Err e) → StartsBoth request told before now (length p.finished.ran) → StartsSo {T = Ended} (λ e. length e.ran) first request told before now (Err e)
-install-starts first request told h k ops live late before now p (stop.Refused refusal) is part starts = absurd part
-install-starts first request told h k ops live late before now p (stop.Forged rec step) is part starts = absurd part
-install-starts first request told h k ops live late before now p stop.Spent is part starts = absurd part
-install-starts first request told h k ops live late before now p stop.ReadFault is part starts = absurd part
-install-starts first request told h k ops live late before now p stop.WriteFault is part starts = (length p.finished.ran, (ran-so first request told live late p is, starts))
-install-starts first request told h k ops live late before now p stop.NoMemory is part starts = tt
-
--- what is said of the starts where nothing was prepared
-pub prepare-starts : (first : KeyValue → Says) (request : Request) (told : Option Held) (before now : ℕ) (e : Stop) → StartsSo {T = Prepared} (λ p. length p.finished.ran) first request told before now (Err e) → StartsSo {T = Ended} (λ e. length e.ran) first request told before now (Err e)
-prepare-starts first request told before now (stop.Refused refusal) h = h
-prepare-starts first request told before now (stop.Forged rec step) h = h
-prepare-starts first request told before now stop.Spent h = h
-prepare-starts first request told before now stop.ReadFault h = h
-prepare-starts first request told before now stop.WriteFault h = h
-prepare-starts first request told before now stop.NoMemory h = h
+pub install-starts : (first : KeyValue → Says) (request : Request) (told h k : Option Held) (ops : List Op) (live late before now : ℕ) (p : Prepared) (e : Stop) → IfSome told (λ held. IsPrepared first request held live late p) → InstallsSo {T = Unit {0}} ops h k (Err e) → length p.finished.ran ≤ turns request + 1 → StartsBoth request told before now (length p.finished.ran) → StartsSo {T = Ended} (λ e. length e.ran) first request told before now (Err e)
+install-starts first request told h k ops live late before now p (stop.Refused refusal) is part few starts = absurd part
+install-starts first request told h k ops live late before now p (stop.Forged rec step) is part few starts = absurd part
+install-starts first request told h k ops live late before now p stop.Spent is part few starts = absurd part
+install-starts first request told h k ops live late before now p stop.ReadFault is part few starts = absurd part
+install-starts first request told h k ops live late before now p stop.WriteFault is part few starts = (length p.finished.ran, (ran-so first request told live late p is, starts))
+install-starts first request told h k ops live late before now p stop.NoMemory is part few starts = both-cut request told before now (length p.finished.ran) starts few
 
 -- A call of the installation failed.
 

@@ -35,13 +35,7 @@ built-no-fault (Err stop.NoMemory) h = tt
 
 pub built-started : (first : KeyValue → Says) (request : Request) (told : Option Held) (before now : ℕ) (built : Result Ended Stop) → StartsSo (λ e. length e.ran) first request told before now built → Started first request told before now (outcome_of built)
 built-started first request told before now (Ok e) h = h
-built-started first request told before now (Err (stop.Refused (refusal.Special path))) h = h
-built-started first request told before now (Err (stop.Refused (refusal.Damaged file damage))) h = h
-built-started first request told before now (Err (stop.Forged rec step)) h = h
-built-started first request told before now (Err stop.Spent) h = tt
-built-started first request told before now (Err stop.ReadFault) h = h
-built-started first request told before now (Err stop.WriteFault) h = h
-built-started first request told before now (Err stop.NoMemory) h = tt
+built-started first request told before now (Err e) h = h
 
 pub built-asked : (built : Result Ended Stop) → outcome_of built ≢ out.Usage
 built-asked (Ok e) same = cc

@@ -1,22 +1,26 @@
 -- What the check of an old table is no cause of.
-use Rattle.std.proofs.Common.{◌≡◌, ◌∙◌, ℕ, Bool, List, Option, Err, Ok, refl, ap}
+use Rattle.std.proofs.Common.{◌≡◌, ◌∙◌, ◌+◌, ◌≤◌, ℕ, Bool, true, false, List, length, Option, Some, None, Err, Ok, refl, ap, sym, subst, true≢false, arith, inl, inr}
+use Rattle.std.specs.Prelude.{if◌then◌else◌}
 use Rattle.rk_calls.specs.Keys.{KeyValue}
 use Rattle.rk_calls.specs.Talk.{Says}
-use Rattle.rk_runs.specs.Started.{started}
+use Rattle.rk_runs.specs.CheckLaws.{started-adds}
+use Rattle.rk_runs.specs.Started.{started, StartsSome}
 use Rattle.rk_folder.specs.Told.{Held}
 use Rattle.tr_record.specs.declared.records.Record.{Record}
-use Rattle.rk_words.specs.Asked.{checks}
+use Rattle.rk_words.specs.Asked.{checks, turns}
 use Rattle.rk_words.specs.declared.requests.Request.{Request}
 use Rattle.rk_tree.specs.Entries.{Entries}
 use Rattle.rk_build.specs.Checks.{ChecksSo, ChecksWhole, StartsChecked, checked_count}
-use Rattle.rk_build.specs.Run.{Runs}
-use Rattle.rk_build.specs.Outcomes.{StartsBoth}
+use Rattle.rk_replay.specs.Starts.{StartsRan, StartsUpTo}
+use Rattle.rk_build.specs.Run.{Runs, StartsRun}
+use Rattle.rk_build.specs.Outcomes.{KeepsMany, StartsBoth, StartsCut}
 use Rattle.rk_build.specs.Stages.{FindsSo, ReadsCounted, StartsSo}
 use Rattle.rk_build.specs.Texts.{IsNoFault}
 use Rattle.rk_build.specs.declared.found.Found.{Found}
+use Rattle.rk_build.specs.declared.stop.Refusal.TheVariants as refusal
 use Rattle.rk_build.specs.declared.stop.Stop.{Stop}
 use Rattle.rk_build.specs.declared.stop.Stop.TheVariants as stop
-use Rattle.rk_build.proofs.PrepareLemmas.{checks-many}
+use Rattle.rk_build.proofs.PrepareLemmas.{checks-many, unasked}
 use Rattle.rk_build.proofs.SettledLemmas.{forged-clash}
 
 -- it reads nothing
@@ -37,33 +41,87 @@ check-no-fault T first check old stop.ReadFault told = absurd told
 check-no-fault T first check old stop.WriteFault told = absurd told
 check-no-fault T first check old stop.NoMemory told = tt
 
-pub check-starts : {T : Type 0} (ran : T → ℕ) (first : KeyValue → Says) (request : Request) (told : Option Held) (old : List Record) (before now : ℕ) (e : Stop) → ChecksSo first (checks request) old (Err e) → StartsChecked (checks request) old before now (Err e) → StartsSo ran first request told before now (Err e)
-check-starts ran first request told old before now (stop.Refused refusal) so starts = absurd so
-check-starts ran first request told old before now (stop.Forged rec step) so starts = λ all. starts
-check-starts ran first request told old before now stop.Spent so starts = absurd so
-check-starts ran first request told old before now stop.ReadFault so starts = absurd so
-check-starts ran first request told old before now stop.WriteFault so starts = absurd so
-check-starts ran first request told old before now stop.NoMemory so starts = tt
+-- so many records are kept
+pub keeps-many : (request : Request) (told : Option Held) (f : Found) → FindsSo request told (Ok f) → KeepsMany request told (length f.old)
+keeps-many request None f found = tt
+keeps-many request (Some held) f found = record { plain = found.0; rows = f.attrs; old = f.old; kept = found.2; so = refl }
+
+pub check-starts : {T : Type 0} (ran : T → ℕ) (first : KeyValue → Says) (request : Request) (told : Option Held) (f : Found) (before now : ℕ) (e : Stop) → FindsSo request told (Ok f) → ChecksSo first (checks request) f.old (Err e) → StartsChecked (checks request) f.old before now (Err e) → StartsSo ran first request told before now (Err e)
+check-starts ran first request told f before now (stop.Refused refusal) found so starts = absurd so
+check-starts ran first request told f before now (stop.Forged rec step) found so starts = (λ all. starts, λ none. absurd (true≢false (sym so.0 ∙ none)))
+check-starts ran first request told f before now stop.Spent found so starts = absurd so
+check-starts ran first request told f before now stop.ReadFault found so starts = absurd so
+check-starts ran first request told f before now stop.WriteFault found so starts = absurd so
+check-starts ran first request told f before now stop.NoMemory found so starts =
+    let few : starts.many ≤ checked_count (checks request) f.old = starts.few in
+    inr (length f.old, (keeps-many request told f found, record { looked = starts.many; within = omega arith; starts = record { ran = 0; few = omega arith; now_is = starts.now_is } }))
 
 -- where the folder is refused, or couldn't be read, none is started
 pub find-starts : {T : Type 0} (ran : T → ℕ) (first : KeyValue → Says) (request : Request) (told : Option Held) (n : ℕ) (e : Stop) → FindsSo request told (Err e) → StartsSo ran first request told n n (Err e)
-find-starts ran first request told n (stop.Refused refusal) so = refl
+find-starts ran first request told n (stop.Refused (refusal.Special path)) so = refl
+find-starts ran first request told n (stop.Refused (refusal.Damaged file damage)) so = refl
 find-starts ran first request told n (stop.Forged rec step) so = absurd so
 find-starts ran first request told n stop.Spent so = absurd so
 find-starts ran first request told n stop.ReadFault so = refl
 find-starts ran first request told n stop.WriteFault so = absurd so
-find-starts ran first request told n stop.NoMemory so = tt
+find-starts ran first request told n stop.NoMemory so = inl refl
+
+-- those of a check, and then of a run
+started-swap : (b c n : ℕ) → started b (started c n) ≡ started c (started b n)
+started-swap b c n =
+    let e : b + c ≡ c + b = omega arith in
+    sym (started-adds b c n) ∙ ap (λ k. started k n) e ∙ started-adds c b n
+
+started-last : (a b c n : ℕ) → started a (started b (started c n)) ≡ started (a + c) (started b n)
+started-last a b c n = ap (started a) (started-swap b c n) ∙ sym (started-adds a c (started b n))
 
 -- where every record was checked, the run finds none that is forged
-pub run-starts : {T : Type 0} (ran : T → ℕ) (first : KeyValue → Says) (request : Request) (told : Option Held) (entries : Entries) (old : List Record) (live late before now : ℕ) (e : Stop) → Runs first request entries old live late (Err e) → ChecksWhole first (checks request) old → StartsSo ran first request told before now (Err e)
-run-starts ran first request told entries old live late before now (stop.Refused refusal) runs whole = absurd runs
-run-starts ran first request told entries old live late before now (stop.Forged rec step) runs whole = λ all. absurd (forged-clash first old rec step (whole all) runs)
-run-starts ran first request told entries old live late before now stop.Spent runs whole = tt
-run-starts ran first request told entries old live late before now stop.ReadFault runs whole = absurd runs
-run-starts ran first request told entries old live late before now stop.WriteFault runs whole = absurd runs
-run-starts ran first request told entries old live late before now stop.NoMemory runs whole = tt
+pub run-starts : {T : Type 0} (ran : T → ℕ) (first : KeyValue → Says) (request : Request) (told : Option Held) (f : Found) (entries : Entries) (live late before mid now : ℕ) (e : Stop) → FindsSo request told (Ok f) → Runs first request entries f.old live late (Err e) → ChecksWhole first (checks request) f.old → mid ≡ started (checked_count (checks request) f.old) before → StartsRun request f.old mid now (Err e) → StartsSo ran first request told before now (Err e)
+run-starts ran first request told f entries live late before mid now (stop.Refused refusal) found runs whole was starts = absurd runs
+run-starts ran first request told f entries live late before mid now (stop.Forged rec step) found runs whole was starts = (
+  λ all. absurd (forged-clash first f.old rec step (whole all) runs),
+  λ none. subst (λ n. StartsUpTo (turns request) (rec + 1) n now) (was ∙ ap (λ n. started n before) (unasked (checks request) f.old none)) starts,
+)
+run-starts ran first request told f entries live late before mid now stop.Spent found runs whole was starts =
+    (checked_count (checks request) f.old, (checks-many request told f found, (length f.old, (keeps-many request told f found, subst (λ n. StartsRan (turns request) (length f.old) n now) was starts))))
+run-starts ran first request told f entries live late before mid now stop.ReadFault found runs whole was starts = absurd runs
+run-starts ran first request told f entries live late before mid now stop.WriteFault found runs whole was starts = absurd runs
+run-starts ran first request told f entries live late before mid now stop.NoMemory found runs whole was starts =
+    let within : starts.looked ≤ length f.old = starts.within in
+    inr (
+      length f.old,
+      (
+        keeps-many request told f found,
+        record {
+          looked = starts.looked + checked_count (checks request) f.old;
+          within = omega arith;
+          starts = record {
+            ran = starts.starts.ran;
+            few = starts.starts.few;
+            now_is = starts.starts.now_is ∙ ap (λ n. started starts.looked (started starts.starts.ran n)) was ∙ started-last starts.looked starts.starts.ran (checked_count (checks request) f.old) before;
+          };
+        },
+      ),
+    )
 
 -- a machine for each record that is checked, and then for each command that ran
 pub starts-both : (request : Request) (told : Option Held) (f : Found) (before mid now ran : ℕ) → FindsSo request told (Ok f) → mid ≡ started (checked_count (checks request) f.old) before → now ≡ started ran mid → StartsBoth request told before now ran
 starts-both request told f before mid now ran found checked runs =
     (checked_count (checks request) f.old, (checks-many request told f found, runs ∙ ap (started ran) checked))
+
+-- a run that ended, and then no memory
+cut-after : (request : Request) (told : Option Held) (before now ran many kept : ℕ) → KeepsMany request told kept → many ≤ kept + (if checks request then kept else 0) → now ≡ started ran (started many before) → ran ≤ turns request + 1 → StartsCut request told before now
+cut-after request told before now ran many kept keeps within is few =
+    inr (kept, (keeps, record { looked = many; within = within; starts = record { ran = ran; few = few; now_is = is ∙ started-swap ran many before } }))
+
+pub both-cut : (request : Request) (told : Option Held) (before now ran : ℕ) → StartsBoth request told before now ran → ran ≤ turns request + 1 → StartsCut request told before now
+both-cut request None before now ran both few = cut-after request None before now ran both.0 both.0 tt (omega arith) both.1.1 few
+both-cut request (Some held) before now ran both few =
+    let checked = both.1.0.1 in
+    let is : both.0 ≡ checked_count (checks request) checked.old = checked.so in
+    cut-after request (Some held) before now ran both.0 (length checked.old) (record { plain = checked.plain; rows = checked.rows; old = checked.old; kept = checked.kept; so = refl }) (omega arith) both.1.1 few
+
+-- the check of all had no memory
+pub checked-some : (check : Bool) (old : List Record) (before now : ℕ) → check ≡ true → StartsSome (length old) before now → StartsSome (checked_count check old) before now
+checked-some true old before now is some = some
+checked-some false old before now is some = absurd (true≢false (sym is))

@@ -38,7 +38,7 @@ use Rattle.rk_build.proofs.KeptLemmas.{finds-next}
 entries-same : (held : Held) (found : Found) → found.holding ≡ holding_of held → with_rows found.holding.entries found.attrs ≡ with_rows (snapshot_of held) found.attrs
 entries-same held found same = ap (λ (h : Holding). with_rows h.entries found.attrs) same
 
-unasked : (check : Bool) (old : List Record) → check ≡ false → checked_count check old ≡ 0
+pub unasked : (check : Bool) (old : List Record) → check ≡ false → checked_count check old ≡ 0
 unasked true old is = absurd (true≢false is)
 unasked false old is = refl
 

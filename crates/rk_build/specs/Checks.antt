@@ -2,7 +2,7 @@
 use Rattle.std.specs.Prelude.{◌≡◌, ◌+◌, ◌<◌, ℕ, Bool, true, List, length, if◌then◌else◌, Result, Ok, Err}
 use Rattle.rk_calls.specs.Keys.{KeyValue}
 use Rattle.rk_calls.specs.Talk.{Says}
-use Rattle.rk_runs.specs.Started.{started}
+use Rattle.rk_runs.specs.Started.{started, StartsSome}
 use Rattle.rk_runs.specs.Spoken.{AreSpoken, IsSpoken, IsWrongStep}
 use Rattle.tr_record.specs.Rec.{rec_at}
 use Rattle.tr_record.specs.declared.records.Record.{Record}
@@ -41,8 +41,9 @@ ChecksSo first check old (Err (stop.Forged rec step)) = (check ≡ true) × IsFo
 ChecksSo first check old (Err stop.NoMemory) = Unit {0}
 ChecksSo first check old (Err other) = ⊥
 
--- each record that is checked is started once
+-- each record that is checked is started once; those up to the one that is forged; no more where there was no memory
 abbrev pub StartsChecked : Bool → List Record → ℕ → ℕ → Result (Unit {0}) Stop → Type 0
 StartsChecked check old before now (Ok it) = now ≡ started (checked_count check old) before
 StartsChecked check old before now (Err (stop.Forged rec step)) = now ≡ started (rec + 1) before
-StartsChecked check old before now (Err other) = Unit {0}
+StartsChecked check old before now (Err stop.NoMemory) = StartsSome (checked_count check old) before now
+StartsChecked check old before now (Err other) = ⊥

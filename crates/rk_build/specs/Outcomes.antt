@@ -1,5 +1,5 @@
 -- What each outcome says of the folder, the sinks, the counts of faults, the count of turns and the count of starts.
-use Rattle.std.specs.Prelude.{◌≡◌, true, false, ◌⊎◌, ◌≤◌, ◌+◌, ℕ, List, length, Option, Some, IfSome, Result, Ok, Err}
+use Rattle.std.specs.Prelude.{◌≡◌, true, false, ◌⊎◌, ◌≤◌, ◌+◌, ℕ, List, length, Option, Some, IfSome, Result, Ok, Err, if◌then◌else◌}
 use Rattle.rk_base.specs.Text.{Text}
 use Rattle.rk_calls.specs.Keys.{KeyValue}
 use Rattle.rk_calls.specs.Talk.{Says}
@@ -21,6 +21,7 @@ use Rattle.rk_kernel.specs.World.{World}
 use Rattle.rk_runs.specs.Run.{Outcome as Run, Done, Spent}
 use Rattle.rk_runs.specs.Spoken.{AreSpoken}
 use Rattle.rk_replay.specs.Ran.{ran_total}
+use Rattle.rk_replay.specs.Starts.{StartsRan, StartsUpTo}
 use Rattle.rk_words.specs.Asked.{checks, is_fresh, turns}
 use Rattle.rk_words.specs.declared.requests.Request.{Request}
 use Rattle.rk_build.specs.Fresh.{RunText, output_of, error_text_of, held_after}
@@ -293,17 +294,35 @@ pub record HasRan (first : KeyValue → Says) (request : Request) (entries : Ent
 abbrev pub RanSo : (KeyValue → Says) → Request → Option Held → ℕ → Type 0
 RanSo first request told ran = IfSome told (λ held. Keeping (is_fresh request) held (λ entries old. HasRan first request entries old ran))
 
--- nothing is read once a machine was started, and a run was made before anything is written; a check of all starts the
--- records up to the one that is forged
+-- so many records are kept
+abbrev pub KeepsMany : Request → Option Held → ℕ → Type 0
+KeepsMany request told many = IfSome told (λ held. Keeping (is_fresh request) held (λ entries old. many ≡ length old))
+
+-- Where the run is spent: one for each record that is checked; one for each command that ran, which are no more than the
+-- turns, beside the script; and one for each record that is kept, since each was looked at.
+abbrev pub StartsSpent : Request → Option Held → ℕ → ℕ → Type 0
+StartsSpent request told before now =
+    (many : ℕ) × (ChecksMany request told many × ((kept : ℕ) × (KeepsMany request told kept × StartsRan (turns request) kept (started many before) now)))
+
+-- Where there was no memory: none yet, or some of those of a check, of a run that ended or not, and of a look at each record.
+abbrev pub StartsCut : Request → Option Held → ℕ → ℕ → Type 0
+StartsCut request told before now =
+    (now ≡ before) ⊎ ((kept : ℕ) × (KeepsMany request told kept × StartsUpTo (turns request) (kept + (if checks request then kept else 0)) before now))
+
+-- Nothing is read once a machine was started, and a run was made before anything is written. A check of all starts the
+-- records up to the one that is forged; a run that finds one forged starts no more than each command that ran, and the
+-- records up to that one.
 abbrev pub Started : (KeyValue → Says) → Request → Option Held → ℕ → ℕ → Outcome → Type 0
 Started first request told before now (out.Ended status launched ran) = StartsBoth request told before now ran
 Started first request told before now out.Usage = now ≡ before
 Started first request told before now (out.Special path) = now ≡ before
 Started first request told before now (out.Damaged file damage) = now ≡ before
-Started first request told before now (out.Forged rec step) = checks request ≡ true → now ≡ started (rec + 1) before
+Started first request told before now (out.Forged rec step) = (checks request ≡ true → now ≡ started (rec + 1) before) × (checks request ≡ false → StartsUpTo (turns request) (rec + 1) before now)
+Started first request told before now out.Spent = StartsSpent request told before now
 Started first request told before now out.ReadFault = now ≡ before
 Started first request told before now out.WriteFault = (ran : ℕ) × (RanSo first request told ran × StartsBoth request told before now ran)
-Started first request told before now other = Unit {0}
+Started first request told before now out.NoMemory = StartsCut request told before now
+Started first request told before now (out.Said status) = ⊥
 
 -- where every record is to be checked, each is spoken
 abbrev pub Checked : (KeyValue → Says) → Request → Option Held → Type 0

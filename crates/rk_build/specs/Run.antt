@@ -1,5 +1,5 @@
 -- The run of a folder's script.
-use Rattle.std.specs.Prelude.{◌≡◌, ℕ, ◌+◌, List, length, Result, Ok, Err}
+use Rattle.std.specs.Prelude.{◌≡◌, ℕ, ◌+◌, ◌≤◌, List, length, Result, Ok, Err}
 use Rattle.rk_calls.specs.Refs.{top_refs}
 use Rattle.rk_calls.specs.Keys.{KeyValue}
 use Rattle.rk_calls.specs.Talk.{Says}
@@ -15,6 +15,8 @@ use Rattle.rk_words.specs.Asked.{turns}
 use Rattle.rk_words.specs.declared.requests.Request.{Request}
 use Rattle.rk_replay.specs.Ran.{ran_of, ran_total}
 use Rattle.rk_replay.specs.Script.{script_key}
+use Rattle.rk_replay.specs.Starts.{StartsRan, StartsUpTo}
+use Rattle.rk_runs.specs.Started.{started}
 use Rattle.rk_build.specs.Checks.{IsForged}
 use Rattle.rk_build.specs.declared.stop.Stop.{Stop}
 use Rattle.rk_build.specs.declared.stop.Stop.TheVariants as stop
@@ -45,3 +47,12 @@ Runs first request entries old before now (Err (stop.Forged rec step)) = IsForge
 Runs first request entries old before now (Err stop.Spent) = AreSpoken first old × (fresh_run first request entries ≡ Spent)
 Runs first request entries old before now (Err stop.NoMemory) = Unit {0}
 Runs first request entries old before now (Err other) = ⊥
+
+-- A machine was started for each command that ran, no more of them than turns, beside the script; where the run stops, for each
+-- that ran so far, and for each record that was looked at.
+abbrev pub StartsRun : Request → List Record → ℕ → ℕ → Result Finished Stop → Type 0
+StartsRun request old before now (Ok f) = (now ≡ started (length f.ran) before) × (length f.ran ≤ turns request + 1)
+StartsRun request old before now (Err (stop.Forged rec step)) = StartsUpTo (turns request) (rec + 1) before now
+StartsRun request old before now (Err stop.Spent) = StartsRan (turns request) (length old) before now
+StartsRun request old before now (Err stop.NoMemory) = StartsUpTo (turns request) (length old) before now
+StartsRun request old before now (Err other) = ⊥

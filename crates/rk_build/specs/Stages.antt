@@ -22,7 +22,6 @@ use Rattle.tr_record.specs.declared.records.Record.{Record}
 use Rattle.rk_base.specs.Text.{Text}
 use Rattle.rk_runs.specs.Run.{Spent}
 use Rattle.rk_runs.specs.Spoken.{AreSpoken}
-use Rattle.rk_runs.specs.Started.{started}
 use Rattle.rk_words.specs.Asked.{checks, is_fresh, turns}
 use Rattle.rk_words.specs.declared.requests.Request.{Request}
 use Rattle.rk_build.specs.Checks.{ChecksWhole, TellsForged}
@@ -30,7 +29,7 @@ use Rattle.rk_build.specs.Run.{IsRun, fresh_run}
 use Rattle.rk_build.specs.Explained.{explanation}
 use Rattle.rk_build.specs.Fresh.{held_after}
 use Rattle.rk_build.specs.Kept.{IsKept, Keeping, Refuses, state_in, decoded}
-use Rattle.rk_build.specs.Outcomes.{IsNext, RanSo, StartsBoth}
+use Rattle.rk_build.specs.Outcomes.{IsNext, Started, StartsBoth, outcome_of_stop}
 use Rattle.rk_build.specs.Texts.{IsNoFault}
 use Rattle.rk_build.specs.declared.stop.Refusal.TheVariants as refusal
 use Rattle.rk_build.specs.declared.found.Found.{Found}
@@ -111,12 +110,8 @@ PreparesSo first request told before now (Err stop.ReadFault) = now ≤ before +
 PreparesSo first request told before now (Err stop.NoMemory) = now ≤ before + turns request
 PreparesSo first request told before now (Err stop.WriteFault) = ⊥
 
--- A machine was started for each record that is checked and then for each command that ran, whether or not what it left could be
--- put and installed; none where the folder is refused or couldn't be read.
+-- A machine was started for each record that is checked and then for each command that ran; where a stage stops, what is said of
+-- the outcome that it comes to.
 abbrev pub StartsSo : {T : Type 0} → (T → ℕ) → (KeyValue → Says) → Request → Option Held → ℕ → ℕ → Result T Stop → Type 0
 StartsSo ran first request told before now (Ok it) = StartsBoth request told before now (ran it)
-StartsSo ran first request told before now (Err (stop.Refused refusal)) = now ≡ before
-StartsSo ran first request told before now (Err (stop.Forged rec step)) = checks request ≡ true → now ≡ started (rec + 1) before
-StartsSo ran first request told before now (Err stop.ReadFault) = now ≡ before
-StartsSo ran first request told before now (Err stop.WriteFault) = (n : ℕ) × (RanSo first request told n × StartsBoth request told before now n)
-StartsSo ran first request told before now (Err other) = Unit {0}
+StartsSo ran first request told before now (Err e) = Started first request told before now (outcome_of_stop e)

@@ -1,5 +1,5 @@
 // What is to be done once the script has run.
-ghost use Rattle.std.specs.Prelude.{◌≡◌, ◌<◌, ◌≤◌, ◌^◌, IfOk, IfSome, OnOk, length, option_copied};
+ghost use Rattle.std.specs.Prelude.{◌≡◌, ◌+◌, ◌<◌, ◌≤◌, ◌^◌, IfOk, IfSome, OnOk, length, option_copied};
 ghost use Rattle.rk_tree.specs.Entries.{IsWholeSnapshot};
 ghost use Rattle.rk_build.specs.Attributes.{attrs_of};
 ghost use Rattle.rk_build.specs.Holdings.{IsBuilt};
@@ -122,6 +122,7 @@ pub(crate) fn prepare<M: Maker, F: Folder, L: Ledger>(
     ensures steady { Steadily (F.steady folder.old) (F.steady folder.new) result }
     ensures prepares { PreparesSo M.first request.now (F.told folder.old) live.old live.new result }
     ensures rises { live.old ≤ live.new }
+    ensures few { IfOk result (λ p. length p.finished.ran ≤ turns request.now + 1) }
     ensures starts { StartsSo (λ p. length p.finished.ran) M.first request.now (F.told folder.old) (M.starts maker.old) (M.starts maker.new) result }
 {
     let Found {

@@ -1,10 +1,9 @@
 // The run of the script.
-ghost use Rattle.std.specs.Prelude.{◌≡◌, ◌+◌, ◌<◌, ◌≤◌, ◌^◌, IfOk, length};
-ghost use Rattle.rk_runs.specs.Started.{started};
+ghost use Rattle.std.specs.Prelude.{◌≡◌, ◌+◌, ◌<◌, ◌≤◌, ◌^◌, IfOk};
 ghost use Rattle.rk_tree.specs.Entries.{IsWholeSnapshot};
 ghost use Rattle.rk_folder.specs.Attributes.{with_rows};
 ghost use Rattle.rk_words.specs.Asked.{turns};
-ghost use Rattle.rk_build.specs.Run.{Runs};
+ghost use Rattle.rk_build.specs.Run.{Runs, StartsRun};
 
 use crate::options::turns;
 use crate::stop::Stop;
@@ -67,7 +66,7 @@ pub(crate) fn run<M: Maker, L: Ledger>(
     ensures runs { Runs M.first request.now (with_rows entries.now attrs.now) old.now live.old live.new result }
     ensures at_least { live.old ≤ live.new }
     ensures at_most { live.new ≤ live.old + turns request.now }
-    ensures starts { IfOk result (λ f. M.starts maker.new ≡ started (length f.ran) (M.starts maker.old)) }
+    ensures starts { StartsRun request.now old.now (M.starts maker.old) (M.starts maker.new) result }
 {
     let copy = copy_of(alloc, entries)?;
     let tree = tree_of(alloc, copy, attrs)?;

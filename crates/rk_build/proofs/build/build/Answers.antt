@@ -2,7 +2,7 @@ use Rattle.std.proofs.Common.{◌∙◌, ap, option_map}
 use Rattle.std.proofs.lemmas.Result.{err_from_is_err_and}
 use Rattle.rk_build.specs.Changes.{after_all}
 use Rattle.rk_build.specs.Fresh.{output_of, error_text_of}
-use Rattle.rk_build.proofs.BuildLemmas.{put-gains, put-gains-errors, put-order, put-starts, prepare-starts, install-starts, install-leaves-now, install-gains, install-gains-errors, end-gains, end-leaves, end-status, end-checked, end-tally, text-told, output-told, error_text-told}
+use Rattle.rk_build.proofs.BuildLemmas.{put-gains, put-gains-errors, put-order, put-starts, install-starts, install-leaves-now, install-gains, install-gains-errors, end-gains, end-leaves, end-status, end-checked, end-tally, text-told, output-told, error_text-told}
 use Rattle.rk_build.proofs.build.build.Goals as goal
 
 pub returns-in_err-put_texts-clause-output : goal.returns-in_err-put_texts-clause-output
@@ -60,14 +60,14 @@ returns-clause-order g c = put-order g.M.Maker.first c.args.request.now _ c.out.
 pub returns-in_err-finished-clause-starts : goal.returns-in_err-finished-clause-starts
 returns-in_err-finished-clause-starts g c =
     let p = err_from_is_err_and c.from_residual.result c.from_residual.ensures.1 in
-    rw (p.1, p.2) (prepare-starts g.M.Maker.first c.args.request.now _ _ _ _ c.in_err-finished.ensures.starts)
+    rw (p.1, p.2) c.in_err-finished.ensures.starts
 
 pub returns-in_err-put_texts-clause-starts : goal.returns-in_err-put_texts-clause-starts
 returns-in_err-put_texts-clause-starts g c =
     let p = err_from_is_err_and c.from_residual-in_err-put_texts.result c.from_residual-in_err-put_texts.ensures.1 in
-    rw (p.1, p.2) (put-starts g.M.Maker.first c.args.request.now _ _ _ _ _ c.in_ok-finished.field-0 _ _ _ _ c.in_ok-finished.ensures.prepares.0 c.in_err-put_texts.ensures.output c.in_ok-finished.ensures.starts)
+    rw (p.1, p.2) (put-starts g.M.Maker.first c.args.request.now _ _ _ _ _ c.in_ok-finished.field-0 _ _ _ _ c.in_ok-finished.ensures.prepares.0 c.in_err-put_texts.ensures.output c.in_ok-finished.ensures.few c.in_ok-finished.ensures.starts)
 
 pub returns-in_err-carry_out-clause-starts : goal.returns-in_err-carry_out-clause-starts
 returns-in_err-carry_out-clause-starts g c =
     let p = err_from_is_err_and c.from_residual-in_err-carry_out.result c.from_residual-in_err-carry_out.ensures.1 in
-    rw (p.1, p.2) (install-starts g.M.Maker.first c.args.request.now _ _ _ _ _ _ _ _ c.in_ok-finished.field-0 _ c.in_ok-finished.ensures.prepares.0 c.in_err-carry_out.ensures.held c.in_ok-finished.ensures.starts)
+    rw (p.1, p.2) (install-starts g.M.Maker.first c.args.request.now _ _ _ _ _ _ _ _ c.in_ok-finished.field-0 _ c.in_ok-finished.ensures.prepares.0 c.in_err-carry_out.ensures.held c.in_ok-finished.ensures.few c.in_ok-finished.ensures.starts)

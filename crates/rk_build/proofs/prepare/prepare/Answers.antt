@@ -3,7 +3,7 @@ use Rattle.rk_base.specs.Text.{Text}
 use Rattle.tr_codec.specs.Reads.{IsSealed}
 use Rattle.rk_build.specs.declared.prepare.Prepared.{Prepared}
 use Rattle.std.proofs.lemmas.Result.{err_from_is_err_and}
-use Rattle.rk_build.proofs.CheckLemmas.{check-no-fault, check-reads, check-starts, find-starts, run-starts, starts-both}
+use Rattle.rk_build.proofs.CheckLemmas.{both-cut, check-no-fault, check-reads, check-starts, find-starts, run-starts, starts-both}
 use Rattle.rk_build.proofs.PrepareLemmas.{check-stops, find-stops, run-stops, is_prepared}
 use Rattle.rk_build.proofs.prepare.prepare.Goals as goal
 
@@ -54,7 +54,7 @@ returns-in_err-after-clause-steady g c =
 pub returns-in_err-after-clause-starts : goal.returns-in_err-after-clause-starts
 returns-in_err-after-clause-starts g c =
     let p = err_from_is_err_and c.from_residual-in_err-after.result c.from_residual-in_err-after.ensures.1 in
-    rw (p.1, p.2) tt
+    rw (p.1, p.2) (both-cut c.args.request.now (g.F.Folder.told c.args.folder.now) _ _ _ (starts-both c.args.request.now (g.F.Folder.told c.args.folder.now) c.in_ok-before.field-0 _ _ _ _ c.in_ok-before.ensures.finds c.in_ok-check_old.ensures.starts c.in_ok-finished.ensures.starts.0) c.in_ok-finished.ensures.starts.1)
 
 pub returns-in_err-plan-clause-steady : goal.returns-in_err-plan-clause-steady
 returns-in_err-plan-clause-steady g c =
@@ -64,7 +64,7 @@ returns-in_err-plan-clause-steady g c =
 pub returns-in_err-plan-clause-starts : goal.returns-in_err-plan-clause-starts
 returns-in_err-plan-clause-starts g c =
     let p = err_from_is_err_and c.from_residual-in_err-plan.result c.from_residual-in_err-plan.ensures.1 in
-    rw (p.1, p.2) tt
+    rw (p.1, p.2) (both-cut c.args.request.now (g.F.Folder.told c.args.folder.now) _ _ _ (starts-both c.args.request.now (g.F.Folder.told c.args.folder.now) c.in_ok-before.field-0 _ _ _ _ c.in_ok-before.ensures.finds c.in_ok-check_old.ensures.starts c.in_ok-finished.ensures.starts.0) c.in_ok-finished.ensures.starts.1)
 
 pub returns-in_err-error_text-clause-reads : goal.returns-in_err-error_text-clause-reads
 returns-in_err-error_text-clause-reads g c =
@@ -84,7 +84,7 @@ returns-in_err-error_text-clause-steady g c =
 pub returns-in_err-error_text-clause-starts : goal.returns-in_err-error_text-clause-starts
 returns-in_err-error_text-clause-starts g c =
     let p = err_from_is_err_and c.from_residual-in_err-error_text.result c.from_residual-in_err-error_text.ensures.1 in
-    rw (p.1, p.2) tt
+    rw (p.1, p.2) (both-cut c.args.request.now (g.F.Folder.told c.args.folder.now) _ _ _ (starts-both c.args.request.now (g.F.Folder.told c.args.folder.now) c.in_ok-before.field-0 _ _ _ _ c.in_ok-before.ensures.finds c.in_ok-check_old.ensures.starts c.in_ok-finished.ensures.starts.0) c.in_ok-finished.ensures.starts.1)
 
 pub returns-in_err-check_old-clause-prepares : goal.returns-in_err-check_old-clause-prepares
 returns-in_err-check_old-clause-prepares g c =
@@ -104,10 +104,10 @@ returns-in_err-check_old-clause-steady g c =
 pub returns-in_err-check_old-clause-starts : goal.returns-in_err-check_old-clause-starts
 returns-in_err-check_old-clause-starts g c =
     let p = err_from_is_err_and c.from_residual-in_err-check_old.result c.from_residual-in_err-check_old.ensures.1 in
-    rw (p.1, p.2) (check-starts {T = Prepared} (λ (p : Prepared). length p.finished.ran) g.M.Maker.first c.args.request.now (g.F.Folder.told c.args.folder.now) c.in_ok-before.field-0.old _ _ _ c.in_err-check_old.ensures.checked c.in_err-check_old.ensures.starts)
+    rw (p.1, p.2) (check-starts {T = Prepared} (λ (p : Prepared). length p.finished.ran) g.M.Maker.first c.args.request.now (g.F.Folder.told c.args.folder.now) c.in_ok-before.field-0 _ _ _ c.in_ok-before.ensures.finds c.in_err-check_old.ensures.checked c.in_err-check_old.ensures.starts)
 
 pub returns-clause-starts : goal.returns-clause-starts
-returns-clause-starts g c = starts-both c.args.request.now _ c.in_ok-before.field-0 _ _ _ _ c.in_ok-before.ensures.finds c.in_ok-check_old.ensures.starts c.in_ok-finished.ensures.starts
+returns-clause-starts g c = starts-both c.args.request.now _ c.in_ok-before.field-0 _ _ _ _ c.in_ok-before.ensures.finds c.in_ok-check_old.ensures.starts c.in_ok-finished.ensures.starts.0
 
 pub returns-in_err-before-clause-starts : goal.returns-in_err-before-clause-starts
 returns-in_err-before-clause-starts g c =
@@ -117,4 +117,7 @@ returns-in_err-before-clause-starts g c =
 pub returns-in_err-finished-clause-starts : goal.returns-in_err-finished-clause-starts
 returns-in_err-finished-clause-starts g c =
     let p = err_from_is_err_and c.from_residual-in_err-finished.result c.from_residual-in_err-finished.ensures.1 in
-    rw (p.1, p.2) (run-starts {T = Prepared} (λ (p : Prepared). length p.finished.ran) g.M.Maker.first c.args.request.now (g.F.Folder.told c.args.folder.now) _ c.in_ok-before.field-0.old c.args.live.now c.run.new.live _ _ _ c.in_err-finished.ensures.runs c.in_ok-check_old.ensures.checked)
+    rw (p.1, p.2) (run-starts {T = Prepared} (λ (p : Prepared). length p.finished.ran) g.M.Maker.first c.args.request.now (g.F.Folder.told c.args.folder.now) c.in_ok-before.field-0 _ c.args.live.now c.run.new.live _ _ _ _ c.in_ok-before.ensures.finds c.in_err-finished.ensures.runs c.in_ok-check_old.ensures.checked c.in_ok-check_old.ensures.starts c.in_err-finished.ensures.starts)
+
+pub returns-clause-few : goal.returns-clause-few
+returns-clause-few g c = c.in_ok-finished.ensures.starts.1

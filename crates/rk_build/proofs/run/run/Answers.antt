@@ -1,11 +1,11 @@
-use Rattle.std.proofs.Common.{◌∙◌, sym, ap, subst}
+use Rattle.std.proofs.Common.{◌∙◌, sym, ap, subst, arith}
 use Rattle.rk_folder.specs.Attributes.{with_rows}
 use Rattle.rk_tree.specs.Copies.{tree_of}
 use Rattle.rk_tree.specs.Entries.{Entries, IsWholeSnapshot}
 use Rattle.rk_calls.specs.Views.{talk-proper}
 use Rattle.rk_runs.specs.Purse.{left}
 use Rattle.rk_build.proofs.ReadBackLemmas.{sound, small}
-use Rattle.rk_build.proofs.RunLemmas.{fresh_run-is, spent-is}
+use Rattle.rk_build.proofs.RunLemmas.{few-ran, fresh_run-is, paid-within, spent-is, starts-forged, starts-spent}
 use Rattle.rk_build.proofs.run.run.Goals as goal
 
 pub tree_of-requires : goal.tree_of-requires
@@ -26,3 +26,18 @@ pub returns-in-Err-Spent-clause-runs : goal.returns-in-Err-Spent-clause-runs
 returns-in-Err-Spent-clause-runs g c =
     let s = spent-is g.M.Maker.first _ _ _ _ c.in-Err-Spent.field-0-is c.in-Err-Spent.ensures.stops in
     (s.0, fresh_run-is g.M.Maker.first c.args.request.now _ _ _ _ _ _ c.budget-budget.ensures.limit c.budget-budget.ensures.used c.in_ok-key.ensures (c.in_ok-tree.ensures.tree ∙ ap (λ (s : Entries). tree_of (with_rows s c.args.attrs.now)) c.in_ok-copy.ensures) c.in_ok-world.ensures s.1)
+
+pub returns-in-Ok-clause-starts : goal.returns-in-Ok-clause-starts
+returns-in-Ok-clause-starts g c =
+    let e = c.in-Ok.ensures in
+    (e.starts, few-ran c.args.request.now _ _ _ _ _ c.budget-budget.ensures.limit c.budget-budget.ensures.used e.paid e.limit e.within e.launched e.ran)
+
+pub returns-in-Err-Spent-clause-starts : goal.returns-in-Err-Spent-clause-starts
+returns-in-Err-Spent-clause-starts g c =
+    let e = c.in-Err-Spent.ensures in
+    starts-spent _ _ _ _ _ _ (paid-within c.args.request.now _ _ c.budget-budget.ensures.limit e.limit (e.stays (omega (arith, c.budget-budget.ensures.used)))) c.in-Err-Spent.field-0-is e.stopped
+
+pub returns-in-Err-Forged-clause-starts : goal.returns-in-Err-Forged-clause-starts
+returns-in-Err-Forged-clause-starts g c =
+    let e = c.in-Err-Forged.ensures in
+    rw c.in-Err-Forged.field-0-is (starts-forged _ _ _ _ _ _ _ _ (paid-within c.args.request.now _ _ c.budget-budget.ensures.limit e.limit (e.stays (omega (arith, c.budget-budget.ensures.used)))) c.in-Err-Forged.field-0-is e.stopped)
