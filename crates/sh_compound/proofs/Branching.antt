@@ -14,7 +14,7 @@ use Rattle.sh_ast.specs.declared.command.Branches.{Branches}
 use Rattle.sh_ast.specs.declared.command.CommandList.{CommandList}
 use Rattle.sh_ast.specs.declared.command.Connector.{Connector}
 use Rattle.sh_ast.specs.declared.command.Connectors.{Connectors}
-use Rattle.sh_means.specs.declared.control.Around.TheVariants as around
+use Rattle.sh_means.specs.declared.control.Continuation.TheVariants as continuation
 use Rattle.sh_means.specs.declared.control.Control.TheVariants as control
 use Rattle.sh_means.specs.declared.control.Undo.TheVariants as undo
 use Rattle.sh_means.specs.declared.control.Wait.TheVariants as wait
@@ -26,13 +26,13 @@ use Rattle.sh_means.specs.Eval.{command_in, commands_in}
 use Rattle.sh_means.specs.Flows.{Next, Go_on, Means, asks, and_then, by_status, ignoring}
 use Rattle.sh_compound.specs.Leaving.{linked}
 use Rattle.sh_means.specs.Run.{run}
-use Rattle.sh_means.specs.Stack.{branches_from, commands_from, first_of, whole, surrounded, undone, waiting, resumed}
+use Rattle.sh_means.specs.Stack.{branches_from, commands_from, first_of, whole, continued, undone, waiting, resumed}
 use Rattle.sh_means.specs.State.{Shell, with_slot, with_status, back, past_stage}
 use Rattle.sh_means.specs.Views.{back_to}
 use Rattle.sh_means.proofs.Folding.{branch_is}
 use Rattle.sh_means.proofs.Places.{branches_some, branches_none, branch_meant, commands_some, commands_none}
 
-pub if_begun : (bs rest : Rc Branches Global) (d : Branches) (x : Branch) (c b o : Rc CommandList Global) (at : ℕ) (pl : Place) (k k' : Next) (e : Shell) (p : ℕ) → d ≡ bs.value → Some (tree.branch x) ≡ branch_at (tree.branches d) at → rest.value ≡ bs.value → c.value ≡ (out-Branch x).condition.value → b.value ≡ (out-Branch x).body.value → k' ≡ surrounded (around.Choose pl b rest (at + 1) o) k → if_means (branches_from bs.value at) (whole o.value) pl e k p ≡ whole c.value (ignoring pl) e k' p
+pub if_begun : (bs rest : Rc Branches Global) (d : Branches) (x : Branch) (c b o : Rc CommandList Global) (at : ℕ) (pl : Place) (k k' : Next) (e : Shell) (p : ℕ) → d ≡ bs.value → Some (tree.branch x) ≡ branch_at (tree.branches d) at → rest.value ≡ bs.value → c.value ≡ (out-Branch x).condition.value → b.value ≡ (out-Branch x).body.value → k' ≡ continued (continuation.Choose pl b rest (at + 1) o) k → if_means (branches_from bs.value at) (whole o.value) pl e k p ≡ whole c.value (ignoring pl) e k' p
 if_begun bs rest d x c b o at pl k k' e p hd is hr hc hb hk =
     let go : Branches → CommandList → Next = λ R B. and_then (λ e. by_status e.env.status (λ e. whole B pl e k) (λ e. if_means (branches_from R (at + 1)) (whole o.value) pl e k) e) k in
     ap (λ (L : List BranchMeant). if_means L (whole o.value) pl e k p) (branches_some (tree.branches bs.value) at (tree.branch x) (subst (λ (d : Branches). Some (tree.branch x) ≡ branch_at (tree.branches d) at) hd is) ∙ ap (λ (t : tree.BranchTree). branch_meant t ∷ branches_from bs.value (at + 1)) (branch_is x))
@@ -80,7 +80,7 @@ stage_last l t at saved input pl k k' e e' p ht hn hs hk he =
     ∙ ap (λ (L : List Means). first_of L pl e' k' p) (sym h1)
 
 -- a stage begins, above a frame for those behind it
-pub stage_begun : (l rest : Rc CommandList Global) (at : ℕ) (saved : Box SavedState) (input : Option ℕ) (n w : ℕ) (pl : Place) (k k' : Next) (e e1 e' : Shell) (p : ℕ) → rest.value ≡ l.value → ((x : Shell) → back_to saved.value x ≡ back e x) → w ≡ n + 1 → k' ≡ surrounded (around.Stage pl rest (at + 1) n e.env.status saved) k → e1 ≡ with_input input e → e' ≡ with_slot 1 (Some w) e1 → first_of (commands_from l.value at) pl (with_slot 1 (Some (n + 1)) (with_input input e)) (λ f x. stages_mean (Some n) (commands_from l.value (at + 1)) pl k (past_stage e x)) p ≡ first_of (commands_from l.value at) pl e' k' p
+pub stage_begun : (l rest : Rc CommandList Global) (at : ℕ) (saved : Box SavedState) (input : Option ℕ) (n w : ℕ) (pl : Place) (k k' : Next) (e e1 e' : Shell) (p : ℕ) → rest.value ≡ l.value → ((x : Shell) → back_to saved.value x ≡ back e x) → w ≡ n + 1 → k' ≡ continued (continuation.Stage pl rest (at + 1) n e.env.status saved) k → e1 ≡ with_input input e → e' ≡ with_slot 1 (Some w) e1 → first_of (commands_from l.value at) pl (with_slot 1 (Some (n + 1)) (with_input input e)) (λ f x. stages_mean (Some n) (commands_from l.value (at + 1)) pl k (past_stage e x)) p ≡ first_of (commands_from l.value at) pl e' k' p
 stage_begun l rest at saved input n w pl k k' e e1 e' p hr hs hw hk h1 he =
     let ms = commands_from l.value at in
     let e0 = with_slot 1 (Some (n + 1)) (with_input input e) in
@@ -131,7 +131,7 @@ taken_or [] c cs false pl k e p h = refl
 taken_or (m ∷ ms) c cs true pl k e p h = rw (sym h) refl
 taken_or (m ∷ ms) c cs false pl k e p h = rw (sym h) refl
 
-pub links_so : (l rest : Rc CommandList Global) (os later : Rc Connectors Global) (c : Connector) (at : ℕ) (b : Bool) (pl : Place) (k k' : Next) (e : Shell) (p : ℕ) → Some c ≡ slice_get os.value.items.items at → b ≡ takes c e.env.status → rest.value ≡ l.value → later.value ≡ os.value → k' ≡ surrounded (around.Links pl rest (at + 1) later) k → links_mean (commands_from l.value (at + 1)) (drop at os.value.items.items) pl k e p ≡ linked b (commands_from l.value (at + 1)) pl k' e p
+pub links_so : (l rest : Rc CommandList Global) (os later : Rc Connectors Global) (c : Connector) (at : ℕ) (b : Bool) (pl : Place) (k k' : Next) (e : Shell) (p : ℕ) → Some c ≡ slice_get os.value.items.items at → b ≡ takes c e.env.status → rest.value ≡ l.value → later.value ≡ os.value → k' ≡ continued (continuation.Links pl rest (at + 1) later) k → links_mean (commands_from l.value (at + 1)) (drop at os.value.items.items) pl k e p ≡ linked b (commands_from l.value (at + 1)) pl k' e p
 links_so l rest os later c at b pl k k' e p hc hb hr ho hk =
     let os' = os.value.items.items in
     let ms = commands_from l.value (at + 1) in

@@ -16,7 +16,7 @@ use Rattle.sh_ast.specs.declared.command.LoopKind.{LoopKind}
 use Rattle.sh_ast.specs.declared.command.Word.{Word}
 use Rattle.sh_ast.specs.declared.command.Words.{Words}
 use Rattle.sh_vars.specs.Held.{is_readonly}
-use Rattle.sh_means.specs.declared.control.Around.TheVariants as around
+use Rattle.sh_means.specs.declared.control.Continuation.TheVariants as continuation
 use Rattle.sh_means.specs.declared.control.Each.{Each}
 use Rattle.sh_means.specs.declared.control.Then.TheVariants as then
 use Rattle.sh_means.specs.declared.control.Undo.TheVariants as undo
@@ -28,16 +28,16 @@ use Rattle.sh_means.specs.Eval.{for_in, items_in, word_in, is_until}
 use Rattle.sh_means.specs.Flows.{Next, Go_on, ends, tells, sh}
 use Rattle.sh_means.specs.Run.{run}
 use Rattle.sh_means.specs.Simple.{Round}
-use Rattle.sh_means.specs.Stack.{branches_from, fielding, whole, each_body, giving_to, giving, surrounded, undone}
+use Rattle.sh_means.specs.Stack.{branches_from, fielding, whole, each_body, giving_to, giving, continued, undone}
 use Rattle.sh_means.specs.State.{Shell, back}
 use Rattle.sh_means.specs.Trees.{for_words_of, given_if}
 use Rattle.sh_means.specs.Views.{back_to}
 use Rattle.sh_means.specs.Words.{assigns}
 use Rattle.sh_compound.proofs.Branching.{get_drop, get_none}
 
-pub subshell_entered : (l0 : CommandList) (l : Rc CommandList Global) (saved : Box SavedState) (pl : Place) (k k1 k2 : Next) (e : Shell) (p : ℕ) → l.value ≡ l0 → ((x : Shell) → back_to saved.value x ≡ back e x) → k1 ≡ surrounded (around.Watch pl) k → k2 ≡ undone (undo.Subshell saved) k1 → subshell_means (whole l0) pl e k p ≡ whole l.value pl e k2 p
+pub subshell_entered : (l0 : CommandList) (l : Rc CommandList Global) (saved : Box SavedState) (pl : Place) (k k1 k2 : Next) (e : Shell) (p : ℕ) → l.value ≡ l0 → ((x : Shell) → back_to saved.value x ≡ back e x) → k1 ≡ continued (continuation.Watch pl) k → k2 ≡ undone (undo.Subshell saved) k1 → subshell_means (whole l0) pl e k p ≡ whole l.value pl e k2 p
 subshell_entered l0 l saved pl k k1 k2 e p hl hs h1 h2 =
-    ap (λ (c : CommandList). whole c pl e (λ f x. surrounded (around.Watch pl) k Normal (back e x)) p) (sym hl)
+    ap (λ (c : CommandList). whole c pl e (λ f x. continued (continuation.Watch pl) k Normal (back e x)) p) (sym hl)
     ∙ ap (λ (K : Next). whole l.value pl e (λ f x. K Normal (back e x)) p) (sym h1)
     ∙ ap (λ (g : Shell → Shell). whole l.value pl e (λ f x. k1 Normal (g x)) p) (λ i x. sym (hs x) i)
     ∙ ap (λ (K : Next). whole l.value pl e K p) (sym h2)

@@ -15,40 +15,40 @@ use Rattle.sh_ast.specs.declared.command.Connectors.{Connectors}
 use Rattle.sh_ast.specs.declared.command.Redirects.{Redirects}
 use Rattle.sh_ast.specs.declared.command.SimpleCommand.{SimpleCommand, out-SimpleCommand}
 use Rattle.sh_ast.specs.declared.command.Words.{Words}
-use Rattle.sh_means.specs.declared.control.Around.TheVariants as around
+use Rattle.sh_means.specs.declared.control.Continuation.TheVariants as continuation
 use Rattle.sh_means.specs.declared.control.Control.{Control}
 use Rattle.sh_means.specs.declared.control.Control.TheVariants as control
-use Rattle.sh_means.specs.declared.control.Inside.TheVariants as inside
+use Rattle.sh_means.specs.declared.control.CompoundStep.TheVariants as compound_step
 use Rattle.sh_means.specs.declared.control.Made.TheVariants as made
 use Rattle.sh_means.specs.declared.control.Then.TheVariants as then
-use Rattle.sh_means.specs.declared.control.Wordy.TheVariants as wordy
+use Rattle.sh_means.specs.declared.control.SimpleStep.TheVariants as simple_step
 use Rattle.sh_means.specs.declared.flow.Flow.TheVariants.{Normal}
 use Rattle.sh_means.specs.declared.flow.Place.{Place}
-use Rattle.sh_redirect.specs.declared.descriptors.Descriptors.{Descriptors}
+use Rattle.sh_redirect.specs.declared.descriptors.DescriptorTable.{DescriptorTable}
 use Rattle.sh_means.specs.Compound.{seq_all, and_or_means, links_mean, piped_means, pipeline_means, stages_mean, made_compound, refused_compound, compound_means, define_means}
 use Rattle.sh_means.specs.Eval.{command_in, commands_in, compound_in, redirects_in, simple_in, whole_in}
 use Rattle.sh_means.specs.Flows.{Next, Means, and_then, ignoring}
 use Rattle.sh_means.specs.Run.{run}
 use Rattle.sh_means.specs.Simple.{redirects_and_works}
-use Rattle.sh_means.specs.Stack.{Goes, commands_from, words_from, assigns_from, redirects_from, then_means, first_of, whole, surrounded, resumed}
+use Rattle.sh_means.specs.Stack.{Goes, commands_from, words_from, assigns_from, redirects_from, then_means, first_of, whole, continued, resumed}
 use Rattle.sh_means.specs.State.{Shell, with_status, define, function_tree}
 use Rattle.sh_means.specs.Trees.{is_one, cleared}
 use Rattle.sh_means.specs.Words.{expand_words, named, redirect_all}
 use Rattle.sh_means.proofs.Folding.{simple_is}
 use Rattle.sh_means.proofs.Places.{commands_some, commands_none}
 
-pub simple_entered : (c : SimpleCommand) (r : Rc SimpleCommand Global) (ws : Rc Words Global) (fields : List Text) (pl : Place) (k : Next) (e : Shell) (p : ℕ) → r.value ≡ c → ws.value ≡ (out-SimpleCommand c).words.value → fields ≡ [] → simple_in run (tree.simple_command c) pl e k p ≡ pay 1 (resumed (control.Wordy (wordy.Words pl (record { words = ws; at = 0; fields = fields; ran = false; then = then.Simple r }))) k Go e) p
+pub simple_entered : (c : SimpleCommand) (r : Rc SimpleCommand Global) (ws : Rc Words Global) (fields : List Text) (pl : Place) (k : Next) (e : Shell) (p : ℕ) → r.value ≡ c → ws.value ≡ (out-SimpleCommand c).words.value → fields ≡ [] → simple_in run (tree.simple_command c) pl e k p ≡ pay 1 (resumed (control.SimpleStep (simple_step.Words pl (record { words = ws; at = 0; fields = fields; ran = false; then = then.Simple r }))) k Go e) p
 simple_entered c r ws fields pl k e p hr hw hf =
     ap (λ (s : tree.SimpleTree). simple_in run s pl e k p) (simple_is c)
     ∙ ap (λ (c : SimpleCommand). pay 1 (expand_words (words_from (out-SimpleCommand c).words.value 0) [] false pl (redirects_and_works run (assigns_from (out-SimpleCommand c).assignments.value 0) (redirects_from (out-SimpleCommand c).redirects.value 0) pl k) k e) p) (sym hr)
     ∙ ap (λ (w : Words). pay 1 (expand_words (words_from w 0) [] false pl (then_means (then.Simple r) pl k) k e) p) (ap (λ (c : SimpleCommand). (out-SimpleCommand c).words.value) hr ∙ sym hw)
     ∙ ap (λ (fs : List Text). pay 1 (expand_words (words_from ws.value 0) fs false pl (then_means (then.Simple r) pl k) k e) p) (sym hf)
 
-pub compound_entered : (rs0 : Redirects) (b0 : a_compound.Compound) (rs : Rc Redirects Global) (b : Rc a_compound.Compound Global) (before : Box Descriptors) (pl : Place) (k : Next) (e : Shell) (p : ℕ) → rs.value ≡ rs0 → b.value ≡ b0 → before.value ≡ e.descriptors → compound_means (redirects_in run (tree.redirects rs0)) (compound_in run (tree.compound b0)) pl e k p ≡ pay 1 (resumed (control.Wordy (wordy.Make pl (record { redirects = rs; at = 0; before = before; ran = false; made = made.Compound b }))) k Go e) p
+pub compound_entered : (rs0 : Redirects) (b0 : a_compound.Compound) (rs : Rc Redirects Global) (b : Rc a_compound.Compound Global) (before : Box DescriptorTable) (pl : Place) (k : Next) (e : Shell) (p : ℕ) → rs.value ≡ rs0 → b.value ≡ b0 → before.value ≡ e.descriptors → compound_means (redirects_in run (tree.redirects rs0)) (compound_in run (tree.compound b0)) pl e k p ≡ pay 1 (resumed (control.SimpleStep (simple_step.Make pl (record { redirects = rs; at = 0; before = before; ran = false; made = made.Compound b }))) k Go e) p
 compound_entered rs0 b0 rs b before pl k e p hr hb hd =
     ap (λ (R : Redirects). compound_means (redirects_from R 0) (compound_in run (tree.compound b0)) pl e k p) (sym hr)
     ∙ ap (λ (B : a_compound.Compound). compound_means (redirects_from rs.value 0) (compound_in run (tree.compound B)) pl e k p) (sym hb)
-    ∙ ap (λ (ds : Descriptors). pay 1 (redirect_all (redirects_from rs.value 0) false pl (made_compound (compound_in run (tree.compound b.value)) (named (redirects_from rs.value 0)) ds pl k) (refused_compound (named (redirects_from rs.value 0)) ds pl k) k e) p) (sym hd)
+    ∙ ap (λ (ds : DescriptorTable). pay 1 (redirect_all (redirects_from rs.value 0) false pl (made_compound (compound_in run (tree.compound b.value)) (named (redirects_from rs.value 0)) ds pl k) (refused_compound (named (redirects_from rs.value 0)) ds pl k) k e) p) (sym hd)
 
 pub function_defined : (name name' : Text) (b0 : a_compound.Compound) (b : Rc a_compound.Compound Global) (rs0 : Redirects) (rs : Rc Redirects Global) (pl : Place) (k : Next) (e e' : Shell) (p : ℕ) → name' ≡ name → b.value ≡ b0 → rs.value ≡ rs0 → e' ≡ define name' (function_tree (tree.compound b.value) (tree.redirects rs.value)) e → define_means name (function_tree (tree.compound b0) (tree.redirects rs0)) pl e k p ≡ pay 1 (k Normal (with_status 0 e')) p
 function_defined name name' b0 b rs0 rs pl k e e' p hn hb hr he =
@@ -77,7 +77,7 @@ whole_begun l d pl k e e' p hd he =
     ∙ ap (λ (d : CommandList). seq_all (commands_from l 0) pl (cleared (tree.commands d) e) k p) (sym hd)
     ∙ ap (λ (x : Shell). seq_all (commands_from l 0) pl x k p) (sym he)
 
-pub run_begun : (l rest : Rc CommandList Global) (d : CommandList) (t : tree.CommandTree) (at : ℕ) (pl : Place) (k k' : Next) (e : Shell) (p : ℕ) → d ≡ l.value → Some t ≡ command_at (tree.commands d) at → rest.value ≡ l.value → k' ≡ surrounded (around.Rest pl rest (at + 1)) k → seq_all (commands_from l.value at) pl e k p ≡ command_in run t pl e k' p
+pub run_begun : (l rest : Rc CommandList Global) (d : CommandList) (t : tree.CommandTree) (at : ℕ) (pl : Place) (k k' : Next) (e : Shell) (p : ℕ) → d ≡ l.value → Some t ≡ command_at (tree.commands d) at → rest.value ≡ l.value → k' ≡ continued (continuation.Rest pl rest (at + 1)) k → seq_all (commands_from l.value at) pl e k p ≡ command_in run t pl e k' p
 run_begun l rest d t at pl k k' e p hd is hr hk =
     let is' = subst (λ (d : CommandList). Some t ≡ command_at (tree.commands d) at) hd is in
     ap (λ (ms : List Means). seq_all ms pl e k p) (commands_some (tree.commands l.value) at t is')
@@ -109,18 +109,18 @@ piped_more (tree.command_and c (tree.command_and d cs)) pl k e p h = refl
 pub pipes_one : (l : Rc CommandList Global) (d : CommandList) (b : Bool) (pl : Place) (k : Next) (e : Shell) (p : ℕ) → d ≡ l.value → b ≡ is_one (tree.commands d) → b ≡ true → piped_means (commands_in run (tree.commands l.value)) pl k e p ≡ resumed (control.One pl l 0) k Go e p
 pipes_one l d b pl k e p hd hb h = piped_one (tree.commands l.value) pl k e p (subst (λ (d : CommandList). is_one (tree.commands d) ≡ true) hd (sym hb ∙ h))
 
-pub pipes_more : (l : Rc CommandList Global) (d : CommandList) (b : Bool) (pl : Place) (k : Next) (e : Shell) (p : ℕ) → d ≡ l.value → b ≡ is_one (tree.commands d) → b ≡ false → piped_means (commands_in run (tree.commands l.value)) pl k e p ≡ resumed (control.Inside (inside.Stages pl l 0 None)) k Go e p
+pub pipes_more : (l : Rc CommandList Global) (d : CommandList) (b : Bool) (pl : Place) (k : Next) (e : Shell) (p : ℕ) → d ≡ l.value → b ≡ is_one (tree.commands d) → b ≡ false → piped_means (commands_in run (tree.commands l.value)) pl k e p ≡ resumed (control.CompoundStep (compound_step.Stages pl l 0 None)) k Go e p
 pipes_more l d b pl k e p hd hb h = piped_more (tree.commands l.value) pl k e p (subst (λ (d : CommandList). is_one (tree.commands d) ≡ false) hd (sym hb ∙ h))
 
-pub bang_entered : (l0 : CommandList) (l : Rc CommandList Global) (ctl : Control) (pl : Place) (k k' : Next) (e : Shell) (p : ℕ) → l.value ≡ l0 → k' ≡ surrounded around.Invert k → ((k : Next) (e : Shell) → Goes (piped_means (commands_in run (tree.commands l.value)) (ignoring pl) k e) k e ctl) → pipeline_means true (commands_in run (tree.commands l0)) pl e k p ≡ pay 1 (resumed ctl k' Go e) p
+pub bang_entered : (l0 : CommandList) (l : Rc CommandList Global) (ctl : Control) (pl : Place) (k k' : Next) (e : Shell) (p : ℕ) → l.value ≡ l0 → k' ≡ continued continuation.Invert k → ((k : Next) (e : Shell) → Goes (piped_means (commands_in run (tree.commands l.value)) (ignoring pl) k e) k e ctl) → pipeline_means true (commands_in run (tree.commands l0)) pl e k p ≡ pay 1 (resumed ctl k' Go e) p
 bang_entered l0 l ctl pl k k' e p hl hk h =
-    ap (λ (l : CommandList). pay 1 (piped_means (commands_in run (tree.commands l)) (ignoring pl) (surrounded around.Invert k) e) p) (sym hl)
+    ap (λ (l : CommandList). pay 1 (piped_means (commands_in run (tree.commands l)) (ignoring pl) (continued continuation.Invert k) e) p) (sym hl)
     ∙ ap (λ (k : Next). pay 1 (piped_means (commands_in run (tree.commands l.value)) (ignoring pl) k e) p) (sym hk)
     ∙ ap (λ (x : Says). pay 1 x p) (λ i p. h k' e p i)
 
-pub plain_entered : (l0 : CommandList) (l : Rc CommandList Global) (ctl : Control) (pl : Place) (k k' : Next) (e : Shell) (p : ℕ) → l.value ≡ l0 → k' ≡ surrounded (around.Watch pl) k → ((k : Next) (e : Shell) → Goes (piped_means (commands_in run (tree.commands l.value)) pl k e) k e ctl) → pipeline_means false (commands_in run (tree.commands l0)) pl e k p ≡ pay 1 (resumed ctl k' Go e) p
+pub plain_entered : (l0 : CommandList) (l : Rc CommandList Global) (ctl : Control) (pl : Place) (k k' : Next) (e : Shell) (p : ℕ) → l.value ≡ l0 → k' ≡ continued (continuation.Watch pl) k → ((k : Next) (e : Shell) → Goes (piped_means (commands_in run (tree.commands l.value)) pl k e) k e ctl) → pipeline_means false (commands_in run (tree.commands l0)) pl e k p ≡ pay 1 (resumed ctl k' Go e) p
 plain_entered l0 l ctl pl k k' e p hl hk h =
-    ap (λ (l : CommandList). pay 1 (piped_means (commands_in run (tree.commands l)) pl (surrounded (around.Watch pl) k) e) p) (sym hl)
+    ap (λ (l : CommandList). pay 1 (piped_means (commands_in run (tree.commands l)) pl (continued (continuation.Watch pl) k) e) p) (sym hl)
     ∙ ap (λ (k : Next). pay 1 (piped_means (commands_in run (tree.commands l.value)) pl k e) p) (sym hk)
     ∙ ap (λ (x : Says). pay 1 x p) (λ i p. h k' e p i)
 
@@ -136,12 +136,12 @@ and_or_more tree.no_commands connectors pl k e p h = refl
 and_or_more (tree.command_and c tree.no_commands) connectors pl k e p h = cc
 and_or_more (tree.command_and c (tree.command_and d cs)) connectors pl k e p h = refl
 
-module _ (l0 : CommandList) (l r : Rc CommandList Global) (os0 : Connectors) (os : Rc Connectors Global) (d : CommandList) (b : Bool) (pl : Place) (k k' : Next) (e : Shell) (p : ℕ) (hl : l.value ≡ l0) (hr : r.value ≡ l0) (ho : os.value ≡ os0) (hd : d ≡ l.value) (hb : b ≡ is_one (tree.commands d)) (hk : k' ≡ surrounded (around.Links pl r 0 os) k) where
+module _ (l0 : CommandList) (l r : Rc CommandList Global) (os0 : Connectors) (os : Rc Connectors Global) (d : CommandList) (b : Bool) (pl : Place) (k k' : Next) (e : Shell) (p : ℕ) (hl : l.value ≡ l0) (hr : r.value ≡ l0) (ho : os.value ≡ os0) (hd : d ≡ l.value) (hb : b ≡ is_one (tree.commands d)) (hk : k' ≡ continued (continuation.Links pl r 0 os) k) where
   goes_so : (pl' : Place) → pay 1 (first_of (commands_from l0 0) pl' e (and_then (links_mean (commands_from l0 1) os0.items.items pl k) k)) p ≡ pay 1 (resumed (control.One pl' l 0) k' Go e) p
   goes_so pl' =
       ap (λ (c : CommandList). pay 1 (first_of (commands_from l0 0) pl' e (and_then (links_mean (commands_from c 1) os0.items.items pl k) k)) p) (sym hr)
       ∙ ap (λ (o : Connectors). pay 1 (first_of (commands_from l0 0) pl' e (and_then (links_mean (commands_from r.value 1) o.items.items pl k) k)) p) (sym ho)
-      ∙ ap (λ (c : CommandList). pay 1 (first_of (commands_from c 0) pl' e (surrounded (around.Links pl r 0 os) k)) p) (sym hl)
+      ∙ ap (λ (c : CommandList). pay 1 (first_of (commands_from c 0) pl' e (continued (continuation.Links pl r 0 os) k)) p) (sym hl)
       ∙ ap (λ (k : Next). pay 1 (first_of (commands_from l.value 0) pl' e k) p) (sym hk)
 
   is_so : b ≡ is_one (tree.commands l0)

@@ -9,7 +9,7 @@ use Rattle.sh_ast.specs.Commands as tree
 use Rattle.sh_ast.specs.declared.command.CommandList.{CommandList}
 use Rattle.sh_ast.specs.declared.command.LoopKind.{LoopKind}
 use Rattle.sh_ast.specs.declared.command.LoopKind.TheVariants.{While, Until}
-use Rattle.sh_means.specs.declared.control.Around.TheVariants as around
+use Rattle.sh_means.specs.declared.control.Continuation.TheVariants as continuation
 use Rattle.sh_means.specs.declared.control.Control.TheVariants as control
 use Rattle.sh_means.specs.declared.control.Each.{Each}
 use Rattle.sh_means.specs.declared.control.Loop.{Loop}
@@ -20,13 +20,13 @@ use Rattle.sh_means.specs.Eval.{is_until}
 use Rattle.sh_means.specs.Flows.{Next, Go_on, by_status, ends, deeper}
 use Rattle.sh_compound.specs.Leaving.{goes_on, entered}
 use Rattle.sh_means.specs.Run.{run}
-use Rattle.sh_means.specs.Stack.{each_body, looping, whole, surrounded, resumed}
+use Rattle.sh_means.specs.Stack.{each_body, looping, whole, continued, resumed}
 use Rattle.sh_means.specs.State.{Shell}
 
-pub each_entered : (each : Each) (b : Place) (body : Rc CommandList Global) (pl : Place) (k k' : Next) (e : Shell) (p : ℕ) → body.value ≡ each.body.value → b ≡ deeper pl → k' ≡ surrounded (around.Each pl (record each { at = each.at + 1 })) k → each_body each pl k e p ≡ resumed (control.Whole b body) k' Go e p
+pub each_entered : (each : Each) (b : Place) (body : Rc CommandList Global) (pl : Place) (k k' : Next) (e : Shell) (p : ℕ) → body.value ≡ each.body.value → b ≡ deeper pl → k' ≡ continued (continuation.Each pl (record each { at = each.at + 1 })) k → each_body each pl k e p ≡ resumed (control.Whole b body) k' Go e p
 each_entered each b body pl k k' e p hc hb hk =
-    ap (λ (c : CommandList). whole c (deeper pl) e (surrounded (around.Each pl (record each { at = each.at + 1 })) k) p) (sym hc)
-    ∙ ap (λ (b : Place). whole body.value b e (surrounded (around.Each pl (record each { at = each.at + 1 })) k) p) (sym hb)
+    ap (λ (c : CommandList). whole c (deeper pl) e (continued (continuation.Each pl (record each { at = each.at + 1 })) k) p) (sym hc)
+    ∙ ap (λ (b : Place). whole body.value b e (continued (continuation.Each pl (record each { at = each.at + 1 })) k) p) (sym hb)
     ∙ ap (λ (k : Next). whole body.value b e k p) (sym hk)
 
 chosen : LoopKind → ℕ → Go_on → Go_on → Go_on
@@ -52,13 +52,13 @@ stops While (suc n) x y e p h = refl
 stops Until zero x y e p h = refl
 stops Until (suc n) x y e p h = absurd (false≢true (sym h ∙ ap not (eqb-suc-zero n)))
 
-pub loop_entered : (l : Loop) (last : ℕ) (t : Bool) (b : Place) (body : Rc CommandList Global) (pl : Place) (k k' : Next) (e : Shell) (p : ℕ) → t ≡ goes_on l.kind e.env.status → t ≡ true → body.value ≡ l.body.value → b ≡ deeper pl → k' ≡ surrounded (around.Body pl l) k → entered l last pl k e p ≡ resumed (control.Whole b body) k' Go e p
+pub loop_entered : (l : Loop) (last : ℕ) (t : Bool) (b : Place) (body : Rc CommandList Global) (pl : Place) (k k' : Next) (e : Shell) (p : ℕ) → t ≡ goes_on l.kind e.env.status → t ≡ true → body.value ≡ l.body.value → b ≡ deeper pl → k' ≡ continued (continuation.Body pl l) k → entered l last pl k e p ≡ resumed (control.Whole b body) k' Go e p
 loop_entered l last t b body pl k k' e p ht h hc hb hk =
     let x : Go_on = λ e. whole l.body.value (deeper pl) e (after_body run (looping l) (tree.commands l.condition.value) (tree.commands l.body.value) pl k) in
     let y : Go_on = λ e. ends Normal last k e in
     turns_is l.kind x y e p ∙ goes l.kind e.env.status x y e p (sym ht ∙ h)
-    ∙ ap (λ (c : CommandList). whole c (deeper pl) e (surrounded (around.Body pl l) k) p) (sym hc)
-    ∙ ap (λ (b : Place). whole body.value b e (surrounded (around.Body pl l) k) p) (sym hb)
+    ∙ ap (λ (c : CommandList). whole c (deeper pl) e (continued (continuation.Body pl l) k) p) (sym hc)
+    ∙ ap (λ (b : Place). whole body.value b e (continued (continuation.Body pl l) k) p) (sym hb)
     ∙ ap (λ (k : Next). whole body.value b e k p) (sym hk)
 
 pub loop_over : (l : Loop) (last : ℕ) (t : Bool) (pl : Place) (k : Next) (e : Shell) (p : ℕ) → t ≡ goes_on l.kind e.env.status → t ≡ false → entered l last pl k e p ≡ ends Normal last k e p

@@ -16,11 +16,12 @@ use rk_base::{Bytes, NoMemory, WordList};
 use rk_calls::Answer;
 use sh_ast::{Command, CommandList, Compound, Connectors, Redirects, SimpleCommand};
 use sh_means::control::{
-    Acted, Around, Control, Fielding, Frame, Inside, Made, Making, Then, Wordy,
+    Acted, CompoundStep, Continuation, Control, Frame, Made, PendingFields, PendingRedirects,
+    SimpleStep, Then,
 };
 use sh_means::flow::{Flow, Place};
 use sh_means::numbers::behind;
-use sh_means::stack::put_around;
+use sh_means::stack::put_continuation;
 use sh_means::state::{Callee, Function, State};
 use sh_means::steps::{free, paid};
 use std::alloc::Global;
@@ -34,9 +35,9 @@ fn act_simple(alloc: Global, place: Place, command: &Rc<SimpleCommand>) -> Resul
     let command = command.clone()?;
     let words = command.words.clone()?;
     let fields = WordList::new(Vec::new(alloc));
-    Ok(paid(Control::Wordy(Wordy::Words(
+    Ok(paid(Control::SimpleStep(SimpleStep::Words(
         place,
-        Fielding {
+        PendingFields {
             words,
             at: 0,
             fields,
@@ -47,7 +48,7 @@ fn act_simple(alloc: Global, place: Place, command: &Rc<SimpleCommand>) -> Resul
 }
 
 /// A compound command begins with its redirections.
-pub fn act_compound(
+pub fn act_redirected(
     alloc: Global,
     place: Place,
     body: &Rc<Compound>,
@@ -60,9 +61,9 @@ pub fn act_compound(
     let redirects = redirects.clone()?;
     let body = body.clone()?;
     let before = Box::new(alloc, state.descriptors)?;
-    Ok(paid(Control::Wordy(Wordy::Make(
+    Ok(paid(Control::SimpleStep(SimpleStep::Make(
         place,
-        Making {
+        PendingRedirects {
             redirects,
             at: 0,
             before,
@@ -107,7 +108,7 @@ fn pipe(place: Place, commands: Rc<CommandList>) -> Control
     if is_one(&commands) {
         Control::One(place, commands, 0)
     } else {
-        Control::Inside(Inside::Stages(place, commands, 0, None))
+        Control::CompoundStep(CompoundStep::Stages(place, commands, 0, None))
     }
 }
 
@@ -122,14 +123,14 @@ fn act_pipeline(
 {
     let commands = commands.clone()?;
     if negated {
-        put_around(stack, Around::Invert)?;
+        put_continuation(stack, Continuation::Invert)?;
         let inside = Place {
             ignores: true,
             ..place
         };
         return Ok(paid(pipe(inside, commands)));
     }
-    put_around(stack, Around::Watch(place))?;
+    put_continuation(stack, Continuation::Watch(place))?;
     Ok(paid(pipe(place, commands)))
 }
 
@@ -146,7 +147,7 @@ fn act_and_or(
     let list = pipelines.clone()?;
     let rest = pipelines.clone()?;
     let connectors = connectors.clone()?;
-    put_around(stack, Around::Links(place, rest, 0, connectors))?;
+    put_continuation(stack, Continuation::Links(place, rest, 0, connectors))?;
     if is_one(&list) {
         return Ok(paid(Control::One(place, list, 0)));
     }
@@ -174,7 +175,7 @@ fn act_command(
             Ok(acted)
         }
         Command::Compound(body, redirects) => {
-            let acted = act_compound(alloc, place, body, redirects, state)?;
+            let acted = act_redirected(alloc, place, body, redirects, state)?;
             Ok(acted)
         }
         Command::Function(name, body, redirects) => {
@@ -229,7 +230,7 @@ pub fn act_run(
     match list.get(at) {
         Some(command) => {
             let next = behind(at)?;
-            put_around(stack, Around::Rest(place, rest, next))?;
+            put_continuation(stack, Continuation::Rest(place, rest, next))?;
             let acted = act_command(alloc, place, command, stack, state)?;
             Ok(acted)
         }

@@ -18,14 +18,14 @@ use rk_calls::{Answer, Call, Turn};
 use sh_ast::{Branches, CaseItems, CommandList, Compound, LoopKind, Word, Words};
 use sh_expand::Mode;
 use sh_means::control::{
-    Acted, Aim, Around, Casing, Control, Each, Fielding, Frame, Inside, Loop, Then, Undo, Wait,
-    Wordy,
+    Acted, Aim, CompoundStep, Continuation, Control, Each, Frame, Loop, PendingCase, PendingFields,
+    SimpleStep, Then, Undo, Wait,
 };
 use sh_means::expansion::{begin, over_fields};
 use sh_means::flow::{Flow, Place};
 use sh_means::items::item_at;
 use sh_means::numbers::behind;
-use sh_means::stack::{put_around, put_undo};
+use sh_means::stack::{put_continuation, put_undo};
 use sh_means::state::State;
 use sh_means::steps::{end, free, paid, refuse};
 use sh_vars::VarErr;
@@ -44,7 +44,7 @@ fn act_subshell(
 {
     let list = list.clone()?;
     let saved = state.save(alloc)?;
-    put_around(stack, Around::Watch(place))?;
+    put_continuation(stack, Continuation::Watch(place))?;
     put_undo(stack, Undo::Subshell(saved))?;
     Ok(Control::Whole(place, list))
 }
@@ -70,9 +70,9 @@ fn act_for(
         Some(words) => {
             let words = words.clone()?;
             let fields = WordList::new(Vec::new(alloc));
-            Ok(Control::Wordy(Wordy::Words(
+            Ok(Control::SimpleStep(SimpleStep::Words(
                 place,
-                Fielding {
+                PendingFields {
                     words,
                     at: 0,
                     fields,
@@ -108,7 +108,7 @@ fn act_loop(
 {
     let condition = condition.clone()?;
     let body = body.clone()?;
-    Ok(Control::Inside(Inside::Round(
+    Ok(Control::CompoundStep(CompoundStep::Round(
         place,
         0,
         Loop {
@@ -149,7 +149,7 @@ pub fn act_compound(
         Compound::If(branches, otherwise) => {
             let branches = branches.clone()?;
             let otherwise = otherwise.clone()?;
-            Ok(Control::Inside(Inside::If(place, branches, 0, otherwise)))
+            Ok(Control::CompoundStep(CompoundStep::If(place, branches, 0, otherwise)))
         }
         Compound::Loop(kind, condition, body) => {
             let control = act_loop(place, *kind, condition, body)?;
@@ -174,7 +174,10 @@ pub fn act_if(
             let condition = branch.condition.clone()?;
             let body = branch.body.clone()?;
             let next = behind(at)?;
-            put_around(stack, Around::Choose(place, body, rest, next, otherwise))?;
+            put_continuation(
+                stack,
+                Continuation::Choose(place, body, rest, next, otherwise),
+            )?;
             let inside = Place {
                 ignores: true,
                 ..place
@@ -207,7 +210,7 @@ pub fn act_round(
 {
     let condition = left.condition.clone()?;
     let below = deeper(place)?;
-    put_around(stack, Around::Condition(place, last, left))?;
+    put_continuation(stack, Continuation::Condition(place, last, left))?;
     let inside = Place {
         ignores: true,
         ..below
@@ -233,7 +236,7 @@ pub fn act_each(place: Place, each: Each) -> Acted
     ensures costly { IsStep result.turn }
 {
     if each.at < each.fields.len() {
-        paid(Control::Inside(Inside::Gives(place, each)))
+        paid(Control::CompoundStep(CompoundStep::Gives(place, each)))
     } else {
         free(Control::Leave(Flow::Normal))
     }
@@ -248,7 +251,7 @@ fn enter_body(place: Place, each: Each, stack: &mut Vec<Frame>) -> Result<Contro
     let next = behind(each.at)?;
     let mut each = each;
     each.at = next;
-    put_around(stack, Around::Each(place, each))?;
+    put_continuation(stack, Continuation::Each(place, each))?;
     Ok(Control::Whole(below, body))
 }
 
@@ -284,7 +287,7 @@ pub fn act_gives(
 pub fn act_case_at(
     alloc: Global,
     place: Place,
-    left: Casing,
+    left: PendingCase,
     state: &mut State,
 ) -> Result<Acted, NoMemory>
     ensures talk { IfOk result (λ t. (k : Next) → Steps (casing left left.pattern place k (shell_of state.old)) k (shell_of state.new) t) }
@@ -299,7 +302,7 @@ pub fn act_case_at(
                 let mut left = left;
                 left.at = next;
                 left.pattern = 0;
-                Ok(free(Control::Inside(Inside::Case(place, left))))
+                Ok(free(Control::CompoundStep(CompoundStep::Case(place, left))))
             }
             Some(word) => {
                 let word = word.clone()?;
@@ -374,9 +377,9 @@ pub fn act_stage(
     let write_end = next_number(read_end)?;
     let next = behind(at)?;
     let status = state.env.status;
-    put_around(
+    put_continuation(
         stack,
-        Around::Stage(place, rest, next, read_end, status, saved),
+        Continuation::Stage(place, rest, next, read_end, status, saved),
     )?;
     read_from(input, state);
     state.descriptors.set(1, Some(write_end));

@@ -1,14 +1,14 @@
 // What a frame that is left leads to.
 ghost use Rattle.std.specs.Prelude.{◌≡◌, ◌==◌, ◌+◌, IfOk, Bool, true, not, drop, if◌then◌else◌};
 ghost use Rattle.sh_ast.specs.Commands as tree;
-ghost use Rattle.sh_means.specs.declared.control.Around.TheVariants as arounds;
+ghost use Rattle.sh_means.specs.declared.control.Continuation.TheVariants as continuations;
 ghost use Rattle.sh_means.specs.declared.control.Undo.TheVariants as undos;
 ghost use Rattle.sh_means.specs.declared.flow.Flow.{Flow as Flows};
 ghost use Rattle.sh_means.specs.Flows.{Next, and_then, leave, returned};
 ghost use Rattle.sh_means.specs.Compound.{takes, links_mean};
 ghost use Rattle.sh_compound.specs.Leaving.{goes_on, entered, linked};
 ghost use Rattle.sh_means.specs.Run.{run};
-ghost use Rattle.sh_means.specs.Stack.{Goes, context, surrounded, undone, commands_from, whole, looping, resumed};
+ghost use Rattle.sh_means.specs.Stack.{Goes, context, continued, undone, commands_from, whole, looping, resumed};
 ghost use Rattle.sh_means.specs.State.{Shell};
 ghost use Rattle.sh_means.specs.Views.{shell_of};
 
@@ -16,17 +16,17 @@ use crate::compounds::deeper;
 use crate::undoing::{put_back, put_back_variables};
 use rk_base::{NoMemory, WordList};
 use sh_ast::{Branches, CommandList, Connector, Connectors, LoopKind};
-use sh_means::control::{Around, Control, Each, Frame, Inside, Loop, Undo, Wordy};
+use sh_means::control::{CompoundStep, Continuation, Control, Each, Frame, Loop, SimpleStep, Undo};
 use sh_means::flow::{Flow, Place};
 use sh_means::items::item_at;
 use sh_means::numbers::behind;
-use sh_means::stack::put_around;
+use sh_means::stack::put_continuation;
 use sh_means::state::State;
 use std::rc::Rc;
 
 // After a command of a list.
 fn leave_rest(place: Place, list: Rc<CommandList>, at: usize, flow: Flow) -> Control
-    ensures { (k : Next) (e : Shell) → Goes (surrounded (arounds.Rest place list at) k flow e) k e result }
+    ensures { (k : Next) (e : Shell) → Goes (continued (continuations.Rest place list at) k flow e) k e result }
 {
     match flow {
         Flow::Normal => Control::Run(place, list, at),
@@ -93,7 +93,7 @@ fn links(
         Some(connector) => {
             let taken = takes(*connector, state.env.status);
             let next = behind(at)?;
-            put_around(stack, Around::Links(place, rest, next, later))?;
+            put_continuation(stack, Continuation::Links(place, rest, next, later))?;
             let control = link(place, list, next, taken)?;
             Ok(control)
         }
@@ -109,7 +109,7 @@ fn leave_links(
     stack: &mut Vec<Frame>,
     state: &State,
 ) -> Result<Control, NoMemory>
-    ensures { IfOk result (Goes (surrounded (arounds.Links place list at connectors) (context stack.old.items) flow (shell_of state.now)) (context stack.new.items) (shell_of state.now)) }
+    ensures { IfOk result (Goes (continued (continuations.Links place list at connectors) (context stack.old.items) flow (shell_of state.now)) (context stack.new.items) (shell_of state.now)) }
 {
     match flow {
         Flow::Normal => {
@@ -133,14 +133,14 @@ fn leave_choose(
     flow: Flow,
     state: &State,
 ) -> Control
-    ensures { (k : Next) → Goes (surrounded (arounds.Choose place body branches at otherwise) k flow (shell_of state.now)) k (shell_of state.now) result }
+    ensures { (k : Next) → Goes (continued (continuations.Choose place body branches at otherwise) k flow (shell_of state.now)) k (shell_of state.now) result }
 {
     match flow {
         Flow::Normal => {
             if state.env.status == 0 {
                 Control::Whole(place, body)
             } else {
-                Control::Inside(Inside::If(place, branches, at, otherwise))
+                Control::CompoundStep(CompoundStep::If(place, branches, at, otherwise))
             }
         }
         Flow::Breaks(n) => Control::Leave(Flow::Breaks(n)),
@@ -163,14 +163,14 @@ fn leave_loop(n: u64) -> Flow
 
 // After a loop's body.
 fn leave_body(place: Place, left: Loop, flow: Flow, state: &State) -> Control
-    ensures { (k : Next) → Goes (surrounded (arounds.Body place left) k flow (shell_of state.now)) k (shell_of state.now) result }
+    ensures { (k : Next) → Goes (continued (continuations.Body place left) k flow (shell_of state.now)) k (shell_of state.now) result }
 {
     match flow {
-        Flow::Normal => Control::Inside(Inside::Round(place, state.env.status, left)),
+        Flow::Normal => Control::CompoundStep(CompoundStep::Round(place, state.env.status, left)),
         Flow::Breaks(n) => Control::Leave(leave_loop(n)),
         Flow::Continues(n) => {
             if n == 0 {
-                Control::Inside(Inside::Round(place, state.env.status, left))
+                Control::CompoundStep(CompoundStep::Round(place, state.env.status, left))
             } else {
                 Control::Leave(Flow::Continues(n - 1))
             }
@@ -182,14 +182,14 @@ fn leave_body(place: Place, left: Loop, flow: Flow, state: &State) -> Control
 
 // After the body of a `for`.
 fn leave_each(place: Place, each: Each, flow: Flow) -> Control
-    ensures { (k : Next) (e : Shell) → Goes (surrounded (arounds.Each place each) k flow e) k e result }
+    ensures { (k : Next) (e : Shell) → Goes (continued (continuations.Each place each) k flow e) k e result }
 {
     match flow {
-        Flow::Normal => Control::Inside(Inside::Each(place, each)),
+        Flow::Normal => Control::CompoundStep(CompoundStep::Each(place, each)),
         Flow::Breaks(n) => Control::Leave(leave_loop(n)),
         Flow::Continues(n) => {
             if n == 0 {
-                Control::Inside(Inside::Each(place, each))
+                Control::CompoundStep(CompoundStep::Each(place, each))
             } else {
                 Control::Leave(Flow::Continues(n - 1))
             }
@@ -222,7 +222,7 @@ fn enter_body(
     if goes_on(left.kind, state.env.status) {
         let body = left.body.clone()?;
         let below = deeper(place)?;
-        put_around(stack, Around::Body(place, left))?;
+        put_continuation(stack, Continuation::Body(place, left))?;
         return Ok(Control::Whole(below, body));
     }
     state.env.status = last;
@@ -238,7 +238,7 @@ fn leave_condition(
     stack: &mut Vec<Frame>,
     state: &mut State,
 ) -> Result<Control, NoMemory>
-    ensures { IfOk result (Goes (surrounded (arounds.Condition place last left) (context stack.old.items) flow (shell_of state.old)) (context stack.new.items) (shell_of state.new)) }
+    ensures { IfOk result (Goes (continued (continuations.Condition place last left) (context stack.old.items) flow (shell_of state.old)) (context stack.new.items) (shell_of state.new)) }
 {
     match flow {
         Flow::Normal => {
@@ -248,7 +248,7 @@ fn leave_condition(
         Flow::Breaks(n) => Ok(Control::Leave(leave_loop(n))),
         Flow::Continues(n) => {
             if n == 0 {
-                Ok(Control::Inside(Inside::Round(place, state.env.status, left)))
+                Ok(Control::CompoundStep(CompoundStep::Round(place, state.env.status, left)))
             } else {
                 Ok(Control::Leave(Flow::Continues(n - 1)))
             }
@@ -260,7 +260,7 @@ fn leave_condition(
 
 // After a command at which `set -e` looks.
 fn leave_watch(place: Place, flow: Flow, state: &State) -> Control
-    ensures { (k : Next) → Goes (surrounded (arounds.Watch place) k flow (shell_of state.now)) k (shell_of state.now) result }
+    ensures { (k : Next) → Goes (continued (continuations.Watch place) k flow (shell_of state.now)) k (shell_of state.now) result }
 {
     match flow {
         Flow::Normal => {
@@ -279,7 +279,7 @@ fn leave_watch(place: Place, flow: Flow, state: &State) -> Control
 
 // After a pipeline with `!`.
 fn leave_invert(flow: Flow, state: &mut State) -> Control
-    ensures { (k : Next) → Goes (surrounded arounds.Invert k flow (shell_of state.old)) k (shell_of state.new) result }
+    ensures { (k : Next) → Goes (continued continuations.Invert k flow (shell_of state.old)) k (shell_of state.new) result }
 {
     match flow {
         Flow::Normal => {
@@ -294,34 +294,34 @@ fn leave_invert(flow: Flow, state: &mut State) -> Control
 }
 
 /// After a command, what is left to do after it.
-pub fn leave_around(
-    frame: Around,
+pub fn leave_continuation(
+    frame: Continuation,
     flow: Flow,
     stack: &mut Vec<Frame>,
     state: &mut State,
 ) -> Result<Control, NoMemory>
-    ensures { IfOk result (Goes (surrounded frame (context stack.old.items) flow (shell_of state.old)) (context stack.new.items) (shell_of state.new)) }
+    ensures { IfOk result (Goes (continued frame (context stack.old.items) flow (shell_of state.old)) (context stack.new.items) (shell_of state.new)) }
 {
     match frame {
-        Around::Rest(place, list, at) => Ok(leave_rest(place, list, at, flow)),
-        Around::Links(place, list, at, connectors) => {
+        Continuation::Rest(place, list, at) => Ok(leave_rest(place, list, at, flow)),
+        Continuation::Links(place, list, at, connectors) => {
             let control = leave_links(place, list, at, connectors, flow, stack, state)?;
             Ok(control)
         }
-        Around::Stage(place, list, at, read_end, status, saved) => {
+        Continuation::Stage(place, list, at, read_end, status, saved) => {
             state.come_back(saved);
             state.env.status = status;
-            Ok(Control::Inside(Inside::Stages(place, list, at, Some(read_end))))
+            Ok(Control::CompoundStep(CompoundStep::Stages(place, list, at, Some(read_end))))
         }
-        Around::Watch(place) => Ok(leave_watch(place, flow, state)),
-        Around::Invert => Ok(leave_invert(flow, state)),
-        Around::Condition(place, last, left) => {
+        Continuation::Watch(place) => Ok(leave_watch(place, flow, state)),
+        Continuation::Invert => Ok(leave_invert(flow, state)),
+        Continuation::Condition(place, last, left) => {
             let control = leave_condition(place, last, left, flow, stack, state)?;
             Ok(control)
         }
-        Around::Body(place, left) => Ok(leave_body(place, left, flow, state)),
-        Around::Each(place, each) => Ok(leave_each(place, each, flow)),
-        Around::Choose(place, body, branches, at, otherwise) => Ok(leave_choose(
+        Continuation::Body(place, left) => Ok(leave_body(place, left, flow, state)),
+        Continuation::Each(place, each) => Ok(leave_each(place, each, flow)),
+        Continuation::Choose(place, body, branches, at, otherwise) => Ok(leave_choose(
             place, body, branches, at, otherwise, flow, state,
         )),
     }
@@ -364,7 +364,7 @@ pub fn leave_undo(frame: Undo, flow: Flow, state: &mut State) -> Result<Control,
         }
         Undo::Substitution(wording, saved) => {
             state.come_back(saved);
-            Ok(Control::Wordy(Wordy::Expand(wording)))
+            Ok(Control::SimpleStep(SimpleStep::Expand(wording)))
         }
     }
 }

@@ -1,17 +1,17 @@
 // Descriptors and variables as they were before.
 ghost use Rattle.std.specs.Prelude.{◌≡◌, OnOk};
-ghost use Rattle.sh_redirect.specs.Descriptors.{put_back};
+ghost use Rattle.sh_redirect.specs.DescriptorTable.{put_back};
 ghost use Rattle.sh_means.specs.State.{put_back_variables};
 ghost use Rattle.sh_means.specs.Stack.{redirects_from, assigns_from};
 ghost use Rattle.sh_means.specs.Words.{named, names};
 
 use rk_base::NoMemory;
 use sh_ast::{Assignments, Redirects};
-use sh_redirect::Descriptors;
+use sh_redirect::DescriptorTable;
 use sh_vars::{Saved, Vars};
 
 /// The descriptors that redirections name are as they were before.
-pub fn put_back(redirects: &Redirects, before: &Descriptors, now: &mut Descriptors)
+pub fn put_back(redirects: &Redirects, before: &DescriptorTable, now: &mut DescriptorTable)
     ensures { now.new ≡ put_back (named (redirects_from redirects.now 0)) before.now now.old }
 {
     'redirects: for r in &redirects.items {

@@ -11,7 +11,7 @@ ghost use Rattle.sh_means.specs.Views.{shell_of};
 
 use rk_base::{Bytes, Kind, NoMemory};
 use rk_calls::{Answer, Call, How, Turn, absolute, brought};
-use sh_means::control::{Acted, Begin, Control, Wordy};
+use sh_means::control::{Acted, Begin, Control, SimpleStep};
 use sh_means::flow::{Flow, Place};
 use sh_means::state::State;
 use sh_means::steps::{free, refuse, tell};
@@ -121,7 +121,7 @@ fn looked(alloc: Global, file: Bytes, answer: Answer, state: &mut State) -> Resu
     }
 }
 
-fn opened(
+fn script_opened(
     alloc: Global,
     file: Bytes,
     n: u64,
@@ -141,13 +141,18 @@ fn opened(
     }
 }
 
-fn read(alloc: Global, file: Bytes, answer: Answer, state: &mut State) -> Result<Acted, NoMemory>
+fn script_read(
+    alloc: Global,
+    file: Bytes,
+    answer: Answer,
+    state: &mut State,
+) -> Result<Acted, NoMemory>
     ensures talk { IfOk result (λ t. (k : Next) → Steps (script_read run file k (brought answer) (shell_of state.old)) k (shell_of state.new) t) }
     ensures costly { IfOk result (λ t. IsStep t.turn) }
 {
     let it = brought(alloc, answer)?;
     match it {
-        Ok(text) => Ok(free(Control::Wordy(Wordy::Text(outermost(), file, text)))),
+        Ok(text) => Ok(free(Control::SimpleStep(SimpleStep::Text(outermost(), file, text)))),
         Err(errno) => fail(alloc, &file, errno.word().as_bytes(), 127, state),
     }
 }
@@ -167,7 +172,7 @@ pub(crate) fn act_begin(
         Begin::Script(file) => open(alloc, file, state),
         Begin::Command(file) => look(alloc, file, state),
         Begin::Looked(file) => looked(alloc, file, answer, state),
-        Begin::Opened(file, n) => opened(alloc, file, n, answer, state),
-        Begin::Read(file) => read(alloc, file, answer, state),
+        Begin::Opened(file, n) => script_opened(alloc, file, n, answer, state),
+        Begin::Read(file) => script_read(alloc, file, answer, state),
     }
 }

@@ -2,30 +2,30 @@
 ghost use Rattle.std.specs.Prelude.{◌≡◌, ◌↔◌, ℕ, IsTrue, IfOk, OnOk};
 ghost use Rattle.sh_means.specs.Eval.{over};
 ghost use Rattle.sh_eval.specs.Machine.{IsFree, gives, steps_on, evaluator_says};
-ghost use Rattle.sh_means.specs.Stack.{Steps, IsStep, context, insiding, wordily, waiting, resumed};
+ghost use Rattle.sh_means.specs.Stack.{Steps, IsStep, context, resumed_compound, resumed_simple, waiting, resumed};
 ghost use Rattle.sh_means.specs.State.{heard};
 ghost use Rattle.sh_means.specs.Views.{shell_of};
 ghost use Rattle.rk_calls.specs.Costly.{IsCostly};
 ghost use Rattle.rk_calls.specs.Talk.{after};
 
 use crate::begins::act_begin;
-use crate::reading::{act_text, opened, read};
+use crate::reading::{act_text, dot_opened, dot_read};
 use rk_base::NoMemory;
 use rk_calls::{Answer, Turn, joined};
-use sh_compound::commands::{act_compound as act_redirected, act_one, act_run, act_whole};
+use sh_compound::commands::{act_one, act_redirected, act_run, act_whole};
 use sh_compound::compounds::{
     act_case_at, act_compound, act_each, act_gives, act_if, act_round, act_stage, act_stages,
 };
-use sh_compound::leaving::{leave_around, leave_undo};
-use sh_means::control::{Acted, Control, Frame, Inside, Wait, Wordy};
+use sh_compound::leaving::{leave_continuation, leave_undo};
+use sh_means::control::{Acted, CompoundStep, Control, Frame, SimpleStep, Wait};
 use sh_means::flow::Flow;
 use sh_means::stack::pop;
 use sh_means::state::State;
 use sh_means::steps::{end, free, refuse};
 use sh_simple::assigning::next_assign;
-use sh_simple::launching::{go_on as go_on_builtin, go_on_without};
+use sh_simple::launching::{resume_builtin, resume_builtin_refused};
 use sh_words::expanding::act_expand;
-use sh_words::making::{go_on as go_on_redirect, next_redirect};
+use sh_words::making::{next_redirect, resume_redirection};
 use sh_words::words::{deliver, next_word};
 use std::alloc::Global;
 use std::mem;
@@ -39,64 +39,64 @@ pub struct Evaluator {
     control: Control,
 }
 
-fn act_inside(
+fn act_compound_step(
     alloc: Global,
-    inside: Inside,
+    step: CompoundStep,
     stack: &mut Vec<Frame>,
     state: &mut State,
 ) -> Result<Acted, NoMemory>
-    ensures talk { IfOk result (Steps (insiding inside (context stack.old.items) (shell_of state.old)) (context stack.new.items) (shell_of state.new)) }
+    ensures talk { IfOk result (Steps (resumed_compound step (context stack.old.items) (shell_of state.old)) (context stack.new.items) (shell_of state.new)) }
     ensures costly { IfOk result (λ t. IsStep t.turn) }
 {
-    match inside {
-        Inside::Compound(place, body) => {
+    match step {
+        CompoundStep::Compound(place, body) => {
             let control = act_compound(alloc, place, &body, stack, state)?;
             Ok(free(control))
         }
-        Inside::Called(place, callee) => act_redirected(
+        CompoundStep::Called(place, callee) => act_redirected(
             alloc,
             place,
             &callee.body,
             &callee.redirects,
             state,
         ),
-        Inside::If(place, branches, at, otherwise) => {
+        CompoundStep::If(place, branches, at, otherwise) => {
             let control = act_if(place, branches, at, otherwise, stack)?;
             Ok(free(control))
         }
-        Inside::Round(place, last, left) => act_round(place, last, left, stack),
-        Inside::Each(place, each) => { Ok(act_each(place, each)) }
-        Inside::Gives(place, each) => act_gives(alloc, place, each, stack, state),
-        Inside::Case(place, casing) => act_case_at(alloc, place, casing, state),
-        Inside::Stages(place, list, at, input) => act_stages(
+        CompoundStep::Round(place, last, left) => act_round(place, last, left, stack),
+        CompoundStep::Each(place, each) => { Ok(act_each(place, each)) }
+        CompoundStep::Gives(place, each) => act_gives(alloc, place, each, stack, state),
+        CompoundStep::Case(place, casing) => act_case_at(alloc, place, casing, state),
+        CompoundStep::Stages(place, list, at, input) => act_stages(
             alloc, place, list, at, input, stack, state,
         ),
     }
 }
 
-fn act_wordy(
+fn act_simple_step(
     alloc: Global,
-    wordy: Wordy,
+    step: SimpleStep,
     answer: Answer,
     stack: &mut Vec<Frame>,
     state: &mut State,
 ) -> Result<Acted, NoMemory>
-    ensures talk { IfOk result (Steps (wordily wordy (context stack.old.items) answer (shell_of state.old)) (context stack.new.items) (shell_of state.new)) }
+    ensures talk { IfOk result (Steps (resumed_simple step (context stack.old.items) answer (shell_of state.old)) (context stack.new.items) (shell_of state.new)) }
     ensures costly { IfOk result (λ t. IsStep t.turn) }
 {
-    match wordy {
-        Wordy::Words(place, left) => {
+    match step {
+        SimpleStep::Words(place, left) => {
             let control = next_word(alloc, place, left, state)?;
             Ok(free(control))
         }
-        Wordy::Expand(wording) => act_expand(alloc, wording, answer, stack, state),
-        Wordy::Deliver(wording, expanded) => deliver(alloc, wording, expanded, state),
-        Wordy::Make(place, left) => {
+        SimpleStep::Expand(wording) => act_expand(alloc, wording, answer, stack, state),
+        SimpleStep::Deliver(wording, expanded) => deliver(alloc, wording, expanded, state),
+        SimpleStep::Make(place, left) => {
             let control = next_redirect(alloc, place, left, stack, state)?;
             Ok(free(control))
         }
-        Wordy::Assign(place, left) => next_assign(alloc, place, left, stack, state),
-        Wordy::Text(place, name, text) => act_text(alloc, place, &name, &text, state),
+        SimpleStep::Assign(place, left) => next_assign(alloc, place, left, stack, state),
+        SimpleStep::Text(place, name, text) => act_text(alloc, place, &name, &text, state),
     }
 }
 
@@ -117,9 +117,9 @@ fn act_wait(
             let control = act_stage(alloc, place, list, at, input, read_end, stack, state)?;
             Ok(free(control))
         }
-        Wait::Opened(place, file, n) => opened(alloc, place, file, n, answer, state),
-        Wait::Read(place, file) => read(alloc, place, file, answer, stack, state),
-        Wait::Redirects(place, left, redirecting) => go_on_redirect(
+        Wait::Opened(place, file, n) => dot_opened(alloc, place, file, n, answer, state),
+        Wait::Read(place, file) => dot_read(alloc, place, file, answer, stack, state),
+        Wait::Redirects(place, left, redirecting) => resume_redirection(
             place,
             left,
             redirecting,
@@ -135,8 +135,8 @@ fn act_wait(
             1,
             state,
         ),
-        Wait::Builtin(builtin) => go_on_builtin(builtin, answer, state),
-        Wait::Lacks(builtin) => go_on_without(builtin, state),
+        Wait::Builtin(builtin) => resume_builtin(builtin, answer, state),
+        Wait::Lacks(builtin) => resume_builtin_refused(builtin, state),
     }
 }
 
@@ -150,8 +150,8 @@ fn act_leave(flow: Flow, stack: &mut Vec<Frame>, state: &mut State) -> Result<Ac
             turn: Turn::Exit(state.env.status, 0),
             control: Control::Leave(flow),
         }),
-        Some(Frame::Around(frame)) => {
-            let control = leave_around(frame, flow, stack, state)?;
+        Some(Frame::Continuation(frame)) => {
+            let control = leave_continuation(frame, flow, stack, state)?;
             Ok(free(control))
         }
         Some(Frame::Undo(frame)) => {
@@ -177,8 +177,8 @@ fn act(
         Control::Run(place, list, at) => act_run(alloc, place, list, at, stack, state),
         Control::Whole(place, list) => act_whole(alloc, place, list, stack, state),
         Control::One(place, list, at) => act_one(alloc, place, &list, at, stack, state),
-        Control::Inside(inside) => act_inside(alloc, inside, stack, state),
-        Control::Wordy(wordy) => act_wordy(alloc, wordy, answer, stack, state),
+        Control::CompoundStep(step) => act_compound_step(alloc, step, stack, state),
+        Control::SimpleStep(step) => act_simple_step(alloc, step, answer, stack, state),
         Control::Waits(wait) => act_wait(alloc, wait, answer, stack, state),
         Control::Leave(flow) => act_leave(flow, stack, state),
     }

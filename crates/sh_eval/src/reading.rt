@@ -9,7 +9,7 @@ ghost use Rattle.sh_means.specs.Views.{shell_of};
 
 use rk_base::{Bytes, NoMemory};
 use rk_calls::{Answer, Call, Turn, brought};
-use sh_means::control::{Acted, Control, Frame, Undo, Wait, Wordy};
+use sh_means::control::{Acted, Control, Frame, SimpleStep, Undo, Wait};
 use sh_means::flow::{Flow, Place};
 use sh_means::stack::put_undo;
 use sh_means::state::State;
@@ -40,7 +40,7 @@ pub(crate) fn act_text(
 }
 
 /// Once a dot script was opened, whose number is n, or refused.
-pub(crate) fn opened(
+pub(crate) fn dot_opened(
     alloc: Global,
     place: Place,
     file: Bytes,
@@ -69,7 +69,7 @@ pub(crate) fn opened(
 }
 
 /// Once a dot script was read, or refused.
-pub(crate) fn read(
+pub(crate) fn dot_read(
     alloc: Global,
     place: Place,
     file: Bytes,
@@ -88,7 +88,7 @@ pub(crate) fn read(
                 returns: true,
                 ..place
             };
-            Ok(free(Control::Wordy(Wordy::Text(inside, file, text))))
+            Ok(free(Control::SimpleStep(SimpleStep::Text(inside, file, text))))
         }
         Err(errno) => refuse(
             alloc,

@@ -15,9 +15,9 @@ use crate::begins::outermost;
 use crate::machine::Evaluator;
 use rk_base::{Bytes, NoMemory, Path, Var, WordList};
 use rk_calls::{Answer, Key, Machine, Turn};
-use sh_means::control::{Begin, Control, Wordy};
+use sh_means::control::{Begin, Control, SimpleStep};
 use sh_means::state::State;
-use sh_redirect::Descriptors;
+use sh_redirect::DescriptorTable;
 use sh_special::{Start, copies, misused, read_options};
 use sh_vars::{Env, VarErr, Vars};
 use std::alloc::Global;
@@ -99,7 +99,7 @@ fn first_state(
         },
         errexit: false,
         functions: Vec::new(alloc),
-        descriptors: Descriptors::own(),
+        descriptors: DescriptorTable::own(),
     })
 }
 
@@ -116,8 +116,8 @@ fn begun(alloc: Global, start: Start, vars: &[Var], wd: &Path) -> Result<Evaluat
         Start::Given(zero, text, words) => {
             let name = Bytes::from_slice(alloc, b"-c")?;
             let state = first_state(alloc, zero, words, vars, wd)?;
-            let wordy = Wordy::Text(outermost(), name, text);
-            Ok(Evaluator::start(alloc, state, Control::Wordy(wordy)))
+            let step = SimpleStep::Text(outermost(), name, text);
+            Ok(Evaluator::start(alloc, state, Control::SimpleStep(step)))
         }
         Start::Script(file, words) => {
             let zero = file.copy()?;

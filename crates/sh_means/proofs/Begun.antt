@@ -16,23 +16,23 @@ use Rattle.sh_ast.specs.declared.command.Word.{Word}
 use Rattle.sh_ast.specs.declared.command.Words.{Words}
 use Rattle.sh_expand.specs.declared.mode.Mode.{Mode}
 use Rattle.sh_expand.specs.declared.mode.Mode.TheVariants as mode
-use Rattle.sh_redirect.specs.declared.descriptors.Descriptors.{Descriptors}
+use Rattle.sh_redirect.specs.declared.descriptors.DescriptorTable.{DescriptorTable}
 use Rattle.sh_redirect.specs.declared.kind.Redirect as kind
 use Rattle.sh_means.specs.declared.control.Aim.{Aim}
 use Rattle.sh_means.specs.declared.control.Aim.TheVariants as aim
-use Rattle.sh_means.specs.declared.control.Around.TheVariants as around
-use Rattle.sh_means.specs.declared.control.Assigning.{Assigning}
+use Rattle.sh_means.specs.declared.control.Continuation.TheVariants as continuation
+use Rattle.sh_means.specs.declared.control.PendingAssignments.{PendingAssignments}
 use Rattle.sh_means.specs.declared.control.Control.{Control}
 use Rattle.sh_means.specs.declared.control.Doing.{Doing}
-use Rattle.sh_means.specs.declared.control.Fielding.{Fielding}
+use Rattle.sh_means.specs.declared.control.PendingFields.{PendingFields}
 use Rattle.sh_means.specs.declared.control.Made.TheVariants as made
-use Rattle.sh_means.specs.declared.control.Making.{Making}
+use Rattle.sh_means.specs.declared.control.PendingRedirects.{PendingRedirects}
 use Rattle.sh_means.specs.declared.flow.Place.{Place}
 use Rattle.sh_means.specs.Eval.{word_in}
 use Rattle.sh_means.specs.Flows.{Next, Go_on}
 use Rattle.sh_means.specs.Run.{run}
 use Rattle.sh_means.specs.Simple.{works, is_plain, exports, keeps, unless_kept, for_its_time}
-use Rattle.sh_means.specs.Stack.{Goes, aimed, fielding, then_means, making, redirects_from, when_made, when_refused, made_go, assigning, assigns_from, kind_of_code, surrounded, resumed}
+use Rattle.sh_means.specs.Stack.{Goes, aimed, fielding, then_means, making, redirects_from, when_made, when_refused, made_go, assigning, assigns_from, kind_of_code, continued, resumed}
 use Rattle.sh_means.specs.State.{Shell}
 use Rattle.sh_means.specs.Words.{WordMeant, RedirectMeant, AssignMeant, expand_word, expand_words, redirect_all, assign_all, names, redirect_kind}
 use Rattle.sh_means.proofs.Folding.{assignment_is, redirect_is}
@@ -42,18 +42,18 @@ use Rattle.sh_means.proofs.Places.{words_some, words_none, assigns_some, assigns
 abbrev pub Begins : Mode → Word → Place → Aim → Control → Type 0
 Begins m w pl u ctl = (k : Next) (e : Shell) → Goes (expand_word m (word_in run (tree.word w)) pl (aimed u pl k) k e) k e ctl
 
-pub word_begun : (f : Fielding) (pl : Place) (k : Next) (e : Shell) (ws : Words) (w : Word) (w' : Rc Word Global) (ctl : Control) (p : ℕ) → ws ≡ f.words.value → w'.value ≡ w → Some (tree.word w) ≡ word_at (tree.words ws) f.at → Begins mode.Fields w'.value pl (aim.Fields (record f { at = f.at + 1 }) e.env.next) ctl → fielding f pl k e p ≡ resumed ctl k Go e p
+pub word_begun : (f : PendingFields) (pl : Place) (k : Next) (e : Shell) (ws : Words) (w : Word) (w' : Rc Word Global) (ctl : Control) (p : ℕ) → ws ≡ f.words.value → w'.value ≡ w → Some (tree.word w) ≡ word_at (tree.words ws) f.at → Begins mode.Fields w'.value pl (aim.Fields (record f { at = f.at + 1 }) e.env.next) ctl → fielding f pl k e p ≡ resumed ctl k Go e p
 word_begun f pl k e ws w w' ctl p hs hw is b =
     let is' = subst (λ (ws : Words). Some (tree.word w) ≡ word_at (tree.words ws) f.at) hs is in
     ap (λ (ms : List WordMeant). expand_words ms f.fields f.ran pl (then_means f.then pl k) k e p) (words_some (tree.words f.words.value) f.at (tree.word w) is')
     ∙ ap (λ (v : Word). expand_word mode.Fields (word_in run (tree.word v)) pl (aimed (aim.Fields (record f { at = f.at + 1 }) e.env.next) pl k) k e p) (sym hw)
     ∙ b k e p
 
-pub words_over : (f : Fielding) (pl : Place) (k : Next) (e : Shell) (ws : Words) (p : ℕ) → ws ≡ f.words.value → None ≡ word_at (tree.words ws) f.at → fielding f pl k e p ≡ then_means f.then pl k f.fields f.ran e p
+pub words_over : (f : PendingFields) (pl : Place) (k : Next) (e : Shell) (ws : Words) (p : ℕ) → ws ≡ f.words.value → None ≡ word_at (tree.words ws) f.at → fielding f pl k e p ≡ then_means f.then pl k f.fields f.ran e p
 words_over f pl k e ws p hs is =
     ap (λ (ms : List WordMeant). expand_words ms f.fields f.ran pl (then_means f.then pl k) k e p) (words_none (tree.words f.words.value) f.at (subst (λ (ws : Words). None ≡ word_at (tree.words ws) f.at) hs is))
 
-pub assign_begun : (a : Assigning) (pl : Place) (k : Next) (e : Shell) (as' : Assignments) (x : Assignment) (name : Text) (w : Rc Word Global) (ctl : Control) (p : ℕ) → as' ≡ a.assignments.value → w.value ≡ (out-Assignment x).value.value → name ≡ (out-Assignment x).name → Some (tree.assignment x) ≡ assignment_at (tree.assignments as') a.at → Begins mode.Value w.value pl (aim.Value (record a { at = a.at + 1 }) name e.env.next) ctl → assigning a a.ran pl k e p ≡ resumed ctl k Go e p
+pub assign_begun : (a : PendingAssignments) (pl : Place) (k : Next) (e : Shell) (as' : Assignments) (x : Assignment) (name : Text) (w : Rc Word Global) (ctl : Control) (p : ℕ) → as' ≡ a.assignments.value → w.value ≡ (out-Assignment x).value.value → name ≡ (out-Assignment x).name → Some (tree.assignment x) ≡ assignment_at (tree.assignments as') a.at → Begins mode.Value w.value pl (aim.Value (record a { at = a.at + 1 }) name e.env.next) ctl → assigning a a.ran pl k e p ≡ resumed ctl k Go e p
 assign_begun a pl k e as' x name w ctl p hs hw hn is b =
     let is' = subst (λ (as' : Assignments). Some (tree.assignment x) ≡ assignment_at (tree.assignments as') a.at) hs is in
     let W : Bool → Go_on = λ ran. works run (kind_of_code a.doing.value.kind) a.doing.value.fields ran pl k in
@@ -64,11 +64,11 @@ assign_begun a pl k e as' x name w ctl p hs hw hn is b =
     ∙ ap (λ (v : Word). assign_all (record { name = name; value = word_in run (tree.word v) } ∷ rest) a.exported a.ran pl W k e p) (sym hw)
     ∙ b k e p
 
-pub assigns_over : (a : Assigning) (pl : Place) (k : Next) (e : Shell) (as' : Assignments) (p : ℕ) → as' ≡ a.assignments.value → None ≡ assignment_at (tree.assignments as') a.at → assigning a a.ran pl k e p ≡ works run (kind_of_code a.doing.value.kind) a.doing.value.fields a.ran pl k e p
+pub assigns_over : (a : PendingAssignments) (pl : Place) (k : Next) (e : Shell) (as' : Assignments) (p : ℕ) → as' ≡ a.assignments.value → None ≡ assignment_at (tree.assignments as') a.at → assigning a a.ran pl k e p ≡ works run (kind_of_code a.doing.value.kind) a.doing.value.fields a.ran pl k e p
 assigns_over a pl k e as' p hs is =
     ap (λ (ms : List AssignMeant). assign_all ms a.exported a.ran pl (λ ran. works run (kind_of_code a.doing.value.kind) a.doing.value.fields ran pl k) k e p) (assigns_none (tree.assignments a.assignments.value) a.at (subst (λ (as' : Assignments). None ≡ assignment_at (tree.assignments as') a.at) hs is))
 
-pub redirect_begun : (m : Making) (pl : Place) (k : Next) (e : Shell) (rs : Redirects) (x : Redirect) (r : kind.Redirect) (w : Rc Word Global) (ctl : Control) (p : ℕ) → rs ≡ m.redirects.value → w.value ≡ (out-Redirect x).operand.value → r ≡ redirect_kind (out-Redirect x).operator → Some (tree.redirect x) ≡ redirect_at (tree.redirects rs) m.at → Begins mode.Value w.value pl (aim.Operand (record m { at = m.at + 1 }) (out-Redirect x).descriptor r e.env.next) ctl → making m m.ran pl k e p ≡ resumed ctl k Go e p
+pub redirect_begun : (m : PendingRedirects) (pl : Place) (k : Next) (e : Shell) (rs : Redirects) (x : Redirect) (r : kind.Redirect) (w : Rc Word Global) (ctl : Control) (p : ℕ) → rs ≡ m.redirects.value → w.value ≡ (out-Redirect x).operand.value → r ≡ redirect_kind (out-Redirect x).operator → Some (tree.redirect x) ≡ redirect_at (tree.redirects rs) m.at → Begins mode.Value w.value pl (aim.Operand (record m { at = m.at + 1 }) (out-Redirect x).descriptor r e.env.next) ctl → making m m.ran pl k e p ≡ resumed ctl k Go e p
 redirect_begun m pl k e rs x r w ctl p hs hw hr is b =
     let is' = subst (λ (rs : Redirects). Some (tree.redirect x) ≡ redirect_at (tree.redirects rs) m.at) hs is in
     let rest = redirects_from m.redirects.value (m.at + 1) in
@@ -78,17 +78,17 @@ redirect_begun m pl k e rs x r w ctl p hs hw hr is b =
     ∙ ap (λ (t : kind.Redirect). redirect_all (record { descriptor = (out-Redirect x).descriptor; kind = t; operand = word_in run (tree.word w.value) } ∷ rest) m.ran pl (when_made m pl k) (when_refused m pl k) k e p) (sym hr)
     ∙ b k e p
 
-pub redirects_over : (m : Making) (pl : Place) (k : Next) (e : Shell) (rs : Redirects) (p : ℕ) → rs ≡ m.redirects.value → None ≡ redirect_at (tree.redirects rs) m.at → making m m.ran pl k e p ≡ when_made m pl k m.ran e p
+pub redirects_over : (m : PendingRedirects) (pl : Place) (k : Next) (e : Shell) (rs : Redirects) (p : ℕ) → rs ≡ m.redirects.value → None ≡ redirect_at (tree.redirects rs) m.at → making m m.ran pl k e p ≡ when_made m pl k m.ran e p
 redirects_over m pl k e rs p hs is =
     ap (λ (ms : List RedirectMeant). redirect_all ms m.ran pl (when_made m pl k) (when_refused m pl k) k e p) (redirects_none (tree.redirects m.redirects.value) m.at (subst (λ (rs : Redirects). None ≡ redirect_at (tree.redirects rs) m.at) hs is))
 
-pub made_done : (as' : Rc Assignments Global) (doing : Box Doing) (ds : List ℕ) (before : Descriptors) (ran : Bool) (pl : Place) (k0 k1 k2 k3 : Next) (e : Shell) (plain exported : Bool) (p : ℕ) → plain ≡ is_plain (kind_of_code doing.value.kind) → exported ≡ exports (kind_of_code doing.value.kind) → k1 ≡ surrounded (around.Watch pl) k0 → k2 ≡ unless_kept (keeps (kind_of_code doing.value.kind)) ds before k1 → k3 ≡ for_its_time plain (names (assigns_from as'.value 0)) e.env.vars k2 → made_go (made.Simple as' doing) ds before pl k0 ran e p ≡ assigning (record { assignments = as'; at = 0; exported = exported; ran = ran; doing = doing }) ran pl k3 e p
+pub made_done : (as' : Rc Assignments Global) (doing : Box Doing) (ds : List ℕ) (before : DescriptorTable) (ran : Bool) (pl : Place) (k0 k1 k2 k3 : Next) (e : Shell) (plain exported : Bool) (p : ℕ) → plain ≡ is_plain (kind_of_code doing.value.kind) → exported ≡ exports (kind_of_code doing.value.kind) → k1 ≡ continued (continuation.Watch pl) k0 → k2 ≡ unless_kept (keeps (kind_of_code doing.value.kind)) ds before k1 → k3 ≡ for_its_time plain (names (assigns_from as'.value 0)) e.env.vars k2 → made_go (made.Simple as' doing) ds before pl k0 ran e p ≡ assigning (record { assignments = as'; at = 0; exported = exported; ran = ran; doing = doing }) ran pl k3 e p
 made_done as' doing ds before ran pl k0 k1 k2 k3 e plain exported p hp hx h1 h2 h3 =
     let kd = kind_of_code doing.value.kind in
     let done : Bool → Next → Says = λ x k. assign_all (assigns_from as'.value 0) x ran pl (λ ran. works run kd doing.value.fields ran pl k) k e in
     let k' : Bool → Next → Next = λ x k. for_its_time x (names (assigns_from as'.value 0)) e.env.vars k in
-    ap (λ (x : Bool). done x (k' (is_plain kd) (unless_kept (keeps kd) ds before (surrounded (around.Watch pl) k0))) p) (sym hx)
-    ∙ ap (λ (x : Bool). done exported (k' x (unless_kept (keeps kd) ds before (surrounded (around.Watch pl) k0))) p) (sym hp)
+    ap (λ (x : Bool). done x (k' (is_plain kd) (unless_kept (keeps kd) ds before (continued (continuation.Watch pl) k0))) p) (sym hx)
+    ∙ ap (λ (x : Bool). done exported (k' x (unless_kept (keeps kd) ds before (continued (continuation.Watch pl) k0))) p) (sym hp)
     ∙ ap (λ (k : Next). done exported (k' plain (unless_kept (keeps kd) ds before k)) p) (sym h1)
     ∙ ap (λ (k : Next). done exported (k' plain k) p) (sym h2)
     ∙ ap (λ (k : Next). done exported k p) (sym h3)

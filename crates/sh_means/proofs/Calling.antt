@@ -9,9 +9,9 @@ use Rattle.rk_calls.specs.Lines.{error_line}
 use Rattle.rk_calls.specs.declared.answer.Answer.TheVariants.{Go}
 use Rattle.sh_ast.specs.Commands as tree
 use Rattle.sh_ast.specs.declared.command.CommandList.{CommandList}
-use Rattle.sh_means.specs.declared.control.Around.TheVariants as around
+use Rattle.sh_means.specs.declared.control.Continuation.TheVariants as continuation
 use Rattle.sh_means.specs.declared.control.Control.TheVariants as control
-use Rattle.sh_means.specs.declared.control.Inside.TheVariants as inside
+use Rattle.sh_means.specs.declared.control.CompoundStep.TheVariants as compound_step
 use Rattle.sh_means.specs.declared.control.Loop.{Loop}
 use Rattle.sh_means.specs.declared.control.Undo.TheVariants as undo
 use Rattle.sh_means.specs.declared.flow.Flow.TheVariants.{Exits}
@@ -25,11 +25,11 @@ use Rattle.sh_means.specs.Flows.{Next, in_function, in_script, ignoring, deeper,
 use Rattle.sh_means.specs.Laws.{run-is}
 use Rattle.sh_means.specs.Run.{run}
 use Rattle.sh_means.specs.Simple.{Called, Round, Reads, calls, behind_first, dot_read}
-use Rattle.sh_means.specs.Stack.{undone, surrounded, resumed, whole, looping}
+use Rattle.sh_means.specs.Stack.{undone, continued, resumed, whole, looping}
 use Rattle.sh_means.specs.State.{Shell, with_positional}
 use Rattle.sh_means.specs.Views.{function_of}
 
-pub called : (c : Callee) (fields : List Text) (pl : Place) (e e' : Shell) (k k' : Next) (positional : List Text) (p : ℕ) → k' ≡ undone (undo.Function positional) k → positional ≡ e.env.vars.positional → e' ≡ with_positional (behind_first fields) e → calls run (function_of c) fields pl e k p ≡ pay 1 (resumed (control.Inside (inside.Called (in_function pl) c)) k' Go e') p
+pub called : (c : Callee) (fields : List Text) (pl : Place) (e e' : Shell) (k k' : Next) (positional : List Text) (p : ℕ) → k' ≡ undone (undo.Function positional) k → positional ≡ e.env.vars.positional → e' ≡ with_positional (behind_first fields) e → calls run (function_of c) fields pl e k p ≡ pay 1 (resumed (control.CompoundStep (compound_step.Called (in_function pl) c)) k' Go e') p
 called c fields pl e e' k k' positional p hk hp he =
     let body : Shell → Next → Says = λ e k. compound_means (redirects_in run (function_of c).redirects) (compound_in run (function_of c).body) (in_function pl) e k in
     ap (λ (x : Says). pay 1 x p) (λ i p. run-is reads (Called (function_of c)) (in_function pl) (with_positional (behind_first fields) e) (undone (undo.Function e.env.vars.positional) k) p i)
@@ -37,11 +37,11 @@ called c fields pl e e' k k' positional p hk hp he =
     ∙ ap (λ (k : Next). pay 1 (body (with_positional (behind_first fields) e) k) p) (sym hk)
     ∙ ap (λ (e : Shell). pay 1 (body e k') p) (sym he)
 
-pub round_entered : (l : Loop) (c : Rc CommandList Global) (b : Place) (last : ℕ) (pl : Place) (k k' : Next) (e : Shell) (p : ℕ) → c.value ≡ l.condition.value → b ≡ deeper pl → k' ≡ surrounded (around.Condition pl last l) k → run (Round last (looping l) (tree.commands l.condition.value) (tree.commands l.body.value)) pl e k p ≡ pay 1 (resumed (control.Whole (ignoring b) c) k' Go e) p
+pub round_entered : (l : Loop) (c : Rc CommandList Global) (b : Place) (last : ℕ) (pl : Place) (k k' : Next) (e : Shell) (p : ℕ) → c.value ≡ l.condition.value → b ≡ deeper pl → k' ≡ continued (continuation.Condition pl last l) k → run (Round last (looping l) (tree.commands l.condition.value) (tree.commands l.body.value)) pl e k p ≡ pay 1 (resumed (control.Whole (ignoring b) c) k' Go e) p
 round_entered l c b last pl k k' e p hc hb hk =
     run-is reads (Round last (looping l) (tree.commands l.condition.value) (tree.commands l.body.value)) pl e k p
-    ∙ ap (λ (d : CommandList). pay 1 (whole d (ignoring (deeper pl)) e (surrounded (around.Condition pl last l) k)) p) (sym hc)
-    ∙ ap (λ (b : Place). pay 1 (whole c.value (ignoring b) e (surrounded (around.Condition pl last l) k)) p) (sym hb)
+    ∙ ap (λ (d : CommandList). pay 1 (whole d (ignoring (deeper pl)) e (continued (continuation.Condition pl last l) k)) p) (sym hc)
+    ∙ ap (λ (b : Place). pay 1 (whole c.value (ignoring b) e (continued (continuation.Condition pl last l) k)) p) (sym hb)
     ∙ ap (λ (k : Next). pay 1 (whole c.value (ignoring b) e k) p) (sym hk)
 
 pub text_run : (r : Reading) (cs : tree.CommandsTree) (name text : Text) (pl : Place) (k : Next) (e : Shell) (p : ℕ) → Script cs ≡ r → r ≡ reads text → run (Reads name text) pl e k p ≡ reading_means run name (Script cs) pl e k p

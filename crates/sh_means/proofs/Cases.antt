@@ -14,7 +14,7 @@ use Rattle.sh_ast.specs.declared.command.Words.{Words}
 use Rattle.sh_pattern.specs.Decided.{is_matched}
 use Rattle.sh_expand.specs.declared.mode.Mode.TheVariants as mode
 use Rattle.sh_means.specs.declared.control.Aim.TheVariants as aim
-use Rattle.sh_means.specs.declared.control.Casing.{Casing}
+use Rattle.sh_means.specs.declared.control.PendingCase.{PendingCase}
 use Rattle.sh_means.specs.declared.control.Control.{Control}
 use Rattle.sh_means.specs.declared.flow.Flow.TheVariants.{Normal}
 use Rattle.sh_means.specs.declared.flow.Place.{Place}
@@ -36,17 +36,17 @@ items_again (c ∷ cs) value pl k e p = refl
 item_of : CaseItem → CaseMeant
 item_of x = record { patterns = words_in run (tree.words (out-CaseItem x).patterns.value); body = whole (out-CaseItem x).body.value }
 
-from_item : (c : Casing) (is : CaseItems) (x : CaseItem) → is ≡ c.items.value → Some (tree.case_item x) ≡ case_item_at (tree.case_items is) c.at → items_from c.items.value c.at ≡ item_of x ∷ items_from c.items.value (c.at + 1)
+from_item : (c : PendingCase) (is : CaseItems) (x : CaseItem) → is ≡ c.items.value → Some (tree.case_item x) ≡ case_item_at (tree.case_items is) c.at → items_from c.items.value c.at ≡ item_of x ∷ items_from c.items.value (c.at + 1)
 unfolding item_of
 from_item c is x hs h =
     items_some (tree.case_items c.items.value) c.at (tree.case_item x) (subst (λ (is : CaseItems). Some (tree.case_item x) ≡ case_item_at (tree.case_items is) c.at) hs h)
     ∙ ap (λ (t : tree.CaseItemTree). item_meant t ∷ items_from c.items.value (c.at + 1)) (item_is x)
 
-pub items_over : (c : Casing) (is : CaseItems) (pl : Place) (k : Next) (e : Shell) (p : ℕ) → is ≡ c.items.value → None ≡ case_item_at (tree.case_items is) c.at → casing c c.pattern pl k e p ≡ ends Normal 0 k e p
+pub items_over : (c : PendingCase) (is : CaseItems) (pl : Place) (k : Next) (e : Shell) (p : ℕ) → is ≡ c.items.value → None ≡ case_item_at (tree.case_items is) c.at → casing c c.pattern pl k e p ≡ ends Normal 0 k e p
 items_over c is pl k e p hs h =
     ap (λ (L : List CaseMeant). case_from L c.pattern c.value pl k e p) (items_none (tree.case_items c.items.value) c.at (subst (λ (is : CaseItems). None ≡ case_item_at (tree.case_items is) c.at) hs h))
 
-pub patterns_over : (c : Casing) (is : CaseItems) (x : CaseItem) (ws : Words) (pl : Place) (k : Next) (e : Shell) (p : ℕ) → is ≡ c.items.value → Some (tree.case_item x) ≡ case_item_at (tree.case_items is) c.at → ws ≡ (out-CaseItem x).patterns.value → None ≡ word_at (tree.words ws) c.pattern → casing c c.pattern pl k e p ≡ casing (record c { at = c.at + 1; pattern = 0 }) 0 pl k e p
+pub patterns_over : (c : PendingCase) (is : CaseItems) (x : CaseItem) (ws : Words) (pl : Place) (k : Next) (e : Shell) (p : ℕ) → is ≡ c.items.value → Some (tree.case_item x) ≡ case_item_at (tree.case_items is) c.at → ws ≡ (out-CaseItem x).patterns.value → None ≡ word_at (tree.words ws) c.pattern → casing c c.pattern pl k e p ≡ casing (record c { at = c.at + 1; pattern = 0 }) 0 pl k e p
 unfolding item_of
 patterns_over c is x ws pl k e p hs h hw hn =
     let rest = items_from c.items.value (c.at + 1) in
@@ -54,7 +54,7 @@ patterns_over c is x ws pl k e p hs h hw hn =
     ∙ ap (λ (ms : List WordMeant). case_patterns ms (whole (out-CaseItem x).body.value) (case_items rest c.value pl k) c.value pl k e p) (words_none (tree.words (out-CaseItem x).patterns.value) c.pattern (subst (λ (ws : Words). None ≡ word_at (tree.words ws) c.pattern) hw hn))
     ∙ items_again rest c.value pl k e p
 
-pub pattern_begun : (c : Casing) (is : CaseItems) (x : CaseItem) (ws : Words) (w : Word) (w' : Rc Word Global) (ctl : Control) (pl : Place) (k : Next) (e : Shell) (p : ℕ) → is ≡ c.items.value → Some (tree.case_item x) ≡ case_item_at (tree.case_items is) c.at → ws ≡ (out-CaseItem x).patterns.value → Some (tree.word w) ≡ word_at (tree.words ws) c.pattern → w'.value ≡ w → Begins mode.Pattern w'.value pl (aim.Pattern c) ctl → casing c c.pattern pl k e p ≡ resumed ctl k Go e p
+pub pattern_begun : (c : PendingCase) (is : CaseItems) (x : CaseItem) (ws : Words) (w : Word) (w' : Rc Word Global) (ctl : Control) (pl : Place) (k : Next) (e : Shell) (p : ℕ) → is ≡ c.items.value → Some (tree.case_item x) ≡ case_item_at (tree.case_items is) c.at → ws ≡ (out-CaseItem x).patterns.value → Some (tree.word w) ≡ word_at (tree.words ws) c.pattern → w'.value ≡ w → Begins mode.Pattern w'.value pl (aim.Pattern c) ctl → casing c c.pattern pl k e p ≡ resumed ctl k Go e p
 unfolding item_of
 pattern_begun c is x ws w w' ctl pl k e p hs h hw hp hv b =
     let rest = items_from c.items.value (c.at + 1) in
@@ -65,11 +65,11 @@ pattern_begun c is x ws w w' ctl pl k e p hs h hw hp hv b =
     ∙ ap (λ (v : Word). expand_word mode.Pattern (word_in run (tree.word v)) pl (aimed (aim.Pattern c) pl k) k e p) (sym hv)
     ∙ b k e p
 
-pub body_matched : (c : Casing) (is : CaseItems) (x : CaseItem) (b : Rc CommandList Global) (pl : Place) (k : Next) (e : Shell) (p : ℕ) → is ≡ c.items.value → Some (tree.case_item x) ≡ case_item_at (tree.case_items is) c.at → b.value ≡ (out-CaseItem x).body.value → case_body (items_from c.items.value c.at) pl e k p ≡ whole b.value pl e k p
+pub body_matched : (c : PendingCase) (is : CaseItems) (x : CaseItem) (b : Rc CommandList Global) (pl : Place) (k : Next) (e : Shell) (p : ℕ) → is ≡ c.items.value → Some (tree.case_item x) ≡ case_item_at (tree.case_items is) c.at → b.value ≡ (out-CaseItem x).body.value → case_body (items_from c.items.value c.at) pl e k p ≡ whole b.value pl e k p
 unfolding item_of
 body_matched c is x b pl k e p hs h hb =
     ap (λ (L : List CaseMeant). case_body L pl e k p) (from_item c is x hs h) ∙ ap (λ (l : CommandList). whole l pl e k p) (sym hb)
 
-pub none_matched : (c : Casing) (is : CaseItems) (pl : Place) (k : Next) (e : Shell) (p : ℕ) → is ≡ c.items.value → None ≡ case_item_at (tree.case_items is) c.at → case_body (items_from c.items.value c.at) pl e k p ≡ k Normal e p
+pub none_matched : (c : PendingCase) (is : CaseItems) (pl : Place) (k : Next) (e : Shell) (p : ℕ) → is ≡ c.items.value → None ≡ case_item_at (tree.case_items is) c.at → case_body (items_from c.items.value c.at) pl e k p ≡ k Normal e p
 none_matched c is pl k e p hs h =
     ap (λ (L : List CaseMeant). case_body L pl e k p) (items_none (tree.case_items c.items.value) c.at (subst (λ (is : CaseItems). None ≡ case_item_at (tree.case_items is) c.at) hs h))

@@ -18,7 +18,7 @@ use Rattle.sh_expand.specs.Means.{With_expanded, expand_in, parts_of}
 use Rattle.sh_expand.specs.Turns.{expander_says}
 use Rattle.sh_means.specs.declared.control.Aim.{Aim}
 use Rattle.sh_means.specs.declared.control.Aim.TheVariants as aim
-use Rattle.sh_means.specs.declared.control.Fielding.{Fielding}
+use Rattle.sh_means.specs.declared.control.PendingFields.{PendingFields}
 use Rattle.sh_means.specs.declared.flow.Place.{Place}
 use Rattle.sh_means.specs.Compound.{case_items}
 use Rattle.sh_means.specs.Eval.{word_in}
@@ -40,7 +40,7 @@ word_started m w w0 x pl u k e p hw h =
     ap (λ (ps : PartsTree). expand_in m bs ps g f e.env p) (parts_same (tree.word w.value) ∙ ap (λ (w : Word). parts_of (tree.word w)) (sym hw))
     ∙ sym (h bs g f e.env p)
 
-pub fields_taken : (f : Fielding) (pl : Place) (k : Next) (e : Shell) (next : ℕ) (x : Expanded) (fs more : List Text) (ran : Bool) (p : ℕ) → fs ≡ f.fields ++ more → more ≡ fields_of x → ran ≡ (f.ran || took next e) → aimed (aim.Fields f next) pl k x e p ≡ fielding (record f { fields = fs; ran = ran }) pl k e p
+pub fields_taken : (f : PendingFields) (pl : Place) (k : Next) (e : Shell) (next : ℕ) (x : Expanded) (fs more : List Text) (ran : Bool) (p : ℕ) → fs ≡ f.fields ++ more → more ≡ fields_of x → ran ≡ (f.ran || took next e) → aimed (aim.Fields f next) pl k x e p ≡ fielding (record f { fields = fs; ran = ran }) pl k e p
 fields_taken f pl k e next x fs more ran p hf hm hr =
     ap (λ (xs : List Text). expand_words (words_from f.words.value f.at) xs (f.ran || took next e) pl (then_means f.then pl k) k e p) (ap (λ (ys : List Text). f.fields ++ ys) (sym hm) ∙ sym hf)
     ∙ ap (λ (b : Bool). expand_words (words_from f.words.value f.at) fs b pl (then_means f.then pl k) k e p) (sym hr)

@@ -7,8 +7,8 @@ use Rattle.rk_calls.specs.Brought.{brought, joined}
 use Rattle.rk_calls.specs.Lines.{error_line}
 use Rattle.rk_calls.specs.Views.{View, Alike, alike-if, alike-pay}
 use Rattle.sh_vars.specs.Held.{Held}
-use Rattle.sh_redirect.specs.declared.descriptors.Descriptors.{Descriptors}
-use Rattle.sh_redirect.specs.Descriptors.{slot}
+use Rattle.sh_redirect.specs.declared.descriptors.DescriptorTable.{DescriptorTable}
+use Rattle.sh_redirect.specs.DescriptorTable.{slot}
 use Rattle.sh_builtin.specs.Laws.{alike-does}
 use Rattle.sh_special.specs.declared.order.Order.{Order}
 use Rattle.sh_special.specs.declared.order.Order.TheVariants as order
@@ -18,7 +18,7 @@ use Rattle.sh_means.specs.declared.flow.Place.{Place}
 use Rattle.sh_means.specs.State.{FunctionTree, Shell, with_env, with_status, with_held, with_positional}
 use Rattle.sh_means.specs.Flows.{Next, Go_on, sh, ends, returned, watched, in_function, in_script}
 use Rattle.sh_means.specs.Words.{WordMeant, RedirectMeant, AssignMeant, named, redirect_all, unredirected, names, assign_all}
-use Rattle.sh_means.specs.Simple.{Job, Called, Reads, Meaning, Kind, Bare, Special, Calls, Builtin, Launches, kind_of, launches, calls, builds_in, errs, unless_barred, changes, shifts, dot_read, dot_opened, dots, obeys, works, is_plain, exports, for_its_time, assigns_and_works, keeps, unless_kept, refusal_flow, made_simple, refused_simple, redirects_and_works, simple_means}
+use Rattle.sh_means.specs.Simple.{Job, Called, Reads, Meaning, CommandKind, Bare, Special, Calls, Builtin, Launches, kind_of, launches, calls, builds_in, errs, unless_barred, changes, shifts, dot_read, dot_opened, dots, obeys, works, is_plain, exports, for_its_time, assigns_and_works, keeps, unless_kept, refusal_flow, made_simple, refused_simple, redirects_and_works, simple_means}
 use Rattle.sh_means.specs.AlikeFlows.{Each, Below, Goes, SameMeans, lower, asks-alike, tells-alike, ends-alike, returned-alike, watched-alike}
 use Rattle.sh_means.specs.AlikeWords.{SameWord, SameRedirect, SameAssign, expand_words-alike, redirect_all-alike, unredirected-alike, named-same, assign_all-alike, unassigned-alike, names-same, words-down, redirects-down, assigns-down}
 
@@ -87,7 +87,7 @@ module _ (v : View) where
 
     -- The order of a simple command.
 
-    works-alike : (Q : ℕ) (kd : Kind) (fields : List Text) (ran : Bool) (pl : Place) (k k' : Next) → Q < P → Below v Q k k' → Goes v Q (works g kd fields ran pl k) (works h kd fields ran pl k')
+    works-alike : (Q : ℕ) (kd : CommandKind) (fields : List Text) (ran : Bool) (pl : Place) (k k' : Next) → Q < P → Below v Q k k' → Goes v Q (works g kd fields ran pl k) (works h kd fields ran pl k')
     works-alike Q Bare fields ran pl k k' lt hk e p le = hk _ _ p le
     works-alike Q (Special o) fields ran pl k k' lt hk e p le = obeys-alike Q o pl k k' lt hk e p le
     works-alike Q (Calls f) fields ran pl k k' lt hk e p le = calls-alike Q f fields pl k k' lt hk e p le
@@ -98,7 +98,7 @@ module _ (v : View) where
     for_its_time-alike Q true ns before k k' hk = unassigned-alike v Q ns before k k' hk
     for_its_time-alike Q false ns before k k' hk = hk
 
-    assigns_and_works-alike : (Q : ℕ) (kd : Kind) (as' bs : List AssignMeant) (fields : List Text) (pl : Place) (k k' : Next) (ran : Bool) → Q < P → Each (SameAssign v Q) as' bs → Below v Q k k' → Goes v Q (assigns_and_works g kd as' fields pl k ran) (assigns_and_works h kd bs fields pl k' ran)
+    assigns_and_works-alike : (Q : ℕ) (kd : CommandKind) (as' bs : List AssignMeant) (fields : List Text) (pl : Place) (k k' : Next) (ran : Bool) → Q < P → Each (SameAssign v Q) as' bs → Below v Q k k' → Goes v Q (assigns_and_works g kd as' fields pl k ran) (assigns_and_works h kd bs fields pl k' ran)
     assigns_and_works-alike Q kd as' bs fields pl k k' ran lt s hk e p le =
         subst (λ (ns : List Text). Alike v p (assigns_and_works g kd as' fields pl k ran e) (assign_all bs (exports kd) ran pl (λ ran. works h kd fields ran pl (for_its_time (is_plain kd) ns e.env.vars k')) (for_its_time (is_plain kd) ns e.env.vars k') e)) (names-same v Q as' bs s)
         (let kk : Next = for_its_time (is_plain kd) (names as') e.env.vars k in
@@ -106,15 +106,15 @@ module _ (v : View) where
         let hk' : Below v Q kk kk' = for_its_time-alike Q (is_plain kd) (names as') e.env.vars k k' hk in
         assign_all-alike v Q as' bs (exports kd) ran pl (λ ran. works g kd fields ran pl kk) (λ ran. works h kd fields ran pl kk') kk kk' s (λ r. works-alike Q kd fields r pl kk kk' lt hk') hk' e p le)
 
-    unless_kept-alike : (Q : ℕ) (b : Bool) (ds : List ℕ) (before : Descriptors) (k k' : Next) → Below v Q k k' → Below v Q (unless_kept b ds before k) (unless_kept b ds before k')
+    unless_kept-alike : (Q : ℕ) (b : Bool) (ds : List ℕ) (before : DescriptorTable) (k k' : Next) → Below v Q k k' → Below v Q (unless_kept b ds before k) (unless_kept b ds before k')
     unless_kept-alike Q true ds before k k' hk = hk
     unless_kept-alike Q false ds before k k' hk = unredirected-alike v Q ds before k k' hk
 
-    made_simple-alike : (Q : ℕ) (kd : Kind) (as' bs : List AssignMeant) (ds : List ℕ) (before : Descriptors) (fields : List Text) (pl : Place) (k k' : Next) (ran : Bool) → Q < P → Each (SameAssign v Q) as' bs → Below v Q k k' → Goes v Q (made_simple g kd as' ds before fields pl k ran) (made_simple h kd bs ds before fields pl k' ran)
+    made_simple-alike : (Q : ℕ) (kd : CommandKind) (as' bs : List AssignMeant) (ds : List ℕ) (before : DescriptorTable) (fields : List Text) (pl : Place) (k k' : Next) (ran : Bool) → Q < P → Each (SameAssign v Q) as' bs → Below v Q k k' → Goes v Q (made_simple g kd as' ds before fields pl k ran) (made_simple h kd bs ds before fields pl k' ran)
     made_simple-alike Q kd as' bs ds before fields pl k k' ran lt s hk =
         assigns_and_works-alike Q kd as' bs fields pl (unless_kept (keeps kd) ds before (watched pl k)) (unless_kept (keeps kd) ds before (watched pl k')) ran lt s (unless_kept-alike Q (keeps kd) ds before (watched pl k) (watched pl k') (watched-alike v Q pl k k' hk))
 
-    refused_simple-alike : (Q : ℕ) (kd : Kind) (ds : List ℕ) (before : Descriptors) (pl : Place) (k k' : Next) → Below v Q k k' → Goes v Q (refused_simple kd ds before pl k) (refused_simple kd ds before pl k')
+    refused_simple-alike : (Q : ℕ) (kd : CommandKind) (ds : List ℕ) (before : DescriptorTable) (pl : Place) (k k' : Next) → Below v Q k k' → Goes v Q (refused_simple kd ds before pl k) (refused_simple kd ds before pl k')
     refused_simple-alike Q kd ds before pl k k' hk =
         ends-alike v Q (refusal_flow kd) 1 (unredirected ds before (watched pl k)) (unredirected ds before (watched pl k')) (unredirected-alike v Q ds before (watched pl k) (watched pl k') (watched-alike v Q pl k k' hk))
 

@@ -10,9 +10,9 @@ use Rattle.sh_expand.specs.declared.mode.Mode.TheVariants as mode
 use Rattle.sh_expand.specs.declared.mode.Expanded.{Expanded}
 use Rattle.sh_expand.specs.Alike as expansion
 use Rattle.sh_expand.specs.Means.{expand_in}
-use Rattle.sh_redirect.specs.declared.descriptors.Descriptors.{Descriptors}
+use Rattle.sh_redirect.specs.declared.descriptors.DescriptorTable.{DescriptorTable}
 use Rattle.sh_redirect.specs.declared.kind.Redirect.{Redirect}
-use Rattle.sh_redirect.specs.Descriptors.{put_back}
+use Rattle.sh_redirect.specs.DescriptorTable.{put_back}
 use Rattle.sh_redirect.specs.Laws.{alike-redirects}
 use Rattle.sh_redirect.specs.Redirects.{After}
 use Rattle.sh_means.specs.declared.flow.Flow.TheVariants.{Normal, Exits}
@@ -93,7 +93,7 @@ module _ (v : View) where
       (redirect_to-alike P r.kind r.descriptor (value_of t) (x e') (x' e') h h' (redirect_all-alike P rs rs' (ran || took e.env.next e') pl g g' h h' k k' s.1 hg hh hk) hh e' q lq)) in
       expand_word-alike P mode.Value r.operand r'.operand pl to to' k k' s.0.2 onward hk e p le
 
-  pub unredirected-alike : (P : ℕ) (ds : List ℕ) (before : Descriptors) (k k' : Next) → Below v P k k' → Below v P (unredirected ds before k) (unredirected ds before k')
+  pub unredirected-alike : (P : ℕ) (ds : List ℕ) (before : DescriptorTable) (k k' : Next) → Below v P k k' → Below v P (unredirected ds before k) (unredirected ds before k')
   unredirected-alike P ds before k k' h f e p le = h f (record e { descriptors = put_back ds before e.descriptors }) p le
 
   pub named-same : (P : ℕ) (rs rs' : List RedirectMeant) → Each (SameRedirect P) rs rs' → named rs ≡ named rs'

@@ -8,7 +8,7 @@ use Rattle.sh_ast.specs.declared.command.Connector.{Connector}
 use Rattle.sh_ast.specs.declared.command.Connector.TheVariants.{And, Or}
 use Rattle.sh_pattern.specs.Decided.{is_matched}
 use Rattle.sh_expand.specs.declared.mode.Mode.TheVariants as mode
-use Rattle.sh_redirect.specs.declared.descriptors.Descriptors.{Descriptors}
+use Rattle.sh_redirect.specs.declared.descriptors.DescriptorTable.{DescriptorTable}
 use Rattle.sh_means.specs.declared.flow.Flow.TheVariants.{Normal}
 use Rattle.sh_means.specs.declared.flow.Place.{Place}
 use Rattle.sh_means.specs.State.{FunctionTree, Shell, with_slot, back, past_stage, define}
@@ -147,10 +147,10 @@ abbrev pub case_means : WordMeant → List CaseMeant → Means
 case_means w cases pl e k = expand_word mode.Value w pl (λ x. case_items cases (value_of x) pl k) k e
 
 -- with redirections; a refused one is status 1, and `set -e` looks at it
-abbrev pub made_compound : Means → List ℕ → Descriptors → Place → Next → Bool → Go_on
+abbrev pub made_compound : Means → List ℕ → DescriptorTable → Place → Next → Bool → Go_on
 made_compound m ds before pl k ran e = m pl e (unredirected ds before k)
 
-abbrev pub refused_compound : List ℕ → Descriptors → Place → Next → Go_on
+abbrev pub refused_compound : List ℕ → DescriptorTable → Place → Next → Go_on
 refused_compound ds before pl k = ends Normal 1 (unredirected ds before (watched pl k))
 
 abbrev pub compound_means : List RedirectMeant → Means → Means

@@ -6,7 +6,7 @@ use Rattle.rk_calls.specs.Turns.{turns}
 use Rattle.rk_calls.specs.declared.answer.Answer.{Answer}
 use Rattle.rk_calls.specs.declared.call.Call.{Call}
 use Rattle.rk_calls.specs.declared.call.Call.TheVariants.{Write}
-use Rattle.sh_redirect.specs.Descriptors.{slot}
+use Rattle.sh_redirect.specs.DescriptorTable.{slot}
 use Rattle.sh_means.specs.declared.flow.Flow.{Flow}
 use Rattle.sh_means.specs.declared.flow.Flow.TheVariants.{Normal, Breaks, Continues, Returns, Exits}
 use Rattle.sh_means.specs.declared.flow.Place.{Place}

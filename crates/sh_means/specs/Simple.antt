@@ -12,8 +12,8 @@ use Rattle.rk_calls.specs.declared.call.Call.TheVariants.{Open, Read, Launch}
 use Rattle.rk_calls.specs.declared.call.How.TheVariants as how
 use Rattle.sh_ast.specs.Commands.{CommandsTree}
 use Rattle.sh_vars.specs.Held.{Held, exported_of}
-use Rattle.sh_redirect.specs.declared.descriptors.Descriptors.{Descriptors}
-use Rattle.sh_redirect.specs.Descriptors.{slot, refmap_of}
+use Rattle.sh_redirect.specs.declared.descriptors.DescriptorTable.{DescriptorTable}
+use Rattle.sh_redirect.specs.DescriptorTable.{slot, refmap_of}
 use Rattle.sh_builtin.specs.Builtins.{does}
 use Rattle.sh_builtin.specs.Names.{is_builtin}
 use Rattle.sh_special.specs.declared.options.Options.{Options}
@@ -40,24 +40,24 @@ Meaning = Job → Means
 
 -- What a command is, by its fields.
 
-pub data Kind : Type 0 where
-  Bare : Kind
-  Special : (order : Order) → Kind
-  Calls : (function : FunctionTree) → Kind
-  Builtin : Kind
-  Launches : Kind
+pub data CommandKind : Type 0 where
+  Bare : CommandKind
+  Special : (order : Order) → CommandKind
+  Calls : (function : FunctionTree) → CommandKind
+  Builtin : CommandKind
+  Launches : CommandKind
 
 -- a function stands before a builtin, and any other name is launched
-abbrev pub called_kind : Text → Option FunctionTree → Kind
+abbrev pub called_kind : Text → Option FunctionTree → CommandKind
 called_kind name (Some f) = Calls f
 called_kind name None = if is_builtin name then Builtin else Launches
 
 -- a special builtin stands before a function
-abbrev pub special_kind : Text → List (Text × FunctionTree) → Option Order → Kind
+abbrev pub special_kind : Text → List (Text × FunctionTree) → Option Order → CommandKind
 special_kind name functions (Some o) = Special o
 special_kind name functions None = called_kind name (function_named name functions)
 
-abbrev pub kind_of : List Text → List (Text × FunctionTree) → Kind
+abbrev pub kind_of : List Text → List (Text × FunctionTree) → CommandKind
 kind_of [] functions = Bare
 kind_of (name ∷ words) functions = special_kind name functions (order_of (name ∷ words))
 
@@ -140,7 +140,7 @@ abbrev pub status_if : Bool → ℕ → ℕ
 status_if true n = n
 status_if false n = 0
 
-abbrev pub works : Meaning → Kind → List Text → Bool → Place → Next → Go_on
+abbrev pub works : Meaning → CommandKind → List Text → Bool → Place → Next → Go_on
 works again Bare fields ran pl k e = ends Normal (status_if ran e.env.status) k e
 works again (Special o) fields ran pl k e = obeys again o pl k e
 works again (Calls f) fields ran pl k e = calls again f fields pl e k
@@ -148,7 +148,7 @@ works again Builtin fields ran pl k e = builds_in fields k e
 works again Launches fields ran pl k e = launches fields (λ n. ends Normal n k) e
 
 -- Assignments last where there is no command or a special builtin. Else they hold for the command alone.
-abbrev pub is_plain : Kind → Bool
+abbrev pub is_plain : CommandKind → Bool
 is_plain Bare = false
 is_plain (Special o) = false
 is_plain (Calls f) = true
@@ -156,7 +156,7 @@ is_plain Builtin = true
 is_plain Launches = true
 
 -- those that hold for the command alone are exported, and so are those of `exec`, for what it launches (XCU 2.9.1, XCU exec)
-abbrev pub exports : Kind → Bool
+abbrev pub exports : CommandKind → Bool
 exports Bare = false
 exports (Special o) = exports_order o
 exports (Calls f) = true
@@ -167,34 +167,34 @@ abbrev pub for_its_time : Bool → List Text → Held → Next → Next
 for_its_time true ns before k = unassigned ns before k
 for_its_time false ns before k = k
 
-abbrev pub assigns_and_works : Meaning → Kind → List AssignMeant → List Text → Place → Next → Bool → Go_on
+abbrev pub assigns_and_works : Meaning → CommandKind → List AssignMeant → List Text → Place → Next → Bool → Go_on
 assigns_and_works again kind assignments fields pl k ran e =
     let k' = for_its_time (is_plain kind) (names assignments) e.env.vars k in assign_all assignments (exports kind) ran pl (λ ran. works again kind fields ran pl k') k' e
 
 -- the redirections of `exec` without a command stay
-abbrev pub keeps : Kind → Bool
+abbrev pub keeps : CommandKind → Bool
 keeps Bare = false
 keeps (Special o) = keeps_order o
 keeps (Calls f) = false
 keeps Builtin = false
 keeps Launches = false
 
-abbrev pub unless_kept : Bool → List ℕ → Descriptors → Next → Next
+abbrev pub unless_kept : Bool → List ℕ → DescriptorTable → Next → Next
 unless_kept true ds before k = k
 unless_kept false ds before k = unredirected ds before k
 
 -- a refused redirection of a special builtin ends the shell
-abbrev pub refusal_flow : Kind → Flow
+abbrev pub refusal_flow : CommandKind → Flow
 refusal_flow Bare = Normal
 refusal_flow (Special o) = Exits
 refusal_flow (Calls f) = Normal
 refusal_flow Builtin = Normal
 refusal_flow Launches = Normal
 
-abbrev pub made_simple : Meaning → Kind → List AssignMeant → List ℕ → Descriptors → List Text → Place → Next → Bool → Go_on
+abbrev pub made_simple : Meaning → CommandKind → List AssignMeant → List ℕ → DescriptorTable → List Text → Place → Next → Bool → Go_on
 made_simple again kind assignments ds before fields pl k = assigns_and_works again kind assignments fields pl (unless_kept (keeps kind) ds before (watched pl k))
 
-abbrev pub refused_simple : Kind → List ℕ → Descriptors → Place → Next → Go_on
+abbrev pub refused_simple : CommandKind → List ℕ → DescriptorTable → Place → Next → Go_on
 refused_simple kind ds before pl k = ends (refusal_flow kind) 1 (unredirected ds before (watched pl k))
 
 abbrev pub redirects_and_works : Meaning → List AssignMeant → List RedirectMeant → Place → Next → List Text → Bool → Go_on

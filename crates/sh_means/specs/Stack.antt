@@ -19,9 +19,9 @@ use Rattle.sh_ast.specs.declared.command.Words.{Words}
 use Rattle.sh_pattern.specs.Decided.{is_matched}
 use Rattle.sh_expand.specs.declared.mode.Expanded.{Expanded}
 use Rattle.sh_expand.specs.Turns.{expander_says}
-use Rattle.sh_redirect.specs.declared.descriptors.Descriptors.{Descriptors}
+use Rattle.sh_redirect.specs.declared.descriptors.DescriptorTable.{DescriptorTable}
 use Rattle.sh_redirect.specs.declared.redirecting.Redirecting.{Redirecting}
-use Rattle.sh_redirect.specs.Descriptors.{slot}
+use Rattle.sh_redirect.specs.DescriptorTable.{slot}
 use Rattle.sh_redirect.specs.Stages.{redirecting_does}
 use Rattle.sh_builtin.specs.declared.builtin.Builtin.{Builtin}
 use Rattle.sh_builtin.specs.Stages.{builtin_does}
@@ -30,37 +30,37 @@ use Rattle.sh_means.specs.declared.flow.Place.{Place}
 use Rattle.sh_means.specs.declared.control.Acted.{Acted}
 use Rattle.sh_means.specs.declared.control.Aim.{Aim}
 use Rattle.sh_means.specs.declared.control.Aim.TheVariants as aim
-use Rattle.sh_means.specs.declared.control.Around.{Around}
-use Rattle.sh_means.specs.declared.control.Around.TheVariants as around
-use Rattle.sh_means.specs.declared.control.Assigning.{Assigning}
-use Rattle.sh_means.specs.declared.control.Casing.{Casing}
+use Rattle.sh_means.specs.declared.control.Continuation.{Continuation}
+use Rattle.sh_means.specs.declared.control.Continuation.TheVariants as continuation
+use Rattle.sh_means.specs.declared.control.PendingAssignments.{PendingAssignments}
+use Rattle.sh_means.specs.declared.control.PendingCase.{PendingCase}
 use Rattle.sh_means.specs.declared.control.Control.{Control}
 use Rattle.sh_means.specs.declared.control.Control.TheVariants as control
 use Rattle.sh_means.specs.declared.control.Each.{Each}
-use Rattle.sh_means.specs.declared.control.Fielding.{Fielding}
+use Rattle.sh_means.specs.declared.control.PendingFields.{PendingFields}
 use Rattle.sh_means.specs.declared.control.Frame.{Frame}
 use Rattle.sh_means.specs.declared.control.Frame.TheVariants as frame
-use Rattle.sh_means.specs.declared.control.Inside.{Inside}
-use Rattle.sh_means.specs.declared.control.Inside.TheVariants as inside
-use Rattle.sh_means.specs.declared.control.Kind as code
-use Rattle.sh_means.specs.declared.control.Kind.TheVariants as kinds
+use Rattle.sh_means.specs.declared.control.CompoundStep.{CompoundStep}
+use Rattle.sh_means.specs.declared.control.CompoundStep.TheVariants as compound_step
+use Rattle.sh_means.specs.declared.control.CommandKind as code
+use Rattle.sh_means.specs.declared.control.CommandKind.TheVariants as kinds
 use Rattle.sh_means.specs.declared.control.Loop.{Loop}
 use Rattle.sh_means.specs.declared.control.Made.{Made}
 use Rattle.sh_means.specs.declared.control.Made.TheVariants as made
-use Rattle.sh_means.specs.declared.control.Making.{Making}
+use Rattle.sh_means.specs.declared.control.PendingRedirects.{PendingRedirects}
 use Rattle.sh_means.specs.declared.control.Then.{Then}
 use Rattle.sh_means.specs.declared.control.Then.TheVariants as then
 use Rattle.sh_means.specs.declared.control.Undo.{Undo}
 use Rattle.sh_means.specs.declared.control.Undo.TheVariants as undo
 use Rattle.sh_means.specs.declared.control.Wait.{Wait}
 use Rattle.sh_means.specs.declared.control.Wait.TheVariants as wait
-use Rattle.sh_means.specs.declared.control.Wording.{Wording}
-use Rattle.sh_means.specs.declared.control.Wordy.{Wordy}
-use Rattle.sh_means.specs.declared.control.Wordy.TheVariants as wordy
+use Rattle.sh_means.specs.declared.control.PendingWord.{PendingWord}
+use Rattle.sh_means.specs.declared.control.SimpleStep.{SimpleStep}
+use Rattle.sh_means.specs.declared.control.SimpleStep.TheVariants as simple_step
 use Rattle.sh_means.specs.State.{Shell, with_env, with_status, with_positional, with_slot, past_stage, took}
 use Rattle.sh_means.specs.Flows.{Next, Go_on, Means, asks, ends, and_then, by_status, in_loop, returned, watched, inverted, deeper}
 use Rattle.sh_means.specs.Words.{WordMeant, RedirectMeant, AssignMeant, bodies_at, faults, expand_words, fields_of, value_of, named, moved, redirect_to, redirect_all, unredirected, names, assigns, assign_all, unassigned}
-use Rattle.sh_means.specs.Simple.{Kind, Bare, Special, Calls, Builtin as Builds, Launches, Round, Reads, dot_opened, dot_read, works, made_simple, refused_simple, redirects_and_works}
+use Rattle.sh_means.specs.Simple.{CommandKind, Bare, Special, Calls, Builtin as Builds, Launches, Round, Reads, dot_opened, dot_read, works, made_simple, refused_simple, redirects_and_works}
 use Rattle.sh_means.specs.Compound.{seq_all, links_mean, with_input, stages_mean, BranchMeant, if_means, after_body, after_condition, for_each, for_fields, CaseMeant, case_patterns, case_items, made_compound, refused_compound, compound_means}
 use Rattle.sh_means.specs.Eval.{is_until, commands_in, compound_in, branches_in, items_in, words_in, word_in, assigns_in, redirects_in, whole_in, over}
 use Rattle.sh_means.specs.Run.{run}
@@ -92,7 +92,7 @@ whole l = whole_in run (tree.commands l)
 
 -- What is half done.
 
-abbrev pub kind_of_code : code.Kind → Kind
+abbrev pub kind_of_code : code.CommandKind → CommandKind
 kind_of_code kinds.Bare = Bare
 kind_of_code (kinds.Special order) = Special order
 kind_of_code (kinds.Calls callee) = Calls (function_of callee)
@@ -103,27 +103,27 @@ abbrev pub then_means : Then → Place → Next → List Text → Bool → Go_on
 then_means (then.Simple c) pl k = redirects_and_works run (assigns_from (out-SimpleCommand c.value).assignments.value 0) (redirects_from (out-SimpleCommand c.value).redirects.value 0) pl k
 then_means (then.For name body) pl k = λ fields ran. for_fields name fields (whole body.value) pl k
 
-abbrev pub fielding : Fielding → Place → Next → Go_on
+abbrev pub fielding : PendingFields → Place → Next → Go_on
 fielding f pl k = expand_words (words_from f.words.value f.at) f.fields f.ran pl (then_means f.then pl k) k
 
-abbrev pub made_go : Made → List ℕ → Descriptors → Place → Next → Bool → Go_on
+abbrev pub made_go : Made → List ℕ → DescriptorTable → Place → Next → Bool → Go_on
 made_go (made.Simple as' doing) ds before pl k = made_simple run (kind_of_code doing.value.kind) (assigns_from as'.value 0) ds before doing.value.fields pl k
 made_go (made.Compound b) ds before pl k = made_compound (compound_in run (tree.compound b.value)) ds before pl k
 
-abbrev pub refused_go : Made → List ℕ → Descriptors → Place → Next → Go_on
+abbrev pub refused_go : Made → List ℕ → DescriptorTable → Place → Next → Go_on
 refused_go (made.Simple as' doing) ds before pl k = refused_simple (kind_of_code doing.value.kind) ds before pl k
 refused_go (made.Compound b) ds before pl k = refused_compound ds before pl k
 
-abbrev pub when_made : Making → Place → Next → Bool → Go_on
+abbrev pub when_made : PendingRedirects → Place → Next → Bool → Go_on
 when_made m pl k = made_go m.made (named (redirects_from m.redirects.value 0)) m.before.value pl k
 
-abbrev pub when_refused : Making → Place → Next → Go_on
+abbrev pub when_refused : PendingRedirects → Place → Next → Go_on
 when_refused m pl k = refused_go m.made (named (redirects_from m.redirects.value 0)) m.before.value pl k
 
-abbrev pub making : Making → Bool → Place → Next → Go_on
+abbrev pub making : PendingRedirects → Bool → Place → Next → Go_on
 making m ran pl k = redirect_all (redirects_from m.redirects.value m.at) ran pl (when_made m pl k) (when_refused m pl k) k
 
-abbrev pub assigning : Assigning → Bool → Place → Next → Go_on
+abbrev pub assigning : PendingAssignments → Bool → Place → Next → Go_on
 assigning a ran pl k = assign_all (assigns_from a.assignments.value a.at) a.exported ran pl (λ ran. works run (kind_of_code a.doing.value.kind) a.doing.value.fields ran pl k) k
 
 abbrev pub case_from : List CaseMeant → ℕ → Text → Place → Next → Go_on
@@ -134,7 +134,7 @@ abbrev pub case_body : List CaseMeant → Means
 case_body [] pl e k = k Normal e
 case_body (c ∷ cs) pl e k = c.body pl e k
 
-abbrev pub casing : Casing → ℕ → Place → Next → Go_on
+abbrev pub casing : PendingCase → ℕ → Place → Next → Go_on
 casing c i pl k = case_from (items_from c.items.value c.at) i c.value pl k
 
 -- what comes after a word
@@ -145,7 +145,7 @@ aimed (aim.Value a name next) pl k x e = assigns a.exported name (value_of x) (a
 aimed (aim.Subject is) pl k x e = case_items (items_from is.value 0) (value_of x) pl k e
 aimed (aim.Pattern c) pl k x e = if is_matched (value_of x) c.value then case_body (items_from c.items.value c.at) pl e k else casing c (c.pattern + 1) pl k e
 
-abbrev pub wording : Wording → Next → Answer → Go_on
+abbrev pub wording : PendingWord → Next → Answer → Go_on
 wording w k a e p =
     expander_says w.expander a (bodies_at (word_in run (tree.word w.word.value)).bodies w.place e) (λ x env. aimed w.aim w.place k x (with_env env e)) (λ parameter message env. faults parameter message k (with_env env e)) e.env p
 
@@ -153,7 +153,7 @@ abbrev pub first_of : List Means → Means
 first_of [] pl e k = k Normal e
 first_of (m ∷ ms) pl e k = m pl e k
 
-abbrev pub redirecting : Making → Place → Next → Redirecting → Answer → Go_on
+abbrev pub redirecting : PendingRedirects → Place → Next → Redirecting → Answer → Go_on
 redirecting m pl k r a e =
     redirecting_does r a (record { made = λ ds env. making m m.ran pl k (moved ds env e); refused = λ ds env. when_refused m pl k (moved ds env e) }) e.descriptors e.env
 
@@ -188,23 +188,23 @@ giving each pl k e = giving_to (drop each.at each.fields) each pl k e
 abbrev pub looping : Loop → Bool
 looping l = is_until l.kind
 
-abbrev pub insiding : Inside → Next → Go_on
-insiding (inside.Compound pl b) k e = compound_in run (tree.compound b.value) pl e k
-insiding (inside.Called pl callee) k e = compound_means (redirects_in run (function_of callee).redirects) (compound_in run (function_of callee).body) pl e k
-insiding (inside.If pl bs i otherwise) k e = if_means (branches_from bs.value i) (whole otherwise.value) pl e k
-insiding (inside.Round pl last l) k e = run (Round last (looping l) (tree.commands l.condition.value) (tree.commands l.body.value)) pl e k
-insiding (inside.Each pl each) k e = for_each each.name (drop each.at each.fields) (whole each.body.value) pl k e
-insiding (inside.Gives pl each) k e = giving each pl k e
-insiding (inside.Case pl c) k e = casing c c.pattern pl k e
-insiding (inside.Stages pl l i input) k e = stages_mean input (commands_from l.value i) pl k e
+abbrev pub resumed_compound : CompoundStep → Next → Go_on
+resumed_compound (compound_step.Compound pl b) k e = compound_in run (tree.compound b.value) pl e k
+resumed_compound (compound_step.Called pl callee) k e = compound_means (redirects_in run (function_of callee).redirects) (compound_in run (function_of callee).body) pl e k
+resumed_compound (compound_step.If pl bs i otherwise) k e = if_means (branches_from bs.value i) (whole otherwise.value) pl e k
+resumed_compound (compound_step.Round pl last l) k e = run (Round last (looping l) (tree.commands l.condition.value) (tree.commands l.body.value)) pl e k
+resumed_compound (compound_step.Each pl each) k e = for_each each.name (drop each.at each.fields) (whole each.body.value) pl k e
+resumed_compound (compound_step.Gives pl each) k e = giving each pl k e
+resumed_compound (compound_step.Case pl c) k e = casing c c.pattern pl k e
+resumed_compound (compound_step.Stages pl l i input) k e = stages_mean input (commands_from l.value i) pl k e
 
-abbrev pub wordily : Wordy → Next → Answer → Go_on
-wordily (wordy.Words pl f) k a e = fielding f pl k e
-wordily (wordy.Expand w) k a e = wording w.value k a e
-wordily (wordy.Deliver w x) k a e = aimed w.value.aim w.value.place k x e
-wordily (wordy.Make pl m) k a e = making m m.ran pl k e
-wordily (wordy.Assign pl as') k a e = assigning as' as'.ran pl k e
-wordily (wordy.Text pl name text) k a e = run (Reads name text) pl e k
+abbrev pub resumed_simple : SimpleStep → Next → Answer → Go_on
+resumed_simple (simple_step.Words pl f) k a e = fielding f pl k e
+resumed_simple (simple_step.Expand w) k a e = wording w.value k a e
+resumed_simple (simple_step.Deliver w x) k a e = aimed w.value.aim w.value.place k x e
+resumed_simple (simple_step.Make pl m) k a e = making m m.ran pl k e
+resumed_simple (simple_step.Assign pl as') k a e = assigning as' as'.ran pl k e
+resumed_simple (simple_step.Text pl name text) k a e = run (Reads name text) pl e k
 
 -- what the machine goes on to do with an answer that was heard
 abbrev pub resumed : Control → Next → Answer → Go_on
@@ -212,23 +212,23 @@ resumed (control.Begins b) k a e = begins b k a e
 resumed (control.Run pl l i) k a e = seq_all (commands_from l.value i) pl e k
 resumed (control.Whole pl l) k a e = whole l.value pl e k
 resumed (control.One pl l i) k a e = first_of (commands_from l.value i) pl e k
-resumed (control.Inside x) k a e = insiding x k e
-resumed (control.Wordy x) k a e = wordily x k a e
+resumed (control.CompoundStep x) k a e = resumed_compound x k e
+resumed (control.SimpleStep x) k a e = resumed_simple x k a e
 resumed (control.Waits w) k a e = waiting w k a e
 resumed (control.Leave f) k a e = k f e
 
 -- What comes after a frame, from what comes after what is below it.
 
-abbrev pub surrounded : Around → Next → Next
-surrounded (around.Rest pl l i) k = and_then (λ e. seq_all (commands_from l.value i) pl e k) k
-surrounded (around.Links pl l i connectors) k = and_then (links_mean (commands_from l.value (i + 1)) (drop i connectors.value.items.items) pl k) k
-surrounded (around.Stage pl l i n status saved) k = λ f e. stages_mean (Some n) (commands_from l.value i) pl k (with_status status (back_to saved.value e))
-surrounded (around.Watch pl) k = watched pl k
-surrounded around.Invert k = inverted k
-surrounded (around.Condition pl last l) k = after_condition (whole l.body.value) run last (looping l) (tree.commands l.condition.value) (tree.commands l.body.value) pl k
-surrounded (around.Body pl l) k = after_body run (looping l) (tree.commands l.condition.value) (tree.commands l.body.value) pl k
-surrounded (around.Each pl each) k = let go = for_each each.name (drop each.at each.fields) (whole each.body.value) pl k in in_loop go go k
-surrounded (around.Choose pl body bs i otherwise) k = and_then (λ e. by_status e.env.status (λ e. whole body.value pl e k) (λ e. if_means (branches_from bs.value i) (whole otherwise.value) pl e k) e) k
+abbrev pub continued : Continuation → Next → Next
+continued (continuation.Rest pl l i) k = and_then (λ e. seq_all (commands_from l.value i) pl e k) k
+continued (continuation.Links pl l i connectors) k = and_then (links_mean (commands_from l.value (i + 1)) (drop i connectors.value.items.items) pl k) k
+continued (continuation.Stage pl l i n status saved) k = λ f e. stages_mean (Some n) (commands_from l.value i) pl k (with_status status (back_to saved.value e))
+continued (continuation.Watch pl) k = watched pl k
+continued continuation.Invert k = inverted k
+continued (continuation.Condition pl last l) k = after_condition (whole l.body.value) run last (looping l) (tree.commands l.condition.value) (tree.commands l.body.value) pl k
+continued (continuation.Body pl l) k = after_body run (looping l) (tree.commands l.condition.value) (tree.commands l.body.value) pl k
+continued (continuation.Each pl each) k = let go = for_each each.name (drop each.at each.fields) (whole each.body.value) pl k in in_loop go go k
+continued (continuation.Choose pl body bs i otherwise) k = and_then (λ e. by_status e.env.status (λ e. whole body.value pl e k) (λ e. if_means (branches_from bs.value i) (whole otherwise.value) pl e k) e) k
 
 abbrev pub undone : Undo → Next → Next
 undone (undo.Redirected rs before) k = unredirected (named (redirects_from rs.value 0)) before.value k
@@ -239,7 +239,7 @@ undone (undo.Subshell saved) k = λ f e. k Normal (back_to saved.value e)
 undone (undo.Substitution w saved) k = λ f e. wording w.value k answer.Go (back_to saved.value e)
 
 abbrev pub above : Frame → Next → Next
-above (frame.Around x) k = surrounded x k
+above (frame.Continuation x) k = continued x k
 above (frame.Undo x) k = undone x k
 
 abbrev pub context_on : Next → List Frame → Next

@@ -16,7 +16,7 @@ use Rattle.rk_calls.specs.declared.answer.Answer.TheVariants as answer
 use Rattle.rk_calls.specs.declared.call.Call.TheVariants.{Open, Read, Stat}
 use Rattle.rk_calls.specs.declared.call.How.TheVariants as how
 use Rattle.sh_vars.specs.Held.{Held, nothing, assigned, given}
-use Rattle.sh_redirect.specs.Descriptors.{own}
+use Rattle.sh_redirect.specs.DescriptorTable.{own}
 use Rattle.sh_special.specs.Lines.{usage_line}
 use Rattle.sh_means.specs.declared.flow.Flow.TheVariants.{Exits}
 use Rattle.sh_special.specs.Invocation.{Start, Misused, Given, Script, options}

@@ -6,8 +6,8 @@ use Rattle.sh_ast.specs.Commands.{CompoundTree, RedirectsTree}
 use Rattle.sh_vars.specs.declared.env.Env.{Env}
 use Rattle.sh_vars.specs.Held.{Held, variable_at, with_entry, assigned, given}
 use Rattle.sh_expand.specs.Expands.{counted}
-use Rattle.sh_redirect.specs.declared.descriptors.Descriptors.{Descriptors}
-use Rattle.sh_redirect.specs.Descriptors.{set_slot}
+use Rattle.sh_redirect.specs.declared.descriptors.DescriptorTable.{DescriptorTable}
+use Rattle.sh_redirect.specs.DescriptorTable.{set_slot}
 
 -- a function (XCU 2.9.5): its body, and the redirections that are made at each call
 pub record FunctionTree : Type 0 where
@@ -22,7 +22,7 @@ pub record Shell : Type 0 where
   pub env : Env
   pub errexit : Bool
   pub functions : List (Text × FunctionTree)
-  pub descriptors : Descriptors
+  pub descriptors : DescriptorTable
 
 abbrev pub with_env : Env → Shell → Shell
 with_env env e = record e { env = env }

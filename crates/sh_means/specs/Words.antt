@@ -13,10 +13,10 @@ use Rattle.sh_expand.specs.declared.mode.Expanded.{Expanded}
 use Rattle.sh_expand.specs.declared.mode.Expanded.TheVariants.{Fields, Value}
 use Rattle.sh_expand.specs.Expands.{Body}
 use Rattle.sh_expand.specs.Means.{expand_in}
-use Rattle.sh_redirect.specs.declared.descriptors.Descriptors.{Descriptors}
+use Rattle.sh_redirect.specs.declared.descriptors.DescriptorTable.{DescriptorTable}
 use Rattle.sh_redirect.specs.declared.kind.Redirect.{Redirect}
 use Rattle.sh_redirect.specs.declared.kind.Redirect.TheVariants.{Reads, Makes, Appends, Copies, Here}
-use Rattle.sh_redirect.specs.Descriptors.{put_back}
+use Rattle.sh_redirect.specs.DescriptorTable.{put_back}
 use Rattle.sh_redirect.specs.Redirects.{redirects}
 use Rattle.sh_means.specs.declared.flow.Flow.TheVariants.{Normal, Exits}
 use Rattle.sh_means.specs.declared.flow.Place.{Place}
@@ -85,7 +85,7 @@ abbrev pub named : List RedirectMeant → List ℕ
 named [] = []
 named (r ∷ rs) = r.descriptor ∷ named rs
 
-abbrev pub moved : Descriptors → Env → Shell → Shell
+abbrev pub moved : DescriptorTable → Env → Shell → Shell
 moved ds env e = record e { env = env; descriptors = ds }
 
 -- to an operand that was expanded: it is made, or refused, which was told then
@@ -99,7 +99,7 @@ redirect_all (r ∷ rs) ran pl made refused k e =
     expand_word mode.Value r.operand pl (λ x e'. redirect_to r.kind r.descriptor (value_of x) (redirect_all rs (ran || took e.env.next e') pl made refused k) refused e') k e
 
 -- the descriptors that were named are as they were before
-abbrev pub unredirected : List ℕ → Descriptors → Next → Next
+abbrev pub unredirected : List ℕ → DescriptorTable → Next → Next
 unredirected ds before k f e = k f (record e { descriptors = put_back ds before e.descriptors })
 
 -- Assignments.

@@ -13,14 +13,14 @@ use sh_ast::{
 };
 use sh_builtin::Builtin;
 use sh_expand::{Expanded, Expander};
-use sh_redirect::{Descriptors, Redirect, Redirecting};
+use sh_redirect::{DescriptorTable, Redirect, Redirecting};
 use sh_special::Order;
 use sh_vars::Saved;
 use std::rc::Rc;
 
 /// What a simple command is, by its fields.
 #[derive(Drop)]
-pub enum Kind {
+pub enum CommandKind {
     Bare,
     Special(Order),
     Calls(Callee),
@@ -28,17 +28,17 @@ pub enum Kind {
     Launches,
 }
 
-impl Kind {
+impl CommandKind {
     /// What a refused redirection ends.
     pub fn refusal_flow(&self) -> Flow
         ensures { result ≡ refusal_flow (kind_of_code self.now) }
     {
         match self {
-            Kind::Bare => Flow::Normal,
-            Kind::Special(_) => Flow::Exits,
-            Kind::Calls(_) => Flow::Normal,
-            Kind::Builtin => Flow::Normal,
-            Kind::Launches => Flow::Normal,
+            CommandKind::Bare => Flow::Normal,
+            CommandKind::Special(_) => Flow::Exits,
+            CommandKind::Calls(_) => Flow::Normal,
+            CommandKind::Builtin => Flow::Normal,
+            CommandKind::Launches => Flow::Normal,
         }
     }
 
@@ -47,11 +47,11 @@ impl Kind {
         ensures { result ≡ is_plain (kind_of_code self.now) }
     {
         match self {
-            Kind::Bare => false,
-            Kind::Special(_) => false,
-            Kind::Calls(_) => true,
-            Kind::Builtin => true,
-            Kind::Launches => true,
+            CommandKind::Bare => false,
+            CommandKind::Special(_) => false,
+            CommandKind::Calls(_) => true,
+            CommandKind::Builtin => true,
+            CommandKind::Launches => true,
         }
     }
 
@@ -60,11 +60,11 @@ impl Kind {
         ensures { result ≡ exports (kind_of_code self.now) }
     {
         match self {
-            Kind::Bare => false,
-            Kind::Special(order) => order.exports(),
-            Kind::Calls(_) => true,
-            Kind::Builtin => true,
-            Kind::Launches => true,
+            CommandKind::Bare => false,
+            CommandKind::Special(order) => order.exports(),
+            CommandKind::Calls(_) => true,
+            CommandKind::Builtin => true,
+            CommandKind::Launches => true,
         }
     }
 
@@ -73,11 +73,11 @@ impl Kind {
         ensures { result ≡ keeps (kind_of_code self.now) }
     {
         match self {
-            Kind::Bare => false,
-            Kind::Special(order) => order.keeps(),
-            Kind::Calls(_) => false,
-            Kind::Builtin => false,
-            Kind::Launches => false,
+            CommandKind::Bare => false,
+            CommandKind::Special(order) => order.keeps(),
+            CommandKind::Calls(_) => false,
+            CommandKind::Builtin => false,
+            CommandKind::Launches => false,
         }
     }
 }
@@ -91,7 +91,7 @@ pub enum Then {
 
 /// Words from a place on, the fields of those before, and whether a substitution took place.
 #[derive(Drop)]
-pub struct Fielding {
+pub struct PendingFields {
     pub words: Rc<Words>,
     pub at: usize,
     pub fields: WordList,
@@ -102,7 +102,7 @@ pub struct Fielding {
 /// A simple command that has its fields.
 #[derive(Drop)]
 pub struct Doing {
-    pub kind: Kind,
+    pub kind: CommandKind,
     pub fields: WordList,
 }
 
@@ -115,17 +115,17 @@ pub enum Made {
 
 /// Redirections from a place on, the map before all of them, and whether a substitution took place.
 #[derive(Drop)]
-pub struct Making {
+pub struct PendingRedirects {
     pub redirects: Rc<Redirects>,
     pub at: usize,
-    pub before: Box<Descriptors>,
+    pub before: Box<DescriptorTable>,
     pub ran: bool,
     pub made: Made,
 }
 
 /// Assignments from a place on, and whether a substitution took place.
 #[derive(Drop)]
-pub struct Assigning {
+pub struct PendingAssignments {
     pub assignments: Rc<Assignments>,
     pub at: usize,
     pub exported: bool,
@@ -135,7 +135,7 @@ pub struct Assigning {
 
 /// A `case` at a pattern of an item.
 #[derive(Drop)]
-pub struct Casing {
+pub struct PendingCase {
     pub items: Rc<CaseItems>,
     pub at: usize,
     pub pattern: usize,
@@ -145,16 +145,16 @@ pub struct Casing {
 /// What a word is expanded for. A number is the next local number before its expansion.
 #[derive(Drop)]
 pub enum Aim {
-    Fields(Fielding, u64),
-    Operand(Making, u8, Redirect, u64),
-    Value(Assigning, Bytes, u64),
+    Fields(PendingFields, u64),
+    Operand(PendingRedirects, u8, Redirect, u64),
+    Value(PendingAssignments, Bytes, u64),
     Subject(Rc<CaseItems>),
-    Pattern(Casing),
+    Pattern(PendingCase),
 }
 
 /// A word half expanded.
 #[derive(Drop)]
-pub struct Wording {
+pub struct PendingWord {
     pub expander: Expander,
     pub word: Rc<Word>,
     pub place: Place,
@@ -192,7 +192,7 @@ pub enum Wait {
     /// It is read.
     Read(Place, Bytes),
     /// A redirection is made.
-    Redirects(Place, Making, Box<Redirecting>),
+    Redirects(Place, PendingRedirects, Box<Redirecting>),
     /// An expansion fault is told: a parameter and a message.
     Fails(Bytes, Bytes),
     /// A builtin runs.
@@ -203,7 +203,7 @@ pub enum Wait {
 
 /// A part of a compound command that comes next.
 #[derive(Drop)]
-pub enum Inside {
+pub enum CompoundStep {
     Compound(Place, Rc<Compound>),
     /// The body of a function that was called.
     Called(Place, Callee),
@@ -214,20 +214,20 @@ pub enum Inside {
     Each(Place, Each),
     /// The variable of a `for` takes the field, which was paid for.
     Gives(Place, Each),
-    Case(Place, Casing),
+    Case(Place, PendingCase),
     /// The stages of a pipeline from a place on, the first of which reads from this number.
     Stages(Place, Rc<CommandList>, usize, Option<u64>),
 }
 
 /// A part of a simple command, or words, that come next.
 #[derive(Drop)]
-pub enum Wordy {
-    Words(Place, Fielding),
-    Expand(Box<Wording>),
+pub enum SimpleStep {
+    Words(Place, PendingFields),
+    Expand(Box<PendingWord>),
     /// What a word gave.
-    Deliver(Box<Wording>, Expanded),
-    Make(Place, Making),
-    Assign(Place, Assigning),
+    Deliver(Box<PendingWord>, Expanded),
+    Make(Place, PendingRedirects),
+    Assign(Place, PendingAssignments),
     /// A text under its name.
     Text(Place, Bytes, Bytes),
 }
@@ -259,15 +259,15 @@ pub enum Control {
     Whole(Place, Rc<CommandList>),
     /// One of the commands.
     One(Place, Rc<CommandList>, usize),
-    Inside(Inside),
-    Wordy(Wordy),
+    CompoundStep(CompoundStep),
+    SimpleStep(SimpleStep),
     Waits(Wait),
     Leave(Flow),
 }
 
 /// What is left to do after a command, to its list or pipeline.
 #[derive(Drop)]
-pub enum Around {
+pub enum Continuation {
     Rest(Place, Rc<CommandList>, usize),
     Links(Place, Rc<CommandList>, usize, Rc<Connectors>),
     /// After a stage, whose pipe has this read end; the status is the one before the pipeline.
@@ -284,18 +284,18 @@ pub enum Around {
 /// What is undone after a command.
 #[derive(Drop)]
 pub enum Undo {
-    Redirected(Rc<Redirects>, Box<Descriptors>),
+    Redirected(Rc<Redirects>, Box<DescriptorTable>),
     Assigned(Rc<Assignments>, Saved),
     Function(WordList),
     Script,
     Subshell(Box<SavedState>),
-    Substitution(Box<Wording>, Box<SavedState>),
+    Substitution(Box<PendingWord>, Box<SavedState>),
 }
 
 /// What the control stack has: what is around a command, or what is undone behind it.
 #[derive(Drop)]
 pub enum Frame {
-    Around(Around),
+    Continuation(Continuation),
     Undo(Undo),
 }
 

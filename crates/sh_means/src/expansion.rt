@@ -10,7 +10,7 @@ ghost use Rattle.sh_means.specs.State.{Shell};
 ghost use Rattle.sh_means.specs.Views.{shell_of};
 ghost use Rattle.sh_means.specs.Words.{expand_word};
 
-use crate::control::{Aim, Control, Each, Inside, Wording, Wordy};
+use crate::control::{Aim, CompoundStep, Control, Each, PendingWord, SimpleStep};
 use crate::flow::{Flow, Place};
 use crate::state::State;
 use rk_base::{Bytes, NoMemory, WordList};
@@ -32,14 +32,14 @@ pub fn begin(
     let expander = Expander::start(alloc, &word, mode)?;
     let wording = Box::new(
         alloc,
-        Wording {
+        PendingWord {
             expander,
             word,
             place,
             aim,
         },
     )?;
-    Ok(Control::Wordy(Wordy::Expand(wording)))
+    Ok(Control::SimpleStep(SimpleStep::Expand(wording)))
 }
 
 /// A `for` over these fields; without one the status is 0.
@@ -56,7 +56,7 @@ pub fn over_fields(
         state.env.status = 0;
         return Control::Leave(Flow::Normal);
     }
-    Control::Inside(Inside::Each(
+    Control::CompoundStep(CompoundStep::Each(
         place,
         Each {
             name,

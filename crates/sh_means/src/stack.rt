@@ -1,16 +1,16 @@
 // The control stack.
 ghost use Rattle.std.specs.Prelude.{◌≡◌, OnOk};
-ghost use Rattle.sh_means.specs.Stack.{context, surrounded, undone, Popped};
+ghost use Rattle.sh_means.specs.Stack.{context, continued, undone, Popped};
 
-use crate::control::{Around, Frame, Undo};
+use crate::control::{Continuation, Frame, Undo};
 use rk_base::NoMemory;
 
 /// Puts what is left to do after a command on the stack.
 #[tactic(auto, using(crate::proofs::Stacks::context_push))]
-pub fn put_around(stack: &mut Vec<Frame>, frame: Around) -> Result<(), NoMemory>
-    ensures { OnOk result (context stack.new.items ≡ surrounded frame (context stack.old.items)) }
+pub fn put_continuation(stack: &mut Vec<Frame>, frame: Continuation) -> Result<(), NoMemory>
+    ensures { OnOk result (context stack.new.items ≡ continued frame (context stack.old.items)) }
 {
-    stack.push(Frame::Around(frame))?;
+    stack.push(Frame::Continuation(frame))?;
     Ok(())
 }
 

@@ -5,7 +5,7 @@ ghost use Rattle.sh_means.specs.Views.{shell_of, back_to, row_of, rows_of, funct
 
 use rk_base::{Bytes, NoMemory, Path};
 use sh_ast::{Compound, Redirects};
-use sh_redirect::Descriptors;
+use sh_redirect::DescriptorTable;
 use sh_vars::{Env, Saved};
 use std::alloc::Global;
 use std::rc::Rc;
@@ -32,7 +32,7 @@ pub struct State {
     pub errexit: bool,
     /// Of one name the newest stands last.
     pub functions: Vec<Function>,
-    pub descriptors: Descriptors,
+    pub descriptors: DescriptorTable,
 }
 
 /// What a shell was before a subshell.
@@ -45,7 +45,7 @@ pub struct SavedState {
     noglob: bool,
     errexit: bool,
     functions: Vec<Function>,
-    descriptors: Descriptors,
+    descriptors: DescriptorTable,
 }
 
 /// A copy that shares the body.

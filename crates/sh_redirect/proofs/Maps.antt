@@ -2,7 +2,7 @@
 use Rattle.std.proofs.Common.{◌≡◌, ℕ, ◌+◌, ◌≤◌, ◌<◌, List, [], ◌∷◌, length, Bool, true, false, nat_lt, Option, Some, None, if◌then◌else◌, refl, subst, arith}
 use Rattle.std.proofs.lemmas.Bool.{lt-ltb}
 use Rattle.rk_calls.specs.RefMaps.{rise_from, is_refmap}
-use Rattle.sh_redirect.specs.Descriptors.{numbered}
+use Rattle.sh_redirect.specs.DescriptorTable.{numbered}
 
 rises : (last d : ℕ) (ns : List (Option ℕ)) → last < d → d + length ns ≤ 10 → rise_from last (numbered d ns) ≡ true
 rises last d [] lt le = refl

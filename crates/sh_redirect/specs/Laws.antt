@@ -15,22 +15,22 @@ use Rattle.rk_calls.specs.Proper.{IsProper}
 use Rattle.rk_calls.specs.Turns.{turns}
 use Rattle.rk_calls.specs.Views.{View, Alike, alike-ask}
 use Rattle.sh_vars.specs.declared.env.Env.{Env}
-use Rattle.sh_redirect.specs.declared.descriptors.Descriptors.{Descriptors}
+use Rattle.sh_redirect.specs.declared.descriptors.DescriptorTable.{DescriptorTable}
 use Rattle.sh_redirect.specs.declared.kind.Redirect.{Redirect}
 use Rattle.sh_redirect.specs.declared.kind.Redirect.TheVariants as kind
 use Rattle.sh_redirect.specs.Answers.{refusal, heard}
-use Rattle.sh_redirect.specs.Descriptors.{slot, set_slot, digit}
+use Rattle.sh_redirect.specs.DescriptorTable.{slot, set_slot, digit}
 use Rattle.sh_redirect.specs.Redirects.{Goes, After, Doing, asks, makes, is_refused, told, tells, opened, opens, copied, copies_digit, copies, filled, here, redirects}
 
 -- how it goes on, wherever at most p turns are left
 abbrev pub GoesAlike : View → ℕ → Goes → Goes → Type 0
-GoesAlike v p g g' = (ds : Descriptors) (env : Env) (q : ℕ) → q ≤ p → Alike v q (g ds env) (g' ds env)
+GoesAlike v p g g' = (ds : DescriptorTable) (env : Env) (q : ℕ) → q ≤ p → Alike v q (g ds env) (g' ds env)
 
 abbrev pub AfterAlike : View → ℕ → After → After → Type 0
 AfterAlike v p k k' = GoesAlike v p k.made k'.made × GoesAlike v p k.refused k'.refused
 
 abbrev pub IsAlike : Doing → Type 0
-IsAlike x = (v : View) (p : ℕ) (k k' : After) (ds : Descriptors) (env : Env) → AfterAlike v p k k' → Alike v p (x k ds env) (x k' ds env)
+IsAlike x = (v : View) (p : ℕ) (k k' : After) (ds : DescriptorTable) (env : Env) → AfterAlike v p k k' → Alike v p (x k ds env) (x k' ds env)
 
 lower : (v : View) (p q : ℕ) (k k' : After) → q ≤ p → AfterAlike v p k k' → AfterAlike v q k k'
 lower v p q k k' le h = (λ ds env r le'. h.0 ds env r (omega arith), λ ds env r le'. h.1 ds env r (omega arith))

@@ -1,5 +1,5 @@
 pub mod Answers
-pub mod Descriptors
+pub mod DescriptorTable
 pub mod Laws
 pub mod Redirects
 pub mod Stages

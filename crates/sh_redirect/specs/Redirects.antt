@@ -14,15 +14,15 @@ use Rattle.rk_calls.specs.Places.{absolute}
 use Rattle.rk_calls.specs.Talk.{Says, ask}
 use Rattle.rk_calls.specs.Turns.{turns}
 use Rattle.sh_vars.specs.declared.env.Env.{Env}
-use Rattle.sh_redirect.specs.declared.descriptors.Descriptors.{Descriptors}
+use Rattle.sh_redirect.specs.declared.descriptors.DescriptorTable.{DescriptorTable}
 use Rattle.sh_redirect.specs.declared.kind.Redirect.{Redirect}
 use Rattle.sh_redirect.specs.declared.kind.Redirect.TheVariants as kind
 use Rattle.sh_redirect.specs.Answers.{refusal, heard}
-use Rattle.sh_redirect.specs.Descriptors.{slot, set_slot, digit}
+use Rattle.sh_redirect.specs.DescriptorTable.{slot, set_slot, digit}
 
 -- with the map of descriptors and the environment
 abbrev pub Goes : Type 0
-Goes = Descriptors → Env → Says
+Goes = DescriptorTable → Env → Says
 
 -- what comes after it: it was made, or refused
 pub record After : Type 0 where

@@ -4,7 +4,7 @@ use Rattle.rk_base.specs.Text.{Text}
 use Rattle.rk_calls.specs.declared.answer.Answer.{Answer}
 use Rattle.rk_calls.specs.Talk.{Says, ask}
 use Rattle.sh_vars.specs.declared.env.Env.{Env}
-use Rattle.sh_redirect.specs.declared.descriptors.Descriptors.{Descriptors}
+use Rattle.sh_redirect.specs.declared.descriptors.DescriptorTable.{DescriptorTable}
 use Rattle.sh_redirect.specs.declared.redirecting.Stage.{Stage}
 use Rattle.sh_redirect.specs.declared.redirecting.Stage.TheVariants.{Begins, Opening, Piping, Filling, Telling}
 use Rattle.sh_redirect.specs.declared.redirecting.Turn.{Turn}
@@ -35,7 +35,7 @@ IsAsking Made = Unit {0}
 IsAsking Refused = Unit {0}
 
 -- this is done by a turn and by what comes after it
-abbrev pub IsDoneBy : Doing → Descriptors → Env → Move → Descriptors → Type 0
+abbrev pub IsDoneBy : Doing → DescriptorTable → Env → Move → DescriptorTable → Type 0
 IsDoneBy x ds env move ds' = (k : After) (p : ℕ) → x k ds env p ≡ after move.turn (stage_does move.stage) k ds' env p
 
 abbrev pub redirecting_does : Redirecting → Answer → Doing

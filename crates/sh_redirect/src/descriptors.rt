@@ -1,6 +1,6 @@
 // The shell's map of descriptors.
 ghost use Rattle.std.specs.Prelude.{◌≡◌, ◌++◌, ◌+◌, ◌≤◌, IfOk, OnOk, length};
-ghost use Rattle.sh_redirect.specs.Descriptors.{slot, set_slot, own, put_back, numbered, refmap_of, digit};
+ghost use Rattle.sh_redirect.specs.DescriptorTable.{slot, set_slot, own, put_back, numbered, refmap_of, digit};
 
 use rk_base::NoMemory;
 use rk_calls::RefMap;
@@ -8,16 +8,16 @@ use std::alloc::Global;
 
 /// The local number that each descriptor from 0 to 9 stands for; none where it is closed.
 #[derive(Clone, Copy)]
-pub struct Descriptors {
+pub struct DescriptorTable {
     pub slots: [Option<u64>; 10],
 }
 
-impl Descriptors {
+impl DescriptorTable {
     /// Each stands for the command's own.
-    pub fn own() -> Descriptors
+    pub fn own() -> DescriptorTable
         ensures { result ≡ own }
     {
-        Descriptors {
+        DescriptorTable {
             slots: [
                 Some(0),
                 Some(1),
@@ -53,7 +53,7 @@ impl Descriptors {
     }
 
     /// Each of these descriptors is as it was before; the others stay.
-    pub fn put_back(&mut self, named: &[u8], before: &Descriptors)
+    pub fn put_back(&mut self, named: &[u8], before: &DescriptorTable)
         ensures { self.new ≡ put_back named.now before.now self.old }
     {
         'named: for d in named {

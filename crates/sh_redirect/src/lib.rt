@@ -7,7 +7,7 @@ mod kind;
 mod laws;
 mod redirecting;
 
-pub use descriptors::Descriptors;
+pub use descriptors::DescriptorTable;
 pub use kind::Redirect;
 pub use laws::redirections_keep_what_is_alike;
 pub use redirecting::{Redirecting, Turn};

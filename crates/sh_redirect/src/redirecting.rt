@@ -3,13 +3,13 @@ ghost use Rattle.std.specs.Prelude.{◌≡◌, ℕ, IfOk, codes};
 ghost use Rattle.rk_base.specs.Errno.{word};
 ghost use Rattle.sh_vars.specs.declared.env.Env.{Env as Environment};
 ghost use Rattle.rk_calls.specs.declared.answer.Answer.{Answer as TheAnswer};
-ghost use Rattle.sh_redirect.specs.declared.descriptors.Descriptors.{Descriptors};
+ghost use Rattle.sh_redirect.specs.declared.descriptors.DescriptorTable.{DescriptorTable};
 ghost use Rattle.sh_redirect.specs.Redirects.{After, makes, is_refused, told, tells, opened, opens, copied, copies_digit, copies, filled, here, redirects};
 ghost use Rattle.sh_redirect.specs.Stages.{stage_does, after, IsDoneBy, redirecting_does, IsAsking};
 
 use crate::answers::refusal;
 use crate::descriptors::digit;
-use crate::{Descriptors, Redirect};
+use crate::{DescriptorTable, Redirect};
 use rk_base::{Bytes, Errno, NoMemory};
 use rk_calls::{Answer, Call, How, absolute, error_line, turns};
 use sh_vars::Env;
@@ -57,7 +57,7 @@ pub struct Redirecting {
     stage: Stage,
 }
 
-fn made(d: u8, n: Option<u64>, descriptors: &mut Descriptors) -> Move
+fn made(d: u8, n: Option<u64>, descriptors: &mut DescriptorTable) -> Move
     ensures does { (env : Environment) → IsDoneBy (makes d n) descriptors.old env result descriptors.new }
     ensures costly { IsAsking result.turn }
 {
@@ -70,7 +70,7 @@ fn made(d: u8, n: Option<u64>, descriptors: &mut Descriptors) -> Move
 
 // A line of error text goes to this number.
 fn told(n: Option<u64>, line: Bytes) -> Move
-    ensures does { (ds : Descriptors) (env : Environment) → IsDoneBy (told n line) ds env result ds }
+    ensures does { (ds : DescriptorTable) (env : Environment) → IsDoneBy (told n line) ds env result ds }
     ensures costly { IsAsking result.turn }
 {
     match n {
@@ -92,7 +92,7 @@ fn tell(
     alloc: Global,
     operand: &[u8],
     what: &[u8],
-    descriptors: &Descriptors,
+    descriptors: &DescriptorTable,
 ) -> Result<Move, NoMemory>
     ensures does { IfOk result (λ move. (env : Environment) → IsDoneBy (tells operand.now what.now) descriptors.now env move descriptors.now) }
     ensures costly { IfOk result (λ move. IsAsking move.turn) }
@@ -106,7 +106,7 @@ fn open(
     how: How,
     d: u8,
     operand: Bytes,
-    descriptors: &Descriptors,
+    descriptors: &DescriptorTable,
     env: &Env,
 ) -> Result<Move, NoMemory>
     ensures does { IfOk result (λ move. IsDoneBy (opens how d operand) descriptors.now env.now move descriptors.now) }
@@ -123,7 +123,7 @@ fn refused(
     alloc: Global,
     operand: &Bytes,
     errno: Errno,
-    descriptors: &Descriptors,
+    descriptors: &DescriptorTable,
 ) -> Result<Move, NoMemory>
     ensures does { IfOk result (λ move. (env : Environment) → IsDoneBy (tells operand.now (word errno)) descriptors.now env move descriptors.now) }
     ensures costly { IfOk result (λ move. IsAsking move.turn) }
@@ -136,13 +136,13 @@ fn refused(
     )
 }
 
-fn opened(
+fn file_opened(
     alloc: Global,
     d: u8,
     operand: &Bytes,
     n: u64,
     refusal: Option<Errno>,
-    descriptors: &mut Descriptors,
+    descriptors: &mut DescriptorTable,
 ) -> Result<Move, NoMemory>
     ensures does { IfOk result (λ move. (env : Environment) → IsDoneBy (opened d operand.now n refusal) descriptors.old env move descriptors.new) }
     ensures costly { IfOk result (λ move. IsAsking move.turn) }
@@ -153,14 +153,18 @@ fn opened(
     }
 }
 
-fn no_descriptor(alloc: Global, operand: &[u8], descriptors: &Descriptors) -> Result<Move, NoMemory>
+fn no_descriptor(
+    alloc: Global,
+    operand: &[u8],
+    descriptors: &DescriptorTable,
+) -> Result<Move, NoMemory>
     ensures does { IfOk result (λ move. (env : Environment) → IsDoneBy (tells operand.now (codes "bad descriptor")) descriptors.now env move descriptors.now) }
     ensures costly { IfOk result (λ move. IsAsking move.turn) }
 {
     tell(alloc, operand, b"bad descriptor", descriptors)
 }
 
-fn no_digit(alloc: Global, operand: &[u8], descriptors: &Descriptors) -> Result<Move, NoMemory>
+fn no_digit(alloc: Global, operand: &[u8], descriptors: &DescriptorTable) -> Result<Move, NoMemory>
     ensures does { IfOk result (λ move. (env : Environment) → IsDoneBy (tells operand.now (codes "not valid")) descriptors.now env move descriptors.now) }
     ensures costly { IfOk result (λ move. IsAsking move.turn) }
 {
@@ -172,7 +176,7 @@ fn copied(
     d: u8,
     operand: &Bytes,
     n: Option<u64>,
-    descriptors: &mut Descriptors,
+    descriptors: &mut DescriptorTable,
 ) -> Result<Move, NoMemory>
     ensures does { IfOk result (λ move. (env : Environment) → IsDoneBy (copied d operand.now n) descriptors.old env move descriptors.new) }
     ensures costly { IfOk result (λ move. IsAsking move.turn) }
@@ -188,7 +192,7 @@ fn copy_digit(
     d: u8,
     operand: &Bytes,
     from: Option<u8>,
-    descriptors: &mut Descriptors,
+    descriptors: &mut DescriptorTable,
 ) -> Result<Move, NoMemory>
     ensures does { IfOk result (λ move. (env : Environment) → IsDoneBy (copies_digit d operand.now from) descriptors.old env move descriptors.new) }
     ensures costly { IfOk result (λ move. IsAsking move.turn) }
@@ -206,7 +210,7 @@ fn copy(
     alloc: Global,
     d: u8,
     operand: &Bytes,
-    descriptors: &mut Descriptors,
+    descriptors: &mut DescriptorTable,
 ) -> Result<Move, NoMemory>
     ensures does { IfOk result (λ move. (env : Environment) → IsDoneBy (copies d operand.now) descriptors.old env move descriptors.new) }
     ensures costly { IfOk result (λ move. IsAsking move.turn) }
@@ -218,7 +222,7 @@ fn copy(
 }
 
 // Once the pipe of a here-document was made. No memory holds more than there are numbers.
-fn fill(d: u8, body: Bytes, n: u64, descriptors: &mut Descriptors) -> Result<Move, NoMemory>
+fn fill(d: u8, body: Bytes, n: u64, descriptors: &mut DescriptorTable) -> Result<Move, NoMemory>
     ensures does { IfOk result (λ move. (env : Environment) → IsDoneBy (filled d body n) descriptors.old env move descriptors.new) }
     ensures costly { IfOk result (λ move. IsAsking move.turn) }
 {
@@ -237,7 +241,7 @@ fn fill(d: u8, body: Bytes, n: u64, descriptors: &mut Descriptors) -> Result<Mov
     }
 }
 
-fn here(d: u8, body: Bytes, descriptors: &Descriptors, env: &Env) -> Move
+fn here(d: u8, body: Bytes, descriptors: &DescriptorTable, env: &Env) -> Move
     ensures does { IsDoneBy (here d body) descriptors.now env.now result descriptors.now }
     ensures costly { IsAsking result.turn }
 {
@@ -252,7 +256,7 @@ fn begin(
     kind: Redirect,
     d: u8,
     operand: Bytes,
-    descriptors: &mut Descriptors,
+    descriptors: &mut DescriptorTable,
     env: &Env,
 ) -> Result<Move, NoMemory>
     ensures does { IfOk result (λ move. IsDoneBy (redirects kind d operand) descriptors.old env.now move descriptors.new) }
@@ -268,7 +272,7 @@ fn begin(
 }
 
 fn is_over() -> Move
-    ensures does { (ds : Descriptors) (env : Environment) → IsDoneBy is_refused ds env result ds }
+    ensures does { (ds : DescriptorTable) (env : Environment) → IsDoneBy is_refused ds env result ds }
     ensures costly { IsAsking result.turn }
 {
     Move {
@@ -277,10 +281,10 @@ fn is_over() -> Move
     }
 }
 
-fn go_on(
+fn resume_stage(
     alloc: Global,
     stage: Stage,
-    descriptors: &mut Descriptors,
+    descriptors: &mut DescriptorTable,
     env: &Env,
     answer: Answer,
 ) -> Result<Move, NoMemory>
@@ -290,7 +294,7 @@ fn go_on(
     match stage {
         Stage::Begins(kind, d, operand) => begin(alloc, kind, d, operand, descriptors, env),
         Stage::Opening(d, operand, n) => {
-            opened(alloc, d, &operand, n, refusal(answer), descriptors)
+            file_opened(alloc, d, &operand, n, refusal(answer), descriptors)
         }
         Stage::Piping(d, body, n) => fill(d, body, n, descriptors),
         Stage::Filling(d, n) => Ok(made(d, Some(n), descriptors)),
@@ -314,7 +318,7 @@ impl Redirecting {
     /// map has the redirection, and `Refused` after the refusal was told on 2 as the map was then, or where it lacks 2.
     pub fn resume(
         &mut self,
-        descriptors: &mut Descriptors,
+        descriptors: &mut DescriptorTable,
         env: &Env,
         answer: Answer,
     ) -> Result<Turn, NoMemory>
@@ -322,7 +326,7 @@ impl Redirecting {
         ensures does { IfOk result (λ t. (k : After) (p : ℕ) → redirecting_does self.old answer k descriptors.old env.now p ≡ after t (redirecting_does self.new) k descriptors.new env.now p) }
     {
         let stage = mem::replace(&mut self.stage, Stage::Telling);
-        let Move { turn, stage } = go_on(self.alloc, stage, descriptors, env, answer)?;
+        let Move { turn, stage } = resume_stage(self.alloc, stage, descriptors, env, answer)?;
         self.stage = stage;
         Ok(turn)
     }

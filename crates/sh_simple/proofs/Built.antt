@@ -8,7 +8,7 @@ use Rattle.rk_calls.specs.declared.call.Call.{Call}
 use Rattle.rk_calls.specs.declared.turn.Turn as calls
 use Rattle.rk_calls.specs.declared.turn.Turn.TheVariants as calling
 use Rattle.sh_vars.specs.declared.env.Env.{Env}
-use Rattle.sh_redirect.specs.Descriptors.{slot}
+use Rattle.sh_redirect.specs.DescriptorTable.{slot}
 use Rattle.sh_builtin.specs.declared.builtin.Builtin.{Builtin}
 use Rattle.sh_builtin.specs.Doing as doing
 use Rattle.sh_builtin.specs.Stages.{builtin_does}

@@ -9,8 +9,8 @@ use Rattle.rk_calls.specs.declared.call.Call.TheVariants as call
 use Rattle.sh_vars.specs.declared.env.Env.{Env}
 use Rattle.sh_expand.specs.Told.{numbered}
 use Rattle.sh_expand.specs.Expands.{counted}
-use Rattle.sh_redirect.specs.declared.descriptors.Descriptors.{Descriptors}
-use Rattle.sh_redirect.specs.Descriptors.{slot}
+use Rattle.sh_redirect.specs.declared.descriptors.DescriptorTable.{DescriptorTable}
+use Rattle.sh_redirect.specs.DescriptorTable.{slot}
 use Rattle.sh_builtin.specs.Doing as builtin
 use Rattle.sh_simple.specs.Launching.{through}
 
@@ -47,7 +47,7 @@ slotted : (o : Option ℕ) (f : ℕ → Call) (cost : ℕ) (next : Answer → En
 slotted None f cost next env p = refl
 slotted (Some n) f cost next env p = asked (f n) cost next env p
 
-pub through_is : (c : Call) (ds : Descriptors) (cost : ℕ) (next : Answer → Env → Says) (env : Env) (p : ℕ) → builtin.through (slot ds) c cost next env p ≡ by_call (through c ds) cost next env p
+pub through_is : (c : Call) (ds : DescriptorTable) (cost : ℕ) (next : Answer → Env → Says) (env : Env) (p : ℕ) → builtin.through (slot ds) c cost next env p ≡ by_call (through c ds) cost next env p
 through_is (call.Open path how) ds cost next env p = asked (call.Open path how) cost next env p
 through_is (call.Read n) ds cost next env p = asked (call.Read n) cost next env p
 through_is (call.ReadLine n) ds cost next env p = slotted (slot ds n) (λ m. call.ReadLine m) cost next env p

@@ -6,7 +6,7 @@ ghost use Rattle.sh_means.specs.Views.{shell_of};
 use crate::launching::work;
 use rk_base::NoMemory;
 use sh_expand::Mode;
-use sh_means::control::{Acted, Aim, Assigning, Frame};
+use sh_means::control::{Acted, Aim, Frame, PendingAssignments};
 use sh_means::expansion::begin;
 use sh_means::flow::Place;
 use sh_means::numbers::behind;
@@ -18,7 +18,7 @@ use std::alloc::Global;
 pub fn next_assign(
     alloc: Global,
     place: Place,
-    left: Assigning,
+    left: PendingAssignments,
     stack: &mut Vec<Frame>,
     state: &mut State,
 ) -> Result<Acted, NoMemory>
@@ -38,7 +38,7 @@ pub fn next_assign(
             Ok(free(control))
         }
         None => {
-            let Assigning {
+            let PendingAssignments {
                 assignments: _,
                 at: _,
                 exported: _,

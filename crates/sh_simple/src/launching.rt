@@ -1,6 +1,6 @@
 // Commands that are launched, functions that are called, and builtins.
 ghost use Rattle.std.specs.Prelude.{◌≡◌, ℕ, IfOk, drop};
-ghost use Rattle.sh_redirect.specs.Descriptors.{slot};
+ghost use Rattle.sh_redirect.specs.DescriptorTable.{slot};
 ghost use Rattle.sh_means.specs.Flows.{Next, ends};
 ghost use Rattle.sh_simple.specs.Launching.{through};
 ghost use Rattle.sh_means.specs.Run.{run};
@@ -14,12 +14,12 @@ use crate::special::obey;
 use rk_base::{Bytes, Errno, NoMemory, WordList};
 use rk_calls::{Answer, Call, Key, Turn};
 use sh_builtin::Builtin;
-use sh_means::control::{Acted, Control, Doing, Frame, Inside, Kind, Undo, Wait};
+use sh_means::control::{Acted, CommandKind, CompoundStep, Control, Doing, Frame, Undo, Wait};
 use sh_means::flow::{Flow, Place};
 use sh_means::stack::put_undo;
 use sh_means::state::{Callee, State};
 use sh_means::steps::{end, free, paid};
-use sh_redirect::Descriptors;
+use sh_redirect::DescriptorTable;
 use std::alloc::Global;
 
 /// A command is launched, and then it ends so with the command's status.
@@ -83,7 +83,7 @@ fn call(
         returns: true,
         ..place
     };
-    Ok(paid(Control::Inside(Inside::Called(inside, callee))))
+    Ok(paid(Control::CompoundStep(CompoundStep::Called(inside, callee))))
 }
 
 // Without a command the status is that of the last substitution, or 0.
@@ -107,23 +107,23 @@ pub(crate) fn work(
 {
     let Doing { kind, fields } = Box::into_inner(doing);
     match kind {
-        Kind::Bare => {
+        CommandKind::Bare => {
             let status = status_if(ran, state.env.status);
             Ok(end(Flow::Normal, status, state))
         }
-        Kind::Special(order) => {
+        CommandKind::Special(order) => {
             let acted = obey(alloc, order, place, state)?;
             Ok(acted)
         }
-        Kind::Calls(callee) => {
+        CommandKind::Calls(callee) => {
             let acted = call(alloc, callee, &fields, place, stack, state)?;
             Ok(acted)
         }
-        Kind::Builtin => {
+        CommandKind::Builtin => {
             let builtin = Box::new(alloc, Builtin::start(alloc, &fields)?)?;
             Ok(free(Control::Waits(Wait::Builtin(builtin))))
         }
-        Kind::Launches => {
+        CommandKind::Launches => {
             let acted = launch(alloc, fields, Flow::Normal, state)?;
             Ok(acted)
         }
@@ -131,7 +131,7 @@ pub(crate) fn work(
 }
 
 // A call of a builtin names a descriptor as the shell does; none where the map lacks it.
-fn through(call: Call, descriptors: &Descriptors) -> Option<Call>
+fn through(call: Call, descriptors: &DescriptorTable) -> Option<Call>
     ensures { result ≡ through call descriptors.now }
 {
     match call {
@@ -147,7 +147,7 @@ fn through(call: Call, descriptors: &Descriptors) -> Option<Call>
     }
 }
 
-fn slot(descriptors: &Descriptors, d: u64) -> Option<u64>
+fn slot(descriptors: &DescriptorTable, d: u64) -> Option<u64>
     ensures { result ≡ slot descriptors.now d }
 {
     match descriptors.slots.get(d as usize) {
@@ -157,7 +157,11 @@ fn slot(descriptors: &Descriptors, d: u64) -> Option<u64>
 }
 
 /// A builtin goes on with the answer that was heard.
-pub fn go_on(builtin: Box<Builtin>, answer: Answer, state: &mut State) -> Result<Acted, NoMemory>
+pub fn resume_builtin(
+    builtin: Box<Builtin>,
+    answer: Answer,
+    state: &mut State,
+) -> Result<Acted, NoMemory>
     ensures talk { IfOk result (λ t. (k : Next) → Steps (building builtin.value k answer (shell_of state.old)) k (shell_of state.new) t) }
     ensures costly { IfOk result (λ t. IsStep t.turn) }
 {
@@ -186,10 +190,10 @@ pub fn go_on(builtin: Box<Builtin>, answer: Answer, state: &mut State) -> Result
 }
 
 /// The same where its call named a descriptor that the map lacks.
-pub fn go_on_without(builtin: Box<Builtin>, state: &mut State) -> Result<Acted, NoMemory>
+pub fn resume_builtin_refused(builtin: Box<Builtin>, state: &mut State) -> Result<Acted, NoMemory>
     ensures talk { IfOk result (λ t. (k : Next) → Steps (building builtin.value k (answers.No BadRef) (shell_of state.old)) k (shell_of state.new) t) }
     ensures costly { IfOk result (λ t. IsStep t.turn) }
 {
-    let acted = go_on(builtin, Answer::No(Errno::BadRef), state)?;
+    let acted = resume_builtin(builtin, Answer::No(Errno::BadRef), state)?;
     Ok(acted)
 }

@@ -9,7 +9,7 @@ ghost use Rattle.sh_means.specs.Views.{shell_of};
 use crate::launching::launch;
 use rk_base::{Bytes, NoMemory, WordList};
 use rk_calls::{Call, How, Turn, absolute};
-use sh_means::control::{Acted, Control, Wait, Wordy};
+use sh_means::control::{Acted, Control, SimpleStep, Wait};
 use sh_means::flow::{Flow, Place};
 use sh_means::state::State;
 use sh_means::steps::{end, free, refuse, tell};
@@ -136,7 +136,7 @@ pub(crate) fn obey(
         }
         Order::Eval(text) => {
             let name = Bytes::from_slice(alloc, b"eval")?;
-            Ok(free(Control::Wordy(Wordy::Text(place, name, text))))
+            Ok(free(Control::SimpleStep(SimpleStep::Text(place, name, text))))
         }
         Order::Dot(file) => {
             let acted = dot(alloc, place, file, state)?;

@@ -8,7 +8,7 @@ use Rattle.rk_calls.specs.declared.answer.Answer.TheVariants as answer
 use Rattle.rk_calls.specs.declared.call.Call.{Call}
 use Rattle.sh_vars.specs.declared.env.Env.{Env}
 use Rattle.sh_expand.specs.Expands.{counted}
-use Rattle.sh_redirect.specs.declared.descriptors.Descriptors.{Descriptors}
+use Rattle.sh_redirect.specs.declared.descriptors.DescriptorTable.{DescriptorTable}
 use Rattle.sh_redirect.specs.declared.redirecting.Redirecting.{Redirecting}
 use Rattle.sh_redirect.specs.declared.redirecting.Turn.{Turn}
 use Rattle.sh_redirect.specs.declared.redirecting.Turn.TheVariants as turn
@@ -17,7 +17,7 @@ use Rattle.sh_redirect.specs.declared.kind.Redirect as kinds
 use Rattle.sh_redirect.specs.Redirects.{After, Doing, redirects}
 use Rattle.sh_redirect.specs.Stages.{redirecting_does, after}
 use Rattle.sh_means.specs.declared.control.Control.TheVariants as control
-use Rattle.sh_means.specs.declared.control.Making.{Making}
+use Rattle.sh_means.specs.declared.control.PendingRedirects.{PendingRedirects}
 use Rattle.sh_means.specs.declared.control.Wait.TheVariants as wait
 use Rattle.sh_means.specs.declared.flow.Place.{Place}
 use Rattle.sh_means.specs.Flows.{Next, asks}
@@ -30,10 +30,10 @@ all_heard : (λ (a : Answer) (env : Env). redirection.heard a env) ≡ counted
 all_heard = λ i a env. redirection_heard a env i
 
 -- what comes after a redirection, from a state
-abbrev pub then_of : Making → Place → Next → Shell → After
+abbrev pub then_of : PendingRedirects → Place → Next → Shell → After
 then_of m pl k e = record { made = λ ds env. making m m.ran pl k (moved ds env e); refused = λ ds env. when_refused m pl k (moved ds env e) }
 
-module _ (m : Making) (pl : Place) (k : Next) (r r0 r' : Redirecting) (a : Answer) (e : Shell) (ds : Descriptors) (t : Turn) (hr : r0 ≡ r) (h : (x : After) (p : ℕ) → redirecting_does r0 a x e.descriptors e.env p ≡ after t (redirecting_does r') x ds e.env p) where
+module _ (m : PendingRedirects) (pl : Place) (k : Next) (r r0 r' : Redirecting) (a : Answer) (e : Shell) (ds : DescriptorTable) (t : Turn) (hr : r0 ≡ r) (h : (x : After) (p : ℕ) → redirecting_does r0 a x e.descriptors e.env p ≡ after t (redirecting_does r') x ds e.env p) where
   from : (p : ℕ) → redirecting m pl k r a e p ≡ redirecting m pl k r0 a e p
   from p = ap (λ (x : Redirecting). redirecting m pl k x a e p) (sym hr)
 
@@ -50,7 +50,7 @@ module _ (m : Making) (pl : Place) (k : Next) (r r0 r' : Redirecting) (a : Answe
   redirect_refused p is = from p ∙ h (then_of m pl k e) p ∙ ap (λ (t : Turn). after t (redirecting_does r') (then_of m pl k e) ds e.env p) is
 
 -- a redirection begins, once its operand was expanded
-pub redirect_begun : (m : Making) (pl : Place) (kd : kinds.Redirect) (d : ℕ) (text : Text) (r0 : Redirecting) (r : Box Redirecting) (b b' : Bool) (k : Next) (e : Shell) (p : ℕ) → ((a : Answer) → redirecting_does r0 a ≡ redirects kd d text) → r.value ≡ r0 → b' ≡ b → redirect_to kd d text (making m b pl k) (when_refused m pl k) e p ≡ resumed (control.Waits (wait.Redirects pl (record m { ran = b' }) r)) k answer.Go e p
+pub redirect_begun : (m : PendingRedirects) (pl : Place) (kd : kinds.Redirect) (d : ℕ) (text : Text) (r0 : Redirecting) (r : Box Redirecting) (b b' : Bool) (k : Next) (e : Shell) (p : ℕ) → ((a : Answer) → redirecting_does r0 a ≡ redirects kd d text) → r.value ≡ r0 → b' ≡ b → redirect_to kd d text (making m b pl k) (when_refused m pl k) e p ≡ resumed (control.Waits (wait.Redirects pl (record m { ran = b' }) r)) k answer.Go e p
 redirect_begun m pl kd d text r0 r b b' k e p h hr hb =
     ap (λ (x : Doing). x (record { made = λ ds env. making m b pl k (moved ds env e); refused = λ ds env. when_refused m pl k (moved ds env e) }) e.descriptors e.env p) (sym (h answer.Go))
     ∙ ap (λ (x : Redirecting). redirecting (record m { ran = b }) pl k x answer.Go e p) (sym hr)

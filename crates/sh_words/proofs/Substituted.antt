@@ -19,7 +19,7 @@ use Rattle.sh_expand.specs.Means.{With_expanded}
 use Rattle.sh_expand.specs.Turns.{expander_says, after_turn}
 use Rattle.sh_means.specs.declared.control.Control.TheVariants as control
 use Rattle.sh_means.specs.declared.control.Undo.TheVariants as undo
-use Rattle.sh_means.specs.declared.control.Wording.{Wording}
+use Rattle.sh_means.specs.declared.control.PendingWord.{PendingWord}
 use Rattle.sh_means.specs.declared.state.SavedState.{SavedState}
 use Rattle.sh_means.specs.Eval.{word_in, bodies_in, whole_in}
 use Rattle.sh_means.specs.Flows.{Next, Means}
@@ -30,7 +30,7 @@ use Rattle.sh_means.specs.Views.{back_to}
 use Rattle.sh_means.specs.Words.{body_at, bodies_at, in_subshell, faults}
 use Rattle.sh_means.proofs.Places.{body_some, body_none}
 
-pub sub_entered : (w : Box Wording) (i : ℕ) (body : Rc CommandList Global) (saved : Box SavedState) (E : Shell) (k k' : Next) (p : ℕ) → body_at (word_in run (tree.word w.value.word.value)).bodies i ≡ whole body.value → ((e : Shell) → back_to saved.value e ≡ back E e) → k' ≡ undone (undo.Substitution w saved) k → in_subshell (body_at (word_in run (tree.word w.value.word.value)).bodies i) w.value.place E E.env (λ env. wording w.value k Go (with_env env E)) p ≡ resumed (control.Whole w.value.place body) k' Go (with_slot 1 (Some (E.env.next - 1)) E) p
+pub sub_entered : (w : Box PendingWord) (i : ℕ) (body : Rc CommandList Global) (saved : Box SavedState) (E : Shell) (k k' : Next) (p : ℕ) → body_at (word_in run (tree.word w.value.word.value)).bodies i ≡ whole body.value → ((e : Shell) → back_to saved.value e ≡ back E e) → k' ≡ undone (undo.Substitution w saved) k → in_subshell (body_at (word_in run (tree.word w.value.word.value)).bodies i) w.value.place E E.env (λ env. wording w.value k Go (with_env env E)) p ≡ resumed (control.Whole w.value.place body) k' Go (with_slot 1 (Some (E.env.next - 1)) E) p
 sub_entered w i body saved E k k' p hb hs hk =
     ap (λ (m : Means). in_subshell m w.value.place E E.env (λ env. wording w.value k Go (with_env env E)) p) hb
     ∙ ap (λ (g : Shell → Shell). whole body.value w.value.place (with_slot 1 (Some (E.env.next - 1)) E) (λ f e. wording w.value k Go (g e)) p) (λ i e. sym (hs e) i)
@@ -60,15 +60,15 @@ body_missing w i b h hb =
     ∙ ap (whole_in run) (sym (commands_is b.value ∙ ap (λ cs. tree.commands_of (map tree.command cs)) hb))
 
 -- an expander's turn, whose owner is behind a pointer
-pub word_stepped : (w w0 : Wording) (x' : Expander) (a : Answer) (E : Shell) (env' : Env) (k : Next) (p : ℕ) (t t' : Expanding) → w0 ≡ w → ((body : ℕ → Body) (k : With_expanded) (fail : Failed) (p : ℕ) → expander_says w0.expander a body k fail E.env p ≡ after_turn t x' body k fail env' p) → t ≡ t' → wording w k a E p ≡ after_turn t' x' (bodies_at (word_in run (tree.word w0.word.value)).bodies w0.place E) (λ x env. aimed w0.aim w0.place k x (with_env env E)) (λ parameter message env. faults parameter message k (with_env env E)) env' p
+pub word_stepped : (w w0 : PendingWord) (x' : Expander) (a : Answer) (E : Shell) (env' : Env) (k : Next) (p : ℕ) (t t' : Expanding) → w0 ≡ w → ((body : ℕ → Body) (k : With_expanded) (fail : Failed) (p : ℕ) → expander_says w0.expander a body k fail E.env p ≡ after_turn t x' body k fail env' p) → t ≡ t' → wording w k a E p ≡ after_turn t' x' (bodies_at (word_in run (tree.word w0.word.value)).bodies w0.place E) (λ x env. aimed w0.aim w0.place k x (with_env env E)) (λ parameter message env. faults parameter message k (with_env env E)) env' p
 word_stepped w w0 x' a E env' k p t t' hw h ht =
     let bs : ℕ → Body = bodies_at (word_in run (tree.word w0.word.value)).bodies w0.place E in
     let u : With_expanded = λ x env. aimed w0.aim w0.place k x (with_env env E) in
     let f : Failed = λ parameter message env. faults parameter message k (with_env env E) in
-    ap (λ (w : Wording). wording w k a E p) (sym hw) ∙ h bs u f p ∙ ap (λ (t : Expanding). after_turn t x' bs u f env' p) ht
+    ap (λ (w : PendingWord). wording w k a E p) (sym hw) ∙ h bs u f p ∙ ap (λ (t : Expanding). after_turn t x' bs u f env' p) ht
 
 -- an expander asks for a body
-pub body_stepped : (w : Wording) (x' : Expander) (a : Answer) (E : Shell) (env' : Env) (i : ℕ) (k : Next) (p : ℕ) (t : Expanding) → ((body : ℕ → Body) (k : With_expanded) (fail : Failed) (p : ℕ) → expander_says w.expander a body k fail E.env p ≡ after_turn t x' body k fail env' p) → t ≡ Wants_body i → wording w k a E p ≡ in_subshell (body_at (word_in run (tree.word w.word.value)).bodies i) w.place (with_env env' E) env' (λ env. wording (record w { expander = x' }) k Go (with_env env (with_env env' E))) p
+pub body_stepped : (w : PendingWord) (x' : Expander) (a : Answer) (E : Shell) (env' : Env) (i : ℕ) (k : Next) (p : ℕ) (t : Expanding) → ((body : ℕ → Body) (k : With_expanded) (fail : Failed) (p : ℕ) → expander_says w.expander a body k fail E.env p ≡ after_turn t x' body k fail env' p) → t ≡ Wants_body i → wording w k a E p ≡ in_subshell (body_at (word_in run (tree.word w.word.value)).bodies i) w.place (with_env env' E) env' (λ env. wording (record w { expander = x' }) k Go (with_env env (with_env env' E))) p
 body_stepped w x' a E env' i k p t h e =
     let bs : ℕ → Body = bodies_at (word_in run (tree.word w.word.value)).bodies w.place E in
     let u : With_expanded = λ x env. aimed w.aim w.place k x (with_env env E) in

@@ -15,7 +15,7 @@ use rk_base::NoMemory;
 use rk_calls::{Answer, Turn};
 use sh_ast::{CommandList, Word};
 use sh_expand::{ExpandFault, Expanding};
-use sh_means::control::{Acted, Control, Frame, Undo, Wait, Wording, Wordy};
+use sh_means::control::{Acted, Control, Frame, PendingWord, SimpleStep, Undo, Wait};
 use sh_means::stack::put_undo;
 use sh_means::state::State;
 use sh_means::steps::free;
@@ -44,7 +44,7 @@ fn body_of(alloc: Global, word: &Word, number: u64) -> Result<Rc<CommandList>, N
 // A substitution's body begins in a subshell, with 1 on the pipe that was made last.
 fn enter_body(
     alloc: Global,
-    w: Box<Wording>,
+    w: Box<PendingWord>,
     number: u64,
     stack: &mut Vec<Frame>,
     state: &mut State,
@@ -63,7 +63,7 @@ fn enter_body(
 /// An expander's next turn, with the answer that was heard.
 pub fn act_expand(
     alloc: Global,
-    w: Box<Wording>,
+    w: Box<PendingWord>,
     answer: Answer,
     stack: &mut Vec<Frame>,
     state: &mut State,
@@ -76,11 +76,11 @@ pub fn act_expand(
     match wants {
         Expanding::Ask(call, cost) => Ok(Acted {
             turn: Turn::Ask(call, cost),
-            control: Control::Wordy(Wordy::Expand(w)),
+            control: Control::SimpleStep(SimpleStep::Expand(w)),
         }),
         Expanding::More(cost) => Ok(Acted {
             turn: Turn::More(cost),
-            control: Control::Wordy(Wordy::Expand(w)),
+            control: Control::SimpleStep(SimpleStep::Expand(w)),
         }),
         Expanding::Body(number) => {
             let control = enter_body(alloc, w, number, stack, state)?;
@@ -88,7 +88,7 @@ pub fn act_expand(
         }
         Expanding::Done(expanded, cost) => Ok(Acted {
             turn: Turn::More(cost),
-            control: Control::Wordy(Wordy::Deliver(w, expanded)),
+            control: Control::SimpleStep(SimpleStep::Deliver(w, expanded)),
         }),
         Expanding::Fault(fault, cost) => {
             let ExpandFault { parameter, message } = fault;

@@ -7,24 +7,24 @@ ghost use Rattle.sh_means.specs.Views.{rows_of};
 
 use rk_base::{NoMemory, WordList};
 use sh_builtin::is_builtin;
-use sh_means::control::Kind;
+use sh_means::control::CommandKind;
 use sh_means::state::{Function, copy_callee, function_named};
 use sh_special::order_of;
 use std::alloc::Global;
 
-fn called_kind(name: &[u8], functions: &[Function]) -> Result<Kind, NoMemory>
+fn called_kind(name: &[u8], functions: &[Function]) -> Result<CommandKind, NoMemory>
     ensures { IfOk result (λ k. kind_of_code k ≡ called_kind name.now (function_named name.now (rows_of functions.now))) }
 {
     match function_named(functions, name) {
         Some(callee) => {
             let callee = copy_callee(callee)?;
-            Ok(Kind::Calls(callee))
+            Ok(CommandKind::Calls(callee))
         }
         None => {
             if is_builtin(name) {
-                Ok(Kind::Builtin)
+                Ok(CommandKind::Builtin)
             } else {
-                Ok(Kind::Launches)
+                Ok(CommandKind::Launches)
             }
         }
     }
@@ -35,13 +35,13 @@ pub(crate) fn kind_of(
     alloc: Global,
     fields: &WordList,
     functions: &[Function],
-) -> Result<Kind, NoMemory>
+) -> Result<CommandKind, NoMemory>
     ensures { IfOk result (λ k. kind_of_code k ≡ kind_of fields.now (rows_of functions.now)) }
 {
     match fields.as_slice() {
-        [] => Ok(Kind::Bare),
+        [] => Ok(CommandKind::Bare),
         [name, ..] => match order_of(alloc, fields)? {
-            Some(order) => Ok(Kind::Special(order)),
+            Some(order) => Ok(CommandKind::Special(order)),
             None => called_kind(name.as_slice(), functions),
         },
     }

@@ -13,15 +13,16 @@ use rk_calls::{Answer, Turn};
 use sh_ast::{Assignments, RedirectOperator, Redirects};
 use sh_expand::Mode;
 use sh_means::control::{
-    Acted, Aim, Around, Assigning, Control, Doing, Frame, Inside, Made, Making, Undo, Wait, Wordy,
+    Acted, Aim, CompoundStep, Continuation, Control, Doing, Frame, Made, PendingAssignments,
+    PendingRedirects, SimpleStep, Undo, Wait,
 };
 use sh_means::expansion::begin;
 use sh_means::flow::{Flow, Place};
 use sh_means::numbers::behind;
-use sh_means::stack::{put_around, put_undo};
+use sh_means::stack::{put_continuation, put_undo};
 use sh_means::state::State;
 use sh_means::steps::{end, free};
-use sh_redirect::{Descriptors, Redirect, Redirecting};
+use sh_redirect::{DescriptorTable, Redirect, Redirecting};
 use sh_vars::Vars;
 use std::alloc::Global;
 use std::rc::Rc;
@@ -29,7 +30,7 @@ use std::rc::Rc;
 // The map is put back, where there are redirections.
 fn put_map_back_later(
     redirects: Rc<Redirects>,
-    before: Box<Descriptors>,
+    before: Box<DescriptorTable>,
     stack: &mut Vec<Frame>,
 ) -> Result<(), NoMemory>
     ensures { OnOk result (context stack.new.items ≡ unredirected (named (redirects_from redirects.value 0)) before.value (context stack.old.items)) }
@@ -47,7 +48,7 @@ fn put_map_back_later(
 fn unless_kept(
     keeps: bool,
     redirects: Rc<Redirects>,
-    before: Box<Descriptors>,
+    before: Box<DescriptorTable>,
     stack: &mut Vec<Frame>,
 ) -> Result<(), NoMemory>
     ensures { OnOk result (context stack.new.items ≡ unless_kept keeps (named (redirects_from redirects.value 0)) before.value (context stack.old.items)) }
@@ -98,7 +99,7 @@ fn for_its_time(
 fn made_simple(
     place: Place,
     redirects: Rc<Redirects>,
-    before: Box<Descriptors>,
+    before: Box<DescriptorTable>,
     ran: bool,
     assignments: Rc<Assignments>,
     doing: Box<Doing>,
@@ -110,12 +111,12 @@ fn made_simple(
     let plain = doing.kind.is_plain();
     let exported = doing.kind.exports();
     let keeps = doing.kind.keeps();
-    put_around(stack, Around::Watch(place))?;
+    put_continuation(stack, Continuation::Watch(place))?;
     unless_kept(keeps, redirects, before, stack)?;
     for_its_time(plain, &assignments, &state.env.vars, stack)?;
-    Ok(Control::Wordy(Wordy::Assign(
+    Ok(Control::SimpleStep(SimpleStep::Assign(
         place,
-        Assigning {
+        PendingAssignments {
             assignments,
             at: 0,
             exported,
@@ -128,13 +129,13 @@ fn made_simple(
 // All redirections were made.
 fn all_made(
     place: Place,
-    left: Making,
+    left: PendingRedirects,
     stack: &mut Vec<Frame>,
     state: &State,
 ) -> Result<Control, NoMemory>
     ensures { IfOk result (Goes (when_made left place (context stack.old.items) left.ran (shell_of state.now)) (context stack.new.items) (shell_of state.now)) }
 {
-    let Making {
+    let PendingRedirects {
         redirects,
         at: _,
         before,
@@ -157,7 +158,7 @@ fn all_made(
         }
         Made::Compound(body) => {
             put_map_back_later(redirects, before, stack)?;
-            Ok(Control::Inside(Inside::Compound(place, body)))
+            Ok(Control::CompoundStep(CompoundStep::Compound(place, body)))
         }
     }
 }
@@ -178,7 +179,7 @@ fn kind_of(operator: RedirectOperator) -> Redirect
 pub fn next_redirect(
     alloc: Global,
     place: Place,
-    left: Making,
+    left: PendingRedirects,
     stack: &mut Vec<Frame>,
     state: &State,
 ) -> Result<Control, NoMemory>
@@ -214,7 +215,7 @@ fn refusal_flow(made: &Made) -> Flow
 // A redirection was refused, which was told.
 fn refused(
     place: Place,
-    left: Making,
+    left: PendingRedirects,
     stack: &mut Vec<Frame>,
     state: &mut State,
 ) -> Result<Acted, NoMemory>
@@ -222,22 +223,22 @@ fn refused(
     ensures costly { IfOk result (λ t. IsStep t.turn) }
 {
     let flow = refusal_flow(&left.made);
-    let Making {
+    let PendingRedirects {
         redirects,
         at: _,
         before,
         ran: _,
         made: _,
     } = left;
-    put_around(stack, Around::Watch(place))?;
+    put_continuation(stack, Continuation::Watch(place))?;
     put_undo(stack, Undo::Redirected(redirects, before))?;
     Ok(end(flow, 1, state))
 }
 
 /// A redirection goes on with the answer that was heard.
-pub fn go_on(
+pub fn resume_redirection(
     place: Place,
-    left: Making,
+    left: PendingRedirects,
     r: Box<Redirecting>,
     answer: Answer,
     stack: &mut Vec<Frame>,
@@ -253,7 +254,7 @@ pub fn go_on(
             turn: Turn::Ask(call, cost),
             control: Control::Waits(Wait::Redirects(place, left, r)),
         }),
-        sh_redirect::Turn::Made => Ok(free(Control::Wordy(Wordy::Make(place, left)))),
+        sh_redirect::Turn::Made => Ok(free(Control::SimpleStep(SimpleStep::Make(place, left)))),
         sh_redirect::Turn::Refused => {
             let acted = refused(place, left, stack, state)?;
             Ok(acted)

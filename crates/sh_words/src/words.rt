@@ -15,8 +15,8 @@ use rk_base::{Bytes, NoMemory, WordList};
 use sh_ast::CaseItems;
 use sh_expand::{Expanded, Mode};
 use sh_means::control::{
-    Acted, Aim, Assigning, Casing, Control, Doing, Fielding, Inside, Made, Making, Then, Wait,
-    Wording, Wordy,
+    Acted, Aim, CompoundStep, Control, Doing, Made, PendingAssignments, PendingCase, PendingFields,
+    PendingRedirects, PendingWord, SimpleStep, Then, Wait,
 };
 use sh_means::expansion::{begin, over_fields};
 use sh_means::flow::{Flow, Place};
@@ -47,9 +47,9 @@ fn then(
             let assignments = command.assignments.clone()?;
             let before = Box::new(alloc, state.descriptors)?;
             let doing = Box::new(alloc, Doing { kind, fields })?;
-            Ok(Control::Wordy(Wordy::Make(
+            Ok(Control::SimpleStep(SimpleStep::Make(
                 place,
-                Making {
+                PendingRedirects {
                     redirects,
                     at: 0,
                     before,
@@ -66,7 +66,7 @@ fn then(
 pub fn next_word(
     alloc: Global,
     place: Place,
-    left: Fielding,
+    left: PendingFields,
     state: &mut State,
 ) -> Result<Control, NoMemory>
     ensures { IfOk result (λ c. (k : Next) → Goes (fielding left place k (shell_of state.old)) k (shell_of state.new) c) }
@@ -83,7 +83,7 @@ pub fn next_word(
             Ok(control)
         }
         None => {
-            let Fielding {
+            let PendingFields {
                 words: _,
                 at: _,
                 fields,
@@ -142,7 +142,7 @@ fn ran_since(ran: bool, next: u64, state: &State) -> bool
 fn take_fields(
     alloc: Global,
     place: Place,
-    left: Fielding,
+    left: PendingFields,
     next: u64,
     expanded: Expanded,
     state: &State,
@@ -150,7 +150,7 @@ fn take_fields(
     ensures { IfOk result (λ c. (k : Next) → Goes (aimed (aims.Fields left next) place k expanded (shell_of state.now)) k (shell_of state.now) c) }
 {
     let more = fields_of(alloc, expanded)?;
-    let Fielding {
+    let PendingFields {
         words,
         at,
         fields,
@@ -160,9 +160,9 @@ fn take_fields(
     let ran = ran_since(ran, next, state);
     let mut fields = fields;
     push_all(&mut fields, more.as_slice())?;
-    Ok(Control::Wordy(Wordy::Words(
+    Ok(Control::SimpleStep(SimpleStep::Words(
         place,
-        Fielding {
+        PendingFields {
             words,
             at,
             fields,
@@ -176,7 +176,7 @@ fn take_fields(
 fn redirect(
     alloc: Global,
     place: Place,
-    left: Making,
+    left: PendingRedirects,
     descriptor: u8,
     kind: Redirect,
     next: u64,
@@ -212,7 +212,7 @@ fn set(vars: &mut Vars, exported: bool, name: &[u8], value: &[u8]) -> Result<boo
 fn assign(
     alloc: Global,
     place: Place,
-    left: Assigning,
+    left: PendingAssignments,
     name: &Bytes,
     next: u64,
     value: &Bytes,
@@ -232,16 +232,16 @@ fn assign(
         let acted = refuse(alloc, name.as_slice(), b"readonly", Flow::Exits, 1, state)?;
         return Ok(acted);
     }
-    Ok(free(Control::Wordy(Wordy::Assign(place, left))))
+    Ok(free(Control::SimpleStep(SimpleStep::Assign(place, left))))
 }
 
 // The word of a `case` was expanded.
 fn look(place: Place, items: Rc<CaseItems>, value: Bytes) -> Control
     ensures { (k : Next) (e : Shell) → Goes (aimed (aims.Subject items) place k (Value value) e) k e result }
 {
-    Control::Inside(Inside::Case(
+    Control::CompoundStep(CompoundStep::Case(
         place,
-        Casing {
+        PendingCase {
             items,
             at: 0,
             pattern: 0,
@@ -251,7 +251,7 @@ fn look(place: Place, items: Rc<CaseItems>, value: Bytes) -> Control
 }
 
 // A pattern was expanded.
-fn match_pattern(place: Place, casing: Casing, pattern: &Bytes) -> Result<Control, NoMemory>
+fn match_pattern(place: Place, casing: PendingCase, pattern: &Bytes) -> Result<Control, NoMemory>
     ensures { IfOk result (λ c. (k : Next) (e : Shell) → Goes (aimed (aims.Pattern casing) place k (Value pattern.now) e) k e c) }
 {
     if matches(pattern.as_slice(), casing.value.as_slice()) {
@@ -267,7 +267,7 @@ fn match_pattern(place: Place, casing: Casing, pattern: &Bytes) -> Result<Contro
     let next = behind(casing.pattern)?;
     let mut casing = casing;
     casing.pattern = next;
-    Ok(Control::Inside(Inside::Case(place, casing)))
+    Ok(Control::CompoundStep(CompoundStep::Case(place, casing)))
 }
 
 // What a word gave is used for its aim.
@@ -311,7 +311,7 @@ fn deliver_to(
 /// What a word gave is used as it was meant.
 pub fn deliver(
     alloc: Global,
-    wording: Box<Wording>,
+    wording: Box<PendingWord>,
     expanded: Expanded,
     state: &mut State,
 ) -> Result<Acted, NoMemory>
@@ -319,7 +319,7 @@ pub fn deliver(
     ensures costly { IfOk result (λ t. IsStep t.turn) }
 {
     let expanded_word = Box::into_inner(wording);
-    let Wording {
+    let PendingWord {
         expander: _,
         word: _,
         place,

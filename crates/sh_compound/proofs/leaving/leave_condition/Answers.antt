@@ -1,11 +1,11 @@
 use Rattle.std.proofs.Common.{ap, ◌∙◌}
-use Rattle.sh_means.specs.declared.control.Around.TheVariants as around
+use Rattle.sh_means.specs.declared.control.Continuation.TheVariants as continuation
 use Rattle.sh_means.specs.declared.flow.Flow.{Flow}
-use Rattle.sh_means.specs.Stack.{context, surrounded}
+use Rattle.sh_means.specs.Stack.{context, continued}
 use Rattle.sh_means.specs.Views.{shell_of}
 use Rattle.sh_compound.proofs.leaving.leave_condition.Goals as goal
 
 pub returns-in_ok-control-in-Normal : goal.returns-in_ok-control-in-Normal
 returns-in_ok-control-in-Normal c =
-    λ p. ap (λ (f : Flow). surrounded (around.Condition c.args.place c.args.last c.args.left) (context c.args.stack.now.items) f (shell_of c.args.state.now) p) c.in-Normal.is
+    λ p. ap (λ (f : Flow). continued (continuation.Condition c.args.place c.args.last c.args.left) (context c.args.stack.now.items) f (shell_of c.args.state.now) p) c.in-Normal.is
     ∙ c.in_ok-control-in-Normal.ensures p

@@ -1,15 +1,15 @@
 use Rattle.std.proofs.Common.{ap, ◌∙◌}
-use Rattle.sh_means.specs.declared.control.Around.TheVariants as around
+use Rattle.sh_means.specs.declared.control.Continuation.TheVariants as continuation
 use Rattle.sh_means.specs.declared.flow.Flow.{Flow}
 use Rattle.sh_means.specs.declared.flow.Flow.TheVariants.{Continues}
-use Rattle.sh_means.specs.Stack.{surrounded}
+use Rattle.sh_means.specs.Stack.{continued}
 use Rattle.sh_compound.proofs.leaving.leave_each.Goals as goal
 
 pub returns-in-Normal : goal.returns-in-Normal
 returns-in-Normal c =
-    λ k e p. ap (λ (f : Flow). surrounded (around.Each c.args.place c.args.each) k f e p) c.in-Normal.is
+    λ k e p. ap (λ (f : Flow). continued (continuation.Each c.args.place c.args.each) k f e p) c.in-Normal.is
 
 pub returns-then-n-eq0 : goal.returns-then-n-eq0
 returns-then-n-eq0 c =
-    λ k e p. ap (λ (f : Flow). surrounded (around.Each c.args.place c.args.each) k f e p) c.in-Continues.is
-    ∙ ap (λ n. surrounded (around.Each c.args.place c.args.each) k (Continues n) e p) c.if-n-eq0.true
+    λ k e p. ap (λ (f : Flow). continued (continuation.Each c.args.place c.args.each) k f e p) c.in-Continues.is
+    ∙ ap (λ n. continued (continuation.Each c.args.place c.args.each) k (Continues n) e p) c.if-n-eq0.true

@@ -1,6 +1,6 @@
 use Rattle.std.proofs.Common.{ap, ◌∙◌}
-use Rattle.sh_redirect.specs.declared.descriptors.Descriptors.{Descriptors}
-use Rattle.sh_redirect.specs.Descriptors.{put_back}
+use Rattle.sh_redirect.specs.declared.descriptors.DescriptorTable.{DescriptorTable}
+use Rattle.sh_redirect.specs.DescriptorTable.{put_back}
 use Rattle.sh_means.specs.declared.control.Undo.{Undo}
 use Rattle.sh_means.specs.Stack.{redirects_from, undone}
 use Rattle.sh_means.specs.Words.{named}
@@ -12,7 +12,7 @@ pub returns-in-Redirected : goal.returns-in-Redirected
 returns-in-Redirected c =
     let e = shell_of c.args.state.now in
     λ k p. ap (λ (u : Undo). undone u k c.args.flow e p) c.in-Redirected.is
-    ∙ descriptors_back c.in-Redirected.redirects c.deref.result.now c.in-Redirected.before c.put_back.new.now k c.args.flow e p c.deref.ensures (c.put_back.ensures ∙ ap (λ (b : Descriptors). put_back (named (redirects_from c.deref.result.now 0)) b e.descriptors) c.deref-in-Redirected.ensures)
+    ∙ descriptors_back c.in-Redirected.redirects c.deref.result.now c.in-Redirected.before c.put_back.new.now k c.args.flow e p c.deref.ensures (c.put_back.ensures ∙ ap (λ (b : DescriptorTable). put_back (named (redirects_from c.deref.result.now 0)) b e.descriptors) c.deref-in-Redirected.ensures)
 
 pub returns-in_ok-put_back_variables-in-Assigned : goal.returns-in_ok-put_back_variables-in-Assigned
 returns-in_ok-put_back_variables-in-Assigned c =

@@ -2,9 +2,9 @@ use Rattle.std.proofs.Common.{◌≡◌, List, Some, None, sym, ap, subst, ◌�
 use Rattle.std.specs.List.{slice_get}
 use Rattle.sh_ast.specs.declared.command.Connector.{Connector}
 use Rattle.sh_ast.specs.declared.command.Connectors.{Connectors}
-use Rattle.sh_means.specs.declared.control.Around.TheVariants as around
+use Rattle.sh_means.specs.declared.control.Continuation.TheVariants as continuation
 use Rattle.sh_compound.specs.Leaving.{linked}
-use Rattle.sh_means.specs.Stack.{commands_from, context, surrounded}
+use Rattle.sh_means.specs.Stack.{commands_from, context, continued}
 use Rattle.sh_means.specs.Views.{shell_of}
 use Rattle.sh_compound.proofs.Branching.{links_so, links_over}
 use Rattle.sh_compound.proofs.leaving.links.Goals as goal
@@ -12,10 +12,10 @@ use Rattle.sh_compound.proofs.leaving.links.Goals as goal
 pub returns-in_ok-control-in-Some : goal.returns-in_ok-control-in-Some
 returns-in_ok-control-in-Some c =
     let k = context c.args.stack.now.items in
-    let k' = context c.put_around.new.stack.items in
+    let k' = context c.put_continuation.new.stack.items in
     let e = shell_of c.args.state.now in
     λ p. links_so c.args.list c.in_ok-rest.rest c.args.connectors c.in_ok-later.later c.in-Some.connector.now c.args.at c.takes-taken.result c.args.place k k' e p (subst (λ (os : List Connector). Some c.in-Some.connector.now ≡ slice_get os c.args.at) (c.as_slice.ensures.value ∙ ap (λ (o : Connectors). o.items.items) c.deref.ensures) c.in-Some.ensures) c.takes-taken.ensures c.in_ok-rest.ensures.cases c.in_ok-later.ensures.cases
-    (c.in_ok-put_around-in-Some.ensures ∙ ap (λ n. surrounded (around.Links c.args.place c.in_ok-rest.rest n c.in_ok-later.later) k) c.in_ok-next-in-Some.ensures)
+    (c.in_ok-put_continuation-in-Some.ensures ∙ ap (λ n. continued (continuation.Links c.args.place c.in_ok-rest.rest n c.in_ok-later.later) k) c.in_ok-next-in-Some.ensures)
     ∙ ap (λ n. linked c.takes-taken.result (commands_from c.args.list.value n) c.args.place k' e p) (sym c.in_ok-next-in-Some.ensures)
     ∙ c.in_ok-control-in-Some.ensures k' e p
 

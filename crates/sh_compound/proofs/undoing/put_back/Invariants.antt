@@ -1,5 +1,5 @@
 use Rattle.std.proofs.Common.{◌≡◌, drop}
-use Rattle.sh_redirect.specs.Descriptors.{put_back}
+use Rattle.sh_redirect.specs.DescriptorTable.{put_back}
 use Rattle.sh_compound.proofs.Named.{described}
 use Rattle.sh_compound.proofs.undoing.put_back.Given as goal
 

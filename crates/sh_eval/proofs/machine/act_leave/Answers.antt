@@ -10,12 +10,12 @@ returns-in-None-clause-talk c =
     let e = shell_of c.args.state.now in
     λ p. ap (λ (k : Next). k c.args.flow e p) c.in-None.ensures
 
-pub returns-in_ok-control-in-Some-Around-clause-talk : goal.returns-in_ok-control-in-Some-Around-clause-talk
-returns-in_ok-control-in-Some-Around-clause-talk c =
+pub returns-in_ok-control-in-Some-Continuation-clause-talk : goal.returns-in_ok-control-in-Some-Continuation-clause-talk
+returns-in_ok-control-in-Some-Continuation-clause-talk c =
     let e = shell_of c.args.state.now in
-    λ p. ap (λ (k : Next). k c.args.flow e p) c.in-Some-Around.ensures
-    ∙ ap (λ (f : Frame). above f (context c.pop.new.stack.items) c.args.flow e p) c.in-Some-Around.field-0-is
-    ∙ c.in_ok-control-in-Some-Around.ensures p ∙ c.free.ensures.talk (context c.leave_around.new.stack.items) (shell_of c.leave_around.new.state) p
+    λ p. ap (λ (k : Next). k c.args.flow e p) c.in-Some-Continuation.ensures
+    ∙ ap (λ (f : Frame). above f (context c.pop.new.stack.items) c.args.flow e p) c.in-Some-Continuation.field-0-is
+    ∙ c.in_ok-control-in-Some-Continuation.ensures p ∙ c.free.ensures.talk (context c.leave_continuation.new.stack.items) (shell_of c.leave_continuation.new.state) p
 
 pub returns-in_ok-control-in-Some-Undo-clause-talk : goal.returns-in_ok-control-in-Some-Undo-clause-talk
 returns-in_ok-control-in-Some-Undo-clause-talk c =

@@ -1,5 +1,5 @@
 use Rattle.std.proofs.Common.{sym, ap, ◌∙◌}
-use Rattle.sh_means.specs.declared.control.Wording.{Wording}
+use Rattle.sh_means.specs.declared.control.PendingWord.{PendingWord}
 use Rattle.sh_means.specs.Stack.{context, wording}
 use Rattle.sh_means.specs.Views.{shell_of}
 use Rattle.sh_words.proofs.Substituted.{body_stepped, word_stepped}
@@ -15,7 +15,7 @@ returns-in-More-clause-talk c =
 
 pub returns-in_ok-control-in-Body-clause-talk : goal.returns-in_ok-control-in-Body-clause-talk
 returns-in_ok-control-in-Body-clause-talk c =
-    λ p. ap (λ (w : Wording). wording w (context c.args.stack.now.items) c.args.answer (shell_of c.args.state.now) p) (sym c.deref_mut.ensures.value)
+    λ p. ap (λ (w : PendingWord). wording w (context c.args.stack.now.items) c.args.answer (shell_of c.args.state.now) p) (sym c.deref_mut.ensures.value)
     ∙ body_stepped c.deref_mut.result.now c.resume.new.self c.args.answer (shell_of c.args.state.now) c.resume.new.env c.in-Body.number (context c.args.stack.now.items) p c.in_ok-wants.wants c.in_ok-wants.ensures.talk c.in-Body.is
     ∙ c.in_ok-control-in-Body.ensures p ∙ c.free.ensures.talk (context c.enter_body.new.stack.items) (shell_of c.enter_body.new.state) p
 

@@ -6,5 +6,5 @@ use Rattle.sh_words.proofs.making.refused.Goals as goal
 
 pub returns-clause-talk : goal.returns-clause-talk
 returns-clause-talk c =
-    λ p. refusal_leads c.args.left c.args.place (context c.args.stack.now.items) (context c.put_around.new.stack.items) (context c.put_undo.new.stack.items) c.refusal_flow-flow.result (shell_of c.args.state.now) p c.refusal_flow-flow.ensures c.in_ok-put_around.ensures c.in_ok-put_undo.ensures
+    λ p. refusal_leads c.args.left c.args.place (context c.args.stack.now.items) (context c.put_continuation.new.stack.items) (context c.put_undo.new.stack.items) c.refusal_flow-flow.result (shell_of c.args.state.now) p c.refusal_flow-flow.ensures c.in_ok-put_continuation.ensures c.in_ok-put_undo.ensures
     ∙ c.end.ensures.talk (context c.put_undo.new.stack.items) p

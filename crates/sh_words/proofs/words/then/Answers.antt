@@ -7,16 +7,16 @@ use Rattle.rk_calls.specs.Talk.{Says}
 use Rattle.sh_ast.specs.declared.command.Assignments.{Assignments}
 use Rattle.sh_ast.specs.declared.command.Redirects.{Redirects}
 use Rattle.sh_ast.specs.declared.command.SimpleCommand.{SimpleCommand, out-SimpleCommand}
-use Rattle.sh_redirect.specs.declared.descriptors.Descriptors.{Descriptors}
+use Rattle.sh_redirect.specs.declared.descriptors.DescriptorTable.{DescriptorTable}
 use Rattle.sh_means.specs.declared.control.Doing.{Doing}
-use Rattle.sh_means.specs.declared.control.Kind as code
+use Rattle.sh_means.specs.declared.control.CommandKind as code
 use Rattle.sh_means.specs.declared.control.Made.TheVariants as made
 use Rattle.sh_means.specs.declared.control.Then.{Then}
 use Rattle.sh_means.specs.declared.flow.Place.{Place}
 use Rattle.sh_means.specs.declared.state.Function.{Function}
 use Rattle.sh_means.specs.Flows.{Next}
 use Rattle.sh_means.specs.Run.{run}
-use Rattle.sh_means.specs.Simple.{Kind, kind_of, made_simple, refused_simple}
+use Rattle.sh_means.specs.Simple.{CommandKind, kind_of, made_simple, refused_simple}
 use Rattle.sh_means.specs.Stack.{then_means, making, redirects_from, assigns_from, kind_of_code}
 use Rattle.sh_means.specs.State.{Shell}
 use Rattle.sh_means.specs.Views.{shell_of, rows_of}
@@ -24,23 +24,23 @@ use Rattle.sh_means.specs.Words.{redirect_all, named}
 use Rattle.sh_words.proofs.words.then.Goals as goal
 
 -- the redirections of a simple command with these fields, as a kind
-with_kind : List Text → Bool → Place → Next → Shell → Redirects → Assignments → Kind → Says
+with_kind : List Text → Bool → Place → Next → Shell → Redirects → Assignments → CommandKind → Says
 with_kind fields ran pl k e R A kd =
     redirect_all (redirects_from R 0) ran pl (made_simple run kd (assigns_from A 0) (named (redirects_from R 0)) e.descriptors fields pl k) (refused_simple kd (named (redirects_from R 0)) e.descriptors pl k) k e
 
 -- the same with the map and what the command is, where they lie behind pointers
-with_doing : Rc Redirects Global → Rc Assignments Global → Bool → Place → Next → Shell → Descriptors → Doing → Says
+with_doing : Rc Redirects Global → Rc Assignments Global → Bool → Place → Next → Shell → DescriptorTable → Doing → Says
 with_doing rs as' ran pl k e ds d =
     redirect_all (redirects_from rs.value 0) ran pl (made_simple run (kind_of_code d.kind) (assigns_from as'.value 0) (named (redirects_from rs.value 0)) ds d.fields pl k) (refused_simple (kind_of_code d.kind) (named (redirects_from rs.value 0)) ds pl k) k e
 
-simple_then : (x : SimpleCommand) (rs : Rc Redirects Global) (as' : Rc Assignments Global) (kd : code.Kind) (before : Box Descriptors) (doing : Box Doing) (fields : List Text) (ran : Bool) (pl : Place) (k : Next) (e : Shell) (p : ℕ) → rs.value ≡ (out-SimpleCommand x).redirects.value → as'.value ≡ (out-SimpleCommand x).assignments.value → kind_of_code kd ≡ kind_of fields e.functions → before.value ≡ e.descriptors → doing.value ≡ record { kind = kd; fields = fields } → with_kind fields ran pl k e (out-SimpleCommand x).redirects.value (out-SimpleCommand x).assignments.value (kind_of fields e.functions) p ≡ making (record { redirects = rs; at = 0; before = before; ran = ran; made = made.Simple as' doing }) ran pl k e p
+simple_then : (x : SimpleCommand) (rs : Rc Redirects Global) (as' : Rc Assignments Global) (kd : code.CommandKind) (before : Box DescriptorTable) (doing : Box Doing) (fields : List Text) (ran : Bool) (pl : Place) (k : Next) (e : Shell) (p : ℕ) → rs.value ≡ (out-SimpleCommand x).redirects.value → as'.value ≡ (out-SimpleCommand x).assignments.value → kind_of_code kd ≡ kind_of fields e.functions → before.value ≡ e.descriptors → doing.value ≡ record { kind = kd; fields = fields } → with_kind fields ran pl k e (out-SimpleCommand x).redirects.value (out-SimpleCommand x).assignments.value (kind_of fields e.functions) p ≡ making (record { redirects = rs; at = 0; before = before; ran = ran; made = made.Simple as' doing }) ran pl k e p
 unfolding with_kind with_doing
 simple_then x rs as' kd before doing fields ran pl k e p hr ha hk hb hd =
     ap (λ (R : Redirects). with_kind fields ran pl k e R (out-SimpleCommand x).assignments.value (kind_of fields e.functions) p) (sym hr)
     ∙ ap (λ (A : Assignments). with_kind fields ran pl k e rs.value A (kind_of fields e.functions) p) (sym ha)
-    ∙ ap (λ (kd : Kind). with_kind fields ran pl k e rs.value as'.value kd p) (sym hk)
+    ∙ ap (λ (kd : CommandKind). with_kind fields ran pl k e rs.value as'.value kd p) (sym hk)
     ∙ ap (λ (d : Doing). with_doing rs as' ran pl k e e.descriptors d p) (sym hd)
-    ∙ ap (λ (ds : Descriptors). with_doing rs as' ran pl k e ds doing.value p) (sym hb)
+    ∙ ap (λ (ds : DescriptorTable). with_doing rs as' ran pl k e ds doing.value p) (sym hb)
 
 pub returns-in_ok-doing-in-Simple : goal.returns-in_ok-doing-in-Simple
 unfolding with_kind

@@ -1,7 +1,7 @@
 use Rattle.std.proofs.Common.{◌∙◌}
 use Rattle.sh_means.specs.Views.{shell_of}
 use Rattle.sh_simple.proofs.Built.{builtin_asks, builtin_lacks, builtin_pays, builtin_ends}
-use Rattle.sh_simple.proofs.launching.go_on.Goals as goal
+use Rattle.sh_simple.proofs.launching.resume_builtin.Goals as goal
 
 pub returns-in-Some-clause-talk : goal.returns-in-Some-clause-talk
 returns-in-Some-clause-talk c =

@@ -1,7 +1,7 @@
 use Rattle.std.proofs.Common.{◌∙◌}
 use Rattle.sh_means.specs.Views.{shell_of}
 use Rattle.sh_compound.proofs.Entered.{compound_entered}
-use Rattle.sh_compound.proofs.commands.act_compound.Goals as goal
+use Rattle.sh_compound.proofs.commands.act_redirected.Goals as goal
 
 pub returns-clause-talk : goal.returns-clause-talk
 returns-clause-talk c =

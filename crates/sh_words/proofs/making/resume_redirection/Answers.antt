@@ -2,7 +2,7 @@ use Rattle.std.proofs.Common.{◌∙◌}
 use Rattle.sh_means.specs.Stack.{context}
 use Rattle.sh_means.specs.Views.{shell_of}
 use Rattle.sh_words.proofs.Redirected.{redirect_asks, redirect_made, redirect_refused}
-use Rattle.sh_words.proofs.making.go_on.Goals as goal
+use Rattle.sh_words.proofs.making.resume_redirection.Goals as goal
 
 pub returns-in-Ask-clause-talk : goal.returns-in-Ask-clause-talk
 returns-in-Ask-clause-talk c =

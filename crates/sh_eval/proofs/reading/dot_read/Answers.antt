@@ -3,7 +3,7 @@ use Rattle.rk_calls.specs.Brought.{brought}
 use Rattle.sh_means.specs.Stack.{context}
 use Rattle.sh_means.specs.Views.{shell_of}
 use Rattle.sh_means.proofs.Calling.{script_read}
-use Rattle.sh_eval.proofs.reading.read.Goals as goal
+use Rattle.sh_eval.proofs.reading.dot_read.Goals as goal
 
 pub returns-in_ok-put_undo-in-Ok-clause-talk : goal.returns-in_ok-put_undo-in-Ok-clause-talk
 returns-in_ok-put_undo-in-Ok-clause-talk c =
