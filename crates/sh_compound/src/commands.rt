@@ -20,7 +20,6 @@ use sh_means::control::{
     SimpleStep, Then,
 };
 use sh_means::flow::{Flow, Place};
-use sh_means::numbers::behind;
 use sh_means::stack::put_continuation;
 use sh_means::state::{Callee, Function, State};
 use sh_means::steps::{free, paid};
@@ -229,7 +228,7 @@ pub fn act_run(
     let rest = list.clone()?;
     match list.get(at) {
         Some(command) => {
-            let next = behind(at)?;
+            let next = at + 1;
             put_continuation(stack, Continuation::Rest(place, rest, next))?;
             let acted = act_command(alloc, place, command, stack, state)?;
             Ok(acted)

@@ -24,7 +24,6 @@ use sh_means::control::{
 use sh_means::expansion::{begin, over_fields};
 use sh_means::flow::{Flow, Place};
 use sh_means::items::item_at;
-use sh_means::numbers::behind;
 use sh_means::stack::{put_continuation, put_undo};
 use sh_means::state::State;
 use sh_means::steps::{end, free, paid, refuse};
@@ -173,7 +172,7 @@ pub fn act_if(
         Some(branch) => {
             let condition = branch.condition.clone()?;
             let body = branch.body.clone()?;
-            let next = behind(at)?;
+            let next = at + 1;
             put_continuation(
                 stack,
                 Continuation::Choose(place, body, rest, next, otherwise),
@@ -242,13 +241,18 @@ pub fn act_each(place: Place, each: Each) -> Acted
     }
 }
 
-// The body of a `for`, above a frame for the fields behind.
-fn enter_body(place: Place, each: Each, stack: &mut Vec<Frame>) -> Result<Control, NoMemory>
+// The body of a `for`, above a frame for the fields from the next one on.
+fn enter_body(
+    place: Place,
+    each: Each,
+    next: usize,
+    stack: &mut Vec<Frame>,
+) -> Result<Control, NoMemory>
+    requires { next ≡ each.at + 1 }
     ensures { IfOk result (λ c. (e : Shell) → Goes (each_body each place (context stack.old.items) e) (context stack.new.items) e c) }
 {
     let body = each.body.clone()?;
     let below = deeper(place)?;
-    let next = behind(each.at)?;
     let mut each = each;
     each.at = next;
     put_continuation(stack, Continuation::Each(place, each))?;
@@ -269,12 +273,12 @@ pub fn act_gives(
     let fields = each.fields.as_slice();
     match item_at(fields, each.at) {
         None => Ok(free(Control::Leave(Flow::Normal))),
-        Some(field) => {
+        Some((field, next)) => {
             let name = each.name.as_slice();
             let value = field.as_slice();
             let done = give(state, name, value)?;
             if done {
-                let control = enter_body(place, each, stack)?;
+                let control = enter_body(place, each, next, stack)?;
                 return Ok(free(control));
             }
             let acted = refuse(alloc, name, b"readonly", Flow::Exits, 1, state)?;
@@ -298,14 +302,15 @@ pub fn act_case_at(
         None => Ok(end(Flow::Normal, 0, state)),
         Some(item) => match item.patterns.get(left.pattern) {
             None => {
-                let next = behind(left.at)?;
                 let mut left = left;
-                left.at = next;
+                left.at += 1;
                 left.pattern = 0;
                 Ok(free(Control::CompoundStep(CompoundStep::Case(place, left))))
             }
             Some(word) => {
                 let word = word.clone()?;
+                let mut left = left;
+                left.pattern += 1;
                 let control = begin(alloc, word, Mode::Pattern, place, Aim::Pattern(left))?;
                 Ok(free(control))
             }
@@ -329,10 +334,10 @@ pub fn act_stages(
     match list.get(at) {
         None => Ok(free(Control::Leave(Flow::Normal))),
         Some(_) => {
-            let next = behind(at)?;
+            let next = at + 1;
             match list.get(next) {
                 Some(_) => {
-                    let wait = Wait::Stage(place, list, at, input, state.env.next);
+                    let wait = Wait::Stage(place, list, at, next, input, state.env.next);
                     Ok(Acted {
                         turn: Turn::Ask(Call::Pipe, 1),
                         control: Control::Waits(wait),
@@ -359,23 +364,23 @@ fn read_from(input: Option<u64>, state: &mut State)
     }
 }
 
-/// A stage begins, once the pipe behind it was made.
+/// A stage begins, once the pipe between it and the next one was made.
 pub fn act_stage(
     alloc: Global,
     place: Place,
     list: Rc<CommandList>,
     at: usize,
+    next: usize,
     input: Option<u64>,
     read_end: u64,
     stack: &mut Vec<Frame>,
     state: &mut State,
 ) -> Result<Control, NoMemory>
-    ensures { IfOk result (Goes (first_of (commands_from list.value at) place (with_slot 1 (Some (read_end + 1)) (with_input input (shell_of state.old))) (λ f e. stages_mean (Some read_end) (commands_from list.value (at + 1)) place (context stack.old.items) (past_stage (shell_of state.old) e))) (context stack.new.items) (shell_of state.new)) }
+    ensures { IfOk result (Goes (first_of (commands_from list.value at) place (with_slot 1 (Some (read_end + 1)) (with_input input (shell_of state.old))) (λ f e. stages_mean (Some read_end) (commands_from list.value next) place (context stack.old.items) (past_stage (shell_of state.old) e))) (context stack.new.items) (shell_of state.new)) }
 {
     let saved = state.save(alloc)?;
     let rest = list.clone()?;
     let write_end = next_number(read_end)?;
-    let next = behind(at)?;
     let status = state.env.status;
     put_continuation(
         stack,

@@ -1,5 +1,5 @@
 // What a frame that is left leads to.
-ghost use Rattle.std.specs.Prelude.{◌≡◌, ◌==◌, ◌+◌, IfOk, Bool, true, not, drop, if◌then◌else◌};
+ghost use Rattle.std.specs.Prelude.{◌≡◌, ◌≤◌, ◌==◌, ◌+◌, ◌^◌, IfOk, Bool, true, not, drop, if◌then◌else◌};
 ghost use Rattle.sh_ast.specs.Commands as tree;
 ghost use Rattle.sh_means.specs.declared.control.Continuation.TheVariants as continuations;
 ghost use Rattle.sh_means.specs.declared.control.Undo.TheVariants as undos;
@@ -19,7 +19,6 @@ use sh_ast::{Branches, CommandList, Connector, Connectors, LoopKind};
 use sh_means::control::{CompoundStep, Continuation, Control, Each, Frame, Loop, SimpleStep, Undo};
 use sh_means::flow::{Flow, Place};
 use sh_means::items::item_at;
-use sh_means::numbers::behind;
 use sh_means::stack::put_continuation;
 use sh_means::state::State;
 use std::rc::Rc;
@@ -48,31 +47,33 @@ fn takes(connector: Connector, status: u8) -> bool
 }
 
 // The pipeline at a place of an AND-OR list; only at the last a failing status is not ignored.
-fn enter(place: Place, list: Rc<CommandList>, at: usize) -> Result<Control, NoMemory>
-    ensures { IfOk result (λ c. (k : Next) (e : Shell) → Goes (linked true (commands_from list.value at) place k e) k e c) }
+fn enter(place: Place, list: Rc<CommandList>, at: usize) -> Control
+    requires { at ≤ 2 ^ 63 }
+    ensures { (k : Next) (e : Shell) → Goes (linked true (commands_from list.value at) place k e) k e result }
 {
-    let next = behind(at)?;
+    let next = at + 1;
     match list.get(next) {
         Some(_) => {
             let inside = Place {
                 ignores: true,
                 ..place
             };
-            Ok(Control::One(inside, list, at))
+            Control::One(inside, list, at)
         }
-        None => Ok(Control::One(place, list, at)),
+        None => Control::One(place, list, at),
     }
 }
 
 // The pipeline at a place of an AND-OR list is taken, or passed over.
-fn link(place: Place, list: Rc<CommandList>, at: usize, taken: bool) -> Result<Control, NoMemory>
-    ensures { IfOk result (λ c. (k : Next) (e : Shell) → Goes (linked taken (commands_from list.value at) place k e) k e c) }
+fn link(place: Place, list: Rc<CommandList>, at: usize, taken: bool) -> Control
+    requires { at ≤ 2 ^ 63 }
+    ensures { (k : Next) (e : Shell) → Goes (linked taken (commands_from list.value at) place k e) k e result }
 {
     if taken {
-        let control = enter(place, list, at)?;
-        return Ok(control);
+        enter(place, list, at)
+    } else {
+        Control::Leave(Flow::Normal)
     }
-    Ok(Control::Leave(Flow::Normal))
 }
 
 // After a pipeline of an AND-OR list, by the connector of this number.
@@ -90,12 +91,10 @@ fn links(
     let later = connectors.clone()?;
     match item_at(connectors.items.as_slice(), at) {
         None => Ok(Control::Leave(Flow::Normal)),
-        Some(connector) => {
+        Some((connector, next)) => {
             let taken = takes(*connector, state.env.status);
-            let next = behind(at)?;
             put_continuation(stack, Continuation::Links(place, rest, next, later))?;
-            let control = link(place, list, next, taken)?;
-            Ok(control)
+            Ok(link(place, list, next, taken))
         }
     }
 }
@@ -112,10 +111,7 @@ fn leave_links(
     ensures { IfOk result (Goes (continued (continuations.Links place list at connectors) (context stack.old.items) flow (shell_of state.now)) (context stack.new.items) (shell_of state.now)) }
 {
     match flow {
-        Flow::Normal => {
-            let control = links(place, list, at, connectors, stack, state)?;
-            Ok(control)
-        }
+        Flow::Normal => links(place, list, at, connectors, stack, state),
         Flow::Breaks(n) => Ok(Control::Leave(Flow::Breaks(n))),
         Flow::Continues(n) => Ok(Control::Leave(Flow::Continues(n))),
         Flow::Returns => Ok(Control::Leave(Flow::Returns)),

@@ -113,8 +113,8 @@ fn act_wait(
     match wait {
         Wait::Told(flow, status) => Ok(end(flow, status, state)),
         Wait::Launched(flow) => Ok(end(flow, joined(answer), state)),
-        Wait::Stage(place, list, at, input, read_end) => {
-            let control = act_stage(alloc, place, list, at, input, read_end, stack, state)?;
+        Wait::Stage(place, list, at, next, input, read_end) => {
+            let control = act_stage(alloc, place, list, at, next, input, read_end, stack, state)?;
             Ok(free(control))
         }
         Wait::Opened(place, file, n) => dot_opened(alloc, place, file, n, answer, state),

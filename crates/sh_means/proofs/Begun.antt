@@ -23,7 +23,7 @@ use Rattle.sh_means.specs.declared.control.Aim.TheVariants as aim
 use Rattle.sh_means.specs.declared.control.Continuation.TheVariants as continuation
 use Rattle.sh_means.specs.declared.control.PendingAssignments.{PendingAssignments}
 use Rattle.sh_means.specs.declared.control.Control.{Control}
-use Rattle.sh_means.specs.declared.control.Doing.{Doing}
+use Rattle.sh_means.specs.declared.doing.Doing.{Doing}
 use Rattle.sh_means.specs.declared.control.PendingFields.{PendingFields}
 use Rattle.sh_means.specs.declared.control.Made.TheVariants as made
 use Rattle.sh_means.specs.declared.control.PendingRedirects.{PendingRedirects}

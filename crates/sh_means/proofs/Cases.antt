@@ -54,7 +54,7 @@ patterns_over c is x ws pl k e p hs h hw hn =
     ∙ ap (λ (ms : List WordMeant). case_patterns ms (whole (out-CaseItem x).body.value) (case_items rest c.value pl k) c.value pl k e p) (words_none (tree.words (out-CaseItem x).patterns.value) c.pattern (subst (λ (ws : Words). None ≡ word_at (tree.words ws) c.pattern) hw hn))
     ∙ items_again rest c.value pl k e p
 
-pub pattern_begun : (c : PendingCase) (is : CaseItems) (x : CaseItem) (ws : Words) (w : Word) (w' : Rc Word Global) (ctl : Control) (pl : Place) (k : Next) (e : Shell) (p : ℕ) → is ≡ c.items.value → Some (tree.case_item x) ≡ case_item_at (tree.case_items is) c.at → ws ≡ (out-CaseItem x).patterns.value → Some (tree.word w) ≡ word_at (tree.words ws) c.pattern → w'.value ≡ w → Begins mode.Pattern w'.value pl (aim.Pattern c) ctl → casing c c.pattern pl k e p ≡ resumed ctl k Go e p
+pub pattern_begun : (c : PendingCase) (is : CaseItems) (x : CaseItem) (ws : Words) (w : Word) (w' : Rc Word Global) (ctl : Control) (pl : Place) (k : Next) (e : Shell) (p : ℕ) → is ≡ c.items.value → Some (tree.case_item x) ≡ case_item_at (tree.case_items is) c.at → ws ≡ (out-CaseItem x).patterns.value → Some (tree.word w) ≡ word_at (tree.words ws) c.pattern → w'.value ≡ w → Begins mode.Pattern w'.value pl (aim.Pattern (record c { pattern = c.pattern + 1 })) ctl → casing c c.pattern pl k e p ≡ resumed ctl k Go e p
 unfolding item_of
 pattern_begun c is x ws w w' ctl pl k e p hs h hw hp hv b =
     let rest = items_from c.items.value (c.at + 1) in
@@ -62,7 +62,7 @@ pattern_begun c is x ws w w' ctl pl k e p hs h hw hp hv b =
     ap (λ (L : List CaseMeant). case_from L c.pattern c.value pl k e p) hL
     ∙ ap (λ (ms : List WordMeant). case_patterns ms (whole (out-CaseItem x).body.value) (case_items rest c.value pl k) c.value pl k e p) (words_some (tree.words (out-CaseItem x).patterns.value) c.pattern (tree.word w) (subst (λ (ws : Words). Some (tree.word w) ≡ word_at (tree.words ws) c.pattern) hw hp))
     ∙ ap (λ (L : List CaseMeant). expand_word mode.Pattern (word_in run (tree.word w)) pl (λ t e. if is_matched (value_of t) c.value then case_body L pl e k else case_from L (c.pattern + 1) c.value pl k e) k e p) (sym hL)
-    ∙ ap (λ (v : Word). expand_word mode.Pattern (word_in run (tree.word v)) pl (aimed (aim.Pattern c) pl k) k e p) (sym hv)
+    ∙ ap (λ (v : Word). expand_word mode.Pattern (word_in run (tree.word v)) pl (aimed (aim.Pattern (record c { pattern = c.pattern + 1 })) pl k) k e p) (sym hv)
     ∙ b k e p
 
 pub body_matched : (c : PendingCase) (is : CaseItems) (x : CaseItem) (b : Rc CommandList Global) (pl : Place) (k : Next) (e : Shell) (p : ℕ) → is ≡ c.items.value → Some (tree.case_item x) ≡ case_item_at (tree.case_items is) c.at → b.value ≡ (out-CaseItem x).body.value → case_body (items_from c.items.value c.at) pl e k p ≡ whole b.value pl e k p

@@ -59,4 +59,4 @@ same_value (aim.Operand m d kind next) x v pl k e p valued h = ap (λ (t : Text)
 same_value (aim.Value a name next) x v pl k e p valued h = ap (λ (t : Text). assigns a.exported name t (assigning a (a.ran || took next e) pl k) k e p) (sym h)
 same_value (aim.Subject is) x v pl k e p valued h = ap (λ (t : Text). case_items (items_from is.value 0) t pl k e p) (sym h)
 same_value (aim.Pattern c) x v pl k e p valued h =
-    ap (λ (t : Text). (if is_matched t c.value then case_body (items_from c.items.value c.at) pl e k else casing c (c.pattern + 1) pl k e) p) (sym h)
+    ap (λ (t : Text). (if is_matched t c.value then case_body (items_from c.items.value c.at) pl e k else casing c c.pattern pl k e) p) (sym h)

@@ -8,3 +8,5 @@ pub mod Delivered
 pub mod Fields
 pub mod Copied
 pub mod Undone
+pub mod Bounds
+pub mod Launching

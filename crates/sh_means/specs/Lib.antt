@@ -16,3 +16,4 @@ pub mod Views
 pub mod Stack
 pub mod Trees
 pub mod Begins
+pub mod Launchable

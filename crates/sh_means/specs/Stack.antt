@@ -143,7 +143,7 @@ aimed (aim.Fields f next) pl k x e = expand_words (words_from f.words.value f.at
 aimed (aim.Operand m d kind next) pl k x e = redirect_to kind d (value_of x) (making m (m.ran || took next e) pl k) (when_refused m pl k) e
 aimed (aim.Value a name next) pl k x e = assigns a.exported name (value_of x) (assigning a (a.ran || took next e) pl k) k e
 aimed (aim.Subject is) pl k x e = case_items (items_from is.value 0) (value_of x) pl k e
-aimed (aim.Pattern c) pl k x e = if is_matched (value_of x) c.value then case_body (items_from c.items.value c.at) pl e k else casing c (c.pattern + 1) pl k e
+aimed (aim.Pattern c) pl k x e = if is_matched (value_of x) c.value then case_body (items_from c.items.value c.at) pl e k else casing c c.pattern pl k e
 
 abbrev pub wording : PendingWord → Next → Answer → Go_on
 wording w k a e p =
@@ -165,7 +165,7 @@ building b k a e = builtin_does b a (slot e.descriptors) (λ status env. ends No
 abbrev pub waiting : Wait → Next → Answer → Go_on
 waiting (wait.Told f n) k a e = ends f n k e
 waiting (wait.Launched f) k a e = ends f (joined a) k e
-waiting (wait.Stage pl l i input n) k a e = first_of (commands_from l.value i) pl (with_slot 1 (Some (n + 1)) (with_input input e)) (λ f e'. stages_mean (Some n) (commands_from l.value (i + 1)) pl k (past_stage e e'))
+waiting (wait.Stage pl l i j input n) k a e = first_of (commands_from l.value i) pl (with_slot 1 (Some (n + 1)) (with_input input e)) (λ f e'. stages_mean (Some n) (commands_from l.value j) pl k (past_stage e e'))
 waiting (wait.Opened pl file n) k a e = dot_opened run file n pl k (brought a) e
 waiting (wait.Read pl file) k a e = dot_read run file pl k (brought a) e
 waiting (wait.Redirects pl m r) k a e = redirecting m pl k r.value a e

@@ -3,6 +3,7 @@ ghost use Rattle.std.specs.Prelude.{◌≡◌};
 ghost use Rattle.sh_means.specs.Simple.{refusal_flow, is_plain, exports, keeps};
 ghost use Rattle.sh_means.specs.Stack.{kind_of_code};
 
+use crate::doing::Doing;
 use crate::flow::{Flow, Place};
 use crate::state::{Callee, SavedState};
 use rk_base::{Bytes, WordList};
@@ -99,13 +100,6 @@ pub struct PendingFields {
     pub then: Then,
 }
 
-/// A simple command that has its fields.
-#[derive(Drop)]
-pub struct Doing {
-    pub kind: CommandKind,
-    pub fields: WordList,
-}
-
 /// What redirections are made for.
 #[derive(Drop)]
 pub enum Made {
@@ -142,7 +136,8 @@ pub struct PendingCase {
     pub value: Bytes,
 }
 
-/// What a word is expanded for. A number is the next local number before its expansion.
+/// What a word is expanded for. A number is the next local number before its expansion. What goes on after the word is at the
+/// place behind it.
 #[derive(Drop)]
 pub enum Aim {
     Fields(PendingFields, u64),
@@ -185,8 +180,9 @@ pub enum Wait {
     Told(Flow, u8),
     /// A command is launched; then it ends so.
     Launched(Flow),
-    /// The pipe behind a stage is made, whose read end has the last number; and what the stage reads.
-    Stage(Place, Rc<CommandList>, usize, Option<u64>, u64),
+    /// The pipe behind the stage at the first of two places is made, whose read end has the last number; the second is the
+    /// next stage's, and before the number stands what the stage reads.
+    Stage(Place, Rc<CommandList>, usize, usize, Option<u64>, u64),
     /// A dot script is opened, and has this number then.
     Opened(Place, Bytes, u64),
     /// It is read.

@@ -3,11 +3,11 @@
 #![tactic(auto)]
 
 pub mod control;
+pub mod doing;
 pub mod expansion;
 pub mod flow;
 pub mod items;
 mod laws;
-pub mod numbers;
 pub mod stack;
 pub mod state;
 pub mod steps;

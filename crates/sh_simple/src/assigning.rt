@@ -9,7 +9,6 @@ use sh_expand::Mode;
 use sh_means::control::{Acted, Aim, Frame, PendingAssignments};
 use sh_means::expansion::begin;
 use sh_means::flow::Place;
-use sh_means::numbers::behind;
 use sh_means::state::State;
 use sh_means::steps::free;
 use std::alloc::Global;
@@ -30,9 +29,8 @@ pub fn next_assign(
         Some(assignment) => {
             let name = assignment.name.copy()?;
             let value = assignment.value.clone()?;
-            let next = behind(left.at)?;
             let mut left = left;
-            left.at = next;
+            left.at += 1;
             let aim = Aim::Value(left, name, state.env.next);
             let control = begin(alloc, value, Mode::Value, place, aim)?;
             Ok(free(control))

@@ -1,5 +1,5 @@
 // Commands that are launched, functions that are called, and builtins.
-ghost use Rattle.std.specs.Prelude.{◌≡◌, ℕ, IfOk, drop};
+ghost use Rattle.std.specs.Prelude.{◌≡◌, ◌<◌, ℕ, IfOk, drop, length};
 ghost use Rattle.sh_redirect.specs.DescriptorTable.{slot};
 ghost use Rattle.sh_means.specs.Flows.{Next, ends};
 ghost use Rattle.sh_simple.specs.Launching.{through};
@@ -14,7 +14,8 @@ use crate::special::obey;
 use rk_base::{Bytes, Errno, NoMemory, WordList};
 use rk_calls::{Answer, Call, Key, Turn};
 use sh_builtin::Builtin;
-use sh_means::control::{Acted, CommandKind, CompoundStep, Control, Doing, Frame, Undo, Wait};
+use sh_means::control::{Acted, CommandKind, CompoundStep, Control, Frame, Undo, Wait};
+use sh_means::doing::Doing;
 use sh_means::flow::{Flow, Place};
 use sh_means::stack::put_undo;
 use sh_means::state::{Callee, State};
@@ -22,19 +23,17 @@ use sh_means::steps::{end, free, paid};
 use sh_redirect::DescriptorTable;
 use std::alloc::Global;
 
-/// A command is launched, and then it ends so with the command's status.
+/// A command, which has a name, is launched, and then it ends so with the command's status.
 pub(crate) fn launch(
     alloc: Global,
     fields: WordList,
     flow: Flow,
     state: &State,
 ) -> Result<Acted, NoMemory>
+    requires { 0 < length fields }
     ensures talk { IfOk result (λ t. (k : Next) → Steps (launches fields (λ n. ends flow n k) (shell_of state.now)) k (shell_of state.now) t) }
     ensures costly { IfOk result (λ t. IsStep t.turn) }
 {
-    if fields.len() == 0 {
-        return Err(NoMemory);
-    }
     let wd = state.env.wd.copy()?;
     let vars = state.env.vars.exported()?;
     let map = state.descriptors.refmap(alloc)?;
@@ -194,6 +193,5 @@ pub fn resume_builtin_refused(builtin: Box<Builtin>, state: &mut State) -> Resul
     ensures talk { IfOk result (λ t. (k : Next) → Steps (building builtin.value k (answers.No BadRef) (shell_of state.old)) k (shell_of state.new) t) }
     ensures costly { IfOk result (λ t. IsStep t.turn) }
 {
-    let acted = resume_builtin(builtin, Answer::No(Errno::BadRef), state)?;
-    Ok(acted)
+    resume_builtin(builtin, Answer::No(Errno::BadRef), state)
 }

@@ -1,6 +1,7 @@
 // What special builtins do (XCU 2.14).
-ghost use Rattle.std.specs.Prelude.{◌≡◌, IfOk, codes};
+ghost use Rattle.std.specs.Prelude.{◌≡◌, IfOk, codes, true};
 ghost use Rattle.sh_means.specs.Flows.{Next, break_of, continue_of, return_flow};
+ghost use Rattle.sh_means.specs.Launchable.{names_command};
 ghost use Rattle.sh_means.specs.Run.{run};
 ghost use Rattle.sh_means.specs.Simple.{or_last, errs, unless_barred, sets, shifts, dots, obeys};
 ghost use Rattle.sh_means.specs.Stack.{Steps, IsStep};
@@ -57,8 +58,7 @@ fn err(alloc: Global, operand: &[u8], what: &[u8], state: &mut State) -> Result<
     ensures talk { IfOk result (λ t. (k : Next) → Steps (errs operand.now what.now k (shell_of state.old)) k (shell_of state.new) t) }
     ensures costly { IfOk result (λ t. IsStep t.turn) }
 {
-    let acted = refuse(alloc, operand, what, Flow::Exits, 1, state)?;
-    Ok(acted)
+    refuse(alloc, operand, what, Flow::Exits, 1, state)
 }
 
 // After variables were changed, up to a readonly one.
@@ -112,13 +112,14 @@ fn dot(alloc: Global, place: Place, file: Bytes, state: &State) -> Result<Acted,
     })
 }
 
-/// A special builtin does what it is told.
+/// A special builtin does what it is told. What `exec` launches has a name.
 pub(crate) fn obey(
     alloc: Global,
     order: Order,
     place: Place,
     state: &mut State,
 ) -> Result<Acted, NoMemory>
+    requires { names_command order ≡ true }
     ensures talk { IfOk result (λ t. (k : Next) → Steps (obeys run order place k (shell_of state.old)) k (shell_of state.new) t) }
     ensures costly { IfOk result (λ t. IsStep t.turn) }
 {
@@ -138,14 +139,8 @@ pub(crate) fn obey(
             let name = Bytes::from_slice(alloc, b"eval")?;
             Ok(free(Control::SimpleStep(SimpleStep::Text(place, name, text))))
         }
-        Order::Dot(file) => {
-            let acted = dot(alloc, place, file, state)?;
-            Ok(acted)
-        }
-        Order::Exec(words) => {
-            let acted = launch(alloc, words, Flow::Exits, state)?;
-            Ok(acted)
-        }
+        Order::Dot(file) => dot(alloc, place, file, state),
+        Order::Exec(words) => launch(alloc, words, Flow::Exits, state),
         Order::Keep => Ok(end(Flow::Normal, 0, state)),
         Order::Set(options, words) => {
             set(options, words, state);
@@ -161,10 +156,7 @@ pub(crate) fn obey(
             let acted = unless_barred(alloc, barred, state)?;
             Ok(acted)
         }
-        Order::Shift(n) => {
-            let acted = shift_by(alloc, n, state)?;
-            Ok(acted)
-        }
+        Order::Shift(n) => shift_by(alloc, n, state),
         Order::Usage(line) => Ok(tell(line, Flow::Exits, 2, state)),
     }
 }

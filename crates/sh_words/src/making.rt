@@ -13,12 +13,12 @@ use rk_calls::{Answer, Turn};
 use sh_ast::{Assignments, RedirectOperator, Redirects};
 use sh_expand::Mode;
 use sh_means::control::{
-    Acted, Aim, CompoundStep, Continuation, Control, Doing, Frame, Made, PendingAssignments,
+    Acted, Aim, CompoundStep, Continuation, Control, Frame, Made, PendingAssignments,
     PendingRedirects, SimpleStep, Undo, Wait,
 };
+use sh_means::doing::Doing;
 use sh_means::expansion::begin;
 use sh_means::flow::{Flow, Place};
-use sh_means::numbers::behind;
 use sh_means::stack::{put_continuation, put_undo};
 use sh_means::state::State;
 use sh_means::steps::{end, free};
@@ -37,10 +37,7 @@ fn put_map_back_later(
 {
     match redirects.get(0) {
         None => Ok(()),
-        Some(_) => {
-            put_undo(stack, Undo::Redirected(redirects, before))?;
-            Ok(())
-        }
+        Some(_) => { put_undo(stack, Undo::Redirected(redirects, before)) }
     }
 }
 
@@ -189,9 +186,8 @@ pub fn next_redirect(
     match redirects.get(left.at) {
         Some(r) => {
             let word = r.operand.clone()?;
-            let next = behind(left.at)?;
             let mut left = left;
-            left.at = next;
+            left.at += 1;
             let aim = Aim::Operand(left, r.descriptor, kind_of(r.operator), state.env.next);
             let control = begin(alloc, word, Mode::Value, place, aim)?;
             Ok(control)

@@ -15,12 +15,12 @@ use rk_base::{Bytes, NoMemory, WordList};
 use sh_ast::CaseItems;
 use sh_expand::{Expanded, Mode};
 use sh_means::control::{
-    Acted, Aim, CompoundStep, Control, Doing, Made, PendingAssignments, PendingCase, PendingFields,
+    Acted, Aim, CompoundStep, Control, Made, PendingAssignments, PendingCase, PendingFields,
     PendingRedirects, PendingWord, SimpleStep, Then, Wait,
 };
+use sh_means::doing::Doing;
 use sh_means::expansion::{begin, over_fields};
 use sh_means::flow::{Flow, Place};
-use sh_means::numbers::behind;
 use sh_means::state::State;
 use sh_means::steps::{free, refuse};
 use sh_pattern::matches;
@@ -46,7 +46,8 @@ fn then(
             let redirects = command.redirects.clone()?;
             let assignments = command.assignments.clone()?;
             let before = Box::new(alloc, state.descriptors)?;
-            let doing = Box::new(alloc, Doing { kind, fields })?;
+            let doing = Doing { kind, fields };
+            let boxed = Box::new(alloc, doing)?;
             Ok(Control::SimpleStep(SimpleStep::Make(
                 place,
                 PendingRedirects {
@@ -54,7 +55,7 @@ fn then(
                     at: 0,
                     before,
                     ran,
-                    made: Made::Simple(assignments, doing),
+                    made: Made::Simple(assignments, boxed),
                 },
             )))
         }
@@ -75,9 +76,8 @@ pub fn next_word(
     match words.get(left.at) {
         Some(word) => {
             let word = word.clone()?;
-            let next = behind(left.at)?;
             let mut left = left;
-            left.at = next;
+            left.at += 1;
             let aim = Aim::Fields(left, state.env.next);
             let control = begin(alloc, word, Mode::Fields, place, aim)?;
             Ok(control)
@@ -250,7 +250,7 @@ fn look(place: Place, items: Rc<CaseItems>, value: Bytes) -> Control
     ))
 }
 
-// A pattern was expanded.
+// A pattern was expanded, behind which the next one is at the place of the `case`.
 fn match_pattern(place: Place, casing: PendingCase, pattern: &Bytes) -> Result<Control, NoMemory>
     ensures { IfOk result (λ c. (k : Next) (e : Shell) → Goes (aimed (aims.Pattern casing) place k (Value pattern.now) e) k e c) }
 {
@@ -264,9 +264,6 @@ fn match_pattern(place: Place, casing: PendingCase, pattern: &Bytes) -> Result<C
             None => return Ok(Control::Leave(Flow::Normal)),
         }
     }
-    let next = behind(casing.pattern)?;
-    let mut casing = casing;
-    casing.pattern = next;
     Ok(Control::CompoundStep(CompoundStep::Case(place, casing)))
 }
 

@@ -1,8 +1,14 @@
-use Rattle.std.proofs.Common.{sym, ap, ◌∙◌}
-use Rattle.sh_means.specs.Stack.{casing}
+use Rattle.std.proofs.Common.{◌<◌, ◌∙◌, arith}
 use Rattle.sh_means.specs.Views.{shell_of}
+use Rattle.sh_means.proofs.Bounds.{case_item_small, word_small}
 use Rattle.sh_means.proofs.Cases.{items_over, patterns_over, pattern_begun}
 use Rattle.sh_compound.proofs.compounds.act_case_at.Goals as goal
+
+pub overflow_add-left : goal.overflow_add-left
+overflow_add-left c = let small : c.args.left.at < 9223372036854775808 = case_item_small c.deref.result.now c.args.left.at _ c.in-Some.ensures in omega arith
+
+pub overflow_add-left-in-Some-get : goal.overflow_add-left-in-Some-get
+overflow_add-left-in-Some-get c = let small : c.args.left.pattern < 9223372036854775808 = word_small c.deref-in-Some.result.now c.args.left.pattern _ c.in-Some-get.ensures in omega arith
 
 pub returns-in-None-clause-talk : goal.returns-in-None-clause-talk
 returns-in-None-clause-talk c =
@@ -12,7 +18,6 @@ pub returns-in-None-get-clause-talk : goal.returns-in-None-get-clause-talk
 returns-in-None-get-clause-talk c =
     let e = shell_of c.args.state.now in
     λ k p. patterns_over c.args.left c.deref.result.now c.in-Some.item.now c.deref-in-Some.result.now c.args.place k e p (c.deref.ensures ∙ c.in_ok-items.ensures.cases) c.in-Some.ensures c.deref-in-Some.ensures c.in-None-get.ensures
-    ∙ ap (λ n. casing (record c.args.left { at = n; pattern = 0 }) 0 c.args.place k e p) (sym c.in_ok-next-in-None-get.ensures)
     ∙ c.free.ensures.talk k e p
 
 pub returns-clause-talk : goal.returns-clause-talk

@@ -1,12 +1,15 @@
-use Rattle.std.proofs.Common.{ap, ◌∙◌}
-use Rattle.sh_means.specs.declared.control.Continuation.TheVariants as continuation
-use Rattle.sh_means.specs.Stack.{context, continued}
+use Rattle.std.proofs.Common.{◌<◌, arith}
+use Rattle.sh_means.specs.Stack.{context}
+use Rattle.sh_means.proofs.Bounds.{branch_small}
 use Rattle.sh_compound.proofs.Branching.{if_begun, if_over}
 use Rattle.sh_compound.proofs.compounds.act_if.Goals as goal
 
+pub overflow_add-next : goal.overflow_add-next
+overflow_add-next c = let small : c.args.at < 9223372036854775808 = branch_small c.deref.result.now c.args.at _ c.in-Some.ensures in omega arith
+
 pub returns-in-Some : goal.returns-in-Some
 returns-in-Some c =
-    λ e p. if_begun c.args.branches c.in_ok-rest.rest c.deref.result.now c.in-Some.branch.now c.in_ok-condition-in-Some.condition c.in_ok-body-in-Some.body c.args.otherwise c.args.at c.args.place (context c.args.stack.now.items) (context c.put_continuation.new.stack.items) e p c.deref.ensures c.in-Some.ensures c.in_ok-rest.ensures.cases c.in_ok-condition-in-Some.ensures.cases c.in_ok-body-in-Some.ensures.cases (c.in_ok-put_continuation-in-Some.ensures ∙ ap (λ n. continued (continuation.Choose c.args.place c.in_ok-body-in-Some.body c.in_ok-rest.rest n c.args.otherwise) (context c.args.stack.now.items)) c.in_ok-next-in-Some.ensures)
+    λ e p. if_begun c.args.branches c.in_ok-rest.rest c.deref.result.now c.in-Some.branch.now c.in_ok-condition-in-Some.condition c.in_ok-body-in-Some.body c.args.otherwise c.args.at c.args.place (context c.args.stack.now.items) (context c.put_continuation.new.stack.items) e p c.deref.ensures c.in-Some.ensures c.in_ok-rest.ensures.cases c.in_ok-condition-in-Some.ensures.cases c.in_ok-body-in-Some.ensures.cases c.in_ok-put_continuation-in-Some.ensures
 
 pub returns : goal.returns
 returns c =

@@ -5,8 +5,8 @@ use Rattle.sh_compound.proofs.leaving.link.Goals as goal
 
 pub returns-then-taken : goal.returns-then-taken
 returns-then-taken c =
-    λ k e p. ap (λ (b : Bool). linked b (commands_from c.args.list.value c.args.at) c.args.place k e p) c.if-taken.true ∙ c.in_ok-control.ensures k e p
+    λ k e p. ap (λ (b : Bool). linked b (commands_from c.args.list.value c.args.at) c.args.place k e p) c.if-taken.true ∙ c.enter.ensures k e p
 
-pub returns : goal.returns
-returns c =
+pub returns-else-taken : goal.returns-else-taken
+returns-else-taken c =
     λ k e p. ap (λ (b : Bool). linked b (commands_from c.args.list.value c.args.at) c.args.place k e p) c.if-taken.false

@@ -1,5 +1,5 @@
 use Rattle.std.proofs.Common.{Bool, ap, ◌∙◌}
-use Rattle.sh_means.specs.declared.control.Doing.{Doing}
+use Rattle.sh_means.specs.declared.doing.Doing.{Doing}
 use Rattle.sh_means.specs.Simple.{is_plain, exports, keeps, unless_kept}
 use Rattle.sh_means.specs.Stack.{context, kind_of_code, redirects_from}
 use Rattle.sh_means.specs.Views.{shell_of}

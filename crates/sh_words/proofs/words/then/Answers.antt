@@ -8,8 +8,7 @@ use Rattle.sh_ast.specs.declared.command.Assignments.{Assignments}
 use Rattle.sh_ast.specs.declared.command.Redirects.{Redirects}
 use Rattle.sh_ast.specs.declared.command.SimpleCommand.{SimpleCommand, out-SimpleCommand}
 use Rattle.sh_redirect.specs.declared.descriptors.DescriptorTable.{DescriptorTable}
-use Rattle.sh_means.specs.declared.control.Doing.{Doing}
-use Rattle.sh_means.specs.declared.control.CommandKind as code
+use Rattle.sh_means.specs.declared.doing.Doing.{Doing}
 use Rattle.sh_means.specs.declared.control.Made.TheVariants as made
 use Rattle.sh_means.specs.declared.control.Then.{Then}
 use Rattle.sh_means.specs.declared.flow.Place.{Place}
@@ -21,6 +20,7 @@ use Rattle.sh_means.specs.Stack.{then_means, making, redirects_from, assigns_fro
 use Rattle.sh_means.specs.State.{Shell}
 use Rattle.sh_means.specs.Views.{shell_of, rows_of}
 use Rattle.sh_means.specs.Words.{redirect_all, named}
+use Rattle.sh_means.proofs.Launching.{launchable}
 use Rattle.sh_words.proofs.words.then.Goals as goal
 
 -- the redirections of a simple command with these fields, as a kind
@@ -33,22 +33,25 @@ with_doing : Rc Redirects Global → Rc Assignments Global → Bool → Place �
 with_doing rs as' ran pl k e ds d =
     redirect_all (redirects_from rs.value 0) ran pl (made_simple run (kind_of_code d.kind) (assigns_from as'.value 0) (named (redirects_from rs.value 0)) ds d.fields pl k) (refused_simple (kind_of_code d.kind) (named (redirects_from rs.value 0)) ds pl k) k e
 
-simple_then : (x : SimpleCommand) (rs : Rc Redirects Global) (as' : Rc Assignments Global) (kd : code.CommandKind) (before : Box DescriptorTable) (doing : Box Doing) (fields : List Text) (ran : Bool) (pl : Place) (k : Next) (e : Shell) (p : ℕ) → rs.value ≡ (out-SimpleCommand x).redirects.value → as'.value ≡ (out-SimpleCommand x).assignments.value → kind_of_code kd ≡ kind_of fields e.functions → before.value ≡ e.descriptors → doing.value ≡ record { kind = kd; fields = fields } → with_kind fields ran pl k e (out-SimpleCommand x).redirects.value (out-SimpleCommand x).assignments.value (kind_of fields e.functions) p ≡ making (record { redirects = rs; at = 0; before = before; ran = ran; made = made.Simple as' doing }) ran pl k e p
+simple_then : (x : SimpleCommand) (rs : Rc Redirects Global) (as' : Rc Assignments Global) (d : Doing) (before : Box DescriptorTable) (doing : Box Doing) (ran : Bool) (pl : Place) (k : Next) (e : Shell) (p : ℕ) → rs.value ≡ (out-SimpleCommand x).redirects.value → as'.value ≡ (out-SimpleCommand x).assignments.value → kind_of_code d.kind ≡ kind_of d.fields e.functions → before.value ≡ e.descriptors → doing.value ≡ d → with_kind d.fields ran pl k e (out-SimpleCommand x).redirects.value (out-SimpleCommand x).assignments.value (kind_of d.fields e.functions) p ≡ making (record { redirects = rs; at = 0; before = before; ran = ran; made = made.Simple as' doing }) ran pl k e p
 unfolding with_kind with_doing
-simple_then x rs as' kd before doing fields ran pl k e p hr ha hk hb hd =
-    ap (λ (R : Redirects). with_kind fields ran pl k e R (out-SimpleCommand x).assignments.value (kind_of fields e.functions) p) (sym hr)
-    ∙ ap (λ (A : Assignments). with_kind fields ran pl k e rs.value A (kind_of fields e.functions) p) (sym ha)
-    ∙ ap (λ (kd : CommandKind). with_kind fields ran pl k e rs.value as'.value kd p) (sym hk)
+simple_then x rs as' d before doing ran pl k e p hr ha hk hb hd =
+    ap (λ (R : Redirects). with_kind d.fields ran pl k e R (out-SimpleCommand x).assignments.value (kind_of d.fields e.functions) p) (sym hr)
+    ∙ ap (λ (A : Assignments). with_kind d.fields ran pl k e rs.value A (kind_of d.fields e.functions) p) (sym ha)
+    ∙ ap (λ (kd : CommandKind). with_kind d.fields ran pl k e rs.value as'.value kd p) (sym hk)
     ∙ ap (λ (d : Doing). with_doing rs as' ran pl k e e.descriptors d p) (sym hd)
     ∙ ap (λ (ds : DescriptorTable). with_doing rs as' ran pl k e ds doing.value p) (sym hb)
 
-pub returns-in_ok-doing-in-Simple : goal.returns-in_ok-doing-in-Simple
+pub invariant_of-doing : goal.invariant_of-doing
+invariant_of-doing c = record { launchable = launchable c.in_ok-kind-in-Simple.kind c.args.fields _ c.in_ok-kind-in-Simple.ensures }
+
+pub returns-in_ok-boxed-in-Simple : goal.returns-in_ok-boxed-in-Simple
 unfolding with_kind
-returns-in_ok-doing-in-Simple c =
+returns-in_ok-boxed-in-Simple c =
     let e = shell_of c.args.state.now in
     λ k p. ap (λ (t : Then). then_means t c.args.place k c.args.fields c.args.ran e p) c.in-Simple.is
-    ∙ simple_then c.in-Simple.command.value c.in_ok-redirects-in-Simple.redirects c.in_ok-assignments-in-Simple.assignments c.in_ok-kind-in-Simple.kind c.in_ok-before-in-Simple.before c.in_ok-doing-in-Simple.doing c.args.fields c.args.ran c.args.place k e p
+    ∙ simple_then c.in-Simple.command.value c.in_ok-redirects-in-Simple.redirects c.in_ok-assignments-in-Simple.assignments _ c.in_ok-before-in-Simple.before c.in_ok-boxed-in-Simple.boxed c.args.ran c.args.place k e p
     (c.in_ok-redirects-in-Simple.ensures.cases ∙ ap (λ (x : SimpleCommand). (out-SimpleCommand x).redirects.value) c.deref.ensures)
     (c.in_ok-assignments-in-Simple.ensures.cases ∙ ap (λ (x : SimpleCommand). (out-SimpleCommand x).assignments.value) c.deref-in-Simple.ensures)
     (c.in_ok-kind-in-Simple.ensures ∙ ap (λ (fs : List Function). kind_of c.args.fields (rows_of fs)) c.as_slice.ensures.value)
-    c.in_ok-before-in-Simple.ensures.ok c.in_ok-doing-in-Simple.ensures.ok
+    c.in_ok-before-in-Simple.ensures.ok c.in_ok-boxed-in-Simple.ensures.ok
