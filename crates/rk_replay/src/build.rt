@@ -54,8 +54,8 @@ pub fn build_with<K: Maker, W: Answerer, L: Ledger>(
     ensures stops { IfErr result (Stops K.first old.now (IfSome (W.told world.old) (λ before. fresh (game K.first W.given) (left budget.old) key.now top_refs before ≡ Spent)) (W.Stops world.old world.new)) }
 
     // Whatever the world and the old table: what ran, and why; a machine was started for each, and their costs were
-    // counted. Where it stops, a machine was started for each command that ran so far, of which no more were launched than
-    // turns were paid, and for each record that was looked at, and for none a second time.
+    // counted. Where it stops, no more machines were started than one for each command that ran so far, of which no more
+    // were launched than turns were paid, and one for each record that was looked at.
     ensures ran { IfOk result (λ b. b.ran ≡ ran_of old.now b.table) }
     ensures starts { IfOk result (λ b. K.starts maker.new ≡ started (length b.ran) (K.starts maker.old)) }
     ensures launched { IfOk result (λ b. length b.table ≤ total b.table + 1) }
