@@ -10,8 +10,8 @@ use Rattle.sh_arith.specs.declared.token.Token.TheVariants as token
 use Rattle.sh_arith.specs.declared.frame.Frame.{Frame}
 use Rattle.sh_arith.specs.declared.frame.Reader.{Reader}
 use Rattle.sh_arith.specs.declared.frame.Reader.TheVariants as reader
-use Rattle.sh_arith.specs.declared.step.Step.{Step}
-use Rattle.sh_arith.specs.declared.step.Step.TheVariants as step
+use Rattle.sh_arith.specs.declared.step.Instruction.{Instruction}
+use Rattle.sh_arith.specs.declared.step.Instruction.TheVariants as step
 use Rattle.sh_arith.specs.Expression.{Expression, Constant, Name, Group, Signed, Applied, Both, Either, Choice, Assignment}
 use Rattle.sh_arith.specs.Grammar.{operator_level}
 use Rattle.sh_arith.specs.Steps.{steps}
@@ -19,11 +19,11 @@ use Rattle.sh_arith.specs.Reading.{ending, ended, left, loads, may_assign, begin
 use Rattle.sh_arith.proofs.Trees.{Wait, InParentheses, WithSign, WithLeft, WithBoth, WithEither, WithQuestion, WithColon, WithName, Place, Wanted, Stands, Bare, frame_of, frames_of, reader_of, made, is_ended, folded, kept, groups, tree_of, begin, assign, shut, go, colon, close, finish, turned, opening, openings, standing, state_of, read_state}
 
 -- where a turn leads
-abbrev pub turned_state : List Step → Option Turn → Option State
+abbrev pub turned_state : List Instruction → Option Turn → Option State
 turned_state given None = None
 turned_state given (Some t) = Some (record { given = given ++ t.gives; frames = t.frames; reader = t.reader })
 
-steps_append : (x : Expression) (after more : List Step) → steps x after ++ more ≡ steps x (after ++ more)
+steps_append : (x : Expression) (after more : List Instruction) → steps x after ++ more ≡ steps x (after ++ more)
 unfolding steps
 steps_append (Constant n) after more = refl
 steps_append (Name x) after more = refl
@@ -40,7 +40,7 @@ steps_append (Choice c a b) after more =
 steps_append (Assignment n x None a) after more = steps_append a (step.Store x ∷ after) more
 steps_append (Assignment n x (Some o) a) after more = ap (λ l. step.Load x ∷ l) (steps_append a (step.Applied o ∷ step.Store x ∷ after) more)
 
-opening_append : (w : Wait) (after more : List Step) → opening w after ++ more ≡ opening w (after ++ more)
+opening_append : (w : Wait) (after more : List Instruction) → opening w after ++ more ≡ opening w (after ++ more)
 opening_append InParentheses after more = refl
 opening_append (WithSign s) after more = refl
 opening_append (WithLeft o a) after more = steps_append a after more
@@ -52,12 +52,12 @@ opening_append (WithColon c a) after more =
 opening_append (WithName n x None) after more = refl
 opening_append (WithName n x (Some o)) after more = refl
 
-openings_append : (ws : List Wait) (after more : List Step) → openings ws after ++ more ≡ openings ws (after ++ more)
+openings_append : (ws : List Wait) (after more : List Instruction) → openings ws after ++ more ≡ openings ws (after ++ more)
 openings_append [] after more = refl
 openings_append (w ∷ ws) after more = openings_append ws (opening w after) more ∙ ap (openings ws) (opening_append w after more)
 
 -- what ends gives its steps behind its last operand's
-made_steps : (l : ℕ) (w : Wait) (a : Expression) (more rest : List Step) → is_ended l w ≡ true → steps (made w a) (more ++ rest) ≡ opening w (steps a ((ending (frame_of w) ++ more) ++ rest))
+made_steps : (l : ℕ) (w : Wait) (a : Expression) (more rest : List Instruction) → is_ended l w ≡ true → steps (made w a) (more ++ rest) ≡ opening w (steps a ((ending (frame_of w) ++ more) ++ rest))
 unfolding steps
 made_steps l InParentheses a more rest e = absurd (cc)
 made_steps l (WithSign s) a more rest e = refl
@@ -69,7 +69,7 @@ made_steps l (WithColon c b) a more rest e = refl
 made_steps l (WithName n x None) a more rest e = refl
 made_steps l (WithName n x (Some o)) a more rest e = refl
 
-folded_steps : (l : ℕ) (ws : List Wait) (a : Expression) (more : List Step) → openings ws (steps a (ended l (frames_of ws) ++ more)) ≡ openings (kept l ws) (steps (folded l a ws) more)
+folded_steps : (l : ℕ) (ws : List Wait) (a : Expression) (more : List Instruction) → openings ws (steps a (ended l (frames_of ws) ++ more)) ≡ openings (kept l ws) (steps (folded l a ws) more)
 folded_steps l [] a more = refl
 folded_steps l (w ∷ ws) a more = by (is_ended l w) refl (folded_steps l ws (made w a) more)
   where
@@ -85,7 +85,7 @@ kept_frames l (w ∷ ws) = by (is_ended l w) refl (kept_frames l ws)
     by true q ih = rw q ih
     by false q ih = rw q refl
 
-groups_steps : (n : ℕ) (x : Text) (more : List Step) → steps (groups n (Name x)) more ≡ step.Load x ∷ more
+groups_steps : (n : ℕ) (x : Text) (more : List Instruction) → steps (groups n (Name x)) more ≡ step.Load x ∷ more
 unfolding steps
 groups_steps zero x more = refl
 groups_steps (suc n) x more = groups_steps n x more
@@ -97,25 +97,25 @@ IsOperand (Stands a) = Unit {0}
 IsOperand (Bare n x) = Unit {0}
 
 -- the steps so far, and those of an operand
-stood_steps : (p : Place) (ws : List Wait) (more : List Step) → IsOperand p → openings ws (standing p) ++ (loads (reader_of p) ++ more) ≡ openings ws (steps (tree_of p) more)
+stood_steps : (p : Place) (ws : List Wait) (more : List Instruction) → IsOperand p → openings ws (standing p) ++ (loads (reader_of p) ++ more) ≡ openings ws (steps (tree_of p) more)
 stood_steps Wanted ws more h = absurd h
 stood_steps (Stands a) ws more h = openings_append ws (steps a []) more ∙ ap (openings ws) (steps_append a [] more)
 stood_steps (Bare n x) ws more h = openings_append ws [] (step.Load x ∷ more) ∙ ap (openings ws) (sym (groups_steps n x more))
 
 -- the steps before those that a token gives, where all that may has ended
-so_far : (l : ℕ) (p : Place) (ws : List Wait) (more : List Step) → IsOperand p → openings ws (standing p) ++ ((loads (reader_of p) ++ ended l (frames_of ws)) ++ more) ≡ openings (kept l ws) (steps (folded l (tree_of p) ws) more)
+so_far : (l : ℕ) (p : Place) (ws : List Wait) (more : List Instruction) → IsOperand p → openings ws (standing p) ++ ((loads (reader_of p) ++ ended l (frames_of ws)) ++ more) ≡ openings (kept l ws) (steps (folded l (tree_of p) ws) more)
 so_far l p ws more h =
     ap (λ s. openings ws (standing p) ++ s) (append_assoc (loads (reader_of p)) (ended l (frames_of ws)) more) ∙ stood_steps p ws (ended l (frames_of ws) ++ more) h ∙ folded_steps l ws (tree_of p) more
 
-abbrev at_state : List Step → List Frame → Reader → State
+abbrev at_state : List Instruction → List Frame → Reader → State
 at_state g fs r = record { given = g; frames = fs; reader = r }
 
-same_state : (g g' : List Step) (fs fs' : List Frame) (r : Reader) → g ≡ g' → fs ≡ fs' → Some (at_state g fs r) ≡ Some (at_state g' fs' r)
+same_state : (g g' : List Instruction) (fs fs' : List Frame) (r : Reader) → g ≡ g' → fs ≡ fs' → Some (at_state g fs r) ≡ Some (at_state g' fs' r)
 same_state g g' fs fs' r e f = rw (e, f) refl
 
 -- `:`, `)` and the end go by what is left when all has ended
 
-colon_is : (given ss : List Step) (a : Expression) (ws : List Wait) → ((more : List Step) → given ++ (ss ++ more) ≡ openings ws (steps a more)) → turned_state given (otherwise ss (frames_of ws)) ≡ read_state (colon a ws)
+colon_is : (given ss : List Instruction) (a : Expression) (ws : List Wait) → ((more : List Instruction) → given ++ (ss ++ more) ≡ openings ws (steps a more)) → turned_state given (otherwise ss (frames_of ws)) ≡ read_state (colon a ws)
 colon_is given ss a [] h = refl
 colon_is given ss a (InParentheses ∷ ws) h = refl
 colon_is given ss a (WithSign s ∷ ws) h = refl
@@ -126,7 +126,7 @@ colon_is given ss a (WithQuestion c ∷ ws) h = same_state _ _ _ _ _ (h (step.Ot
 colon_is given ss a (WithColon c b ∷ ws) h = refl
 colon_is given ss a (WithName n x o ∷ ws) h = refl
 
-close_is : (given ss : List Step) (a : Expression) (ws : List Wait) → ((more : List Step) → given ++ (ss ++ more) ≡ openings ws (steps a more)) → turned_state given (closes ss (frames_of ws)) ≡ read_state (close a ws)
+close_is : (given ss : List Instruction) (a : Expression) (ws : List Wait) → ((more : List Instruction) → given ++ (ss ++ more) ≡ openings ws (steps a more)) → turned_state given (closes ss (frames_of ws)) ≡ read_state (close a ws)
 unfolding steps
 close_is given ss a [] h = refl
 close_is given ss a (InParentheses ∷ ws) h = same_state _ _ _ _ _ (ap (λ l. given ++ l) (sym (append-nil ss)) ∙ h []) refl
@@ -138,21 +138,21 @@ close_is given ss a (WithQuestion c ∷ ws) h = refl
 close_is given ss a (WithColon c b ∷ ws) h = refl
 close_is given ss a (WithName n x o ∷ ws) h = refl
 
-finish_is : (given ss : List Step) (a : Expression) (ws : List Wait) → ((more : List Step) → given ++ (ss ++ more) ≡ openings ws (steps a more)) → turned_state given (finishes ss (frames_of ws)) ≡ read_state (finish a ws)
+finish_is : (given ss : List Instruction) (a : Expression) (ws : List Wait) → ((more : List Instruction) → given ++ (ss ++ more) ≡ openings ws (steps a more)) → turned_state given (finishes ss (frames_of ws)) ≡ read_state (finish a ws)
 finish_is given ss a [] h = same_state _ _ _ _ _ (ap (λ l. given ++ l) (sym (append-nil ss)) ∙ h []) refl
 finish_is given ss a (w ∷ ws) h = refl
 
-colon_by : (given ss : List Step) (a : Expression) (ws : List Wait) (fs : List Frame) → fs ≡ frames_of ws → ((more : List Step) → given ++ (ss ++ more) ≡ openings ws (steps a more)) → turned_state given (otherwise ss fs) ≡ read_state (colon a ws)
+colon_by : (given ss : List Instruction) (a : Expression) (ws : List Wait) (fs : List Frame) → fs ≡ frames_of ws → ((more : List Instruction) → given ++ (ss ++ more) ≡ openings ws (steps a more)) → turned_state given (otherwise ss fs) ≡ read_state (colon a ws)
 colon_by given ss a ws fs e h = rw e (colon_is given ss a ws h)
 
-close_by : (given ss : List Step) (a : Expression) (ws : List Wait) (fs : List Frame) → fs ≡ frames_of ws → ((more : List Step) → given ++ (ss ++ more) ≡ openings ws (steps a more)) → turned_state given (closes ss fs) ≡ read_state (close a ws)
+close_by : (given ss : List Instruction) (a : Expression) (ws : List Wait) (fs : List Frame) → fs ≡ frames_of ws → ((more : List Instruction) → given ++ (ss ++ more) ≡ openings ws (steps a more)) → turned_state given (closes ss fs) ≡ read_state (close a ws)
 close_by given ss a ws fs e h = rw e (close_is given ss a ws h)
 
-finish_by : (given ss : List Step) (a : Expression) (ws : List Wait) (fs : List Frame) → fs ≡ frames_of ws → ((more : List Step) → given ++ (ss ++ more) ≡ openings ws (steps a more)) → turned_state given (finishes ss fs) ≡ read_state (finish a ws)
+finish_by : (given ss : List Instruction) (a : Expression) (ws : List Wait) (fs : List Frame) → fs ≡ frames_of ws → ((more : List Instruction) → given ++ (ss ++ more) ≡ openings ws (steps a more)) → turned_state given (finishes ss fs) ≡ read_state (finish a ws)
 finish_by given ss a ws fs e h = rw e (finish_is given ss a ws h)
 
 -- an operator of a level
-joined : (l : ℕ) (p : Place) (ws : List Wait) (ss : List Step) (w : Wait) → IsOperand p → opening w [] ≡ steps (folded l (tree_of p) ws) ss → turned_state (openings ws (standing p)) (joins (reader_of p) l ss (frame_of w) (frames_of ws)) ≡ Some (state_of (w ∷ kept l ws) Wanted)
+joined : (l : ℕ) (p : Place) (ws : List Wait) (ss : List Instruction) (w : Wait) → IsOperand p → opening w [] ≡ steps (folded l (tree_of p) ws) ss → turned_state (openings ws (standing p)) (joins (reader_of p) l ss (frame_of w) (frames_of ws)) ≡ Some (state_of (w ∷ kept l ws) Wanted)
 joined l p ws ss w h e =
     same_state _ _ _ _ _ (so_far l p ws ss h ∙ ap (openings (kept l ws)) (sym e)) (ap (λ fs. frame_of w ∷ fs) (kept_frames l ws))
 

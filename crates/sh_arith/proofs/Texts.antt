@@ -6,7 +6,7 @@ use Rattle.rk_base.specs.Text.{Text}
 use Rattle.sh_arith.specs.declared.token.Token.{Token}
 use Rattle.sh_arith.specs.declared.token.Token.TheVariants as token
 use Rattle.sh_arith.specs.declared.frame.Reader.TheVariants as reader
-use Rattle.sh_arith.specs.declared.step.Step.{Step}
+use Rattle.sh_arith.specs.declared.step.Instruction.{Instruction}
 use Rattle.sh_arith.specs.Expression.{Expression}
 use Rattle.sh_arith.specs.Grammar.{Spells, Continues, tokens_of, Is, Stops}
 use Rattle.sh_arith.specs.Reading.{State, Turn, turn, ends_with, After}
@@ -109,7 +109,7 @@ told_stops text rest at s new t start true f p q h e = absurd (cc)
 told_stops text rest at s new t start false f p q h e =
     subst (λ n. Stops text (at + n)) (sym q) (stops text rest at s f (subst (λ u. turn s.reader u s.frames ≡ None) p h))
 
-pub told_done : (text rest : Text) (at : ℕ) (s new : State) (t : Token) (b last : Bool) (given : List Step) → Far text rest at s → t ≡ next_token rest → After b s new (turn s.reader t s.frames) → b ≡ true → last ≡ ends_with t → last ≡ true → given ≡ new.given → (x : Expression) × Is text x × (given ≡ steps x [])
+pub told_done : (text rest : Text) (at : ℕ) (s new : State) (t : Token) (b last : Bool) (given : List Instruction) → Far text rest at s → t ≡ next_token rest → After b s new (turn s.reader t s.frames) → b ≡ true → last ≡ ends_with t → last ≡ true → given ≡ new.given → (x : Expression) × Is text x × (given ≡ steps x [])
 told_done text rest at s new t false last given f p h e l q g = absurd (cc)
 told_done text rest at s new t true last given f p h e l q g =
     let d : (x : Expression) × Is text x × (new.given ≡ steps x []) = done text rest at s new f (subst (λ u. After true s new (turn s.reader u s.frames)) p h) (sym p ∙ is_end t (sym l ∙ q)) in

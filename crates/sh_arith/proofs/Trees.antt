@@ -11,8 +11,8 @@ use Rattle.sh_arith.specs.declared.frame.Frame.{Frame}
 use Rattle.sh_arith.specs.declared.frame.Frame.TheVariants as frame
 use Rattle.sh_arith.specs.declared.frame.Reader.{Reader}
 use Rattle.sh_arith.specs.declared.frame.Reader.TheVariants as reader
-use Rattle.sh_arith.specs.declared.step.Step.{Step}
-use Rattle.sh_arith.specs.declared.step.Step.TheVariants as step
+use Rattle.sh_arith.specs.declared.step.Instruction.{Instruction}
+use Rattle.sh_arith.specs.declared.step.Instruction.TheVariants as step
 use Rattle.sh_arith.specs.Expression.{Expression, Constant, Name, Group, Signed, Applied, Both, Either, Choice, Assignment}
 use Rattle.sh_arith.specs.Grammar.{operator_level}
 use Rattle.sh_arith.specs.Steps.{steps}
@@ -149,7 +149,7 @@ tree_read (t ∷ ts) p ws = goes_on (ends_with t) (turned p t ws) (tree_read ts)
 
 -- The steps so far, before others.
 
-abbrev pub opening : Wait → List Step → List Step
+abbrev pub opening : Wait → List Instruction → List Instruction
 opening InParentheses after = after
 opening (WithSign s) after = after
 opening (WithLeft o a) after = steps a after
@@ -160,11 +160,11 @@ opening (WithColon c a) after = steps c (step.Choose ∷ steps a (step.Otherwise
 opening (WithName n x None) after = after
 opening (WithName n x (Some o)) after = step.Load x ∷ after
 
-abbrev pub openings : List Wait → List Step → List Step
+abbrev pub openings : List Wait → List Instruction → List Instruction
 openings [] after = after
 openings (w ∷ ws) after = openings ws (opening w after)
 
-abbrev pub standing : Place → List Step
+abbrev pub standing : Place → List Instruction
 standing Wanted = []
 standing (Stands a) = steps a []
 standing (Bare n x) = []

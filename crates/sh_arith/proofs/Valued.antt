@@ -7,7 +7,7 @@ use Rattle.sh_arith.specs.declared.operator.Operator.{Operator}
 use Rattle.sh_arith.specs.declared.operator.Operator.TheVariants as operator
 use Rattle.sh_arith.specs.declared.operator.Sign.{Sign}
 use Rattle.sh_arith.specs.declared.operator.Sign.TheVariants as sign
-use Rattle.sh_arith.specs.declared.step.Step.{Step}
+use Rattle.sh_arith.specs.declared.step.Instruction.{Instruction}
 use Rattle.sh_arith.specs.Constants.{number, fitted, number_worth, name_worth}
 use Rattle.sh_arith.specs.Environment.{Environment, value_in, is_readonly, assigned}
 use Rattle.sh_arith.specs.Expression.{Expression, Constant, Name, Group, Signed, Applied, Both, Either, Choice, Assignment}
@@ -128,5 +128,5 @@ ended_valued u text x old new (Err (err.Unset y)) is h = (x, is, h)
 ended_valued u text x old new (Err (err.Readonly y)) is h = (x, is, h)
 ended_valued u text x old new (Err err.NoMemory) is h = tt
 
-pub valued : {S : Type 0} (u : Bool) (text : Text) (ss items : List Step) (old new : Environment S) (r : Worth) → ss ≡ items → (x : Expression) × Is text x × (items ≡ steps x []) → ((x : Expression) → ss ≡ steps x [] → Ended r new (value_of u x old)) → Valued u text old r new
+pub valued : {S : Type 0} (u : Bool) (text : Text) (ss items : List Instruction) (old new : Environment S) (r : Worth) → ss ≡ items → (x : Expression) × Is text x × (items ≡ steps x []) → ((x : Expression) → ss ≡ steps x [] → Ended r new (value_of u x old)) → Valued u text old r new
 valued u text ss items old new r e h k = ended_valued u text h.0 old new r h.1 (k h.0 (e ∙ h.2))

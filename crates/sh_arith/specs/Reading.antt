@@ -10,8 +10,8 @@ use Rattle.sh_arith.specs.declared.frame.Frame.{Frame}
 use Rattle.sh_arith.specs.declared.frame.Frame.TheVariants as frame
 use Rattle.sh_arith.specs.declared.frame.Reader.{Reader}
 use Rattle.sh_arith.specs.declared.frame.Reader.TheVariants as reader
-use Rattle.sh_arith.specs.declared.step.Step.{Step}
-use Rattle.sh_arith.specs.declared.step.Step.TheVariants as step
+use Rattle.sh_arith.specs.declared.step.Instruction.{Instruction}
+use Rattle.sh_arith.specs.declared.step.Instruction.TheVariants as step
 use Rattle.sh_arith.specs.Grammar.{operator_level}
 
 -- the level of what a frame makes; an open parenthesis, and `?` before its `:`, make nothing yet
@@ -30,7 +30,7 @@ at_least l None = false
 at_least l (Some m) = nat_le l m
 
 -- the steps that end what a frame makes
-abbrev pub ending : Frame → List Step
+abbrev pub ending : Frame → List Instruction
 ending (frame.Signed s) = step.Signed s ∷ []
 ending (frame.Applied o) = step.Applied o ∷ []
 ending frame.Both = step.Truth ∷ step.Joined ∷ []
@@ -42,7 +42,7 @@ ending frame.Open = []
 ending frame.Question = []
 
 -- frames that end before an operator of a level; which steps that gives, and which stay
-abbrev pub ended : ℕ → List Frame → List Step
+abbrev pub ended : ℕ → List Frame → List Instruction
 ended l [] = []
 ended l (f ∷ fs) = if at_least l (frame_level f) then ending f ++ ended l fs else []
 
@@ -51,18 +51,18 @@ left l [] = []
 left l (f ∷ fs) = if at_least l (frame_level f) then left l fs else f ∷ fs
 
 -- the steps that load the name that stands there
-abbrev pub loads : Reader → List Step
+abbrev pub loads : Reader → List Instruction
 loads (reader.Named x) = step.Load x ∷ []
 loads reader.Has = []
 loads reader.Wants = []
 
 -- What a token does: the steps that it gives, the frames that wait then, and what stands before the next token.
 pub record Turn : Type 0 where
-  pub gives : List Step
+  pub gives : List Instruction
   pub frames : List Frame
   pub reader : Reader
 
-abbrev pub turns : List Step → List Frame → Reader → Option Turn
+abbrev pub turns : List Instruction → List Frame → Reader → Option Turn
 turns ss fs r = Some (record { gives = ss; frames = fs; reader = r })
 
 -- where an operand is wanted
@@ -77,12 +77,12 @@ begins (token.Operator operator.Minus) fs = turns [] (frame.Signed sign.Minus �
 begins t fs = None
 
 -- an operator of a level, with the steps and the frame that it makes
-abbrev pub joins : Reader → ℕ → List Step → Frame → List Frame → Option Turn
+abbrev pub joins : Reader → ℕ → List Instruction → Frame → List Frame → Option Turn
 joins r l ss f fs = turns (loads r ++ ended l fs ++ ss) (f ∷ left l fs) reader.Wants
 
 -- by what is left when all has ended
 
-abbrev pub otherwise : List Step → List Frame → Option Turn
+abbrev pub otherwise : List Instruction → List Frame → Option Turn
 otherwise ss (frame.Question ∷ fs) = turns (ss ++ step.Otherwise ∷ []) (frame.Colon ∷ fs) reader.Wants
 otherwise ss fs = None
 
@@ -90,11 +90,11 @@ abbrev pub is_open : Frame → Bool
 is_open frame.Open = true
 is_open f = false
 
-abbrev pub closes : List Step → List Frame → Option Turn
+abbrev pub closes : List Instruction → List Frame → Option Turn
 closes ss (frame.Open ∷ fs) = turns ss fs reader.Has
 closes ss fs = None
 
-abbrev pub finishes : List Step → List Frame → Option Turn
+abbrev pub finishes : List Instruction → List Frame → Option Turn
 finishes ss [] = turns ss [] reader.Has
 finishes ss (f ∷ fs) = None
 
@@ -107,7 +107,7 @@ may_assign (frame.Assign x o ∷ fs) = true
 may_assign (f ∷ fs) = false
 
 -- with an operator it reads its name before its right side
-abbrev pub assigned_loads : Text → Option Operator → List Step
+abbrev pub assigned_loads : Text → Option Operator → List Instruction
 assigned_loads x None = []
 assigned_loads x (Some o) = step.Load x ∷ []
 
@@ -142,7 +142,7 @@ ends_with t = false
 
 -- What is read so far: the steps, the frames that wait, and what stands before the next token.
 pub record State : Type 0 where
-  pub given : List Step
+  pub given : List Instruction
   pub frames : List Frame
   pub reader : Reader
 

@@ -20,6 +20,6 @@ pub use frame::{Frame, Reader};
 pub use laws::one_reading;
 pub use names::{Names, SetErr};
 pub use operator::{Operator, Sign};
-pub use step::Step;
+pub use step::Instruction;
 pub use token::Token;
 pub use worth::value;

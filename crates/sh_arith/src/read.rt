@@ -11,7 +11,7 @@ ghost use Rattle.sh_arith.specs.declared.frame.Reader.TheVariants as reader;
 use crate::lex::next_token;
 use crate::row::Row;
 use crate::token::is_end;
-use crate::{ArithErr, Frame, Operator, Reader, Sign, Step, Token};
+use crate::{ArithErr, Frame, Instruction, Operator, Reader, Sign, Token};
 use rk_base::{Bytes, NoMemory};
 use std::alloc::Global;
 use std::marker::Model;
@@ -55,34 +55,38 @@ fn is_ended(level: u8, frame: &Frame) -> bool
     }
 }
 
-fn put_store(name: Bytes, operator: Option<Operator>, steps: &mut Vec<Step>) -> Result<(), NoMemory>
+fn put_store(
+    name: Bytes,
+    operator: Option<Operator>,
+    steps: &mut Vec<Instruction>,
+) -> Result<(), NoMemory>
     ensures { OnOk result (steps.new.items ≡ steps.old.items ++ ending (frame.Assign name operator)) }
 {
     match operator {
-        None => steps.push(Step::Store(name))?,
+        None => steps.push(Instruction::Store(name))?,
         Some(operator) => {
-            steps.push(Step::Applied(operator))?;
-            steps.push(Step::Store(name))?;
+            steps.push(Instruction::Applied(operator))?;
+            steps.push(Instruction::Store(name))?;
         }
     }
     Ok(())
 }
 
-fn put_ending(frame: Frame, steps: &mut Vec<Step>) -> Result<(), NoMemory>
+fn put_ending(frame: Frame, steps: &mut Vec<Instruction>) -> Result<(), NoMemory>
     ensures { OnOk result (steps.new.items ≡ steps.old.items ++ ending frame) }
 {
     match frame {
-        Frame::Signed(sign) => steps.push(Step::Signed(sign))?,
-        Frame::Applied(operator) => steps.push(Step::Applied(operator))?,
+        Frame::Signed(sign) => steps.push(Instruction::Signed(sign))?,
+        Frame::Applied(operator) => steps.push(Instruction::Applied(operator))?,
         Frame::Both => {
-            steps.push(Step::Truth)?;
-            steps.push(Step::Joined)?;
+            steps.push(Instruction::Truth)?;
+            steps.push(Instruction::Joined)?;
         }
         Frame::Either => {
-            steps.push(Step::Truth)?;
-            steps.push(Step::Joined)?;
+            steps.push(Instruction::Truth)?;
+            steps.push(Instruction::Joined)?;
         }
-        Frame::Colon => steps.push(Step::Joined)?,
+        Frame::Colon => steps.push(Instruction::Joined)?,
         Frame::Assign(name, operator) => put_store(name, operator, steps)?,
         Frame::Question => {}
         Frame::Open => {}
@@ -91,7 +95,11 @@ fn put_ending(frame: Frame, steps: &mut Vec<Step>) -> Result<(), NoMemory>
 }
 
 // The frames that end before an operator of this level, and the steps that end them.
-fn end_frames(level: u8, frames: &mut Row<Frame>, steps: &mut Vec<Step>) -> Result<(), NoMemory>
+fn end_frames(
+    level: u8,
+    frames: &mut Row<Frame>,
+    steps: &mut Vec<Instruction>,
+) -> Result<(), NoMemory>
     ensures gives { OnOk result (steps.new.items ≡ steps.old.items ++ ended level frames.old) }
     ensures leaves { OnOk result (frames.new ≡ left level frames.old) }
 {
@@ -121,7 +129,7 @@ fn is_open(frame: &Frame) -> bool
 #[derive(Drop)]
 pub(crate) struct Reading {
     alloc: Global,
-    steps: Vec<Step>,
+    steps: Vec<Instruction>,
     frames: Row<Frame>,
     reader: Reader,
 }
@@ -146,7 +154,7 @@ impl Reading {
         }
     }
 
-    pub(crate) fn into_steps(self) -> Vec<Step>
+    pub(crate) fn into_steps(self) -> Vec<Instruction>
         ensures { result.items ≡ self.given }
     {
         let Reading {
@@ -163,7 +171,7 @@ impl Reading {
         ensures { OnOk result (self.new ≡ record { given = self.old.given ++ loads self.old.reader; frames = self.old.frames; reader = reader.Has }) }
     {
         match std::mem::replace(&mut self.reader, Reader::Has) {
-            Reader::Named(name) => self.steps.push(Step::Load(name))?,
+            Reader::Named(name) => self.steps.push(Instruction::Load(name))?,
             Reader::Has => {}
             Reader::Wants => {}
         }
@@ -193,7 +201,7 @@ impl Reading {
     {
         match token {
             Token::Constant(n) => {
-                self.steps.push(Step::Constant(n))?;
+                self.steps.push(Instruction::Constant(n))?;
                 self.reader = Reader::Has;
                 Ok(true)
             }
@@ -239,7 +247,7 @@ impl Reading {
     {
         if operator.is_some() {
             let name = name.copy()?;
-            self.steps.push(Step::Load(name))?;
+            self.steps.push(Instruction::Load(name))?;
         }
         Ok(())
     }
@@ -291,7 +299,7 @@ impl Reading {
     }
 
     // One that may skip an operand.
-    fn branch(&mut self, level: u8, step: Step, frame: Frame) -> Result<bool, NoMemory>
+    fn branch(&mut self, level: u8, step: Instruction, frame: Frame) -> Result<bool, NoMemory>
         ensures { Turned result self.old self.new (joins self.old.reader level (step ∷ []) frame self.old.frames) }
     {
         self.end(level)?;
@@ -305,7 +313,7 @@ impl Reading {
         self.end(0)?;
         match self.frames.pop() {
             Some(Frame::Question) => {
-                self.steps.push(Step::Otherwise)?;
+                self.steps.push(Instruction::Otherwise)?;
                 self.wants(Frame::Colon)
             }
             Some(_) => Ok(false),
@@ -332,9 +340,9 @@ impl Reading {
                 operator_level(operator),
                 Frame::Applied(operator),
             ),
-            Token::Both => self.branch(3, Step::And, Frame::Both),
-            Token::Either => self.branch(2, Step::Or, Frame::Either),
-            Token::Question => self.branch(2, Step::Choose, Frame::Question),
+            Token::Both => self.branch(3, Instruction::And, Frame::Both),
+            Token::Either => self.branch(2, Instruction::Or, Frame::Either),
+            Token::Question => self.branch(2, Instruction::Choose, Frame::Question),
             Token::Colon => self.otherwise(),
             Token::Assign(operator) => self.assign(operator),
             Token::Close => self.close(),
@@ -361,7 +369,7 @@ impl Reading {
 }
 
 /// The steps of the expression that a text is.
-pub(crate) fn steps_of(alloc: Global, text: &[u8]) -> Result<Vec<Step>, ArithErr>
+pub(crate) fn steps_of(alloc: Global, text: &[u8]) -> Result<Vec<Instruction>, ArithErr>
     ensures ok { IfOk result (λ v. (x : Expression) × Is text.now x × (v.items ≡ steps_before x [])) }
     ensures err { IfErr result (Refuses text.now) }
 {

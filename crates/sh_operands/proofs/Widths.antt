@@ -5,12 +5,12 @@ use Rattle.std.proofs.Math.Nat.{sub-add-eq-max}
 use Rattle.std.specs.Fmt.{digits, decimal}
 use Rattle.rk_base.specs.Text.{Text}
 use Rattle.sh_operands.specs.declared.format.Conversion.{Conversion}
-use Rattle.sh_operands.specs.declared.format.Kind.{Kind}
-use Rattle.sh_operands.specs.declared.format.Kind.TheVariants as kind
+use Rattle.sh_operands.specs.declared.format.Specifier.{Specifier}
+use Rattle.sh_operands.specs.declared.format.Specifier.TheVariants as specifier
 use Rattle.sh_operands.specs.declared.format.Piece.{Piece}
 use Rattle.sh_operands.specs.declared.format.Piece.TheVariants.{Literal, Converted}
 use Rattle.sh_operands.specs.declared.length.Measure.{Measure}
-use Rattle.sh_operands.specs.Formats.{kind_takes}
+use Rattle.sh_operands.specs.Formats.{specifier_takes}
 use Rattle.sh_operands.specs.Lengths.{measure_of, counted, measured, measures}
 use Rattle.sh_operands.specs.Made.{MadeValue, with_text}
 use Rattle.sh_operands.specs.Numbers.{number}
@@ -49,13 +49,13 @@ filled_alike : (c : Conversion) (s ds : Text) → length (filled c s ds) ≡ max
 filled_alike c s ds = narrowed c.width (length s + length ds) _ _ (length_chosen (c.zero && not c.left) c.left c.width s ds) (length_chosen (c.zero && not c.left) c.left 0 s ds)
 
 -- a field is as long as without its width, or as its width
-pub widened : (k : Kind) (c : Conversion) (operand : Option Text) → length (converted k c operand) ≡ max c.width (length (converted k (record c { width = 0 }) operand))
-widened kind.Text c operand = padded_alike c (text_in operand)
-widened kind.Byte c operand = padded_alike c (take 1 (text_in operand))
-widened kind.Percent c operand = padded_alike c (codes "%")
-widened kind.Decimal c operand = filled_alike c (sign_of (number_in operand)) (decimal (number_in operand).magnitude)
-widened kind.Octal c operand = filled_alike c [] (digits 8 false (in_64_bits (number_in operand)))
-widened kind.Hexadecimal c operand = filled_alike c [] (digits 16 false (in_64_bits (number_in operand)))
+pub widened : (k : Specifier) (c : Conversion) (operand : Option Text) → length (converted k c operand) ≡ max c.width (length (converted k (record c { width = 0 }) operand))
+widened specifier.Text c operand = padded_alike c (text_in operand)
+widened specifier.Byte c operand = padded_alike c (take 1 (text_in operand))
+widened specifier.Percent c operand = padded_alike c (codes "%")
+widened specifier.Decimal c operand = filled_alike c (sign_of (number_in operand)) (decimal (number_in operand).magnitude)
+widened specifier.Octal c operand = filled_alike c [] (digits 8 false (in_64_bits (number_in operand)))
+widened specifier.Hexadecimal c operand = filled_alike c [] (digits 16 false (in_64_bits (number_in operand)))
 
 -- Outputs.
 
@@ -74,12 +74,12 @@ noted_alike true (Some word) t made = elim (is_none (number word)) as (λ (b : B
 ]
 
 converts_alike : (c : Conversion) (operand : Option Text) (made : MadeValue) → measure_of (converts c operand made) ≡ counted c operand (measure_of made)
-converts_alike c operand made = noted_alike (is_numeric c.kind) operand (converted c.kind c operand) made
+converts_alike c operand made = noted_alike (is_numeric c.specifier) operand (converted c.specifier c operand) made
 
 pass_alike : (ps : List Piece) (operands : List Text) (made : MadeValue) → measure_of (pass ps operands made) ≡ measured ps operands (measure_of made)
 pass_alike [] operands made = refl
 pass_alike (Literal b ∷ ps) operands made = pass_alike ps operands (with_text (b ∷ []) made) ∙ ap (measured ps operands) (longer_by made (b ∷ []) (told_of made.bad))
-pass_alike (Converted c ∷ ps) operands made = elim (kind_takes c.kind) as (λ (b : Bool). measure_of (if b then pass ps (drop 1 operands) (converts c (slice_get operands 0) made) else pass ps operands (converts c None made)) ≡ (if b then measured ps (drop 1 operands) (counted c (slice_get operands 0) (measure_of made)) else measured ps operands (counted c None (measure_of made)))) [
+pass_alike (Converted c ∷ ps) operands made = elim (specifier_takes c.specifier) as (λ (b : Bool). measure_of (if b then pass ps (drop 1 operands) (converts c (slice_get operands 0) made) else pass ps operands (converts c None made)) ≡ (if b then measured ps (drop 1 operands) (counted c (slice_get operands 0) (measure_of made)) else measured ps operands (counted c None (measure_of made)))) [
   | true ↦ pass_alike ps (drop 1 operands) (converts c (slice_get operands 0) made) ∙ ap (measured ps (drop 1 operands)) (converts_alike c (slice_get operands 0) made)
   | false ↦ pass_alike ps operands (converts c None made) ∙ ap (measured ps operands) (converts_alike c None made)
 ]

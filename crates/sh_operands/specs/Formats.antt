@@ -2,8 +2,8 @@
 use Rattle.std.specs.Prelude.{ℕ, ◌+◌, ◌-◌, ◌*◌, ◌%◌, ◌==◌, List, [], ◌∷◌, ◌++◌, Bool, true, false, ◌&&◌, Option, Some, None, if◌then◌else◌, nat_lt, nat_le}
 use Rattle.rk_base.specs.Text.{Text}
 use Rattle.rk_base.specs.Variables.{is_between}
-use Rattle.sh_operands.specs.declared.format.Kind.{Kind}
-use Rattle.sh_operands.specs.declared.format.Kind.TheVariants as kind
+use Rattle.sh_operands.specs.declared.format.Specifier.{Specifier}
+use Rattle.sh_operands.specs.declared.format.Specifier.TheVariants as specifier
 use Rattle.sh_operands.specs.declared.format.Piece.{Piece}
 use Rattle.sh_operands.specs.declared.format.Piece.TheVariants.{Literal, Converted}
 use Rattle.sh_operands.specs.declared.format.Reading.{Reading}
@@ -19,14 +19,14 @@ abbrev pub escapes : List (ℕ × ℕ)
 escapes = (92, 92) ∷ (97, 7) ∷ (98, 8) ∷ (102, 12) ∷ (110, 10) ∷ (114, 13) ∷ (116, 9) ∷ (118, 11) ∷ []
 
 -- `s d o x c %`
-abbrev pub kinds : List (ℕ × Kind)
-kinds = (115, kind.Text) ∷ (100, kind.Decimal) ∷ (111, kind.Octal) ∷ (120, kind.Hexadecimal) ∷ (99, kind.Byte) ∷ (37, kind.Percent) ∷ []
+abbrev pub specifiers : List (ℕ × Specifier)
+specifiers = (115, specifier.Text) ∷ (100, specifier.Decimal) ∷ (111, specifier.Octal) ∷ (120, specifier.Hexadecimal) ∷ (99, specifier.Byte) ∷ (37, specifier.Percent) ∷ []
 
 abbrev pub escape_of : ℕ → Option ℕ
 escape_of b = byte_found b escapes
 
-abbrev pub kind_of : ℕ → Option Kind
-kind_of b = byte_found b kinds
+abbrev pub specifier_of : ℕ → Option Specifier
+specifier_of b = byte_found b specifiers
 
 abbrev pub is_octal : ℕ → Bool
 is_octal b = is_between 48 55 b
@@ -58,9 +58,9 @@ escaped b done = if is_octal b then to (Octal 1 (b - 48)) done else known (escap
 abbrev pub octal : ℕ → ℕ → ℕ → List Piece → Step
 octal n value b done = if is_octal b && nat_lt n 3 then to (Octal (n + 1) ((8 * value + (b - 48)) % 256)) done else plain b (with_byte value done)
 
-abbrev pub converts : Option Kind → Bool → Bool → ℕ → List Piece → Step
+abbrev pub converts : Option Specifier → Bool → Bool → ℕ → List Piece → Step
 converts None left zero width done = record { pieces = done; next = None }
-converts (Some k) left zero width done = to Plain (done ++ Converted (record { left = left; zero = zero; width = width; kind = k }) ∷ [])
+converts (Some k) left zero width done = to Plain (done ++ Converted (record { left = left; zero = zero; width = width; specifier = k }) ∷ [])
 
 -- a width with one digit more: it is at most 2^31 - 1
 abbrev pub wider : ℕ → ℕ → Option ℕ
@@ -72,7 +72,7 @@ with_width left zero (Some width) = Some (Width left zero width)
 
 -- a width, and then the letter
 abbrev pub widened : Bool → Bool → ℕ → ℕ → List Piece → Step
-widened left zero width b done = if is_digit b then record { pieces = done; next = with_width left zero (wider width b) } else converts (kind_of b) left zero width done
+widened left zero width b done = if is_digit b then record { pieces = done; next = with_width left zero (wider width b) } else converts (specifier_of b) left zero width done
 
 -- behind a `%`: flags, then a width
 abbrev pub flagged : Bool → Bool → ℕ → List Piece → Step
@@ -106,10 +106,10 @@ pieces format = pieces_from Plain format []
 
 -- Which pieces take an operand: each conversion but `%%`.
 
-abbrev pub kind_takes : Kind → Bool
-kind_takes kind.Percent = false
-kind_takes k = true
+abbrev pub specifier_takes : Specifier → Bool
+specifier_takes specifier.Percent = false
+specifier_takes k = true
 
 abbrev pub takes : Piece → Bool
 takes (Literal b) = false
-takes (Converted c) = kind_takes c.kind
+takes (Converted c) = specifier_takes c.specifier

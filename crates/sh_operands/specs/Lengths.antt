@@ -5,7 +5,7 @@ use Rattle.sh_operands.specs.declared.format.Conversion.{Conversion}
 use Rattle.sh_operands.specs.declared.format.Piece.{Piece}
 use Rattle.sh_operands.specs.declared.format.Piece.TheVariants.{Literal, Converted}
 use Rattle.sh_operands.specs.declared.length.Measure.{Measure}
-use Rattle.sh_operands.specs.Formats.{kind_takes}
+use Rattle.sh_operands.specs.Formats.{specifier_takes}
 use Rattle.sh_operands.specs.Made.{MadeValue, nothing}
 use Rattle.sh_operands.specs.Printed.{converted, noted}
 
@@ -17,14 +17,14 @@ abbrev pub longer : ℕ → Measure → Measure
 longer n m = record m { bytes = m.bytes + n }
 
 abbrev pub counted : Conversion → Option Text → Measure → Measure
-counted c operand m = record { bytes = m.bytes + length (converted c.kind c operand); told = noted c operand m.told }
+counted c operand m = record { bytes = m.bytes + length (converted c.specifier c operand); told = noted c operand m.told }
 
 -- the format once
 abbrev pub measured : List Piece → List Text → Measure → Measure
 measured [] operands m = m
 measured (Literal b ∷ ps) operands m = measured ps operands (longer 1 m)
 measured (Converted c ∷ ps) operands m =
-    if kind_takes c.kind then measured ps (drop 1 operands) (counted c (slice_get operands 0) m) else measured ps operands (counted c None m)
+    if specifier_takes c.specifier then measured ps (drop 1 operands) (counted c (slice_get operands 0) m) else measured ps operands (counted c None m)
 
 -- so many times
 abbrev pub measures : ℕ → ℕ → List Piece → List Text → Measure

@@ -3,13 +3,13 @@ use Rattle.std.specs.Prelude.{ℕ, zero, suc, ◌+◌, ◌-◌, ◌*◌, ◌==�
 use Rattle.std.specs.Fmt.{digits, decimal}
 use Rattle.std.specs.Int.{div_ceil}
 use Rattle.rk_base.specs.Text.{Text}
-use Rattle.sh_operands.specs.declared.format.Kind.{Kind}
-use Rattle.sh_operands.specs.declared.format.Kind.TheVariants as kind
+use Rattle.sh_operands.specs.declared.format.Specifier.{Specifier}
+use Rattle.sh_operands.specs.declared.format.Specifier.TheVariants as specifier
 use Rattle.sh_operands.specs.declared.format.Conversion.{Conversion}
 use Rattle.sh_operands.specs.declared.format.Piece.{Piece}
 use Rattle.sh_operands.specs.declared.format.Piece.TheVariants.{Literal, Converted}
 use Rattle.sh_operands.specs.declared.number.Number.{Number}
-use Rattle.sh_operands.specs.Formats.{takes, kind_takes}
+use Rattle.sh_operands.specs.Formats.{takes, specifier_takes}
 use Rattle.sh_operands.specs.Made.{MadeValue, nothing, with_text, with_bad}
 use Rattle.sh_operands.specs.Numbers.{number}
 
@@ -63,32 +63,32 @@ abbrev pub text_in : Option Text → Text
 text_in None = []
 text_in (Some word) = word
 
-abbrev pub converted : Kind → Conversion → Option Text → Text
-converted kind.Text c operand = padded c.left c.width (text_in operand)
-converted kind.Byte c operand = padded c.left c.width (take 1 (text_in operand))
-converted kind.Percent c operand = padded c.left c.width (codes "%")
-converted kind.Decimal c operand = filled c (sign_of (number_in operand)) (decimal (number_in operand).magnitude)
-converted kind.Octal c operand = filled c [] (digits 8 false (in_64_bits (number_in operand)))
-converted kind.Hexadecimal c operand = filled c [] (digits 16 false (in_64_bits (number_in operand)))
+abbrev pub converted : Specifier → Conversion → Option Text → Text
+converted specifier.Text c operand = padded c.left c.width (text_in operand)
+converted specifier.Byte c operand = padded c.left c.width (take 1 (text_in operand))
+converted specifier.Percent c operand = padded c.left c.width (codes "%")
+converted specifier.Decimal c operand = filled c (sign_of (number_in operand)) (decimal (number_in operand).magnitude)
+converted specifier.Octal c operand = filled c [] (digits 8 false (in_64_bits (number_in operand)))
+converted specifier.Hexadecimal c operand = filled c [] (digits 16 false (in_64_bits (number_in operand)))
 
-abbrev pub is_numeric : Kind → Bool
-is_numeric kind.Decimal = true
-is_numeric kind.Octal = true
-is_numeric kind.Hexadecimal = true
+abbrev pub is_numeric : Specifier → Bool
+is_numeric specifier.Decimal = true
+is_numeric specifier.Octal = true
+is_numeric specifier.Hexadecimal = true
 is_numeric k = false
 
 abbrev pub noted : Conversion → Option Text → MadeValue → MadeValue
-noted c operand made = if is_numeric c.kind then with_bad_in operand made else made
+noted c operand made = if is_numeric c.specifier then with_bad_in operand made else made
 
 abbrev pub converts : Conversion → Option Text → MadeValue → MadeValue
-converts c operand made = with_text (converted c.kind c operand) (noted c operand made)
+converts c operand made = with_text (converted c.specifier c operand) (noted c operand made)
 
 -- the format once, from these operands on; each conversion takes the next operand, or none where there is none left
 abbrev pub pass : List Piece → List Text → MadeValue → MadeValue
 pass [] operands made = made
 pass (Literal b ∷ ps) operands made = pass ps operands (with_text (b ∷ []) made)
 pass (Converted c ∷ ps) operands made =
-    if kind_takes c.kind then pass ps (drop 1 operands) (converts c (slice_get operands 0) made) else pass ps operands (converts c None made)
+    if specifier_takes c.specifier then pass ps (drop 1 operands) (converts c (slice_get operands 0) made) else pass ps operands (converts c None made)
 
 -- The format is used again as long as operands remain and it takes any.
 

@@ -3,7 +3,7 @@ ghost use Rattle.std.specs.Prelude.{◌≡◌, ◌++◌, [], false, IfOk, OnOk, 
 ghost use Rattle.std.specs.Fmt.{digits, decimal};
 ghost use Rattle.sh_operands.specs.Printed.{padded, zero_filled, filled, or_nought, number_in, is_none, with_bad_in, sign_of, in_64_bits, text_in, converted, is_numeric, noted, converts};
 
-use crate::format::{Conversion, Kind};
+use crate::format::{Conversion, Specifier};
 use crate::made::Made;
 use crate::number::{Number, number_of};
 use rk_base::{Bytes, NoMemory};
@@ -175,32 +175,32 @@ fn hexadecimal(alloc: Global, c: Conversion, n: u64) -> Result<Vec<u8>, NoMemory
 /// What it makes of an operand, or of none.
 pub(crate) fn converted(
     alloc: Global,
-    kind: Kind,
+    specifier: Specifier,
     c: Conversion,
     operand: Option<&Bytes>,
 ) -> Result<Vec<u8>, NoMemory>
-    ensures { IfOk result (λ field. field.items ≡ converted kind c (option_copied operand.entry)) }
+    ensures { IfOk result (λ field. field.items ≡ converted specifier c (option_copied operand.entry)) }
 {
-    match kind {
-        Kind::Text => padded(alloc, c.left, c.width, text_in(operand)),
-        Kind::Byte => padded(alloc, c.left, c.width, first_byte(text_in(operand))),
-        Kind::Percent => padded(alloc, c.left, c.width, b"%"),
-        Kind::Decimal => decimal(alloc, c, number_in(operand)),
-        Kind::Octal => octal(alloc, c, in_64_bits(number_in(operand))),
-        Kind::Hexadecimal => hexadecimal(alloc, c, in_64_bits(number_in(operand))),
+    match specifier {
+        Specifier::Text => padded(alloc, c.left, c.width, text_in(operand)),
+        Specifier::Byte => padded(alloc, c.left, c.width, first_byte(text_in(operand))),
+        Specifier::Percent => padded(alloc, c.left, c.width, b"%"),
+        Specifier::Decimal => decimal(alloc, c, number_in(operand)),
+        Specifier::Octal => octal(alloc, c, in_64_bits(number_in(operand))),
+        Specifier::Hexadecimal => hexadecimal(alloc, c, in_64_bits(number_in(operand))),
     }
 }
 
-fn is_numeric(kind: Kind) -> bool
-    ensures { result ≡ is_numeric kind }
+fn is_numeric(specifier: Specifier) -> bool
+    ensures { result ≡ is_numeric specifier }
 {
-    match kind {
-        Kind::Text => false,
-        Kind::Byte => false,
-        Kind::Percent => false,
-        Kind::Decimal => true,
-        Kind::Octal => true,
-        Kind::Hexadecimal => true,
+    match specifier {
+        Specifier::Text => false,
+        Specifier::Byte => false,
+        Specifier::Percent => false,
+        Specifier::Decimal => true,
+        Specifier::Octal => true,
+        Specifier::Hexadecimal => true,
     }
 }
 
@@ -208,7 +208,7 @@ fn is_numeric(kind: Kind) -> bool
 pub(crate) fn noted(c: Conversion, operand: Option<&Bytes>, made: &mut Made) -> Result<(), NoMemory>
     ensures { OnOk result (made.new ≡ noted c (option_copied operand.entry) made.old) }
 {
-    if is_numeric(c.kind) {
+    if is_numeric(c.specifier) {
         note_bad(operand, made)
     } else {
         Ok(())
@@ -225,6 +225,6 @@ pub(crate) fn converts(
     ensures { OnOk result (made.new ≡ converts c (option_copied operand.entry) made.old) }
 {
     noted(c, operand, made)?;
-    let field = converted(alloc, c.kind, c, operand)?;
+    let field = converted(alloc, c.specifier, c, operand)?;
     made.put(&field)
 }

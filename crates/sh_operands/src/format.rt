@@ -1,15 +1,15 @@
 // Formats of `printf`.
 ghost use Rattle.std.specs.Prelude.{◌≡◌, ◌+◌, ◌-◌, ◌*◌, ◌%◌, ◌++◌, ◌∷◌, [], IfOk, OnOk, count_by};
-ghost use Rattle.sh_operands.specs.Formats.{escape_of, kind_of, is_octal, with_byte, plain, known, escaped, octal, converts, wider, with_width, widened, flagged, step, finished, pieces, kind_takes, takes};
+ghost use Rattle.sh_operands.specs.Formats.{escape_of, specifier_of, is_octal, with_byte, plain, known, escaped, octal, converts, wider, with_width, widened, flagged, step, finished, pieces, specifier_takes, takes};
 
 use crate::number::is_digit;
 use rk_base::NoMemory;
 use std::alloc::Global;
 use std::marker::Model;
 
-/// What a conversion makes of its operand.
+/// A conversion specifier of `printf` (XBD 5): what a conversion makes of its operand.
 #[derive(Clone, Copy, Debug)]
-pub enum Kind {
+pub enum Specifier {
     /// `s`: its bytes.
     Text,
     /// `d`: its number.
@@ -24,13 +24,13 @@ pub enum Kind {
     Percent,
 }
 
-/// A conversion: its flags, its least width and its kind.
+/// A conversion: its flags, its least width and its conversion specifier.
 #[derive(Clone, Copy, Debug)]
 pub struct Conversion {
     pub left: bool,
     pub zero: bool,
     pub width: u64,
-    pub kind: Kind,
+    pub specifier: Specifier,
 }
 
 /// A part of a format.
@@ -115,16 +115,16 @@ fn escape_of(b: u8) -> Option<u8>
     }
 }
 
-fn kind_of(b: u8) -> Option<Kind>
-    ensures { result ≡ kind_of b }
+fn specifier_of(b: u8) -> Option<Specifier>
+    ensures { result ≡ specifier_of b }
 {
     match b {
-        b's' => Some(Kind::Text),
-        b'd' => Some(Kind::Decimal),
-        b'o' => Some(Kind::Octal),
-        b'x' => Some(Kind::Hexadecimal),
-        b'c' => Some(Kind::Byte),
-        b'%' => Some(Kind::Percent),
+        b's' => Some(Specifier::Text),
+        b'd' => Some(Specifier::Decimal),
+        b'o' => Some(Specifier::Octal),
+        b'x' => Some(Specifier::Hexadecimal),
+        b'c' => Some(Specifier::Byte),
+        b'%' => Some(Specifier::Percent),
         _ => None,
     }
 }
@@ -195,23 +195,23 @@ fn octal(n: u8, value: u8, b: u8, done: &mut Format) -> Result<Option<Reading>, 
 }
 
 fn converts(
-    kind: Option<Kind>,
+    specifier: Option<Specifier>,
     left: bool,
     zero: bool,
     width: u64,
     done: &mut Format,
 ) -> Result<Option<Reading>, NoMemory>
-    ensures next { IfOk result (λ next. next ≡ (converts kind left zero width done.old).next) }
-    ensures pieces { OnOk result (done.new ≡ (converts kind left zero width done.old).pieces) }
+    ensures next { IfOk result (λ next. next ≡ (converts specifier left zero width done.old).next) }
+    ensures pieces { OnOk result (done.new ≡ (converts specifier left zero width done.old).pieces) }
 {
-    match kind {
+    match specifier {
         None => Ok(None),
-        Some(kind) => {
+        Some(specifier) => {
             done.push(Piece::Converted(Conversion {
                 left,
                 zero,
                 width,
-                kind,
+                specifier,
             }))?;
             Ok(Some(Reading::Plain))
         }
@@ -258,7 +258,7 @@ fn widened(
     if is_digit(b) {
         return Ok(with_width(left, zero, wider(width, b)));
     }
-    converts(kind_of(b), left, zero, width, done)
+    converts(specifier_of(b), left, zero, width, done)
 }
 
 fn flagged(left: bool, zero: bool, b: u8, done: &mut Format) -> Result<Option<Reading>, NoMemory>
@@ -325,24 +325,24 @@ pub fn pieces(alloc: Global, format: &[u8]) -> Result<Option<Format>, NoMemory>
     finished(reading, done)
 }
 
-fn kind_takes(kind: Kind) -> bool
-    ensures { result ≡ kind_takes kind }
+fn specifier_takes(specifier: Specifier) -> bool
+    ensures { result ≡ specifier_takes specifier }
 {
-    match kind {
-        Kind::Text => true,
-        Kind::Decimal => true,
-        Kind::Octal => true,
-        Kind::Hexadecimal => true,
-        Kind::Byte => true,
-        Kind::Percent => false,
+    match specifier {
+        Specifier::Text => true,
+        Specifier::Decimal => true,
+        Specifier::Octal => true,
+        Specifier::Hexadecimal => true,
+        Specifier::Byte => true,
+        Specifier::Percent => false,
     }
 }
 
 /// Whether a conversion takes an operand.
 pub(crate) fn takes_operand(c: Conversion) -> bool
-    ensures { result ≡ kind_takes c.kind }
+    ensures { result ≡ specifier_takes c.specifier }
 {
-    kind_takes(c.kind)
+    specifier_takes(c.specifier)
 }
 
 fn takes(piece: Piece) -> bool
@@ -350,7 +350,7 @@ fn takes(piece: Piece) -> bool
 {
     match piece {
         Piece::Literal(_) => false,
-        Piece::Converted(c) => kind_takes(c.kind),
+        Piece::Converted(c) => specifier_takes(c.specifier),
     }
 }
 

@@ -30,15 +30,15 @@ fn added(n: u64, more: u64) -> Result<u64, NoMemory>
 
 // What is made of an operand is put together without the width, which may be far more than it.
 fn field_length(alloc: Global, c: Conversion, operand: Option<&Bytes>) -> Result<u64, NoMemory>
-    ensures { IfOk result (λ n. n ≡ length (converted c.kind c (option_copied operand.entry))) }
+    ensures { IfOk result (λ n. n ≡ length (converted c.specifier c (option_copied operand.entry))) }
 {
     let narrow = Conversion {
         left: c.left,
         zero: c.zero,
         width: 0,
-        kind: c.kind,
+        specifier: c.specifier,
     };
-    let field = converted(alloc, c.kind, narrow, operand)?;
+    let field = converted(alloc, c.specifier, narrow, operand)?;
     Ok(c.width.max(field.len() as u64))
 }
 

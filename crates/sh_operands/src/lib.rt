@@ -14,7 +14,7 @@ mod verdict;
 mod words;
 
 pub use count::count_of;
-pub use format::{Conversion, Format, Kind, Piece, pieces};
+pub use format::{Conversion, Format, Piece, Specifier, pieces};
 pub use length::measured;
 pub use made::Made;
 pub use number::{Number, number_of};

@@ -3,24 +3,24 @@ use Rattle.std.proofs.Common.{◌≡◌, ◌≢◌, List, [], ◌∷◌, ◌++�
 use Rattle.std.proofs.lemmas.List.{append-nil}
 use Rattle.std.specs.Prelude.{◌⊎◌}
 use Rattle.sh_split.specs.declared.mark.Mark.{Mark}
-use Rattle.sh_split.specs.declared.mark.Kind.{Kind}
-use Rattle.sh_split.specs.declared.mark.Kind.TheVariants.{White, Hard, Matter, Break}
+use Rattle.sh_split.specs.declared.mark.MarkKind.{MarkKind}
+use Rattle.sh_split.specs.declared.mark.MarkKind.TheVariants.{White, Hard, Matter, Break}
 use Rattle.sh_split.specs.declared.pass.State.{State}
 use Rattle.sh_split.specs.declared.pass.State.TheVariants.{Gap, In, After}
 use Rattle.sh_split.specs.Cutting.{Marks, IsRun, NotFirst, IsBlank, IsHard, IsLast, Delimits, AreFields, IsCut, AreCut, put, parted, between, IsCutting}
 use Rattle.sh_split.specs.Pass.{step, last_of, fields_from}
 
 -- what the pass makes of a text from each state
-abbrev G : (Mark → Kind) → Marks → List Marks
+abbrev G : (Mark → MarkKind) → Marks → List Marks
 G kind t = fields_from kind Gap [] t
 
-abbrev I : (Mark → Kind) → Marks → Marks → List Marks
+abbrev I : (Mark → MarkKind) → Marks → Marks → List Marks
 I kind f t = fields_from kind In f t
 
-abbrev A : (Mark → Kind) → Marks → List Marks
+abbrev A : (Mark → MarkKind) → Marks → List Marks
 A kind t = fields_from kind After [] t
 
-module _ (kind : Mark → Kind) where
+module _ (kind : Mark → MarkKind) where
   gap-white : (m : Mark) (t : Marks) → kind m ≡ White → G kind (m ∷ t) ≡ G kind t
   gap-white m t e = rw e refl
 
@@ -72,7 +72,7 @@ module _ (kind : Mark → Kind) where
   after_is_gap [] w h = refl
   after_is_gap (m ∷ ms) w h = by_kind (kind m) refl
     where
-      by_kind : (k : Kind) → kind m ≡ k → A kind (m ∷ ms) ≡ G kind (m ∷ ms)
+      by_kind : (k : MarkKind) → kind m ≡ k → A kind (m ∷ ms) ≡ G kind (m ∷ ms)
       by_kind White e = absurd (w e)
       by_kind Hard e = absurd (h e)
       by_kind Matter e = after-matter m ms e ∙ sym (gap-matter m ms e)
@@ -143,7 +143,7 @@ module _ (kind : Mark → Kind) where
   break_state In f m t = refl
   break_state After f m t = refl
 
-  parts_step : (s : State) (f : Marks) (m : Mark) (ms : Marks) → ((s : State) (f : Marks) → fields_from kind s f ms ≡ over s f (between kind ms)) → (k : Kind) → kind m ≡ k → fields_from kind s f (m ∷ ms) ≡ over s f (between kind (m ∷ ms))
+  parts_step : (s : State) (f : Marks) (m : Mark) (ms : Marks) → ((s : State) (f : Marks) → fields_from kind s f ms ≡ over s f (between kind ms)) → (k : MarkKind) → kind m ≡ k → fields_from kind s f (m ∷ ms) ≡ over s f (between kind (m ∷ ms))
   parts_step s f m ms again k e = by_kind k e
     where
       same : parted (kind m) m (between kind ms) ≡ put m (between kind ms) → fields_from kind s f (m ∷ ms) ≡ over s f (between kind (m ∷ ms))
@@ -154,7 +154,7 @@ module _ (kind : Mark → Kind) where
           rw e
           (ap (λ x. x ++ fields_from kind (step Break s f m).state (step Break s f m).open_field ms) (over_break s f m) ∙ ap (λ x. last_of s f ++ x) (break_state s f m ms ∙ (again Gap [] ∙ over_gap (between kind ms))))
 
-      by_kind : (k : Kind) → kind m ≡ k → fields_from kind s f (m ∷ ms) ≡ over s f (between kind (m ∷ ms))
+      by_kind : (k : MarkKind) → kind m ≡ k → fields_from kind s f (m ∷ ms) ≡ over s f (between kind (m ∷ ms))
       by_kind White e = same (rw e refl)
       by_kind Hard e = same (rw e refl)
       by_kind Matter e = same (rw e refl)
@@ -276,7 +276,7 @@ module _ (kind : Mark → Kind) where
   Free [] = Unit {0}
   Free (m ∷ ms) = (kind m ≢ Break) × Free ms
 
-  made_by : (k : Kind) (m : Mark) (ms : Marks) → kind m ≡ k → kind m ≢ Break → Made ms → Made (m ∷ ms)
+  made_by : (k : MarkKind) (m : Mark) (ms : Marks) → kind m ≡ k → kind m ≢ Break → Made ms → Made (m ∷ ms)
   made_by White m ms e n h = made_white m ms e h
   made_by Hard m ms e n h = made_hard m ms e h
   made_by Matter m ms e n h = made_matter m ms e h
@@ -294,7 +294,7 @@ module _ (kind : Mark → Kind) where
   put_free m [] n h = ((n, tt), tt)
   put_free m (t ∷ ts) n h = ((n, h.0), h.1)
 
-  parted_free : (k : Kind) (m : Mark) (ts : List Marks) → kind m ≡ k → AllFree ts → AllFree (parted k m ts)
+  parted_free : (k : MarkKind) (m : Mark) (ts : List Marks) → kind m ≡ k → AllFree ts → AllFree (parted k m ts)
   parted_free White m ts e h = put_free m ts (λ b. absurd (cc)) h
   parted_free Hard m ts e h = put_free m ts (λ b. absurd (cc)) h
   parted_free Matter m ts e h = put_free m ts (λ b. absurd (cc)) h

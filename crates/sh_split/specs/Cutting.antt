@@ -1,20 +1,20 @@
 -- The rules by which a word is cut into fields.
 use Rattle.std.specs.Prelude.{◌≡◌, ◌≢◌, ◌⊎◌, List, [], ◌∷◌, ◌++◌}
 use Rattle.sh_split.specs.declared.mark.Mark.{Mark}
-use Rattle.sh_split.specs.declared.mark.Kind.{Kind}
-use Rattle.sh_split.specs.declared.mark.Kind.TheVariants.{White, Hard, Matter, Break}
+use Rattle.sh_split.specs.declared.mark.MarkKind.{MarkKind}
+use Rattle.sh_split.specs.declared.mark.MarkKind.TheVariants.{White, Hard, Matter, Break}
 
 abbrev pub Marks : Type 0
 Marks = List Mark
 
-module _ (kind : Mark → Kind) where
+module _ (kind : Mark → MarkKind) where
   -- all marks are of one kind
-  abbrev pub IsRun : Kind → Marks → Type 0
+  abbrev pub IsRun : MarkKind → Marks → Type 0
   IsRun k [] = Unit {0}
   IsRun k (m ∷ ms) = (kind m ≡ k) × IsRun k ms
 
   -- no mark of a kind comes first
-  abbrev pub NotFirst : Kind → Marks → Type 0
+  abbrev pub NotFirst : MarkKind → Marks → Type 0
   NotFirst k [] = Unit {0}
   NotFirst k (m ∷ ms) = kind m ≢ k
 
@@ -68,17 +68,17 @@ abbrev pub put : Mark → List Marks → List Marks
 put m [] = (m ∷ []) ∷ []
 put m (ms ∷ others) = (m ∷ ms) ∷ others
 
-abbrev pub parted : Kind → Mark → List Marks → List Marks
+abbrev pub parted : MarkKind → Mark → List Marks → List Marks
 parted White m texts = put m texts
 parted Hard m texts = put m texts
 parted Matter m texts = put m texts
 parted Break m texts = [] ∷ texts
 
 -- the texts between breaks
-abbrev pub between : (Mark → Kind) → Marks → List Marks
+abbrev pub between : (Mark → MarkKind) → Marks → List Marks
 between kind [] = [] ∷ []
 between kind (m ∷ ms) = parted (kind m) m (between kind ms)
 
 -- these are the fields of an expanded word
-unfoldable pub IsCutting : (Mark → Kind) → Marks → List Marks → Type 0
+unfoldable pub IsCutting : (Mark → MarkKind) → Marks → List Marks → Type 0
 IsCutting kind text fields = AreCut kind (between kind text) fields

@@ -1,8 +1,8 @@
 -- The cutting in one pass.
 use Rattle.std.specs.Prelude.{◌≡◌, List, [], ◌∷◌, ◌++◌}
 use Rattle.sh_split.specs.declared.mark.Mark.{Mark}
-use Rattle.sh_split.specs.declared.mark.Kind.{Kind}
-use Rattle.sh_split.specs.declared.mark.Kind.TheVariants.{White, Hard, Matter, Break}
+use Rattle.sh_split.specs.declared.mark.MarkKind.{MarkKind}
+use Rattle.sh_split.specs.declared.mark.MarkKind.TheVariants.{White, Hard, Matter, Break}
 use Rattle.sh_split.specs.declared.pass.State.{State}
 use Rattle.sh_split.specs.declared.pass.State.TheVariants.{Gap, In, After}
 use Rattle.sh_split.specs.Cutting.{Marks}
@@ -16,7 +16,7 @@ pub record Step : Type 0 where
 abbrev pub goes : List Marks → State → Marks → Step
 goes ended state open_field = record { ended = ended; state = state; open_field = open_field }
 
-abbrev pub step : Kind → State → Marks → Mark → Step
+abbrev pub step : MarkKind → State → Marks → Mark → Step
 step White Gap f m = goes [] Gap []
 step White In f m = goes (f ∷ []) After []
 step White After f m = goes [] After []
@@ -36,7 +36,7 @@ last_of In f = f ∷ []
 last_of After f = []
 
 -- the fields that are still to come
-abbrev pub fields_from : (Mark → Kind) → State → Marks → Marks → List Marks
+abbrev pub fields_from : (Mark → MarkKind) → State → Marks → Marks → List Marks
 fields_from kind s f [] = last_of s f
 fields_from kind s f (m ∷ ms) = (step (kind m) s f m).ended ++ fields_from kind (step (kind m) s f m).state (step (kind m) s f m).open_field ms
 
@@ -54,5 +54,5 @@ pub record Puts (told : Step) (old new : List Marks) (s : State) (f : Marks) : T
   pub fitting : Fitting s f
 
 -- the fields that a word is cut into, for whoever speaks of them as a function
-abbrev pub cut_fields : (Mark → Kind) → Marks → List Marks
+abbrev pub cut_fields : (Mark → MarkKind) → Marks → List Marks
 cut_fields kind text = fields_from kind Gap [] text

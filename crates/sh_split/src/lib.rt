@@ -11,6 +11,6 @@ mod split;
 
 pub use joining::{first_byte, joined};
 pub use laws::one_cutting;
-pub use mark::{Field, Kind, Mark, kind_of_mark};
+pub use mark::{Field, Mark, MarkKind, kind_of_mark};
 pub use marked::{captured, pattern_of, put_all, put_given, put_literal, text_of};
 pub use split::split_fields;

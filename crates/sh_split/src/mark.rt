@@ -23,7 +23,7 @@ pub enum Mark {
 
 /// What a mark is for the cutting.
 #[derive(Clone, Copy, Debug, Drop)]
-pub enum Kind {
+pub enum MarkKind {
     /// White space of IFS.
     White,
     /// Another byte of IFS.
@@ -84,24 +84,28 @@ fn contains(ifs: &[u8], b: u8) -> bool
     ifs.iter().any(|c| *c == b)
 }
 
-fn kind_of(ifs: &[u8], b: u8) -> Kind
+fn kind_of(ifs: &[u8], b: u8) -> MarkKind
     ensures { result ≡ kind_of ifs.now b }
 {
     if !contains(ifs, b) {
-        return Kind::Matter;
+        return MarkKind::Matter;
     }
-    if is_blank(b) { Kind::White } else { Kind::Hard }
+    if is_blank(b) {
+        MarkKind::White
+    } else {
+        MarkKind::Hard
+    }
 }
 
 /// What a mark is, where IFS has these bytes.
-pub fn kind_of_mark(ifs: &[u8], mark: Mark) -> Kind
+pub fn kind_of_mark(ifs: &[u8], mark: Mark) -> MarkKind
     ensures { result ≡ kind ifs.now mark }
 {
     match mark {
-        Mark::Literal(_) => Kind::Matter,
-        Mark::Quoted(_) => Kind::Matter,
+        Mark::Literal(_) => MarkKind::Matter,
+        Mark::Quoted(_) => MarkKind::Matter,
         Mark::Given(b) => kind_of(ifs, b),
-        Mark::Quote => Kind::Matter,
-        Mark::Break => Kind::Break,
+        Mark::Quote => MarkKind::Matter,
+        Mark::Break => MarkKind::Break,
     }
 }

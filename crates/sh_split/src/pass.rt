@@ -2,7 +2,7 @@
 ghost use Rattle.std.specs.Prelude.{◌≡◌, ◌++◌, ◌∷◌, [], OnOk, IfOk};
 ghost use Rattle.sh_split.specs.Pass.{step, last_of, Puts, Fitting};
 
-use crate::mark::{Field, Kind, Mark};
+use crate::mark::{Field, Mark, MarkKind};
 use rk_base::NoMemory;
 use std::mem;
 
@@ -28,7 +28,7 @@ pub(crate) fn end(fields: &mut Vec<Field>, open_field: &mut Vec<Mark>) -> Result
 
 // What one mark does.
 pub(crate) fn put(
-    kind: Kind,
+    kind: MarkKind,
     state: State,
     mark: Mark,
     fields: &mut Vec<Field>,
@@ -38,30 +38,30 @@ pub(crate) fn put(
     ensures { IfOk result (λ s. Puts (step kind state open_field.old.items mark) fields.old.items fields.new.items s open_field.new.items) }
 {
     match (kind, state) {
-        (Kind::White, State::Gap) => Ok(State::Gap),
-        (Kind::White, State::In) => {
+        (MarkKind::White, State::Gap) => Ok(State::Gap),
+        (MarkKind::White, State::In) => {
             end(fields, open_field)?;
             Ok(State::After)
         }
-        (Kind::White, State::After) => Ok(State::After),
-        (Kind::Hard, State::Gap) => {
+        (MarkKind::White, State::After) => Ok(State::After),
+        (MarkKind::Hard, State::Gap) => {
             end(fields, open_field)?;
             Ok(State::Gap)
         }
-        (Kind::Hard, State::In) => {
+        (MarkKind::Hard, State::In) => {
             end(fields, open_field)?;
             Ok(State::Gap)
         }
-        (Kind::Hard, State::After) => Ok(State::Gap),
-        (Kind::Matter, _) => {
+        (MarkKind::Hard, State::After) => Ok(State::Gap),
+        (MarkKind::Matter, _) => {
             open_field.push(mark)?;
             Ok(State::In)
         }
-        (Kind::Break, State::Gap) => Ok(State::Gap),
-        (Kind::Break, State::In) => {
+        (MarkKind::Break, State::Gap) => Ok(State::Gap),
+        (MarkKind::Break, State::In) => {
             end(fields, open_field)?;
             Ok(State::Gap)
         }
-        (Kind::Break, State::After) => Ok(State::Gap),
+        (MarkKind::Break, State::After) => Ok(State::Gap),
     }
 }

@@ -5,7 +5,7 @@ use Rattle.rk_base.specs.Text.{Text}
 use Rattle.ut_args.specs.Numbers.{number}
 use Rattle.ut_args.specs.Opts.{ArgsValue, gives, argument, arguments}
 use Rattle.ut_sort.specs.declared.key.Key.{Key}
-use Rattle.ut_sort.specs.declared.runs.Kind.TheVariants.{Unlettered, Other}
+use Rattle.ut_sort.specs.declared.runs.ByteClass.TheVariants.{Unlettered, Other}
 use Rattle.ut_sort.specs.Runs.{front, rest}
 use Rattle.ut_sort.specs.Orders.{SortValue}
 

@@ -2,7 +2,7 @@
 use Rattle.std.specs.Prelude.{ℕ, zero, suc, ◌+◌, ◌-◌, [], length, take, drop, nat_lt, Option, Some, None, if◌then◌else◌}
 use Rattle.rk_base.specs.Text.{Text}
 use Rattle.ut_sort.specs.declared.key.Key.{Key}
-use Rattle.ut_sort.specs.declared.runs.Kind.TheVariants.{Blank, Solid, Other}
+use Rattle.ut_sort.specs.declared.runs.ByteClass.TheVariants.{Blank, Solid, Other}
 use Rattle.ut_sort.specs.Runs.{run, rest}
 
 -- The length of the first field: up to the delimiter, or without one the blanks and what stands up to the next blank.

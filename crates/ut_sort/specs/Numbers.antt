@@ -3,7 +3,7 @@ use Rattle.std.specs.Prelude.{ℕ, [], ◌∷◌, length, Bool, true, false, ◌
 use Rattle.std.specs.Ordering.{nat_cmp, then_cmp, on, flip_args}
 use Rattle.std.specs.declared.cmp.Ordering.{Ordering}
 use Rattle.rk_base.specs.Text.{Text, text_cmp}
-use Rattle.ut_sort.specs.declared.runs.Kind.TheVariants.{Blank, Digit, Zero}
+use Rattle.ut_sort.specs.declared.runs.ByteClass.TheVariants.{Blank, Digit, Zero}
 use Rattle.ut_sort.specs.Runs.{front, rest}
 
 -- a number without its sign: its digits without zeros in front, and those of its fraction without zeros at the end

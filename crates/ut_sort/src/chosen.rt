@@ -4,7 +4,7 @@ ghost use Rattle.ut_args.specs.Numbers.{number};
 ghost use Rattle.ut_sort.specs.Chosen.{last_of, key_by, has_letter, lettered, key_of, whole, first_key, more_keys, first_byte, delimiter_of, sort_of};
 
 use crate::key::Key;
-use crate::runs::{Kind, front, rest};
+use crate::runs::{ByteClass, front, rest};
 use crate::sort::Sort;
 use rk_base::{Bytes, NoMemory};
 use std::alloc::Global;
@@ -44,8 +44,8 @@ fn last_of(text: &[u8]) -> Result<Option<u64>, NoMemory>
 fn key_by(fields: &[u8], numeric: bool, reversed: bool) -> Result<Key, NoMemory>
     ensures { IfOk result (λ k. k ≡ key_by fields.now numeric reversed) }
 {
-    let from = field_of(front(Kind::Other(b','), fields))?;
-    let last = last_of(rest(Kind::Other(b','), fields))?;
+    let from = field_of(front(ByteClass::Other(b','), fields))?;
+    let last = last_of(rest(ByteClass::Other(b','), fields))?;
     Ok(Key {
         from,
         last,
@@ -76,8 +76,8 @@ fn lettered(numeric: bool, reversed: bool, fields: &[u8], letters: &[u8]) -> Res
 fn key_of(numeric: bool, reversed: bool, text: &[u8]) -> Result<Key, NoMemory>
     ensures { IfOk result (λ k. k ≡ key_of numeric reversed text.now) }
 {
-    let fields = front(Kind::Unlettered, text);
-    let letters = rest(Kind::Unlettered, text);
+    let fields = front(ByteClass::Unlettered, text);
+    let letters = rest(ByteClass::Unlettered, text);
     lettered(numeric, reversed, fields, letters)
 }
 

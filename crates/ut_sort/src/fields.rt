@@ -3,7 +3,7 @@ ghost use Rattle.std.specs.Prelude.{◌≡◌, ◌≤◌, length, drop};
 ghost use Rattle.ut_sort.specs.Fields.{field_length, after_field, after_fields, up_to, key_text, key_from};
 
 use crate::key::Key;
-use crate::runs::{Kind, rest, run};
+use crate::runs::{ByteClass, rest, run};
 
 // The length of the first field.
 fn field_length(delimiter: Option<u8>, text: &[u8]) -> usize
@@ -11,10 +11,10 @@ fn field_length(delimiter: Option<u8>, text: &[u8]) -> usize
     ensures within { result ≤ length text.now }
 {
     match delimiter {
-        Some(c) => run(Kind::Other(c), text),
+        Some(c) => run(ByteClass::Other(c), text),
         None => {
-            let blanks = run(Kind::Blank, text);
-            blanks + run(Kind::Solid, text.split_at(blanks).1)
+            let blanks = run(ByteClass::Blank, text);
+            blanks + run(ByteClass::Solid, text.split_at(blanks).1)
         }
     }
 }
@@ -35,8 +35,8 @@ fn after_field(delimiter: Option<u8>, text: &[u8]) -> &[u8]
     ensures within { length result.now ≤ length text.now }
 {
     match delimiter {
-        Some(c) => after_first(rest(Kind::Other(c), text)),
-        None => rest(Kind::Solid, rest(Kind::Blank, text)),
+        Some(c) => after_first(rest(ByteClass::Other(c), text)),
+        None => rest(ByteClass::Solid, rest(ByteClass::Blank, text)),
     }
 }
 

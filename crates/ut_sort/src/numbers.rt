@@ -3,7 +3,7 @@ ghost use Rattle.std.specs.Prelude.{◌≡◌};
 ghost use Rattle.ut_sort.specs.Numbers.{nothing, trimmed, fraction_of, size_of, signed, number_of, size_cmp, above, below, number_cmp, value_cmp};
 ghost use Rattle.ut_sort.specs.Seen.{size_seen, number_seen};
 
-use crate::runs::{Kind, front, rest};
+use crate::runs::{ByteClass, front, rest};
 use std::cmp::Ordering;
 
 /// A number without its sign: its digits without zeros in front, and those of its fraction without zeros at the end.
@@ -40,7 +40,7 @@ fn fraction_of(text: &[u8]) -> &[u8]
         [] => &[],
         [b, after @ ..] => {
             if *b == b'.' {
-                trimmed(front(Kind::Digit, after))
+                trimmed(front(ByteClass::Digit, after))
             } else {
                 &[]
             }
@@ -52,8 +52,8 @@ fn size_of<'a>(text: &'a [u8]) -> Size<'a>
     ensures { size_seen result ≡ size_of text.now }
 {
     Size {
-        whole: rest(Kind::Zero, front(Kind::Digit, text)),
-        fraction: fraction_of(rest(Kind::Digit, text)),
+        whole: rest(ByteClass::Zero, front(ByteClass::Digit, text)),
+        fraction: fraction_of(rest(ByteClass::Digit, text)),
     }
 }
 
@@ -84,7 +84,7 @@ fn signed<'a>(text: &'a [u8]) -> Number<'a>
 fn number_of<'a>(text: &'a [u8]) -> Number<'a>
     ensures { number_seen result ≡ number_of text.now }
 {
-    signed(rest(Kind::Blank, text))
+    signed(rest(ByteClass::Blank, text))
 }
 
 fn nothing<'a>() -> Size<'a>

@@ -1,11 +1,11 @@
-// Bytes of one kind at the front of a text.
+// Bytes of one class at the front of a text.
 ghost use Rattle.std.specs.Prelude.{◌≡◌, ◌≤◌, length, take, drop};
 ghost use Rattle.ut_args.specs.Forms.{is_digit, is_order};
 ghost use Rattle.ut_sort.specs.Runs.{is_blank, is_of, run, front, rest};
 
-/// A kind of bytes.
+/// A class of bytes.
 #[derive(Clone, Copy, Debug, Drop)]
-pub enum Kind {
+pub enum ByteClass {
     /// A space or a tab.
     Blank,
     /// None of these.
@@ -37,27 +37,27 @@ fn is_order(b: u8) -> bool
     b == b'n' || b == b'r'
 }
 
-fn is_of(kind: Kind, b: u8) -> bool
-    ensures { result ≡ is_of kind b }
+fn is_of(class: ByteClass, b: u8) -> bool
+    ensures { result ≡ is_of class b }
 {
-    match kind {
-        Kind::Blank => is_blank(b),
-        Kind::Solid => !is_blank(b),
-        Kind::Digit => is_digit(b),
-        Kind::Zero => b == b'0',
-        Kind::Unlettered => !is_order(b),
-        Kind::Other(c) => b != c,
+    match class {
+        ByteClass::Blank => is_blank(b),
+        ByteClass::Solid => !is_blank(b),
+        ByteClass::Digit => is_digit(b),
+        ByteClass::Zero => b == b'0',
+        ByteClass::Unlettered => !is_order(b),
+        ByteClass::Other(c) => b != c,
     }
 }
 
-/// How many bytes of a kind stand at the front.
-pub(crate) fn run(kind: Kind, text: &[u8]) -> usize
-    ensures run { result ≡ run kind text.now }
+/// How many bytes of a class stand at the front.
+pub(crate) fn run(class: ByteClass, text: &[u8]) -> usize
+    ensures run { result ≡ run class text.now }
     ensures within { result ≤ length text.now }
 {
     let mut at = 0;
     'bytes: while at < text.len() {
-        if !is_of(kind, text[at]) {
+        if !is_of(class, text[at]) {
             return at;
         }
         at += 1;
@@ -65,17 +65,17 @@ pub(crate) fn run(kind: Kind, text: &[u8]) -> usize
     at
 }
 
-/// The bytes of a kind at the front.
-pub(crate) fn front(kind: Kind, text: &[u8]) -> &[u8]
-    ensures { result.now ≡ front kind text.now }
+/// The bytes of a class at the front.
+pub(crate) fn front(class: ByteClass, text: &[u8]) -> &[u8]
+    ensures { result.now ≡ front class text.now }
 {
-    text.split_at(run(kind, text)).0
+    text.split_at(run(class, text)).0
 }
 
 /// What comes after them.
-pub(crate) fn rest(kind: Kind, text: &[u8]) -> &[u8]
-    ensures rest { result.now ≡ rest kind text.now }
+pub(crate) fn rest(class: ByteClass, text: &[u8]) -> &[u8]
+    ensures rest { result.now ≡ rest class text.now }
     ensures within { length result.now ≤ length text.now }
 {
-    text.split_at(run(kind, text)).1
+    text.split_at(run(class, text)).1
 }

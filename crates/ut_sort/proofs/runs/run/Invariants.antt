@@ -5,7 +5,7 @@ use Rattle.ut_sort.proofs.runs.run.Given as goal
 abbrev pub invariant-bytes : goal.invariant-bytes
 invariant-bytes l = record {
   within : l.at ≤ length l.text;
-  passed : (k : ℕ) → k < l.at → is_of l.kind (get_or l.text k 0) ≡ true;
+  passed : (k : ℕ) → k < l.at → is_of l.class (get_or l.text k 0) ≡ true;
 }
 
 abbrev pub decreases-bytes : goal.decreases-bytes
