@@ -53,7 +53,8 @@ fn add_argument_of(given: &Given, letter: u8, words: &mut WordList) -> Result<()
 }
 
 impl OptList {
-    pub(crate) fn new(alloc: Global) -> OptList
+    /// None yet.
+    pub fn new(alloc: Global) -> OptList
         ensures { result ≡ [] }
     {
         OptList {

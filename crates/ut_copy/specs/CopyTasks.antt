@@ -1,7 +1,6 @@
 -- What the tasks of `mv` and `cp` ask, and what their answers bring.
 use Rattle.std.specs.Prelude.{ℕ, ◌≤◌, List, Bool, true, false, not}
 use Rattle.std.proofs.Common.{arith}
-use Rattle.rk_base.specs.Text.{Text}
 use Rattle.rk_calls.specs.declared.answer.Answer.{Answer}
 use Rattle.rk_calls.specs.declared.call.Call.{Call}
 use Rattle.rk_calls.specs.declared.call.Call.TheVariants as call

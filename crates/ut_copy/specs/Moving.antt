@@ -1,5 +1,5 @@
 -- How `mv` and `cp` take their sources.
-use Rattle.std.specs.Prelude.{ℕ, List, [], ◌∷◌, Bool, true, Option, Some, None}
+use Rattle.std.specs.Prelude.{List, [], ◌∷◌, Bool, true, Option, Some, None}
 use Rattle.rk_base.specs.Text.{Text}
 use Rattle.ut_copy.specs.declared.copy_task.CopyTask.{CopyTask}
 use Rattle.ut_copy.specs.declared.copy_task.CopyTask.TheVariants.{Move, LookSource}

@@ -14,8 +14,7 @@ pub(crate) fn parent(alloc: Global, manner: &Manner, target: &Bytes) -> Result<B
     ensures { IfOk result (λ path. path ≡ parent manner.now target.now) }
 {
     let path = absolute(alloc, &manner.wd, target.as_slice())?;
-    let parent = Bytes::from_slice(alloc, dirname(path.as_slice()))?;
-    Ok(parent)
+    Bytes::from_slice(alloc, dirname(path.as_slice()))
 }
 
 fn stem(path: &Path) -> &[u8]

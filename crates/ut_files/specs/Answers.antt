@@ -1,5 +1,5 @@
 -- What answers tell. An answer that doesn't fit is taken as one that tells the least.
-use Rattle.std.specs.Prelude.{ℕ, List, [], Bool, true, false, Option, Some, None, Result, Ok, Err}
+use Rattle.std.specs.Prelude.{List, [], Bool, true, false, Option, Some, None, Result, Ok, Err}
 use Rattle.rk_base.specs.Text.{Text, root}
 use Rattle.rk_base.specs.declared.errno.Errno.{Errno}
 use Rattle.rk_base.specs.declared.errno.Errno.TheVariants.{NoEntry, Exists}

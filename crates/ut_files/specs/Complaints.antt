@@ -6,7 +6,7 @@ use Rattle.rk_base.specs.declared.errno.Errno.{Errno}
 use Rattle.rk_calls.specs.Lines.{error_line}
 use Rattle.ut_files.specs.declared.manner.Manner.{Manner}
 use Rattle.ut_files.specs.declared.step.Step.{Step}
-use Rattle.ut_files.specs.declared.step.Step.TheVariants.{Tell, Do}
+use Rattle.ut_files.specs.declared.step.Step.TheVariants.{Tell}
 
 -- `NAME: OPERAND: word`
 abbrev pub complaint : {T : Type 0} → Manner → Text → Errno → Step T

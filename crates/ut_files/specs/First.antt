@@ -1,5 +1,5 @@
 -- How the utilities begin: their options and operands (XCU, "Utilities").
-use Rattle.std.specs.Prelude.{ℕ, List, [], ◌∷◌, if◌then◌else◌}
+use Rattle.std.specs.Prelude.{List, [], ◌∷◌, if◌then◌else◌}
 use Rattle.rk_base.specs.Text.{Text}
 use Rattle.ut_args.specs.declared.opts.Given.{Given}
 use Rattle.ut_args.specs.Forms.{is_mode}

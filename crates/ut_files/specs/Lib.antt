@@ -1,4 +1,5 @@
 pub mod Answers
+pub mod Beginnings
 pub mod Complaints
 pub mod FileTasks
 pub mod First

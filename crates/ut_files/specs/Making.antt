@@ -1,10 +1,8 @@
 -- `mkdir`, `chmod` and `touch` (XCU, "Utilities").
-use Rattle.std.specs.Prelude.{ℕ, List, [], ◌∷◌, length, take, Bool, true, false, leb, Option, Some, None, Result, Ok, Err, if◌then◌else◌}
+use Rattle.std.specs.Prelude.{ℕ, List, [], ◌∷◌, length, Bool, leb, Option, Some, None, if◌then◌else◌}
 use Rattle.rk_base.specs.Text.{Text}
 use Rattle.rk_base.specs.declared.errno.Errno.{Errno}
 use Rattle.rk_base.specs.declared.errno.Errno.TheVariants.{Exists}
-use Rattle.rk_calls.specs.declared.answer.Answer.{Answer}
-use Rattle.ut_files.specs.declared.answers.Stood.{Stood}
 use Rattle.ut_files.specs.declared.file_task.FileTask.{FileTask}
 use Rattle.ut_files.specs.declared.file_task.FileTask.TheVariants.{MakePrefix, WalkPrefix, MakeFile}
 use Rattle.ut_files.specs.declared.manner.Manner.{Manner}

@@ -1,5 +1,5 @@
 -- Parts of operands, as `basename` and `dirname` take them (XCU, "Utilities").
-use Rattle.std.specs.Prelude.{ℕ, ◌+◌, List, [], ◌∷◌, ◌++◌, take, drop, Bool, not, ◌||◌, if◌then◌else◌}
+use Rattle.std.specs.Prelude.{ℕ, ◌+◌, [], ◌∷◌, ◌++◌, take, drop, Bool, not, ◌||◌, if◌then◌else◌}
 use Rattle.std.specs.List.{position_or_len}
 use Rattle.rk_base.specs.Text.{Text, is_slash, same_text, root, dot, dot_dot}
 

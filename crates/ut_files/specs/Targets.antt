@@ -1,5 +1,5 @@
 -- Where `ln`, `mv` and `cp` put their sources: a directory takes each by its basename; several sources need one.
-use Rattle.std.specs.Prelude.{ℕ, ◌-◌, List, [], ◌∷◌, take, drop, length, Bool, true, false, Option, Some, None, Result, Ok, Err}
+use Rattle.std.specs.Prelude.{◌-◌, List, [], ◌∷◌, take, drop, length, Bool, true, false, Option, Some, None, Result, Ok, Err}
 use Rattle.rk_base.specs.Text.{Text}
 use Rattle.rk_base.specs.declared.errno.Errno.{Errno}
 use Rattle.rk_base.specs.declared.errno.Errno.TheVariants.{NotDir}

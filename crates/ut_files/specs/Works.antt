@@ -1,7 +1,6 @@
 -- What a file utility says: it does tasks in order, each a call; what the answer brings is done before what is left.
 use Rattle.std.specs.Prelude.{◌≡◌, ℕ, ◌+◌, ◌-◌, ◌≤◌, ◌<◌, suc, List, [], ◌∷◌, ◌++◌, Bool, true, false, ◌&&◌, if◌then◌else◌, refl}
 use Rattle.std.proofs.Common.{arith}
-use Rattle.rk_base.specs.Text.{Text}
 use Rattle.rk_calls.specs.declared.answer.Answer.{Answer}
 use Rattle.rk_calls.specs.declared.answer.Answer.TheVariants.{No}
 use Rattle.rk_calls.specs.declared.call.Call.{Call}
@@ -10,7 +9,7 @@ use Rattle.rk_calls.specs.Fix.{fix, Pays_first, AlikeBelow, fix-is, talk-fix}
 use Rattle.rk_calls.specs.Proper.{IsProper}
 use Rattle.rk_calls.specs.Talk.{Says, ask, exits}
 use Rattle.rk_calls.specs.Turns.{turns}
-use Rattle.rk_calls.specs.Views.{View, As_is, Alike, IsCommandTalk, alike-exits, alike-ask}
+use Rattle.rk_calls.specs.Views.{View, Alike, IsCommandTalk, alike-exits, alike-ask}
 use Rattle.ut_files.specs.declared.step.Step.{Step}
 use Rattle.ut_files.specs.declared.step.Step.TheVariants.{Tell, Do}
 

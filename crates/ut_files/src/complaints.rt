@@ -71,8 +71,7 @@ fn usage_line(alloc: Global, name: &[u8]) -> Result<Bytes, NoMemory>
 {
     let mut line = Vec::from_slice(alloc, name)?;
     line.extend_from_slice(b": usage\n")?;
-    let line = Bytes::new(alloc, line)?;
-    Ok(line)
+    Bytes::new(alloc, line)
 }
 
 /// The line `NAME: usage` alone.

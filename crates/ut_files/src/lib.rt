@@ -2,6 +2,7 @@
 #![tactic(auto)]
 
 mod answers;
+mod beginning;
 mod complaints;
 mod cost;
 mod file_task;
@@ -12,7 +13,6 @@ mod manner;
 mod modes;
 mod operands;
 mod removing;
-mod starting;
 mod step;
 mod targets;
 mod task;
@@ -22,14 +22,14 @@ mod worker;
 pub use answers::{
     Stood, found, is_exists, is_no_entry, names_in, place_in, refusal, same_in, text_in,
 };
+pub use beginning::{Tasked, begin_found, first_word};
 pub use complaints::{alone, bad_option, complain, complaint, refused, usage};
 pub use file_task::FileTask;
 pub use manner::Manner;
 pub use modes::bits;
 pub use operands::{basename, below, dirname};
-pub use starting::{FileUtility, start};
 pub use step::Step;
 pub use targets::{Aim, aim_at, goal, sources_of, target_of, the_target};
 pub use task::Task;
-pub use utility::Utility;
+pub use utility::{FileUtility, Utility, start};
 pub use worker::Worker;

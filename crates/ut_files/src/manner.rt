@@ -24,7 +24,6 @@ impl Manner {
     pub fn at(&self, alloc: Global, operand: &Bytes) -> Result<Bytes, NoMemory>
         ensures { IfOk result (λ path. path ≡ absolute self.now.wd operand.now) }
     {
-        let path = absolute(alloc, &self.wd, operand.as_slice())?;
-        Ok(path)
+        absolute(alloc, &self.wd, operand.as_slice())
     }
 }

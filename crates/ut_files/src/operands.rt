@@ -106,8 +106,7 @@ pub fn below(alloc: Global, operand: &[u8], name: &[u8]) -> Result<Bytes, NoMemo
     let mut text = Vec::from_slice(alloc, operand)?;
     text.push(b'/')?;
     text.extend_from_slice(name)?;
-    let text = Bytes::new(alloc, text)?;
-    Ok(text)
+    Bytes::new(alloc, text)
 }
 
 /// Whether it is `/`, or its last component is `.` or `..`.

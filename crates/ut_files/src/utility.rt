@@ -1,11 +1,23 @@
 // The utilities by their names and options.
-ghost use Rattle.std.specs.Prelude.{◌≡◌};
-ghost use Rattle.ut_files.specs.Utilities.{name_of, table, named};
+ghost use Rattle.std.specs.Prelude.{◌≡◌, IfOk, option_map};
+ghost use Rattle.rk_calls.specs.declared.answer.Answer.TheVariants.{Go};
+ghost use Rattle.ut_files.specs.Utilities.{name_of, named, file_talk, file_utility};
 
-use ut_args::{Form, Opt};
+use crate::beginning::{Tasked, begin_found, first_word};
+use crate::file_task::FileTask;
+use crate::first::first_steps;
+use crate::manner::Manner;
+use crate::step::Step;
+use crate::worker::Worker;
+use rk_base::{Bytes, NoMemory, Path, WordList};
+use std::alloc::Global;
+use ut_args::{Form, Opt, OptList};
+
+/// A utility at work.
+pub type FileUtility = Worker<FileTask>;
 
 /// The file utilities of this crate (XCU, "Utilities").
-#[derive(Clone, Copy, Debug)]
+#[derive(Clone, Copy, Debug, Drop)]
 pub enum Utility {
     Chmod,
     Ln,
@@ -51,7 +63,7 @@ const RM: [Opt; 2] = [
 ];
 
 impl Utility {
-    /// Its name.
+    /// Its name, which its error text begins with.
     pub fn name(self) -> &'static [u8]
         ensures { result.now ≡ name_of self }
     {
@@ -89,11 +101,16 @@ impl Utility {
         }
         None
     }
+}
 
-    /// Its options.
-    pub(crate) fn table(self) -> &'static [Opt]
-        ensures { result.now ≡ table self }
-    {
+impl Tasked for Utility {
+    ghost use Rattle.ut_files.specs.Utilities.{beginning};
+
+    type Task = FileTask;
+
+    ghost beginning = { beginning };
+
+    fn table(&self) -> &'static [Opt] {
         match self {
             Utility::Chmod => &NONE,
             Utility::Ln => &LN,
@@ -103,4 +120,34 @@ impl Utility {
             Utility::Touch => &NONE,
         }
     }
+
+    fn manner(&self, alloc: Global, wd: &Path, given: &OptList) -> Result<Manner, NoMemory> {
+        let name = Bytes::from_slice(alloc, self.name())?;
+        let wd = wd.copy()?;
+        Ok(Manner {
+            name,
+            wd,
+            force: given.has(b'f'),
+            recursive: given.has(b'r'),
+            symbolic: given.has(b's'),
+        })
+    }
+
+    fn first_steps(
+        &self,
+        alloc: Global,
+        manner: &Manner,
+        given: &OptList,
+        operands: &[Bytes],
+    ) -> Result<Vec<Step<FileTask>>, NoMemory> {
+        first_steps(alloc, *self, manner, given, operands)
+    }
+}
+
+/// The utility of these words, of which the first is its name, in a working directory; `None` where this crate has
+/// none of that name.
+pub fn start(alloc: Global, wd: &Path, argv: &WordList) -> Result<Option<FileUtility>, NoMemory>
+    ensures { IfOk result (λ o. option_map (λ w. file_talk w Go) o ≡ file_utility wd.now argv.now) }
+{
+    begin_found(alloc, Utility::named(first_word(argv)), wd, argv)
 }

@@ -1,6 +1,5 @@
 use Rattle.std.proofs.Common.{◌≡◌, ℕ, ◌<◌, get_or, false}
 use Rattle.ut_files.specs.Operands.{is_other}
-use Rattle.rk_base.specs.Text.{is_slash}
 use Rattle.ut_files.proofs.operands.slashes.Given as goal
 
 abbrev pub invariant-loop-i : goal.invariant-loop-i
