@@ -40,12 +40,15 @@ impl Pipe {
         self.bytes.as_slice().split_at(self.at).1
     }
 
-    // So many bytes more were read.
+    // So many bytes more were read. Once all were, no memory is kept for them.
     pub(crate) fn skip(&mut self, n: usize)
         requires { n ≤ length self.old }
         ensures { self.new ≡ drop n self.old }
     {
         self.at += n;
+        if self.at == self.bytes.len() {
+            *self = Pipe::new(*self.bytes.allocator());
+        }
     }
 
     pub(crate) fn push(&mut self, bytes: &[u8]) -> Result<(), NoMemory>

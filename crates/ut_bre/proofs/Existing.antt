@@ -66,7 +66,7 @@ finds-one e line from (Some r) (Some s) f g = ap Some (best-same r s (f.best s.s
 
 -- What groups took.
 
-pass : (line : Text) (x : ItemTree) (times : Times) (rest : RestTree) (start end n at : ℕ) (front back : List Mark) → at + n ≡ end → end ≤ length line → Passed line x times rest start end at front back → IsLatest (ReachesEnd line x times rest start end) (latest_from line x times rest start end n at front back)
+pub pass : (line : Text) (x : ItemTree) (times : Times) (rest : RestTree) (start end n at : ℕ) (front back : List Mark) → at + n ≡ end → end ≤ length line → Passed line x times rest start end at front back → IsLatest (ReachesEnd line x times rest start end) (latest_from line x times rest start end n at front back)
 pass line x times rest start end zero at front back z h p =
     let last : at ≡ end = omega arith in
     let out : Mark = (flow_times (flow_turn x) times (flow (first_seed end start) front)).out in

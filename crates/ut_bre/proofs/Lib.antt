@@ -12,3 +12,5 @@ pub mod Existing
 pub mod Numbered
 pub mod StartLemmas
 pub mod SpellLemmas
+pub mod NeededLemmas
+pub mod Settled

@@ -1,15 +1,14 @@
 -- The numbers of the groups that are read.
 use Rattle.std.proofs.Common.{◌≡◌, ℕ, zero, suc, ◌+◌, ◌<◌, List, [], ◌∷◌, ◌++◌, Bool, true, false, drop, length, subst, arith}
-use Rattle.std.specs.Prelude.{Option, Some, None, Result, Ok, Err, ◌-◌, ◌==◌, ◌&&◌, not, nat_lt, if◌then◌else◌}
+use Rattle.std.specs.Prelude.{Option, Some, None, Ok, Err, ◌-◌, ◌==◌, ◌&&◌, not, nat_lt, if◌then◌else◌}
 use Rattle.rk_base.specs.Text.{Text}
 use Rattle.ut_bre.specs.declared.set.One.{One}
 use Rattle.ut_bre.specs.declared.set.One.TheVariants.{Byte, Any, Bracket}
-use Rattle.ut_bre.specs.declared.last.Last.{Last}
 use Rattle.ut_bre.specs.declared.tree.Times.{Times}
 use Rattle.ut_bre.specs.Brackets.{Listing}
 use Rattle.ut_bre.specs.Intervals.{interval_at}
 use Rattle.ut_bre.specs.Numbers.{IsBelow, AreBelow, EachGroupHasItsPlace}
-use Rattle.ut_bre.specs.Reading.{Open, Reading, Outcome, good, bad, Next, goes_on, stops, Read, reads, bad_at, read_of, read_folded, is_anchored, reads_behind, reads_from, fresh, next_of, quoted_next, interval_next, times_next, open_next, close_next, bracket_next, with_one, with_item, with_times, with_repeated, with_open, repeat_last, star, is_single, is_nothing, is_quotable, is_last, ended_by, outermost}
+use Rattle.ut_bre.specs.Reading.{Open, Reading, Outcome, good, bad, Next, goes_on, stops, reads, read_of, read_folded, is_anchored, reads_behind, reads_from, fresh, next_of, quoted_next, interval_next, times_next, open_next, close_next, bracket_next, with_one, with_times, with_repeated, with_open, repeat_last, star, is_single, is_nothing, is_quotable, is_last, ended_by, outermost}
 use Rattle.ut_bre.specs.Sets.{Part, bracket_at}
 use Rattle.ut_bre.specs.Times.{once}
 use Rattle.ut_bre.specs.Trees.{ItemTree, one, group, ItemsTree, no_items, item_and, items_of, folded_if, Expression}

@@ -7,12 +7,8 @@ use Rattle.ut_bre.specs.declared.error.BreErr.TheVariants.{Bad, NoMemory}
 use Rattle.ut_bre.specs.declared.reader.Ended.{Ended}
 use Rattle.ut_bre.specs.declared.reader.Opened.{Opened}
 use Rattle.ut_bre.specs.declared.reader.Reader.{Reader}
-use Rattle.ut_bre.specs.declared.fault.Stop.{Stop}
-use Rattle.ut_bre.specs.declared.fault.Stop.TheVariants.{At, Full}
-use Rattle.ut_bre.specs.Brackets.{Listing}
 use Rattle.ut_bre.specs.Expressions.{expression}
 use Rattle.ut_bre.specs.Reading.{Open, Reading, Next, goes_on, stops, Outcome, good, bad, Read, reads, bad_at, read}
-use Rattle.ut_bre.specs.Sets.{Part}
 use Rattle.ut_bre.specs.Trees.{tree_of}
 
 -- what this is, as an expression, or the place of what is wrong
@@ -50,8 +46,3 @@ abbrev pub IsOutcome : Outcome → Result Ended BreErr → Type 0
 IsOutcome outcome (Ok e) = outcome ≡ good (map tree_of e.items.items) e.at_end e.groups
 IsOutcome outcome (Err (Bad at)) = outcome ≡ bad at
 IsOutcome outcome (Err NoMemory) = Unit {0}
-
-abbrev pub IsBracket : Part Listing → Result (Listing × ℕ) Stop → Type 0
-IsBracket part (Ok b) = part ≡ Ok b
-IsBracket part (Err (At fault)) = part ≡ Err fault
-IsBracket part (Err Full) = Unit {0}

@@ -1,10 +1,10 @@
 // Bracket expressions (XBD 9.3.5), read.
-ghost use Rattle.std.specs.Prelude.{◌≡◌, ◌+◌, ◌^◌, ◌<◌, ◌≤◌, [], ◌∷◌, drop, length, IfSome, IsTrue, MatchOption};
+ghost use Rattle.std.specs.Prelude.{◌≡◌, ◌+◌, ◌^◌, ◌<◌, ◌≤◌, [], ◌∷◌, drop, length, IfOk, IfSome, IsTrue, MatchOption};
 ghost use Rattle.ut_bre.specs.Sets.{begins, starts_range, class_part, high_part, listed_part, closes, listing, bracket_from, bracket_at};
-ghost use Rattle.ut_bre.specs.ReadsAs.{IsBracket};
 
-use crate::fault::{Fault, Stop};
+use crate::fault::Fault;
 use crate::set::{Bracket, Listed};
+use rk_base::NoMemory;
 use sh_pattern::{Class, class_at};
 use std::alloc::Global;
 
@@ -137,9 +137,9 @@ fn bracket_from(
     start: usize,
     from: usize,
     text: &[u8],
-) -> Result<(Bracket, usize), Stop>
+) -> Result<Result<(Bracket, usize), Fault>, NoMemory>
     requires { from + length text.now < 2 ^ 64 }
-    ensures { IsBracket (bracket_from negated start start from [] 0 text.now) result }
+    ensures { IfOk result (λ r. bracket_from negated start start from [] 0 text.now ≡ r) }
 {
     let end = from + text.len();
     let mut listed = Vec::new(alloc);
@@ -147,26 +147,31 @@ fn bracket_from(
     'listed: while let Some((b, rest)) = first_byte(left) {
         let at = end - left.len();
         if closes(b, listed.as_slice()) {
-            return Ok((bracket_of(negated, listed), (at + 1).saturating_sub(start)));
+            let size = (at + 1).saturating_sub(start);
+            return Ok(Ok((bracket_of(negated, listed), size)));
         }
         match listed_part(start, at, b, rest, left) {
-            Err(fault) => return Err(Stop::At(fault)),
+            Err(fault) => return Ok(Err(fault)),
             Ok((part, size)) => {
                 listed.push(part)?;
                 left = behind(rest, size.saturating_sub(1));
             }
         }
     }
-    Err(Stop::At(Fault::Unclosed(start)))
+    Ok(Err(Fault::Unclosed(start)))
 }
 
 /// What stands behind a `[` at this place, and how many bytes the whole takes.
-pub(crate) fn bracket_at(alloc: Global, start: usize, text: &[u8]) -> Result<(Bracket, usize), Stop>
+pub(crate) fn bracket_at(
+    alloc: Global,
+    start: usize,
+    text: &[u8],
+) -> Result<Result<(Bracket, usize), Fault>, NoMemory>
     requires { start + 1 + length text.now < 2 ^ 64 }
-    ensures { IsBracket (bracket_at start text.now) result }
+    ensures { IfOk result (λ r. bracket_at start text.now ≡ r) }
 {
     match text {
-        [] => Err(Stop::At(Fault::Unclosed(start))),
+        [] => Ok(Err(Fault::Unclosed(start))),
         [b, rest @ ..] => {
             if *b == b'^' {
                 return bracket_from(alloc, true, start, start + 2, rest);

@@ -7,6 +7,7 @@ ghost use Rattle.ut_bre.specs.Picking.{FindsGroups};
 
 use crate::bre::Bre;
 use crate::group::{Found, Span};
+use crate::mark::Marks;
 use rk_base::NoMemory;
 
 impl Bre {
@@ -22,17 +23,36 @@ impl Bre {
         ensures finds { IfOk result (λ r. Finds (expression self.now) line.now from r) }
         ensures value { IfOk result (λ r. r ≡ span_found (expression self.now) line.now from) }
     {
-        let span = self.scan(line, from)?;
+        let mut marks = Marks::new(self.allocator());
+        self.span_in(line, from, &mut marks)
+    }
+
+    /// The same match, with memory that was taken before.
+    pub fn span_in(
+        &self,
+        line: &[u8],
+        from: usize,
+        marks: &mut Marks,
+    ) -> Result<Option<Span>, NoMemory>
+        ensures finds { IfOk result (λ r. Finds (expression self.now) line.now from r) }
+        ensures value { IfOk result (λ r. r ≡ span_found (expression self.now) line.now from) }
+    {
+        let span = self.scan(line, from, marks)?;
         Ok(span)
     }
 
-    fn find_groups(&self, line: &[u8], from: usize) -> Result<Option<Found>, NoMemory>
+    fn find_groups(
+        &self,
+        line: &[u8],
+        from: usize,
+        marks: &mut Marks,
+    ) -> Result<Option<Found>, NoMemory>
         ensures { IfOk result (λ r. FindsGroups (expression self.now) line.now from r) }
     {
-        match self.scan(line, from)? {
+        match self.scan(line, from, marks)? {
             None => Ok(None),
             Some(span) => {
-                let groups = self.picked(line, span)?;
+                let groups = self.picked(line, span, marks)?;
                 Ok(Some(Found {
                     start: span.start,
                     end: span.end,
@@ -47,7 +67,21 @@ impl Bre {
         ensures finds { IfOk result (λ r. FindsGroups (expression self.now) line.now from r) }
         ensures value { IfOk result (λ r. r ≡ found (expression self.now) line.now from) }
     {
-        let found = self.find_groups(line, from)?;
+        let mut marks = Marks::new(self.allocator());
+        self.find_in(line, from, &mut marks)
+    }
+
+    /// The same match with its groups, with memory that was taken before.
+    pub fn find_in(
+        &self,
+        line: &[u8],
+        from: usize,
+        marks: &mut Marks,
+    ) -> Result<Option<Found>, NoMemory>
+        ensures finds { IfOk result (λ r. FindsGroups (expression self.now) line.now from r) }
+        ensures value { IfOk result (λ r. r ≡ found (expression self.now) line.now from) }
+    {
+        let found = self.find_groups(line, from, marks)?;
         Ok(found)
     }
 }

@@ -1,5 +1,5 @@
 -- The lines of a text.
-use Rattle.std.specs.Prelude.{ℕ, List, [], ◌∷◌, ◌==◌, if◌then◌else◌}
+use Rattle.std.specs.Prelude.{◌≡◌, ℕ, List, [], ◌∷◌, Some, slice_get, ◌==◌, if◌then◌else◌}
 use Rattle.rk_base.specs.Text.{Text}
 
 -- a byte before the first line
@@ -19,3 +19,7 @@ first_line (b ∷ bs) = if b == 10 then [] else b ∷ first_line bs
 abbrev pub after_line : Text → Text
 after_line [] = []
 after_line (b ∷ bs) = if b == 10 then bs else after_line bs
+
+-- a text has no such byte
+abbrev pub Lacks : Text → ℕ → Type 0
+Lacks text b = (k : ℕ) → slice_get text k ≡ Some b → ⊥

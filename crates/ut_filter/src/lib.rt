@@ -17,7 +17,7 @@ mod work;
 pub use filter::Filter;
 pub use inputs::or_dash;
 pub use laws::filters_say_what_commands_may;
-pub use lines::front_line;
+pub use lines::{front_line, lines_without};
 pub use made::{Input, InputList, Made};
 pub use parts::joined;
 pub use refusals::refusal_lines;

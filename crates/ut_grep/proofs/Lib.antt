@@ -1,2 +1,3 @@
 pub mod OccursLemmas
 pub mod PatternLemmas
+pub mod PassingLemmas

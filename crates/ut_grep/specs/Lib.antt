@@ -2,6 +2,7 @@ pub mod Chosen
 pub mod Gathering
 pub mod Greps
 pub mod Laws
+pub mod Passing
 pub mod Starts
 pub mod Utilities
 pub mod Values

@@ -10,7 +10,7 @@ use crate::occurs::{is_same, lower_all, occurs};
 use crate::pattern::{Pattern, is_whole};
 use rk_base::{Bytes, NoMemory};
 use std::alloc::Global;
-use ut_bre::Bre;
+use ut_bre::{Bre, Marks};
 use ut_filter::{Input, Made, Work, refusal_lines};
 
 /// What `grep` tells of its lines, and how it selects them.
@@ -43,6 +43,22 @@ pub struct Grep {
     pub(crate) manner: Manner,
 }
 
+/// The memory of what is made of a line, taken once for all lines of a text.
+#[derive(Drop)]
+pub(crate) struct Memory {
+    marks: Marks,
+    small: Vec<u8>,
+}
+
+impl Memory {
+    pub(crate) fn new(alloc: Global) -> Memory {
+        Memory {
+            marks: Marks::new(alloc),
+            small: Vec::new(alloc),
+        }
+    }
+}
+
 impl Grep {
     pub(crate) fn new(patterns: Vec<Pattern>, manner: Manner) -> Grep
         ensures { grep_value result ≡ grep_of manner (map pattern_value patterns.items) }
@@ -60,10 +76,10 @@ impl Grep {
         }
     }
 
-    fn holds_basic(&self, line: &[u8], bre: &Bre) -> Result<bool, NoMemory>
+    fn holds_basic(&self, line: &[u8], bre: &Bre, marks: &mut Marks) -> Result<bool, NoMemory>
         ensures { IfOk result (λ b. b ≡ holds (grep_value self.now) line.now (basic (expression bre.now))) }
     {
-        let span = bre.span(line, 0)?;
+        let span = bre.span_in(line, 0, marks)?;
         if self.manner.whole {
             Ok(is_whole(line, span))
         } else {
@@ -72,43 +88,49 @@ impl Grep {
     }
 
     // Whether a line, which is this one where case doesn't count, holds a pattern.
-    fn holds(&self, line: &[u8], small: &[u8], pattern: &Pattern) -> Result<bool, NoMemory>
+    fn holds(
+        &self,
+        line: &[u8],
+        small: &[u8],
+        pattern: &Pattern,
+        marks: &mut Marks,
+    ) -> Result<bool, NoMemory>
         requires { small.now ≡ folded (grep_value self.now).folded line.now }
         ensures { IfOk result (λ b. b ≡ holds (grep_value self.now) line.now (pattern_value pattern.now)) }
     {
         match pattern {
             Pattern::Fixed(text) => Ok(self.holds_text(small, text.as_slice())),
-            Pattern::Basic(bre) => self.holds_basic(line, bre),
+            Pattern::Basic(bre) => self.holds_basic(line, bre, marks),
         }
     }
 
-    fn holds_any(&self, line: &[u8], small: &[u8]) -> Result<bool, NoMemory>
+    fn holds_any(&self, line: &[u8], small: &[u8], marks: &mut Marks) -> Result<bool, NoMemory>
         requires { small.now ≡ folded (grep_value self.now).folded line.now }
         ensures { IfOk result (λ b. b ≡ matches (grep_value self.now) line.now) }
     {
         for pattern in self.patterns.as_slice() {
-            if self.holds(line, small, pattern)? {
+            if self.holds(line, small, pattern, marks)? {
                 return Ok(true);
             }
         }
         Ok(false)
     }
 
-    fn matches(&self, alloc: Global, line: &[u8]) -> Result<bool, NoMemory>
+    fn matches(&self, line: &[u8], memory: &mut Memory) -> Result<bool, NoMemory>
         ensures { IfOk result (λ b. b ≡ matches (grep_value self.now) line.now) }
     {
         if self.manner.folded {
-            let small = lower_all(alloc, line)?;
-            self.holds_any(line, small.as_slice())
+            lower_all(line, &mut memory.small)?;
+            self.holds_any(line, memory.small.as_slice(), &mut memory.marks)
         } else {
-            self.holds_any(line, line)
+            self.holds_any(line, line, &mut memory.marks)
         }
     }
 
-    pub(crate) fn selects(&self, alloc: Global, line: &[u8]) -> Result<bool, NoMemory>
+    pub(crate) fn selects(&self, line: &[u8], memory: &mut Memory) -> Result<bool, NoMemory>
         ensures { IfOk result (λ b. b ≡ selects (grep_value self.now) line.now) }
     {
-        let matches = self.matches(alloc, line)?;
+        let matches = self.matches(line, memory)?;
         if self.manner.inverted {
             Ok(!matches)
         } else {

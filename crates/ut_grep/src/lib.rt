@@ -6,6 +6,7 @@ mod gatherer;
 mod grep;
 mod laws;
 mod occurs;
+mod passing;
 mod pattern;
 mod seek;
 mod start;

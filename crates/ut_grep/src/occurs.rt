@@ -1,11 +1,10 @@
 // Whether a pattern stands in a text.
-ghost use Rattle.std.specs.Prelude.{◌≡◌, map, IfOk};
+ghost use Rattle.std.specs.Prelude.{◌≡◌, map, OnOk};
 ghost use Rattle.rk_base.specs.Text.{same_text};
 ghost use Rattle.ut_grep.specs.Greps.{occurs, lower};
 
 use memchr::memmem;
 use rk_base::NoMemory;
-use std::alloc::Global;
 
 /// Whether a pattern stands at some place of a text.
 pub(crate) fn occurs(pattern: &[u8], text: &[u8]) -> bool
@@ -29,13 +28,13 @@ fn lower(b: u8) -> u8
     if b >= b'A' && b <= b'Z' { b + 32 } else { b }
 }
 
-/// A text in small letters.
-pub(crate) fn lower_all(alloc: Global, text: &[u8]) -> Result<Vec<u8>, NoMemory>
-    ensures { IfOk result (λ small. small.items ≡ map lower text.now) }
+/// A text in small letters, in place of what was there.
+pub(crate) fn lower_all(text: &[u8], small: &mut Vec<u8>) -> Result<(), NoMemory>
+    ensures { OnOk result (small.new.items ≡ map lower text.now) }
 {
-    let mut small = Vec::new(alloc);
+    small.clear();
     for b in text {
         small.push(lower(*b))?;
     }
-    Ok(small)
+    Ok(())
 }

@@ -1,9 +1,11 @@
 // Patterns, and the texts that are none.
-ghost use Rattle.std.specs.Prelude.{◌≡◌, IfOk};
+ghost use Rattle.std.specs.Prelude.{◌≡◌, IfOk, IfSome};
 ghost use Rattle.ut_bre.specs.Reading.{read_folded};
 ghost use Rattle.ut_grep.specs.Chosen.{basic_of, pattern_of, patterns_of};
 ghost use Rattle.ut_grep.specs.Greps.{folded, is_whole};
+ghost use Rattle.ut_grep.specs.Passing.{IsNeededBy};
 ghost use Rattle.ut_grep.specs.Patterns.{IsPattern, ArePatterns};
+ghost use Rattle.ut_grep.specs.Values.{pattern_value};
 
 use crate::grep::Manner;
 use crate::occurs::lower_all;
@@ -18,11 +20,25 @@ pub enum Pattern {
     Basic(Bre),
 }
 
+impl Pattern {
+    /// A byte that each line with this pattern has, where one is told.
+    pub(crate) fn needed(&self) -> Option<u8>
+        ensures { IfSome result (IsNeededBy (pattern_value self.now)) }
+    {
+        match self {
+            Pattern::Fixed(_) => None,
+            Pattern::Basic(bre) => bre.needed(),
+        }
+    }
+}
+
 fn fold(alloc: Global, is_folded: bool, pattern: &Bytes) -> Result<Bytes, NoMemory>
     ensures { IfOk result (λ text. text ≡ folded is_folded pattern.now) }
 {
     if is_folded {
-        Bytes::new(alloc, lower_all(alloc, pattern.as_slice())?)
+        let mut small = Vec::new(alloc);
+        lower_all(pattern.as_slice(), &mut small)?;
+        Bytes::new(alloc, small)
     } else {
         pattern.copy()
     }

@@ -6,11 +6,12 @@ ghost use Rattle.ut_filter.specs.Lines.{lines_of};
 ghost use Rattle.ut_grep.specs.Values.{grep_value};
 ghost use Rattle.ut_grep.specs.Greps.{selects, prefix, number_of, row, rows, selected, count_line, told, name_of, brought_told, told_all, some_of, status};
 
-use crate::grep::Grep;
+use crate::grep::{Grep, Memory};
 use crate::occurs::is_same;
+use crate::passing::next_number;
 use rk_base::{Bytes, NoMemory};
 use std::alloc::Global;
-use ut_filter::{Input, front_line};
+use ut_filter::Input;
 
 fn put_number(alloc: Global, n: u64, line: &mut Vec<u8>) -> Result<(), NoMemory>
     ensures { OnOk result (line.new.items ≡ line.old.items ++ decimal n) }
@@ -94,12 +95,13 @@ impl Grep {
         name: &[u8],
         n: u64,
         line: &[u8],
+        memory: &mut Memory,
         output: &mut Vec<u8>,
     ) -> Result<bool, NoMemory>
         ensures output { OnOk result (output.new.items ≡ output.old.items ++ (if selects (grep_value self.now) line.now then row (grep_value self.now) name.now n line.now else [])) }
         ensures selects { IfOk result (λ b. b ≡ selects (grep_value self.now) line.now) }
     {
-        if !self.selects(alloc, line)? {
+        if !self.selects(line, memory)? {
             return Ok(false);
         }
         self.put_row(alloc, name, n, line, output)?;
@@ -117,13 +119,16 @@ impl Grep {
         ensures output { OnOk result (output.new.items ≡ output.old.items ++ rows (grep_value self.now) name.now 1 (lines_of text.now)) }
         ensures count { IfOk result (λ n. n ≡ selected (grep_value self.now) text.now) }
     {
+        let needed = self.needed();
+        let mut memory = Memory::new(alloc);
         let mut number = 1u64;
         let mut count = 0u64;
         let mut rest = text;
-        'lines: while let Some((line, after)) = front_line(rest) {
-            let selects = self.put_greped(alloc, name, number, line, output)?;
+        'lines: while let Some((passed, line, after)) = self.next_line(needed, rest) {
+            let n = self.number_behind(number, passed)?;
+            let selects = self.put_greped(alloc, name, n, line, &mut memory, output)?;
             count = counted(count, selects)?;
-            number = number.checked_add(1).ok_or(NoMemory)?;
+            number = next_number(n)?;
             rest = after;
         }
         Ok(count)
@@ -133,10 +138,12 @@ impl Grep {
     fn count(&self, alloc: Global, text: &[u8]) -> Result<u64, NoMemory>
         ensures { IfOk result (λ n. n ≡ selected (grep_value self.now) text.now) }
     {
+        let needed = self.needed();
+        let mut memory = Memory::new(alloc);
         let mut count = 0u64;
         let mut rest = text;
-        'lines: while let Some((line, after)) = front_line(rest) {
-            let selects = self.selects(alloc, line)?;
+        'lines: while let Some((_, line, after)) = self.next_line(needed, rest) {
+            let selects = self.selects(line, &mut memory)?;
             count = counted(count, selects)?;
             rest = after;
         }

@@ -1,3 +1,4 @@
+pub mod ChangeLemmas
 pub mod EditLemmas
 pub mod LineLemmas
 pub mod ScriptLemmas

@@ -6,10 +6,10 @@ use Rattle.ut_sed.specs.declared.address.Address.{Address}
 use Rattle.ut_sed.specs.declared.address.Address.TheVariants.{Line, Last, Matching}
 use Rattle.ut_sed.specs.declared.command.Act.{Act}
 use Rattle.ut_sed.specs.declared.command.Act.TheVariants.{Print, Delete, Quit, Count, Change as Changes, Substitute}
-use Rattle.ut_sed.specs.declared.command.Change.{Change}
 use Rattle.ut_sed.specs.declared.command.Command.{Command}
 use Rattle.ut_sed.specs.declared.command.Part.{Part}
 use Rattle.ut_sed.specs.declared.command.Substitution.{Substitution}
+use Rattle.ut_sed.specs.Changing.{ChangeValue}
 
 -- an address: the number of a line, the last line, or each line that an expression matches
 pub data AddressValue : Type 0 where
@@ -31,7 +31,7 @@ pub data ActValue : Type 0 where
   deletes : ActValue
   quits : ActValue
   counts : ActValue
-  changes : (c : Change) → ActValue
+  changes : (c : ChangeValue) → ActValue
   substitutes : (s : SubstitutionValue) → ActValue
 
 -- a command: its addresses, whether it is for the lines that they don't select (`!`), and what it does

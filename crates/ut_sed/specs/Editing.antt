@@ -15,7 +15,8 @@ use Rattle.ut_sed.specs.declared.sed.Sed.{Sed}
 use Rattle.ut_sed.specs.declared.select.Selected.{Selected}
 use Rattle.ut_sed.specs.Commands.{ActValue, prints, deletes, quits, counts, changes, substitutes, SubstitutionValue, CommandValue, commands_of}
 use Rattle.ut_sed.specs.Selecting.{selected}
-use Rattle.ut_sed.specs.Substituting.{substituted, is_substituted, changed}
+use Rattle.ut_sed.specs.Changing.{changed}
+use Rattle.ut_sed.specs.Substituting.{substituted, is_substituted}
 
 -- `sed`: whether lines are shown only where a command says so (`-n`), and its commands
 pub record SedValue : Type 0 where

@@ -1,3 +1,4 @@
+pub mod Changing
 pub mod Commands
 pub mod Editing
 pub mod Gathering

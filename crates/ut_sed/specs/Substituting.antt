@@ -1,12 +1,11 @@
--- What `s` and `y` make of a line (XCU sed, "Editing Commands in sed").
-use Rattle.std.specs.Prelude.{ℕ, zero, suc, ◌+◌, ◌-◌, ◌==◌, ◌&&◌, ◌||◌, not, length, take, drop, map, List, [], ◌∷◌, ◌++◌, Bool, false, Option, Some, None, if◌then◌else◌}
+-- What `s` makes of a line (XCU sed, "Editing Commands in sed").
+use Rattle.std.specs.Prelude.{ℕ, zero, suc, ◌+◌, ◌-◌, ◌==◌, ◌&&◌, ◌||◌, not, length, take, drop, List, [], ◌∷◌, ◌++◌, Bool, false, Option, Some, None, if◌then◌else◌}
 use Rattle.rk_base.specs.Text.{Text}
 use Rattle.ut_bre.specs.declared.group.Found.{Found}
 use Rattle.ut_bre.specs.declared.group.Span.{Span}
 use Rattle.ut_bre.specs.Found.{found}
 use Rattle.ut_bre.specs.Groups.{group_at}
 use Rattle.ut_bre.specs.Trees.{Expression}
-use Rattle.ut_sed.specs.declared.command.Change.{Change}
 use Rattle.ut_sed.specs.declared.command.Part.{Part}
 use Rattle.ut_sed.specs.declared.command.Part.TheVariants.{Byte, Whole, Group}
 use Rattle.ut_sed.specs.Commands.{SubstitutionValue}
@@ -72,12 +71,3 @@ is_replaced passed (f ∷ fs) = (passed == 0) || is_replaced (passed - 1) fs
 
 abbrev pub is_substituted : SubstitutionValue → Text → Bool
 is_substituted s text = is_replaced (s.first - 1) (all_matches s.expression text)
-
--- `y`: the byte in the place where this one stands first in the other string
-abbrev pub image : ℕ → Text → Text → ℕ
-image b [] to = b
-image b (a ∷ from) [] = b
-image b (a ∷ from) (c ∷ to) = if a == b then c else image b from to
-
-abbrev pub changed : Change → Text → Text
-changed c text = map (λ b. image b c.from c.to) text

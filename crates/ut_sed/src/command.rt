@@ -1,6 +1,6 @@
 // Commands of a script.
 use crate::address::Address;
-use rk_base::Bytes;
+use crate::change::Change;
 use ut_bre::Bre;
 
 /// A part of a replacement.
@@ -11,13 +11,6 @@ pub enum Part {
     Whole,
     /// What the group of this number took; the first has the number 1.
     Group(usize),
-}
-
-/// What `y` changes: each byte of the first string to the byte in the same place of the second one.
-#[derive(Debug, Drop)]
-pub struct Change {
-    pub from: Bytes,
-    pub to: Bytes,
 }
 
 /// What `s` does.

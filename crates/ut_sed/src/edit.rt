@@ -3,14 +3,16 @@ ghost use Rattle.std.specs.Prelude.{◌≡◌, ◌++◌, [], IfOk, OnOk};
 ghost use Rattle.std.specs.Fmt.{decimal};
 ghost use Rattle.ut_sed.specs.Commands.{act_of, command_of, commands_of, substitution_of};
 ghost use Rattle.ut_sed.specs.Editing.{line_of, edited, edited_by, substitution, first_opened, rest_opened, is_over, is_quit, cycle};
-ghost use Rattle.ut_sed.specs.Substituting.{changed};
+ghost use Rattle.ut_sed.specs.Changing.{changed};
 
-use crate::command::{Act, Change, Command, Substitution};
+use crate::change::Change;
+use crate::command::{Act, Command, Substitution};
 use crate::select::{Line, Selected};
 use rk_base::NoMemory;
 use std::alloc::Global;
 use std::marker::Model;
 use std::mem::swap;
+use ut_bre::Marks;
 
 /// How a cycle goes on, or ends.
 #[derive(Clone, Copy, Debug, Drop)]
@@ -70,6 +72,7 @@ fn rest_opened(opened: &[bool]) -> &[bool]
 pub struct Space {
     text: Vec<u8>,
     spare: Vec<u8>,
+    marks: Marks,
 }
 
 impl Model for Space {
@@ -103,6 +106,7 @@ impl Space {
         Space {
             text: Vec::new(alloc),
             spare: Vec::new(alloc),
+            marks: Marks::new(alloc),
         }
     }
 
@@ -126,7 +130,7 @@ impl Space {
         ensures out { OnOk result (output.new.items ≡ output.old.items ++ (substitution (substitution_of s.now) self.old).out) }
     {
         self.spare.clear();
-        let replaced = s.rewrite(self.text.as_slice(), &mut self.spare)?;
+        let replaced = s.rewrite(self.text.as_slice(), &mut self.marks, &mut self.spare)?;
         swap(&mut self.text, &mut self.spare);
         if s.prints && replaced {
             put_line(self.text.as_slice(), output)?;
@@ -203,7 +207,7 @@ impl Space {
                 is_last,
                 text: self.text.as_slice(),
             };
-            let selected = command.selected(first_opened(ranges), &line)?;
+            let selected = command.selected(first_opened(ranges), &line, &mut self.marks)?;
             ranges = rest_opened(ranges);
             next.push(selected.opened)?;
             let ends = self.edit_by(command, selected, number, output)?;

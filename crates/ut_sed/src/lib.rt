@@ -3,6 +3,7 @@
 
 mod address;
 mod addresses;
+mod change;
 mod command;
 mod edit;
 mod gatherer;
@@ -18,7 +19,8 @@ mod substitute;
 mod utility;
 
 pub use address::Address;
-pub use command::{Act, Change, Command, Part, Substitution};
+pub use change::Change;
+pub use command::{Act, Command, Part, Substitution};
 pub use edit::{Ends, Space};
 pub use gatherer::{Gathered, Gatherer, Source, Waits};
 pub use laws::{s_replaces_each_match, sed_says_what_commands_may};

@@ -6,7 +6,8 @@ ghost use Rattle.ut_sed.specs.declared.scan.Scan.TheVariants.{Raw};
 ghost use Rattle.ut_sed.specs.Scanning.{text_from, expression_at, parts_at};
 ghost use Rattle.ut_sed.specs.Scripts.{change_of, change_to, change_at, number_flag, flag_at, flags_at, substitution_of_parts, substitution_for, substitution_at};
 
-use crate::command::{Act, Change, Substitution};
+use crate::change::Change;
+use crate::command::{Act, Substitution};
 use crate::reader::{Flags, Reader};
 use crate::scan::{Scan, is_delimiter};
 use rk_base::{Bytes, NoMemory};
@@ -25,7 +26,8 @@ impl<'t> Reader<'t> {
                 }
                 let from = Bytes::from_slice(self.alloc, from)?;
                 let to = Bytes::new(self.alloc, to)?;
-                Ok(Some(Act::Change(Change { from, to })))
+                let change = Change::new(self.alloc, from, to)?;
+                Ok(Some(Act::Change(change)))
             }
         }
     }

@@ -6,6 +6,7 @@ ghost use Rattle.ut_sed.specs.Selecting.{meets, opens, is_in, stays, ranged, fro
 use crate::address::Address;
 use crate::command::Command;
 use rk_base::NoMemory;
+use ut_bre::Marks;
 
 /// Whether a command selects a line, and whether its range goes on behind it.
 #[derive(Clone, Copy, Debug, Drop)]
@@ -23,14 +24,14 @@ pub(crate) struct Line<'a> {
 }
 
 impl Address {
-    fn meets(&self, line: &Line) -> Result<bool, NoMemory>
+    fn meets(&self, line: &Line, marks: &mut Marks) -> Result<bool, NoMemory>
         ensures { IfOk result (λ b. b ≡ meets (address_of self.now) line.now.number line.now.is_last line.now.text.now) }
     {
         match self {
             Address::Line(number) => Ok(line.number == *number),
             Address::Last => Ok(line.is_last),
             Address::Matching(expression) => {
-                let found = expression.span(line.text, 0)?;
+                let found = expression.span_in(line.text, 0, marks)?;
                 Ok(found.is_some())
             }
         }
@@ -59,14 +60,14 @@ impl Address {
     }
 
     // Whether the range goes on behind such a line.
-    fn stays(&self, line: &Line) -> Result<bool, NoMemory>
+    fn stays(&self, line: &Line, marks: &mut Marks) -> Result<bool, NoMemory>
         ensures { IfOk result (λ b. b ≡ stays (address_of self.now) line.now.number line.now.is_last line.now.text.now) }
     {
         match self {
             Address::Line(end) => Ok(line.number < *end),
             Address::Last => Ok(!line.is_last),
             Address::Matching(expression) => {
-                let found = expression.span(line.text, 0)?;
+                let found = expression.span_in(line.text, 0, marks)?;
                 Ok(found.is_none())
             }
         }
@@ -78,17 +79,18 @@ fn ranged(
     second: &Address,
     opened: bool,
     line: &Line,
+    marks: &mut Marks,
 ) -> Result<Selected, NoMemory>
     ensures { IfOk result (λ s. s ≡ ranged (address_of first.now) (address_of second.now) opened line.now.number line.now.is_last line.now.text.now) }
 {
     if opened {
-        let stays = second.stays(line)?;
+        let stays = second.stays(line, marks)?;
         return Ok(Selected {
             selected: second.is_in(line.number),
             opened: stays,
         });
     }
-    let meets = first.meets(line)?;
+    let meets = first.meets(line, marks)?;
     if meets {
         Ok(Selected {
             selected: true,
@@ -107,18 +109,19 @@ fn from_first(
     second: &Option<Address>,
     opened: bool,
     line: &Line,
+    marks: &mut Marks,
 ) -> Result<Selected, NoMemory>
     ensures { IfOk result (λ s. s ≡ from_first (address_of first.now) (option_map address_of second.now) opened line.now.number line.now.is_last line.now.text.now) }
 {
     match second {
         None => {
-            let selected = first.meets(line)?;
+            let selected = first.meets(line, marks)?;
             Ok(Selected {
                 selected,
                 opened: false,
             })
         }
-        Some(second) => ranged(first, second, opened, line),
+        Some(second) => ranged(first, second, opened, line, marks),
     }
 }
 
@@ -136,7 +139,7 @@ fn negated(is_negated: bool, selected: Selected) -> Selected
 }
 
 impl Command {
-    fn addressed(&self, opened: bool, line: &Line) -> Result<Selected, NoMemory>
+    fn addressed(&self, opened: bool, line: &Line, marks: &mut Marks) -> Result<Selected, NoMemory>
         ensures { IfOk result (λ s. s ≡ addressed (command_of self.now).first (command_of self.now).second opened line.now.number line.now.is_last line.now.text.now) }
     {
         match &self.first {
@@ -144,15 +147,20 @@ impl Command {
                 selected: true,
                 opened: false,
             }),
-            Some(first) => from_first(first, &self.second, opened, line),
+            Some(first) => from_first(first, &self.second, opened, line, marks),
         }
     }
 
     /// Whether it selects a line, where its range was open before it or not.
-    pub(crate) fn selected(&self, opened: bool, line: &Line) -> Result<Selected, NoMemory>
+    pub(crate) fn selected(
+        &self,
+        opened: bool,
+        line: &Line,
+        marks: &mut Marks,
+    ) -> Result<Selected, NoMemory>
         ensures { IfOk result (λ s. s ≡ selected (command_of self.now) opened line.now.number line.now.is_last line.now.text.now) }
     {
-        let selected = self.addressed(opened, line)?;
+        let selected = self.addressed(opened, line, marks)?;
         Ok(negated(self.negated, selected))
     }
 }

@@ -1,13 +1,13 @@
 // What `s` makes of a line.
-ghost use Rattle.std.specs.Prelude.{◌≡◌, ◌∷◌, ◌++◌, ◌||◌, ◌<◌, [], length, MatchOption, IfSome, IfOk, OnOk};
+ghost use Rattle.std.specs.Prelude.{◌≡◌, ◌++◌, ◌||◌, IfOk, OnOk};
 ghost use Rattle.ut_bre.specs.Expressions.{expression};
 ghost use Rattle.ut_sed.specs.Commands.{substitution_of};
-ghost use Rattle.ut_sed.specs.Substituting.{group_text, part_text, parts_text, not_empty_at, next_found, match_text, is_final, substituted, is_substituted, image, changed};
+ghost use Rattle.ut_sed.specs.Substituting.{group_text, part_text, parts_text, not_empty_at, next_found, match_text, is_final, substituted, is_substituted};
 
-use crate::command::{Change, Part, Substitution};
+use crate::command::{Part, Substitution};
 use crate::pieces::{behind, piece};
 use rk_base::NoMemory;
-use ut_bre::{Bre, Found, Span};
+use ut_bre::{Bre, Found, Marks, Span};
 
 fn group_text(text: &[u8], span: Option<Span>) -> &[u8]
     ensures { result.now ≡ group_text text.now span }
@@ -46,6 +46,7 @@ fn not_empty_at(
     text: &[u8],
     at: usize,
     found: Option<Found>,
+    marks: &mut Marks,
 ) -> Result<Option<Found>, NoMemory>
     ensures { IfOk result (λ f. f ≡ not_empty_at (expression bre.now) text.now at found) }
 {
@@ -56,16 +57,21 @@ fn not_empty_at(
                 return Ok(Some(found));
             }
             let from = at.checked_add(1).ok_or(NoMemory)?;
-            bre.find(text, from)
+            bre.find_in(text, from, marks)
         }
     }
 }
 
-fn next_found(bre: &Bre, text: &[u8], at: usize) -> Result<Option<Found>, NoMemory>
+fn next_found(
+    bre: &Bre,
+    text: &[u8],
+    at: usize,
+    marks: &mut Marks,
+) -> Result<Option<Found>, NoMemory>
     ensures { IfOk result (λ f. f ≡ next_found (expression bre.now) text.now at) }
 {
-    let found = bre.find(text, at)?;
-    not_empty_at(bre, text, at, found)
+    let found = bre.find_in(text, at, marks)?;
+    not_empty_at(bre, text, at, found, marks)
 }
 
 fn either(a: bool, b: bool) -> bool
@@ -102,11 +108,16 @@ impl Substitution {
     }
 
     /// What it makes of a text, and whether a match is replaced.
-    pub(crate) fn rewrite(&self, text: &[u8], made: &mut Vec<u8>) -> Result<bool, NoMemory>
+    pub(crate) fn rewrite(
+        &self,
+        text: &[u8],
+        marks: &mut Marks,
+        made: &mut Vec<u8>,
+    ) -> Result<bool, NoMemory>
         ensures made { OnOk result (made.new.items ≡ made.old.items ++ substituted (substitution_of self.now) text.now) }
         ensures replaced { IfOk result (λ b. b ≡ is_substituted (substitution_of self.now) text.now) }
     {
-        let mut next = self.expression.find(text, 0)?;
+        let mut next = self.expression.find_in(text, 0, marks)?;
         let mut at = 0;
         let mut passed = self.first.saturating_sub(1);
         let mut replaced = false;
@@ -127,53 +138,11 @@ impl Substitution {
                     }
                     replaced = either(replaced, passed == 0);
                     passed = passed.saturating_sub(1);
-                    next = next_found(&self.expression, text, at)?;
+                    next = next_found(&self.expression, text, at, marks)?;
                 }
             }
         }
         made.extend_from_slice(behind(text, at))?;
         Ok(replaced)
-    }
-}
-
-fn first_byte(text: &[u8]) -> Option<(u8, &[u8])>
-    ensures cut { MatchOption result (text.now ≡ []) (λ r. text.now ≡ r.0 ∷ r.1.now) }
-    ensures length { IfSome result (λ r. length r.1.now < length text.now) }
-{
-    match text {
-        [] => None,
-        [b, rest @ ..] => Some((*b, rest)),
-    }
-}
-
-impl Change {
-    fn image(&self, b: u8) -> u8
-        ensures { result ≡ image b self.now.from self.now.to }
-    {
-        let mut from = self.from.as_slice();
-        let mut to = self.to.as_slice();
-        'bytes: while let Some((a, after_a)) = first_byte(from) {
-            match first_byte(to) {
-                None => return b,
-                Some((c, after_c)) => {
-                    if a == b {
-                        return c;
-                    }
-                    to = after_c;
-                }
-            }
-            from = after_a;
-        }
-        b
-    }
-
-    /// Each byte of a text as what stands for it.
-    pub(crate) fn change(&self, text: &[u8], made: &mut Vec<u8>) -> Result<(), NoMemory>
-        ensures { OnOk result (made.new.items ≡ made.old.items ++ changed self.now text.now) }
-    {
-        'bytes: for b in text {
-            made.push(self.image(*b))?;
-        }
-        Ok(())
     }
 }

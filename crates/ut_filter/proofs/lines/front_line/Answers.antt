@@ -1,4 +1,4 @@
-use Rattle.std.proofs.Common.{rules, arith, sym, ap, ◌∙◌, take, drop}
+use Rattle.std.proofs.Common.{arith, ap, ◌∙◌, take, drop}
 use Rattle.ut_filter.proofs.LineLemmas.{lines_cut}
 use Rattle.ut_filter.proofs.lines.front_line.Goals as goal
 

@@ -1,0 +1,11 @@
+use Rattle.std.proofs.Common.{ap, ◌∙◌}
+use Rattle.ut_bre.specs.Expressions.{expression}
+use Rattle.ut_bre.specs.Trees.{trees_of}
+use Rattle.ut_bre.specs.Needing.{needed}
+use Rattle.ut_bre.proofs.NeededLemmas.{is-held, is-needed}
+use Rattle.ut_bre.proofs.bre.Bre.needed.Goals as goal
+
+pub returns : goal.returns
+returns c =
+    let held = is-held (expression c.args.self.now) c.needed.result (c.needed.ensures ∙ ap (λ xs. needed (trees_of xs)) c.as_slice.ensures.value) in
+    record { held = held; needed = is-needed (expression c.args.self.now) c.needed.result held }

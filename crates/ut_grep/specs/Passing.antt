@@ -1,0 +1,21 @@
+-- Lines that are passed, since none of them is selected.
+use Rattle.std.specs.Prelude.{◌≡◌, ℕ, List, false}
+use Rattle.std.specs.List.{list_any}
+use Rattle.rk_base.specs.Text.{Text}
+use Rattle.ut_filter.specs.Lines.{Lacks}
+use Rattle.ut_grep.specs.Greps.{PatternValue, GrepValue, holds, selects, rows}
+
+-- no line without this byte holds the pattern
+abbrev pub IsNeededBy : PatternValue → ℕ → Type 0
+IsNeededBy p b = (g : GrepValue) (line : Text) → Lacks line b → holds g line p ≡ false
+
+-- nor is one selected
+abbrev pub IsNeeded : GrepValue → ℕ → Type 0
+IsNeeded g b = (line : Text) → Lacks line b → selects g line ≡ false
+
+abbrev pub NoneSelected : GrepValue → List Text → Type 0
+NoneSelected g lines = list_any (selects g) lines ≡ false
+
+-- what is told of lines is the same by the one number as by the other
+abbrev pub SameNumber : GrepValue → ℕ → ℕ → Type 0
+SameNumber g n m = (name : Text) (lines : List Text) → rows g name n lines ≡ rows g name m lines
