@@ -188,7 +188,7 @@ put-ticked request before now text old new stop.ReadFault p most = most
 put-ticked request before now text old new stop.WriteFault p most = most
 put-ticked request before now text old new stop.NoMemory p most = most
 
-left : (first : KeyValue → Says) (request : Request) (held : Held) (before now : ℕ) (p : Prepared) → (is : IsPrepared first request held before now p) → AreSpoken first is.old → IsLeft (fresh_run first request (with_rows (snapshot_of held) is.rows)) p.finished.world p.finished.table
+pub left : (first : KeyValue → Says) (request : Request) (held : Held) (before now : ℕ) (p : Prepared) → (is : IsPrepared first request held before now p) → AreSpoken first is.old → IsLeft (fresh_run first request (with_rows (snapshot_of held) is.rows)) p.finished.world p.finished.table
 left first request held before now p is spoken =
     subst (λ (r : Run World). IsLeft r p.finished.world p.finished.table) (sym (is.run.ends spoken).1) (refl, refl)
 
@@ -241,6 +241,7 @@ partly first request (Some held) new before now p e is part = record {
     world = p.finished.world;
     table = p.finished.table;
     is_left = λ spoken. left first request held before now p is spoken;
+    readable = is.readable;
     part = subst (λ (ops : List Op). Partly ops (Some held) new e) is.plan part;
   };
 }
@@ -305,7 +306,7 @@ install-ticked request h k ops before now stop.NoMemory part most = most
 ended : (first : KeyValue → Says) (request : Request) (held : Held) (before now : ℕ) (p : Prepared) (new : Option Held) → (is : IsPrepared first request held before now p) → new ≡ Some (after_all p.plan held) → AreSpoken first is.old → EndsSo first (fresh_run first request (with_rows (snapshot_of held) is.rows)) held new
 ended first request held before now p new is same spoken =
     subst (λ (r : Run World). EndsSo first r held new) (sym (is.run.ends spoken).1)
-    (record { spoken = is.run.spoken spoken; fits = is.fits spoken; installed = record { after = after_all p.plan held; told = same; is_after = is.leads }; next = is.next spoken })
+    (record { spoken = is.run.spoken spoken; fits = is.fits spoken; installed = record { after = after_all p.plan held; told = same; is_after = is.leads; readable = is.readable }; next = is.next spoken })
 
 pub end-leaves : (first : KeyValue → Says) (request : Request) (told new : Option Held) (before now : ℕ) (b n : FolderCounts) (p : Prepared) (status launched ran : ℕ) → IfSome told (λ held. IsPrepared first request held before now p) → new ≡ option_map (after_all p.plan) told → Leaves first request told new b n (out.Ended status launched ran)
 end-leaves first request None new before now b n p status launched ran is same = tt
@@ -333,7 +334,7 @@ end-tally first request (Some held) new before now p launched is same number = r
     world = p.finished.world;
     table = p.finished.table;
     is_left = λ spoken. left first request held before now p is spoken;
-    installed = record { after = after_all p.plan held; told = same; is_after = is.leads };
+    installed = record { after = after_all p.plan held; told = same; is_after = is.leads; readable = is.readable };
     launched = number;
     ran = ap (λ (ran : List Ran). length ran) is.run.ran;
     paid = is.run.ticked;

@@ -1,5 +1,5 @@
 -- What a build finds in a folder.
-use Rattle.std.proofs.Common.{◌≡◌, Bool, List, Option, Some, None, IfSome, Ok, Err, ap, subst}
+use Rattle.std.proofs.Common.{◌≡◌, Bool, List, Option, Some, None, IfSome, Result, Ok, Err, ap, subst}
 use Rattle.rk_base.specs.Text.{Text}
 use Rattle.tr_record.specs.declared.records.Record.{Record}
 use Rattle.tr_codec.specs.Reads.{IsSealed}
@@ -19,11 +19,11 @@ use Rattle.rk_build.specs.declared.stop.Refusal.TheVariants as refusal
 use Rattle.rk_build.specs.declared.stop.Stop.{Stop}
 use Rattle.rk_build.specs.declared.stop.Stop.TheVariants as stop
 
-state-same : (held : Held) (holding : Holding) → holding ≡ holding_of held → holding.state ≡ state_in held
-state-same held holding same = ap (λ (h : Holding). h.state) same
+state-same : (fresh : Bool) (held : Held) (holding : Holding) → holding ≡ holding_of fresh held → holding.state ≡ decoded fresh (state_in held)
+state-same fresh held holding same = ap (λ (h : Holding). h.state) same
 
 -- the look failed
-pub look-stops : (request : Request) (told : Option Held) (e : Stop) → LooksSo told (Err e) → FindsSo request told (Err e)
+look-stops : (request : Request) (told : Option Held) (e : Stop) → LooksSo (is_fresh request) told (Err e) → FindsSo request told (Err e)
 look-stops request None (stop.Refused (refusal.Special path)) look = tt
 look-stops request (Some held) (stop.Refused (refusal.Special path)) look = look
 look-stops request told (stop.Refused (refusal.Damaged file damage)) look = absurd look
@@ -34,11 +34,11 @@ look-stops request told stop.WriteFault look = absurd look
 look-stops request told stop.NoMemory look = tt
 
 -- a state file is damaged
-kept-stops : (request : Request) (told : Option Held) (holding : Holding) (e : Stop) → LooksSo told (Ok holding) → ReadsState (decoded (is_fresh request) holding.state) (Err e) → FindsSo request told (Err e)
+kept-stops : (request : Request) (told : Option Held) (holding : Holding) (e : Stop) → LooksSo (is_fresh request) told (Ok holding) → ReadsState holding.state (Err e) → FindsSo request told (Err e)
 kept-stops request told holding (stop.Refused (refusal.Special path)) look kept = absurd kept
 kept-stops request None holding (stop.Refused (refusal.Damaged file damage)) look kept = tt
 kept-stops request (Some held) holding (stop.Refused (refusal.Damaged file damage)) look kept =
-    (look.0, subst (λ s. ReadsState (decoded (is_fresh request) s) (Err (stop.Refused (refusal.Damaged file damage)))) (state-same held holding look.1) kept)
+    (look.0, subst (λ s. ReadsState s (Err (stop.Refused (refusal.Damaged file damage)))) (state-same (is_fresh request) held holding look.1) kept)
 kept-stops request told holding (stop.Forged rec step) look kept = absurd kept
 kept-stops request told holding stop.Spent look kept = absurd kept
 kept-stops request told holding stop.ReadFault look kept = absurd kept
@@ -46,19 +46,29 @@ kept-stops request told holding stop.WriteFault look kept = absurd kept
 kept-stops request told holding stop.NoMemory look kept = tt
 
 -- by a test of whether the build begins afresh
-pub kept-stops-so : (request : Request) (told : Option Held) (holding : Holding) (e : Stop) (fresh : Bool) → LooksSo told (Ok holding) → fresh ≡ is_fresh request → ReadsState (decoded fresh holding.state) (Err e) → FindsSo request told (Err e)
-kept-stops-so request told holding e fresh look same kept = kept-stops request told holding e look (subst (λ (b : Bool). ReadsState (decoded b holding.state) (Err e)) same kept)
 
--- a database that was decoded ends with its digest
+asked : (told : Option Held) (result : Result Holding Stop) (fresh asks : Bool) → fresh ≡ asks → LooksSo fresh told result → LooksSo asks told result
+asked told result fresh asks same look = subst (λ (b : Bool). LooksSo b told result) same look
+
+pub look-stops-so : (request : Request) (told : Option Held) (e : Stop) (fresh : Bool) → fresh ≡ is_fresh request → LooksSo fresh told (Err e) → FindsSo request told (Err e)
+look-stops-so request told e fresh same look = look-stops request told e (asked told (Err e) fresh (is_fresh request) same look)
+
+pub kept-stops-so : (request : Request) (told : Option Held) (holding : Holding) (e : Stop) (fresh : Bool) → fresh ≡ is_fresh request → LooksSo fresh told (Ok holding) → ReadsState holding.state (Err e) → FindsSo request told (Err e)
+kept-stops-so request told holding e fresh same look kept = kept-stops request told holding e (asked told (Ok holding) fresh (is_fresh request) same look) kept
+
+-- a database that was read ends with its digest
 spelling-sealed : (db : Option Text) (table : List Record) → Spells db table → IfSome db IsSealed
 spelling-sealed None table spells = tt
 spelling-sealed (Some bytes) table spells = seal_right bytes (body (table_piece table)) spells.1
 
-pub kept-sealed : (fresh asked : Bool) (state : State) (kept : KeptState) → fresh ≡ asked → ReadsState (decoded fresh state) (Ok kept) → IfSome (decoded asked state).db IsSealed
-kept-sealed fresh asked state kept same reads = subst (λ (b : Bool). IfSome (decoded b state).db IsSealed) same (spelling-sealed (decoded fresh state).db kept.old reads.1.0)
+pub kept-sealed : (state : State) (kept : KeptState) → ReadsState state (Ok kept) → IfSome state.db IsSealed
+kept-sealed state kept reads = spelling-sealed state.db kept.old reads.1.0
 
 -- all was found
-pub is_found : (request : Request) (told : Option Held) (found : Found) → LooksSo told (Ok found.holding) → ReadsState (decoded (is_fresh request) found.holding.state) (Ok (record { attrs = found.attrs; old = found.old })) → FindsSo request told (Ok found)
-is_found request None found look kept = tt
-is_found request (Some held) found look kept =
-    (look.0, look.1, subst (λ s. IsKept (decoded (is_fresh request) s) found.attrs found.old) (state-same held found.holding look.1) kept)
+found-asked : (request : Request) (told : Option Held) (found : Found) → LooksSo (is_fresh request) told (Ok found.holding) → ReadsState found.holding.state (Ok (record { attrs = found.attrs; old = found.old })) → FindsSo request told (Ok found)
+found-asked request None found look kept = tt
+found-asked request (Some held) found look kept =
+    (look.0, look.1, subst (λ s. IsKept s found.attrs found.old) (state-same (is_fresh request) held found.holding look.1) kept)
+
+pub is_found : (request : Request) (told : Option Held) (found : Found) (fresh : Bool) → fresh ≡ is_fresh request → LooksSo fresh told (Ok found.holding) → ReadsState found.holding.state (Ok (record { attrs = found.attrs; old = found.old })) → FindsSo request told (Ok found)
+is_found request told found fresh same look kept = found-asked request told found (asked told (Ok found.holding) fresh (is_fresh request) same look) kept

@@ -95,7 +95,7 @@ module _ (held : Held) (whole : IsWhole held) (plain : first_special held ≡ No
       dir_state (standing held hidden_dir) (state_special held) (ap (λ (p : Text). is_dir (standing held p)) (sym e) ∙ whole.parents path stands) (hidden-plain held whole plain)
 
   -- the folder holds just what is imported of it
-  pub holds-imported : Holds held (holding_of held)
+  pub holds-imported : Holds held (holding_of false held)
   holds-imported = record {
     unseen = λ path within. get-imported held path ∙ ap (shown (standing held path)) within ∙ shown_hidden (standing held path);
     outside = λ path out. shown_outside path out ∙ ap placed (sym (get-imported held path ∙ ap (shown (standing held path)) out));
@@ -105,10 +105,20 @@ module _ (held : Held) (whole : IsWhole held) (plain : first_special held ≡ No
   }
 
   -- and so it may become what a build leaves
-  pub may_become-imported : (after : Holding) → IsBuilt after → MayBecome held (holding_of held) after
-  may_become-imported after built = record {
+  pub may_become-imported : (fresh : Bool) (after : Holding) → IsBuilt after → MayBecome held (holding_of fresh held) after
+  may_become-imported true after built = record {
     whole = whole;
+    db = (holding_of false held).state.db;
     holds = holds-imported;
+    read = inl refl;
+    odd = odd-within held whole plain;
+    built = built;
+  }
+  may_become-imported false after built = record {
+    whole = whole;
+    db = (holding_of false held).state.db;
+    holds = holds-imported;
+    read = inr refl;
     odd = odd-within held whole plain;
     built = built;
   }

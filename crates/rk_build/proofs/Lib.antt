@@ -13,6 +13,7 @@ pub mod PlannedLemmas
 pub mod NeededLemmas
 pub mod BuildLemmas
 pub mod BuiltLemmas
+pub mod CallsLemmas
 pub mod CheckLemmas
 pub mod FoundLemmas
 pub mod KeptLemmas

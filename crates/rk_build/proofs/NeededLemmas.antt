@@ -1,5 +1,5 @@
 -- Each planned call changes what stands at its path.
-use Rattle.std.proofs.Common.{◌≡◌, List, [], ◌∷◌, reverse, Bool, true, false, cond, Option, Some, None, option_map, refl, sym, ap, subst, ◌∙◌}
+use Rattle.std.proofs.Common.{◌≡◌, ◌⊎◌, inl, inr, List, [], ◌∷◌, reverse, Bool, true, false, cond, Option, Some, None, option_map, refl, sym, ap, subst, ◌∙◌}
 use Rattle.std.specs.List.{All, filter_map, cons_option}
 use Rattle.std.proofs.lemmas.List.{reverse-append}
 use Rattle.std.proofs.lemmas.List.Elements.{All-nil, All-cons, All-head, All-tail, All-append, All-same}
@@ -15,7 +15,7 @@ use Rattle.rk_build.specs.declared.ops.Op.TheVariants.{RemoveFile, RemoveDir, Ma
 use Rattle.rk_build.specs.declared.holding.Holding.{Holding}
 use Rattle.rk_build.specs.Changes.{IsNeeded}
 use Rattle.rk_build.specs.Holdings.{placed, hidden_dir, attrs_file, db_file, dir_where, MayBecome}
-use Rattle.rk_build.specs.Planned.{planned, removal, making, writing, removal_of, making_of, writing_of, is_file_of, is_bytes, hidden_making, state_writing, attrs_calls, db_calls}
+use Rattle.rk_build.specs.Planned.{IsPassed, planned, removal, making, writing, removal_of, making_of, writing_of, is_file_of, is_bytes, hidden_making, state_writing, attrs_calls, db_calls}
 use Rattle.rk_build.proofs.OrderLemmas.{clash, InOrder, in_order_first, in_order_rest, find_first, find_later}
 use Rattle.rk_build.proofs.EffectLemmas.{chosen, not_spared}
 use Rattle.rk_build.proofs.PhaseLemmas.{old_outside, new_outside}
@@ -75,9 +75,24 @@ needed_attrs held (Some old) None stands = All-cons (IsNeeded held) (RemoveFile 
 needed_attrs held None (Some bytes) stands = needed_state held attrs_file None bytes stands
 needed_attrs held (Some old) (Some bytes) stands = needed_state held attrs_file (Some old) bytes stands
 
-needed_db : (held : Held) (before after : Option Text) → standing held db_file ≡ option_map standing.File before → All (IsNeeded held) (db_calls before after)
-needed_db held before None stands = All-nil (IsNeeded held)
-needed_db held before (Some bytes) stands = needed_state held db_file before bytes stands
+-- a call that changes something, or writes a database that was passed over
+abbrev pub IsDue : Held → Holding → Op → Type 0
+IsDue held before op = IsNeeded held op ⊎ IsPassed held before op
+
+due : (held : Held) (before : Holding) (ops : List Op) → All (IsNeeded held) ops → All (IsDue held before) ops
+due held before [] needed = All-nil (IsDue held before)
+due held before (op ∷ ops) needed = All-cons (IsDue held before) op ops (inl (All-head (IsNeeded held) op ops needed)) (due held before ops (All-tail (IsNeeded held) op ops needed))
+
+due_write : (held : Held) (before : Holding) (stood : Option Text) (bytes : Text) → before.state.db ≡ None → standing held db_file ≡ option_map standing.File stood → IsDue held before (Write db_file bytes)
+due_write held before None bytes none stands = inl (λ same. clash _ (ap is_file (sym (same ∙ stands))) refl)
+due_write held before (Some old) bytes none stands = inr (refl, ap is_file stands, none)
+
+due_db : (held : Held) (before : Holding) (stood after : Option Text) → (before.state.db ≡ None) ⊎ (before.state.db ≡ stood) → standing held db_file ≡ option_map standing.File stood → All (IsDue held before) (db_calls before.state.db after)
+due_db held before stood None read stands = All-nil (IsDue held before)
+due_db held before stood (Some bytes) read stands = elim read [
+  | inl none ↦ subst (λ (db : Option Text). All (IsDue held before) (db_calls db (Some bytes))) (sym none) (All-cons (IsDue held before) (Write db_file bytes) [] (due_write held before stood bytes none stands) (All-nil (IsDue held before)))
+  | inr same ↦ due held before _ (needed_state held db_file before.state.db bytes (stands ∙ ap (option_map standing.File) (sym same)))
+]
 
 module _ (held : Held) (before after : Holding) (ready : MayBecome held before after) where
   needed_removals : All (IsNeeded held) (filter_map (removal_of after.entries) (entries before.entries))
@@ -94,14 +109,14 @@ module _ (held : Held) (before after : Holding) (ready : MayBecome held before a
   needed_writings : All (IsNeeded held) (filter_map (writing_of before.entries) (entries after.entries))
   needed_writings = all_made (IsNeeded held) (writing_of before.entries) (entries after.entries) (entries_sorted after.entries) (λ row op found e. needed_writing held row.0 row.1 _ op e (stands_at row found))
 
-  pub all_needed : All (IsNeeded held) (planned before after)
-  all_needed =
-      All-append (IsNeeded held) _ _ (
+  pub all_due : All (IsDue held before) (planned before after)
+  all_due =
+      All-append (IsDue held before) _ _ (due held before _ (
       All-append (IsNeeded held) _ _ (
       All-append (IsNeeded held) _ _ (
       All-append (IsNeeded held) _ _ (
       All-append (IsNeeded held) _ _ (All-reverse (IsNeeded held) _ needed_removals) needed_makings)
       needed_writings)
       (needed_hidden held before.rkr after.rkr ready.holds.rkr))
-      (needed_attrs held before.state.attrs after.state.attrs ready.holds.attrs))
-      (needed_db held before.state.db after.state.db ready.holds.db)
+      (needed_attrs held before.state.attrs after.state.attrs ready.holds.attrs)))
+      (due_db held before ready.db after.state.db ready.read ready.holds.db)

@@ -118,14 +118,14 @@ module _ (held : Held) (before after : Holding) (ready : MayBecome held before a
 
   -- db
 
-  old_db : standing with_attrs db_file ≡ option_map standing.File before.state.db
+  old_db : standing with_attrs db_file ≡ option_map standing.File ready.db
   unfolding entries_held
   old_db = attrs_other db_file db_not_attrs ∙ hidden_other db_file db_not_dir ∙ hidden_stays held before after ready db_file db_hidden ∙ ready.holds.db
 
   db_leads : Leads db with_attrs with_db
   unfolding db with_db
   db_leads = record {
-    allowed = db_calls_allowed before.state.db after.state.db with_attrs old_db (ap (λ (p : Text). is_dir (standing with_attrs p)) db_parent ∙ ap is_dir (attrs_other hidden_dir dir_not_attrs ∙ hidden_stands));
+    allowed = db_calls_allowed before.state.db ready.db after.state.db with_attrs ready.read old_db (ap (λ (p : Text). is_dir (standing with_attrs p)) db_parent ∙ ap is_dir (attrs_other hidden_dir dir_not_attrs ∙ hidden_stands));
     reached = refl;
   }
 
@@ -138,7 +138,7 @@ module _ (held : Held) (before after : Holding) (ready : MayBecome held before a
   db_stands =
       standing-after (db_calls before.state.db after.state.db) with_attrs db_file
       ∙ ap (at_end (db_calls before.state.db after.state.db) db_file) old_db
-      ∙ db_calls_end before.state.db after.state.db ready.built.db
+      ∙ db_calls_end before.state.db ready.db after.state.db ready.read ready.built.db
 
   -- all of them
 

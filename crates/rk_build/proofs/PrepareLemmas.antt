@@ -2,8 +2,9 @@
 use Rattle.std.proofs.Common.{◌≡◌, ◌<◌, Bool, true, false, true≢false, refl, ℕ, ◌+◌, ◌++◌, ◌≤◌, List, length, Option, Some, None, Ok, Err, sym, ap, subst, ◌∙◌, arith}
 use Rattle.rk_calls.specs.Keys.{KeyValue}
 use Rattle.rk_calls.specs.Talk.{Says}
+use Rattle.rk_kernel.specs.World.{World}
 use Rattle.rk_tree.specs.Entries.{Entries}
-use Rattle.rk_folder.specs.Told.{Held}
+use Rattle.rk_folder.specs.Told.{Held, longest_file}
 use Rattle.rk_folder.specs.Whole.{TellsWhole}
 use Rattle.rk_folder.specs.Attributes.{with_rows}
 use Rattle.rk_folder.specs.Import.{snapshot_of}
@@ -17,7 +18,7 @@ use Rattle.rk_build.proofs.ImportedLemmas.{may_become-imported}
 use Rattle.rk_runs.specs.Following.{never-wrong}
 use Rattle.tr_record.specs.Rec.{rec_at}
 use Rattle.tr_record.specs.declared.records.Record.{Record}
-use Rattle.rk_words.specs.Asked.{checks, turns}
+use Rattle.rk_words.specs.Asked.{checks, is_fresh, turns}
 use Rattle.rk_words.specs.declared.requests.Request.{Request}
 use Rattle.rk_base.specs.Text.{Text}
 use Rattle.rk_build.specs.Checks.{ChecksSo, ChecksWhole, IsForged, checked_count}
@@ -28,15 +29,15 @@ use Rattle.tr_codec.specs.Sound.{IsSound}
 use Rattle.rk_build.specs.Outcomes.{ChecksMany}
 use Rattle.rk_build.specs.Run.{fresh_run, IsRun, Runs}
 use Rattle.rk_build.specs.Stages.{FindsSo, PreparesSo}
-use Rattle.rk_build.specs.Fresh.{AreInMemory, IsInMemory, held_after}
+use Rattle.rk_build.specs.Fresh.{AreInMemory, AreReadable, IsInMemory, IsReadable, held_after}
 use Rattle.rk_build.specs.declared.found.Found.{Found}
 use Rattle.rk_build.specs.declared.run.Finished.{Finished}
 use Rattle.rk_build.specs.declared.stop.Stop.{Stop}
 use Rattle.rk_build.specs.declared.stop.Stop.TheVariants as stop
 use Rattle.rk_build.proofs.KeptLemmas.{finds-next}
 
-entries-same : (held : Held) (found : Found) → found.holding ≡ holding_of held → with_rows found.holding.entries found.attrs ≡ with_rows (snapshot_of held) found.attrs
-entries-same held found same = ap (λ (h : Holding). with_rows h.entries found.attrs) same
+entries-same : (request : Request) (held : Held) (found : Found) → found.holding ≡ holding_of (is_fresh request) held → with_rows found.holding.entries found.attrs ≡ with_rows (snapshot_of held) found.attrs
+entries-same request held found same = ap (λ (h : Holding). with_rows h.entries found.attrs) same
 
 pub unasked : (check : Bool) (old : List Record) → check ≡ false → checked_count check old ≡ 0
 unasked true old is = absurd (true≢false is)
@@ -79,20 +80,27 @@ run-stops first request (Some held) f before now (stop.Forged rec step) found ru
     (record { plain = found.0; rows = f.attrs; old = f.old; kept = found.2; so = record { wrong = runs; earliest = λ check i h. whole check i (let here : rec < length f.old = runs.0 in omega arith) } }, most, unchecked first request f.old rec step runs whole)
 run-stops first request None f before now stop.Spent found runs whole most = (tt, most)
 run-stops first request (Some held) f before now stop.Spent found runs whole most =
-    (record { plain = found.0; rows = f.attrs; old = f.old; kept = found.2; so = (runs.0, ap (fresh_run first request) (sym (entries-same held f found.1)) ∙ runs.1) }, most)
+    (record { plain = found.0; rows = f.attrs; old = f.old; kept = found.2; so = (runs.0, ap (fresh_run first request) (sym (entries-same request held f found.1)) ∙ runs.1) }, most)
 run-stops first request told f before now stop.ReadFault found runs whole most = absurd runs
 run-stops first request told f before now stop.WriteFault found runs whole most = absurd runs
 run-stops first request told f before now stop.NoMemory found runs whole most = most
 
--- what was written out stands in memory
-in-memory : (f : Finished) (after : Holding) → after ≡ held_after f.world f.table → IsInMemory after.state.attrs × IsInMemory after.state.db → AreInMemory f.world f.table
-in-memory f after left small = subst (λ (h : Holding). IsInMemory h.state.attrs × IsInMemory h.state.db) left small
+-- what was written out can be read, and stands in memory
+can-read : (f : Finished) (after : Holding) → after ≡ held_after f.world f.table → IsReadable after.state.attrs × IsReadable after.state.db → AreReadable f.world f.table
+can-read f after left small = subst (λ (h : Holding). IsReadable h.state.attrs × IsReadable h.state.db) left small
+
+in-memory : (it : Option Text) → IsReadable it → IsInMemory it
+in-memory None small = tt
+in-memory (Some bytes) small = let few : length bytes ≤ longest_file = small in omega arith
+
+both-in-memory : (world : World) (table : List Record) → AreReadable world table → AreInMemory world table
+both-in-memory world table small = (in-memory (held_after world table).state.attrs small.0, in-memory (held_after world table).state.db small.1)
 
 -- all went well
-pub is_prepared : (first : KeyValue → Says) (request : Request) (told : Option Held) (found : Found) (after : Holding) (before now : ℕ) (f : Finished) (ops : List Op) (text : Text) → TellsWhole told → FindsSo request told (Ok found) → ChecksWhole first (checks request) found.old → Runs first request (with_rows found.holding.entries found.attrs) found.old before now (Ok f) → now ≤ before + turns request → after ≡ held_after f.world f.table → IsBuilt after → IsInMemory after.state.attrs × IsInMemory after.state.db → (AllByRecursion IsSound f.table → Fits f.table) → ops ≡ planned found.holding after → AreAllowed ops found.holding after → LeadTo ops found.holding after → text ≡ f.world.err ++ explanation request f.ran (length f.table) → PreparesSo first request told before now (Ok (record { finished = f; plan = ops; error_text = text }))
+pub is_prepared : (first : KeyValue → Says) (request : Request) (told : Option Held) (found : Found) (after : Holding) (before now : ℕ) (f : Finished) (ops : List Op) (text : Text) → TellsWhole told → FindsSo request told (Ok found) → ChecksWhole first (checks request) found.old → Runs first request (with_rows found.holding.entries found.attrs) found.old before now (Ok f) → now ≤ before + turns request → after ≡ held_after f.world f.table → IsBuilt after → IsReadable after.state.attrs × IsReadable after.state.db → (AllByRecursion IsSound f.table → Fits f.table) → ops ≡ planned found.holding after → AreAllowed ops found.holding after → LeadTo ops found.holding after → text ≡ f.world.err ++ explanation request f.ran (length f.table) → PreparesSo first request told before now (Ok (record { finished = f; plan = ops; error_text = text }))
 is_prepared first request None found after before now f ops text whole is_found spoken_all runs most left built small spelt is allowed leads is_text = (tt, most)
 is_prepared first request (Some held) found after before now f ops text whole is_found spoken_all runs most left built small spelt is allowed leads is_text =
-    let becomes : MayBecome held found.holding after = subst (λ h. MayBecome held h after) (sym is_found.1) (may_become-imported held whole is_found.0 after built) in
+    let becomes : MayBecome held found.holding after = subst (λ h. MayBecome held h after) (sym is_found.1) (may_become-imported held whole is_found.0 (is_fresh request) after built) in
     let goes : IsAfter held (after_all ops held) (held_after f.world f.table) = subst (λ h. IsAfter held (after_all ops held) h) left (leads held becomes) in
     let stays : IsBuilt (held_after f.world f.table) = subst IsBuilt left built in (
       record {
@@ -101,13 +109,14 @@ is_prepared first request (Some held) found after before now f ops text whole is
         old = found.old;
         kept = is_found.2;
         checked = spoken_all;
-        run = subst (λ (e : Entries). IsRun first request e found.old before now f) (entries-same held found is_found.1) runs;
+        run = subst (λ (e : Entries). IsRun first request e found.old before now f) (entries-same request held found is_found.1) runs;
         text = is_text;
-        plan = is ∙ ap (λ h. planned h after) is_found.1 ∙ ap (planned (holding_of held)) left;
+        plan = is ∙ ap (λ h. planned h after) is_found.1 ∙ ap (planned (holding_of (is_fresh request) held)) left;
         allowed = allowed held becomes;
         leads = goes;
+        readable = can-read f after left small;
         fits = λ spoken. spelt (runs.sound spoken);
-        next = λ spoken. finds-next held (after_all ops held) f.world f.table whole is_found.0 goes stays.entries (spelt (runs.sound spoken)) (in-memory f after left small);
+        next = λ spoken. finds-next held (after_all ops held) f.world f.table whole is_found.0 goes stays.entries (spelt (runs.sound spoken)) (both-in-memory f.world f.table (can-read f after left small));
       },
       most,
     )

@@ -1,8 +1,8 @@
 -- The calls for the hidden directory and its state files.
-use Rattle.std.proofs.Common.{◌≡◌, List, [], ◌∷◌, Bool, true, false, cond, ◌&&◌, Option, Some, None, option_map, is_some, refl, ap, ◌∙◌}
+use Rattle.std.proofs.Common.{◌≡◌, ◌⊎◌, inl, inr, List, [], ◌∷◌, Bool, true, false, cond, ◌&&◌, Option, Some, None, option_map, is_some, refl, sym, ap, subst, ◌∙◌}
 use Rattle.std.specs.Ordering.{eq_by_cmp}
 use Rattle.rk_base.specs.Text.{Text, text_cmp, root, parent, same_text}
-use Rattle.rk_folder.specs.Told.{Held, standing, is_file, is_dir, is_nothing, can_hold}
+use Rattle.rk_folder.specs.Told.{Held, standing, is_file, is_dir, is_nothing, can_hold, can_write}
 use Rattle.rk_folder.specs.declared.folder.Standing.{Standing}
 use Rattle.rk_folder.specs.declared.folder.Standing.TheVariants.{File, Dir}
 use Rattle.rk_tree.proofs.TextLemmas.{same_is, same_itself, ties_itself}
@@ -86,13 +86,24 @@ pub db_calls_at : (before after : Option Text) → AllAt db_file (db_calls befor
 db_calls_at before None = tt
 db_calls_at before (Some bytes) = state_writing_at db_file before bytes
 
-pub db_calls_end : (before after : Option Text) → is_some after ≡ true → at_end (db_calls before after) db_file (option_map File before) ≡ option_map File after
-db_calls_end before None h = cc
-db_calls_end before (Some bytes) h = state_writing_end db_file before bytes
+-- a database that stands, and may have been passed over
+db_written : (stood : Option Text) (bytes : Text) (held : Held) → standing held db_file ≡ option_map File stood → is_dir (standing held (parent db_file)) ≡ true → can_write db_file held ≡ true
+db_written None bytes held h d = ap (λ (it : Option Standing). can_hold it (is_dir (standing held (parent db_file)))) h ∙ d
+db_written (Some old) bytes held h d = ap (λ (it : Option Standing). can_hold it (is_dir (standing held (parent db_file)))) h
 
-pub db_calls_allowed : (before after : Option Text) (held : Held) → standing held db_file ≡ option_map File before → is_dir (standing held (parent db_file)) ≡ true → AllowsAll (db_calls before after) held
-db_calls_allowed before None held h d = tt
-db_calls_allowed before (Some bytes) held h d = state_writing_allowed db_file before bytes held h d
+pub db_calls_end : (before stood after : Option Text) → (before ≡ None) ⊎ (before ≡ stood) → is_some after ≡ true → at_end (db_calls before after) db_file (option_map File stood) ≡ option_map File after
+db_calls_end before stood None read h = cc
+db_calls_end before stood (Some bytes) read h = elim read [
+  | inl none ↦ ap (λ (b : Option Text). at_end (db_calls b (Some bytes)) db_file (option_map File stood)) none ∙ settles db_file (option_map File stood) (Some (File bytes))
+  | inr same ↦ ap (λ (s : Option Text). at_end (db_calls before (Some bytes)) db_file (option_map File s)) (sym same) ∙ state_writing_end db_file before bytes
+]
+
+pub db_calls_allowed : (before stood after : Option Text) (held : Held) → (before ≡ None) ⊎ (before ≡ stood) → standing held db_file ≡ option_map File stood → is_dir (standing held (parent db_file)) ≡ true → AllowsAll (db_calls before after) held
+db_calls_allowed before stood None held read h d = tt
+db_calls_allowed before stood (Some bytes) held read h d = elim read [
+  | inl none ↦ subst (λ (b : Option Text). AllowsAll (db_calls b (Some bytes)) held) (sym none) (db_written stood bytes held h d, tt)
+  | inr same ↦ state_writing_allowed db_file before bytes held (h ∙ ap (option_map File) (sym same)) d
+]
 
 -- Nothing is to be done where both are the same.
 

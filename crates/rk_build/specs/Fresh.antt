@@ -1,5 +1,5 @@
 -- What the fresh run leaves.
-use Rattle.std.specs.Prelude.{◌<◌, ◌^◌, List, [], ◌∷◌, ◌++◌, length, true, Option, Some, None}
+use Rattle.std.specs.Prelude.{◌<◌, ◌≤◌, ◌^◌, List, [], ◌∷◌, ◌++◌, length, true, Option, Some, None}
 use Rattle.rk_base.specs.Text.{Text}
 use Rattle.tr_record.specs.declared.records.Record.{Record}
 use Rattle.tr_codec.specs.Attrs.{attrs_spelling}
@@ -12,6 +12,7 @@ use Rattle.rk_words.specs.declared.requests.Request.{Request}
 use Rattle.rk_replay.specs.Ran.{ran_of}
 use Rattle.rk_build.specs.Explained.{explanation}
 use Rattle.rk_build.specs.Attributes.{attrs_of}
+use Rattle.rk_folder.specs.Told.{longest_file}
 use Rattle.rk_build.specs.declared.holding.Holding.{Holding}
 
 -- a text of a run that was asked for, over the records of an old table
@@ -42,6 +43,14 @@ abbrev pub IsInMemory : Option Text → Type 0
 IsInMemory None = Unit {0}
 IsInMemory (Some bytes) = length bytes < 2 ^ 64
 
+-- no more bytes than a folder reads
+abbrev pub IsReadable : Option Text → Type 0
+IsReadable None = Unit {0}
+IsReadable (Some bytes) = length bytes ≤ longest_file
+
 -- both state files of what a run leaves
+abbrev pub AreReadable : World → List Record → Type 0
+AreReadable world table = IsReadable (held_after world table).state.attrs × IsReadable (held_after world table).state.db
+
 abbrev pub AreInMemory : World → List Record → Type 0
 AreInMemory world table = IsInMemory (held_after world table).state.attrs × IsInMemory (held_after world table).state.db

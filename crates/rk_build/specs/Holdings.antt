@@ -1,5 +1,5 @@
 -- What a folder holds, by its entries, whether the hidden directory stands, and its state files.
-use Rattle.std.specs.Prelude.{◌≡◌, ◌≢◌, Bool, true, false, if◌then◌else◌, Option, Some, None, option_map, is_some}
+use Rattle.std.specs.Prelude.{◌≡◌, ◌≢◌, ◌⊎◌, Bool, true, false, if◌then◌else◌, Option, Some, None, option_map, is_some}
 use Rattle.std.specs.FinMap.{get}
 use Rattle.std.specs.List.{list_all}
 use Rattle.rk_base.specs.Text.{Text, is_within}
@@ -51,10 +51,17 @@ pub record IsBuilt (holding : Holding) : Type 0 where
   pub rkr : holding.rkr ≡ true
   pub db : is_some holding.state.db ≡ true
 
+-- what it holds, with these bytes of a database
+abbrev pub with_db : Option Text → Holding → Holding
+with_db db it = record { entries = it.entries; rkr = it.rkr; state = record { db = db; attrs = it.state.attrs } }
+
 -- a folder that may become what a build leaves
 pub record MayBecome (held : Held) (before after : Holding) : Type 0 where
   pub whole : IsWhole held
-  pub holds : Holds held before
+  -- the bytes of the database that stands, which may have been passed over, and all else that the folder holds
+  pub db : Option Text
+  pub holds : Holds held (with_db db before)
+  pub read : (before.state.db ≡ None) ⊎ (before.state.db ≡ db)
   -- odd names are hidden
   pub odd : list_all (λ dir. is_within hidden_dir dir) held.odd ≡ true
   pub built : IsBuilt after

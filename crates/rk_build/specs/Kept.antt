@@ -1,5 +1,5 @@
 -- What the state files of a folder keep, and which damage they have.
-use Rattle.std.specs.Prelude.{◌≡◌, ◌≢◌, Bool, true, if◌then◌else◌, List, [], Option, Some, None, Result, Ok, Err}
+use Rattle.std.specs.Prelude.{◌≡◌, ◌≢◌, Bool, true, List, [], Option, Some, None, Result, Ok, Err}
 use Rattle.rk_base.specs.Text.{Text}
 use Rattle.tr_record.specs.declared.records.Record.{Record}
 use Rattle.tr_codec.specs.Attrs.{are_rows, attrs_spelling}
@@ -9,7 +9,7 @@ use Rattle.tr_codec.specs.Spelling.{db_spelling}
 use Rattle.tr_codec.specs.declared.fault.Damage.{Damage}
 use Rattle.tr_codec.specs.declared.rows.AttrRow.{AttrRow}
 use Rattle.rk_folder.specs.Told.{Held}
-use Rattle.rk_folder.specs.Import.{snapshot_of, state_of}
+use Rattle.rk_folder.specs.Import.{read_state, snapshot_of, state_of}
 use Rattle.rk_folder.specs.Attributes.{with_rows}
 use Rattle.rk_tree.specs.Entries.{Entries}
 use Rattle.rk_folder.specs.Specials.{first_special}
@@ -63,9 +63,9 @@ IsDamaged state file.Db damage = ((rows : List (Text × AttrRow)) × AreRows sta
 abbrev pub state_in : Held → State
 state_in held = (state_of held).state
 
--- the state files that are decoded: of a build that begins afresh all but the database
+-- the state files that are decoded: of a build that begins afresh all but the database, which isn't read either
 abbrev pub decoded : Bool → State → State
-decoded fresh state = record { db = if fresh then None else state.db; attrs = state.attrs }
+decoded fresh state = read_state fresh state
 
 -- Nothing of the folder is special, its state files are well, and this is so of its entries with the rows of attributes and
 -- of the records.

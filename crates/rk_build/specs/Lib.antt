@@ -1,4 +1,5 @@
 pub mod Attributes
+pub mod Calls
 pub mod Changes
 pub mod Holdings
 pub mod Imported

@@ -24,7 +24,7 @@ use Rattle.rk_replay.specs.Ran.{ran_total}
 use Rattle.rk_replay.specs.Starts.{StartsRan, StartsUpTo}
 use Rattle.rk_words.specs.Asked.{checks, is_fresh, turns}
 use Rattle.rk_words.specs.declared.requests.Request.{Request}
-use Rattle.rk_build.specs.Fresh.{RunText, output_of, error_text_of, held_after}
+use Rattle.rk_build.specs.Fresh.{AreReadable, RunText, output_of, error_text_of, held_after}
 use Rattle.rk_build.specs.Kept.{Keeping, Refuses}
 use Rattle.rk_build.specs.Checks.{ChecksWhole, TellsForged, checked_count}
 use Rattle.rk_build.specs.Run.{fresh_run, ran_count}
@@ -86,6 +86,8 @@ pub record Installed (world : World) (table : List Record) (held : Held) (new : 
   pub after : Held
   pub told : new ≡ Some after
   pub is_after : IsAfter held after (held_after world table)
+  -- a state file that no build would read again isn't written
+  pub readable : AreReadable world table
 
 -- a build that finds it begins with the very tree that the run left, and with its records
 abbrev pub IsNext : World → List Record → Held → Type 0
@@ -113,7 +115,8 @@ pub record PartlyInstalled (first : KeyValue → Says) (request : Request) (entr
   pub world : World
   pub table : List Record
   pub is_left : AreSpoken first old → IsLeft (fresh_run first request entries) world table
-  pub part : Partly (planned (holding_of held) (held_after world table)) (Some held) new e
+  pub readable : AreReadable world table
+  pub part : Partly (planned (holding_of (is_fresh request) held) (held_after world table)) (Some held) new e
 
 -- it is as before; or the folder's own count of such failures rose, and it is partly installed
 abbrev pub StoppedAt : (KeyValue → Says) → Request → Option Held → Option Held → ℕ → ℕ → InstallErr → Type 0

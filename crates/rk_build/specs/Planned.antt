@@ -1,9 +1,9 @@
 -- The calls that lead from what a folder holds to what it is to hold.
-use Rattle.std.specs.Prelude.{List, [], ◌∷◌, ◌++◌, reverse, Bool, false, not, ◌&&◌, if◌then◌else◌, Option, Some, None, All}
+use Rattle.std.specs.Prelude.{◌≡◌, ◌⊎◌, List, [], ◌∷◌, ◌++◌, reverse, Bool, true, false, not, ◌&&◌, if◌then◌else◌, Option, Some, None, All}
 use Rattle.std.specs.List.{filter_map}
 use Rattle.std.specs.FinMap.{entries, get}
 use Rattle.rk_base.specs.Text.{Text, same_text}
-use Rattle.rk_folder.specs.Told.{Held, is_file, is_dir}
+use Rattle.rk_folder.specs.Told.{Held, is_file, is_dir, standing}
 use Rattle.rk_folder.specs.declared.folder.Standing.{Standing}
 use Rattle.rk_folder.specs.declared.folder.Standing.TheVariants.{File, Dir, Special}
 use Rattle.rk_tree.specs.Entries.{Entries}
@@ -12,7 +12,7 @@ use Rattle.rk_tree.specs.Node as entry
 use Rattle.rk_build.specs.declared.ops.Op.{Op}
 use Rattle.rk_build.specs.declared.ops.Op.TheVariants.{RemoveFile, RemoveDir, MakeDir, Write}
 use Rattle.rk_build.specs.declared.holding.Holding.{Holding}
-use Rattle.rk_build.specs.Changes.{after_all, AllowsAll, IsNeeded}
+use Rattle.rk_build.specs.Changes.{after_all, AllowsAll, IsNeeded, path_of}
 use Rattle.rk_build.specs.Holdings.{placed, hidden_dir, attrs_file, db_file, MayBecome, IsAfter}
 
 -- what stood is taken away where nothing of its kind stands there afterwards
@@ -88,6 +88,10 @@ AreAllowed ops before after = (held : Held) → MayBecome held before after → 
 abbrev pub LeadTo : List Op → Holding → Holding → Type 0
 LeadTo ops before after = (held : Held) → MayBecome held before after → IsAfter held (after_all ops held) after
 
--- each of them changes what stands at its path
+-- a database stands, and was passed over; what is in it isn't known
+abbrev pub IsPassed : Held → Holding → Op → Type 0
+IsPassed held before op = (path_of op ≡ db_file) × (is_file (standing held db_file) ≡ true) × (before.state.db ≡ None)
+
+-- each of them changes what stands at its path, or writes a database anew that was passed over
 abbrev pub AreNeeded : List Op → Holding → Holding → Type 0
-AreNeeded ops before after = (held : Held) → MayBecome held before after → All (IsNeeded held) ops
+AreNeeded ops before after = (held : Held) → MayBecome held before after → All (λ op. IsNeeded held op ⊎ IsPassed held before op) ops

@@ -27,7 +27,7 @@ use Rattle.rk_words.specs.declared.requests.Request.{Request}
 use Rattle.rk_build.specs.Checks.{ChecksWhole, TellsForged}
 use Rattle.rk_build.specs.Run.{IsRun, fresh_run}
 use Rattle.rk_build.specs.Explained.{explanation}
-use Rattle.rk_build.specs.Fresh.{held_after}
+use Rattle.rk_build.specs.Fresh.{AreReadable, held_after}
 use Rattle.rk_build.specs.Kept.{IsKept, Keeping, Refuses, state_in, decoded}
 use Rattle.rk_build.specs.Outcomes.{IsNext, Started, StartsBoth, outcome_of_stop}
 use Rattle.rk_build.specs.Texts.{IsNoFault}
@@ -43,12 +43,12 @@ stop_of import.ReadFault = stop.ReadFault
 stop_of import.NoMemory = stop.NoMemory
 
 -- nothing is special and this is what the folder holds, or this is the first special path
-abbrev pub LooksSo : Option Held → Result Holding Stop → Type 0
-LooksSo told (Ok holding) = IfSome told (λ held. (first_special held ≡ None) × (holding ≡ holding_of held))
-LooksSo told (Err (stop.Refused (refusal.Special path))) = IfSome told (λ held. first_special held ≡ Some path)
-LooksSo told (Err stop.ReadFault) = Unit {0}
-LooksSo told (Err stop.NoMemory) = Unit {0}
-LooksSo told (Err other) = ⊥
+abbrev pub LooksSo : Bool → Option Held → Result Holding Stop → Type 0
+LooksSo fresh told (Ok holding) = IfSome told (λ held. (first_special held ≡ None) × (holding ≡ holding_of fresh held))
+LooksSo fresh told (Err (stop.Refused (refusal.Special path))) = IfSome told (λ held. first_special held ≡ Some path)
+LooksSo fresh told (Err stop.ReadFault) = Unit {0}
+LooksSo fresh told (Err stop.NoMemory) = Unit {0}
+LooksSo fresh told (Err other) = ⊥
 
 -- a read fault only where the count rose
 abbrev pub ReadsCounted : {T : Type 0} → ℕ → ℕ → Result T Stop → Type 0
@@ -62,7 +62,7 @@ Steadily before now result = (now ≡ before) × (before ≡ true → IsNoFault 
 -- nothing is special, this is what the folder holds, and these are the records and the rows that it keeps; or why it is
 -- refused
 abbrev pub FindsSo : Request → Option Held → Result Found Stop → Type 0
-FindsSo request told (Ok found) = IfSome told (λ held. (first_special held ≡ None) × (found.holding ≡ holding_of held) × IsKept (decoded (is_fresh request) (state_in held)) found.attrs found.old)
+FindsSo request told (Ok found) = IfSome told (λ held. (first_special held ≡ None) × (found.holding ≡ holding_of (is_fresh request) held) × IsKept (decoded (is_fresh request) (state_in held)) found.attrs found.old)
 FindsSo request told (Err (stop.Refused refusal)) = IfSome told (λ held. Refuses (is_fresh request) held refusal)
 FindsSo request told (Err stop.ReadFault) = Unit {0}
 FindsSo request told (Err stop.NoMemory) = Unit {0}
@@ -95,9 +95,10 @@ pub record IsPrepared (first : KeyValue → Says) (request : Request) (held : He
   pub checked : ChecksWhole first (checks request) old
   pub run : IsRun first request (with_rows (snapshot_of held) rows) old before now p.finished
   pub text : p.error_text ≡ p.finished.world.err ++ explanation request p.finished.ran (length p.finished.table)
-  pub plan : p.plan ≡ planned (holding_of held) (held_after p.finished.world p.finished.table)
+  pub plan : p.plan ≡ planned (holding_of (is_fresh request) held) (held_after p.finished.world p.finished.table)
   pub allowed : AllowsAll p.plan held
   pub leads : IsAfter held (after_all p.plan held) (held_after p.finished.world p.finished.table)
+  pub readable : AreReadable p.finished.world p.finished.table
   pub fits : AreSpoken first old → Fits p.finished.table
   pub next : AreSpoken first old → IsNext p.finished.world p.finished.table (after_all p.plan held)
 

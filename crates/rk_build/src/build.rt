@@ -1,5 +1,7 @@
 // The build, once the words are read.
 ghost use Rattle.std.specs.Prelude.{◌≡◌, ◌<◌, ◌≤◌, Ok, length, IfOk, true};
+ghost use Rattle.rk_build.specs.Calls.{AsksSo};
+ghost use Rattle.rk_folder.specs.Schedule.{MakesCalls};
 ghost use Rattle.rk_build.specs.Changes.{MayRun};
 ghost use Rattle.rk_words.specs.Asked.{turns};
 ghost use Rattle.rk_build.specs.Outcomes.{Checked, outcome_of, Leaves, HasStatus, Tallies, Gains, GainsErrors, InOrder, ErrorsCounted, Counted, Ticked};
@@ -35,6 +37,7 @@ fn carry_out<F: Folder>(alloc: Global, folder: &mut F, plan: &Plan) -> Result<()
     ensures memory { MemoryRose (F.memory_failures folder.old) (F.memory_failures folder.new) result }
     ensures steady { Steadily (F.steady folder.old) (F.steady folder.new) result }
     ensures reads { F.read_faults folder.new ≡ F.read_faults folder.old }
+    ensures calls { MakesCalls (length plan.now) (F.schedule folder.old) (F.schedule folder.new) }
 {
     match install(alloc, folder, plan) {
         Ok(()) => Ok(()),
@@ -66,6 +69,7 @@ pub(crate) fn build<M: Maker, F: Folder, O: Sink, E: Sink, L: Ledger>(
         (record { reads = F.read_faults folder.new; writes = F.write_faults folder.new; puts = O.faults out.new; error_puts = E.faults err.new }) (outcome_of result) }
     ensures steady { F.steady folder.old ≡ true → O.steady out.old ≡ true → E.steady err.old ≡ true → (E.steady err.new ≡ true) × IsNoFault result }
     ensures folder_steady { F.steady folder.new ≡ F.steady folder.old }
+    ensures calls { AsksSo M.first request.now (F.reach folder.old) (F.told folder.old) (F.schedule folder.old) (F.schedule folder.new) (outcome_of result) }
     ensures live { Ticked request.now live.old live.new (outcome_of result) }
     ensures rises { live.old ≤ live.new }
     ensures starts { StartsSo (λ e. length e.ran) M.first request.now (F.told folder.old) (M.starts maker.old) (M.starts maker.new) result }

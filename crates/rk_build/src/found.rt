@@ -1,9 +1,9 @@
 // What a build finds in a folder.
 ghost use Rattle.std.specs.Prelude.{◌≡◌, IfOk, IfSome, OnOk};
+ghost use Rattle.rk_folder.specs.Looks.{LooksFew, looks};
 ghost use Rattle.rk_tree.specs.Entries.{IsWholeSnapshot};
 ghost use Rattle.rk_words.specs.Asked.{is_fresh};
 ghost use Rattle.tr_codec.specs.Reads.{IsSealed};
-ghost use Rattle.rk_build.specs.Kept.{decoded};
 ghost use Rattle.rk_build.specs.Stages.{FindsSo, ReadsCounted, Steadily};
 
 use crate::holding::Holding;
@@ -25,8 +25,8 @@ pub(crate) struct Found {
     pub old: Table,
 }
 
-/// Lists and reads the folder, and reads what its state files keep; of a build that begins afresh the database isn't
-/// decoded, and there are no records.
+/// Lists and reads the folder, and reads what its state files keep; of a build that begins afresh the database is passed
+/// over, and there are no records.
 pub(crate) fn find<F: Folder>(
     alloc: Global,
     request: &Request,
@@ -34,16 +34,17 @@ pub(crate) fn find<F: Folder>(
 ) -> Result<Found, Stop>
     ensures held { F.told folder.new ≡ F.told folder.old }
     ensures writes { F.write_faults folder.new ≡ F.write_faults folder.old }
+    ensures looks { LooksFew (F.told folder.old) (looks (is_fresh request.now) (F.reach folder.old)) (F.schedule folder.old) (F.schedule folder.new) }
     ensures reads { ReadsCounted (F.read_faults folder.old) (F.read_faults folder.new) result }
     ensures memory { OnOk result (F.memory_failures folder.new ≡ F.memory_failures folder.old) }
     ensures steady { Steadily (F.steady folder.old) (F.steady folder.new) result }
     ensures finds { FindsSo request.now (F.told folder.old) result }
     ensures whole { IfOk result (λ found. IsWholeSnapshot found.holding.entries) }
-    // A database that was decoded ends with its digest.
-    ensures sealed { IfOk result (λ found. IfSome (decoded (is_fresh request.now) found.holding.state).db IsSealed) }
+    // A database that was read ends with its digest.
+    ensures sealed { IfOk result (λ found. IfSome found.holding.state.db IsSealed) }
 {
-    let holding = look(alloc, folder)?;
-    let KeptState { attrs, old } = kept(alloc, is_fresh(request), &holding.state)?;
+    let holding = look(alloc, folder, is_fresh(request))?;
+    let KeptState { attrs, old } = kept(alloc, &holding.state)?;
     Ok(Found {
         holding,
         attrs,

@@ -1,5 +1,5 @@
 // A folder as it is imported.
-ghost use Rattle.std.specs.Prelude.{◌≡◌, None, true};
+ghost use Rattle.std.specs.Prelude.{◌≡◌, None, Bool, true, false};
 ghost use Rattle.std.specs.List.{list_all};
 ghost use Rattle.rk_base.specs.Text.{is_within};
 ghost use Rattle.rk_folder.specs.Told.{Held};
@@ -10,9 +10,9 @@ ghost use Rattle.rk_build.specs.Imported.{holding_of};
 ghost use Rattle.rk_build.specs.declared.holding.Holding.{Holding};
 
 /// A folder in which nothing is special holds just what is imported of it, only `.rkr` and what is below it
-/// hold odd names, and so it may become what a build leaves.
+/// hold odd names, and so it may become what a build leaves, also where its database is passed over.
 pub fn imported_holds()
-    ensures holds { (held : Held) → IsWhole held → first_special held ≡ None → Holds held (holding_of held) }
+    ensures holds { (held : Held) → IsWhole held → first_special held ≡ None → Holds held (holding_of false held) }
     ensures odd { (held : Held) → IsWhole held → first_special held ≡ None → list_all (λ dir. is_within hidden_dir dir) held.odd ≡ true }
-    ensures becomes { (held : Held) (after : Holding) → IsWhole held → first_special held ≡ None → IsBuilt after → MayBecome held (holding_of held) after }
+    ensures becomes { (fresh : Bool) (held : Held) (after : Holding) → IsWhole held → first_special held ≡ None → IsBuilt after → MayBecome held (holding_of fresh held) after }
 {}

@@ -1,6 +1,6 @@
 // What the state files keep.
-ghost use Rattle.std.specs.Prelude.{◌≡◌, None, if◌then◌else◌};
-ghost use Rattle.rk_build.specs.Kept.{decoded, ReadsAttrs, ReadsDb, ReadsState};
+ghost use Rattle.std.specs.Prelude.{◌≡◌};
+ghost use Rattle.rk_build.specs.Kept.{ReadsAttrs, ReadsDb, ReadsState};
 ghost use Rattle.rk_build.specs.declared.stop.Refusal.TheVariants as refusal;
 ghost use Rattle.rk_build.specs.declared.stop.Stop.TheVariants as stop;
 
@@ -52,21 +52,11 @@ pub fn table_in(alloc: Global, db: &Option<Bytes>) -> Result<Table, Stop>
     }
 }
 
-// The records of the database; none, and it isn't decoded, where the build begins afresh.
-fn old_table(alloc: Global, fresh: bool, db: &Option<Bytes>) -> Result<Table, Stop>
-    ensures { ReadsDb (if fresh then None else db.now) result }
-{
-    if fresh {
-        return Ok(Table::new(alloc));
-    }
-    table_in(alloc, db)
-}
-
-/// Reads the state files that are decoded, attrs before the database, and gives what they keep.
-pub(crate) fn kept(alloc: Global, fresh: bool, state: &State) -> Result<KeptState, Stop>
-    ensures { ReadsState (decoded fresh state.now) result }
+/// Decodes the state files that were read, attrs before the database, and gives what they keep.
+pub(crate) fn kept(alloc: Global, state: &State) -> Result<KeptState, Stop>
+    ensures { ReadsState state.now result }
 {
     let attrs = attrs_in(alloc, &state.attrs)?;
-    let old = old_table(alloc, fresh, &state.db)?;
+    let old = table_in(alloc, &state.db)?;
     Ok(KeptState { attrs, old })
 }

@@ -1,14 +1,14 @@
 // The plan that leads from what a folder holds to what it is to hold.
-ghost use Rattle.std.specs.Prelude.{◌≡◌, [], true, ◌++◌, IfOk, OnOk, reverse, option_copied};
+ghost use Rattle.std.specs.Prelude.{◌≡◌, [], ◌++◌, IfOk, OnOk, reverse, option_copied};
 ghost use Rattle.std.specs.List.{filter_map};
 ghost use Rattle.std.specs.FinMap.{entries};
-ghost use Rattle.rk_base.specs.Canonical.{is_canonical};
 ghost use Rattle.rk_folder.specs.Told.{is_file, is_dir};
-ghost use Rattle.rk_build.specs.Holdings.{placed, hidden_dir, attrs_file, db_file, Agree};
+ghost use Rattle.rk_build.specs.Holdings.{placed, Agree};
 ghost use Rattle.rk_build.specs.Planned.{removal, making, writing, removal_of, making_of, writing_of, hidden_making, attrs_calls, db_calls, planned, is_file_of, is_bytes, state_writing, AreAllowed, LeadTo, AreNeeded};
 
 use crate::{Holding, Op, Plan};
-use rk_base::{Bytes, NoMemory, Path, PathFault};
+use rk_base::{Bytes, NoMemory, Path};
+use rk_folder::{attrs_file, db_file, hidden_dir};
 use rk_tree::{Entry, Node, Snapshot};
 use std::alloc::Global;
 
@@ -141,39 +141,6 @@ fn add_writings(ops: &mut Vec<Op>, before: &Snapshot, after: &Snapshot) -> Resul
         }
     }
     Ok(())
-}
-
-// The path of a canonical text.
-fn path_of(alloc: Global, text: &[u8]) -> Result<Path, NoMemory>
-    requires { is_canonical text.now ≡ true }
-    ensures { IfOk result (λ path. path ≡ text.now) }
-{
-    match Path::parse(alloc, text) {
-        Ok(path) => Ok(path),
-        Err(PathFault::NoMemory) => Err(NoMemory),
-        Err(PathFault::Invalid) => unreachable!(),
-    }
-}
-
-#[tactic(auto, unfolding(rk_base::specs::Text::join))]
-fn hidden_dir(alloc: Global) -> Result<Path, NoMemory>
-    ensures { IfOk result (λ path. path ≡ hidden_dir) }
-{
-    path_of(alloc, b"/.rkr")
-}
-
-#[tactic(auto, unfolding(rk_base::specs::Text::join))]
-fn attrs_file(alloc: Global) -> Result<Path, NoMemory>
-    ensures { IfOk result (λ path. path ≡ attrs_file) }
-{
-    path_of(alloc, b"/.rkr/attrs")
-}
-
-#[tactic(auto, unfolding(rk_base::specs::Text::join))]
-fn db_file(alloc: Global) -> Result<Path, NoMemory>
-    ensures { IfOk result (λ path. path ≡ db_file) }
-{
-    path_of(alloc, b"/.rkr/db")
 }
 
 fn is_bytes(bytes: &Bytes, before: &Option<Bytes>) -> bool

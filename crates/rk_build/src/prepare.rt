@@ -1,5 +1,7 @@
 // What is to be done once the script has run.
-ghost use Rattle.std.specs.Prelude.{◌≡◌, ◌+◌, ◌<◌, ◌≤◌, ◌^◌, IfOk, IfSome, OnOk, length, option_copied};
+ghost use Rattle.std.specs.Prelude.{◌≡◌, ◌+◌, ◌<◌, ◌≤◌, IfOk, IfSome, OnOk, length, option_copied};
+ghost use Rattle.rk_folder.specs.Looks.{LooksFew, looks};
+ghost use Rattle.rk_folder.specs.Told.{longest_file};
 ghost use Rattle.rk_tree.specs.Entries.{IsWholeSnapshot};
 ghost use Rattle.rk_build.specs.Attributes.{attrs_of};
 ghost use Rattle.rk_build.specs.Holdings.{IsBuilt};
@@ -9,9 +11,8 @@ ghost use Rattle.tr_codec.specs.Sound.{IsSound};
 ghost use Rattle.tr_codec.specs.Reads.{IsSealed};
 ghost use Rattle.tr_codec.specs.Spelling.{db_spelling};
 ghost use Rattle.rk_words.specs.Asked.{is_fresh, turns};
-ghost use Rattle.rk_build.specs.Kept.{decoded};
 ghost use Rattle.rk_build.specs.Stages.{StartsSo, PreparesSo, ReadsCounted, Steadily};
-ghost use Rattle.rk_build.specs.Fresh.{IsInMemory, attrs_bytes, held_after};
+ghost use Rattle.rk_build.specs.Fresh.{IsReadable, attrs_bytes, held_after};
 
 use crate::attributes::attrs_of;
 use crate::checked::check_old;
@@ -19,13 +20,12 @@ use crate::explain::error_text;
 use crate::found::{Found, find};
 use crate::holding::Holding;
 use crate::ops::Plan;
-use crate::options::is_fresh;
 use crate::planning::plan;
 use crate::run::{Finished, run};
 use crate::stop::Stop;
 use rk_base::{Bytes, NoMemory, Steps};
 use rk_calls::Maker;
-use rk_folder::{Folder, State};
+use rk_folder::{Folder, LONGEST_FILE, State};
 use rk_tree::Snapshot;
 use rk_words::Request;
 use std::alloc::Global;
@@ -42,46 +42,45 @@ pub(crate) struct Prepared {
     pub error_text: Bytes,
 }
 
+// A state file that no build would read again isn't made.
+fn readable(bytes: Bytes) -> Result<Bytes, NoMemory>
+    ensures same { IfOk result (λ it. it ≡ bytes) }
+    ensures readable { IfOk result (λ it. length it ≤ longest_file) }
+{
+    if bytes.len() as u64 > LONGEST_FILE {
+        return Err(NoMemory);
+    }
+    Ok(bytes)
+}
+
 // attrs as it is to stand beside these entries; nothing where they have no rows.
 fn attrs_bytes(alloc: Global, entries: &Snapshot) -> Result<Option<Bytes>, NoMemory>
     requires { IsWholeSnapshot entries.now }
     ensures bytes { IfOk result (λ bytes. bytes ≡ attrs_bytes (attrs_of entries.now)) }
-    ensures memory { IfOk result IsInMemory }
+    ensures readable { IfOk result IsReadable }
 {
     let attrs = attrs_of(alloc, entries)?;
     match attrs.as_slice() {
         [] => Ok(None),
         [_, ..] => {
-            let bytes = write_attrs(alloc, &attrs)?;
+            let bytes = readable(write_attrs(alloc, &attrs)?)?;
             Ok(Some(bytes))
         }
     }
 }
 
-// The bytes of a database that was decoded.
-fn decoded_db<'a>(request: &Request, state: &'a State) -> Option<&'a Bytes>
-    ensures { option_copied result ≡ (decoded (is_fresh request.now) state.now).db }
-{
-    if is_fresh(request) {
-        return None;
-    }
-    match &state.db {
-        None => None,
-        Some(bytes) => Some(bytes),
-    }
-}
-
-// db as it is to stand. Where it is just what was decoded, its digest isn't computed again.
+// db as it is to stand. Where it is just what was read, its digest isn't computed again.
 fn db_bytes(alloc: Global, table: &Table, was: Option<&Bytes>) -> Result<Bytes, NoMemory>
     requires { IfSome (option_copied was) IsSealed }
     ensures bytes { IfOk result (λ bytes. bytes ≡ db_spelling table.now) }
     ensures fits { OnOk result (AllByRecursion IsSound table.now → Fits table.now) }
-    ensures memory { IfOk result (λ bytes. length bytes < 2 ^ 64) }
+    ensures readable { IfOk result (λ bytes. length bytes ≤ longest_file) }
 {
-    match was {
-        None => write_db(alloc, table),
-        Some(bytes) => write_db_as(alloc, table, bytes),
-    }
+    let bytes = match was {
+        None => write_db(alloc, table)?,
+        Some(bytes) => write_db_as(alloc, table, bytes)?,
+    };
+    readable(bytes)
 }
 
 // What the folder is to hold after the run, where these were the bytes of the database.
@@ -89,7 +88,7 @@ fn held_after(alloc: Global, finished: &Finished, was: Option<&Bytes>) -> Result
     requires { IfSome (option_copied was) IsSealed }
     ensures holding { IfOk result (λ holding. holding ≡ held_after finished.now.world finished.now.table) }
     ensures built { IfOk result IsBuilt }
-    ensures memory { IfOk result (λ holding. IsInMemory holding.state.attrs × IsInMemory holding.state.db) }
+    ensures readable { IfOk result (λ holding. IsReadable holding.state.attrs × IsReadable holding.state.db) }
     ensures fits { OnOk result (AllByRecursion IsSound finished.now.table → Fits finished.now.table) }
 {
     let entries = finished.world.snapshot()?;
@@ -117,6 +116,7 @@ pub(crate) fn prepare<M: Maker, F: Folder, L: Ledger>(
     requires { 0 < turns request.now }
     ensures held { F.told folder.new ≡ F.told folder.old }
     ensures writes { F.write_faults folder.new ≡ F.write_faults folder.old }
+    ensures looks { LooksFew (F.told folder.old) (looks (is_fresh request.now) (F.reach folder.old)) (F.schedule folder.old) (F.schedule folder.new) }
     ensures reads { ReadsCounted (F.read_faults folder.old) (F.read_faults folder.new) result }
     ensures memory { OnOk result (F.memory_failures folder.new ≡ F.memory_failures folder.old) }
     ensures steady { Steadily (F.steady folder.old) (F.steady folder.new) result }
@@ -132,7 +132,7 @@ pub(crate) fn prepare<M: Maker, F: Folder, L: Ledger>(
     } = find(alloc, request, folder)?;
     check_old(maker, request, &old)?;
     let finished = run(alloc, maker, request, &before.entries, &attrs, &old, live)?;
-    let after = held_after(alloc, &finished, decoded_db(request, &before.state))?;
+    let after = held_after(alloc, &finished, before.state.db.as_ref())?;
     let plan = plan(alloc, &before, &after)?;
     let error_text = error_text(alloc, request, &finished)?;
     Ok(Prepared {

@@ -1,32 +1,13 @@
 // The database, removed.
-ghost use Rattle.std.specs.Prelude.{◌≡◌, true, IfOk};
-ghost use Rattle.rk_folder.specs.Hidden as paths;
+ghost use Rattle.std.specs.Prelude.{◌≡◌, true};
 ghost use Rattle.rk_folder.specs.Schedule.{MakesCalls};
 ghost use Rattle.rk_database.specs.Answers.{EitherCounted, Forgets, IsNoFault, ReadsCounted, SaysNone};
 
 use crate::database::database_stands;
 use crate::output::say_none;
 use crate::stop::{Said, Stop};
-use rk_base::{NoMemory, Path};
-use rk_folder::{Folder, FolderErr, Sink};
+use rk_folder::{Folder, FolderErr, Sink, db_file};
 use std::alloc::Global;
-
-fn path_of(alloc: Global, text: &[u8]) -> Result<Path, NoMemory>
-    ensures { IfOk result (λ path. path ≡ text.now) }
-{
-    match Path::parse(alloc, text) {
-        Ok(path) => Ok(path),
-        Err(_) => Err(NoMemory),
-    }
-}
-
-/// The path of the database.
-pub fn db_file(alloc: Global) -> Result<Path, NoMemory>
-    ensures { IfOk result (λ path. path ≡ paths.db_file) }
-{
-    let path = path_of(alloc, b"/.rkr/db")?;
-    Ok(path)
-}
 
 /// Removes the folder's database, and leaves all else; or puts `no trace` on the output where there is no database. No file is
 /// read: the root and `.rkr` are listed, and the database is removed.

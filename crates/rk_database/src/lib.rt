@@ -10,6 +10,6 @@ mod showing;
 mod stop;
 
 pub use checking::check;
-pub use forgetting::{db_file, forget};
+pub use forgetting::forget;
 pub use showing::trace;
 pub use stop::{Said, Stop};

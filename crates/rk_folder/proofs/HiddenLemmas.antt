@@ -1,5 +1,5 @@
 -- The first special within the hidden directory.
-use Rattle.std.proofs.Common.{◌≡◌, ◌⊎◌, inl, inr, Bool, true, false, ◌&&◌, ◌||◌, Option, Some, None, refl, sym, ap, ◌∙◌, cond}
+use Rattle.std.proofs.Common.{◌≡◌, ◌⊎◌, inl, inr, [], ◌∷◌, Bool, true, false, ◌&&◌, ◌||◌, Option, Some, None, refl, sym, ap, ◌∙◌, cond}
 use Rattle.std.specs.Str.{is_utf8, chars}
 use lib.Utf8.{encode}
 use Rattle.rk_base.specs.Text.{Text, root, hidden, join, is_within, same_text}
@@ -31,6 +31,20 @@ attrs-named = refl
 pub db-named : is_name db_name ≡ true
 unfolding is_name is_utf8 chars encode
 db-named = refl
+
+-- as texts
+
+pub hidden_text-canonical : is_canonical (47 ∷ 46 ∷ 114 ∷ 107 ∷ 114 ∷ []) ≡ true
+unfolding is_canonical is_name is_utf8 chars encode
+hidden_text-canonical = refl
+
+pub attrs_text-canonical : is_canonical (47 ∷ 46 ∷ 114 ∷ 107 ∷ 114 ∷ 47 ∷ 97 ∷ 116 ∷ 116 ∷ 114 ∷ 115 ∷ []) ≡ true
+unfolding is_canonical is_name is_utf8 chars encode
+attrs_text-canonical = refl
+
+pub db_text-canonical : is_canonical (47 ∷ 46 ∷ 114 ∷ 107 ∷ 114 ∷ 47 ∷ 100 ∷ 98 ∷ []) ≡ true
+unfolding is_canonical is_name is_utf8 chars encode
+db_text-canonical = refl
 
 pub hidden-canonical : is_canonical hidden_dir ≡ true
 hidden-canonical = join-canonical root hidden root-canonical hidden-is_name

@@ -13,7 +13,7 @@ use Rattle.rk_folder.specs.Whole.{IsWhole, TellsWhole}
 use Rattle.rk_folder.specs.Hidden.{hidden_dir, attrs_name, db_name}
 use Rattle.rk_folder.specs.Listing.{IsFirst}
 use Rattle.rk_folder.specs.Specials.{is_fault, first_special, state_special, hidden_fault, hidden_special}
-use Rattle.rk_folder.specs.Import.{Tells, has_database, snapshot_of, state_of}
+use Rattle.rk_folder.specs.Import.{Tells, has_database, hidden_read, read_state, snapshot_of, state_of}
 use Rattle.rk_folder.specs.Steps.{ListsRoot, agrees, is_dir_item, is_odd_item, item_named, first_within, first_fault, special_in, with_within, with_items, nothing_special, root_entry}
 use Rattle.rk_folder.specs.declared.hidden_files.Hidden.{Hidden}
 use Rattle.rk_folder.specs.declared.folder.Item.{Item}
@@ -71,13 +71,18 @@ item_dir (Some Special) = refl
 dir_by : (held : Held) (items : List Item) (b : Bool) → IsWhole held → items ≡ items_of held root → b ≡ is_dir_item (item_named hidden items) → is_dir (standing held hidden_dir) ≡ b
 dir_by held items b whole listed is = sym (is ∙ ap is_dir_item (hidden_item held items whole listed) ∙ item_dir (standing held hidden_dir))
 
-pub told-no_state_files : (told : Option Held) (items : List Item) (b : Bool) (s : Hidden) → TellsWhole told → ListsRoot told items → IfSome told (λ held. hidden_special held ≡ None) → b ≡ is_dir_item (item_named hidden items) → b ≡ false → s ≡ found false None None
-    → IfSome told (λ held. (nothing_special held ≡ None) × (s ≡ state_of held))
-told-no_state_files None items b s whole listed plain is out at = tt
-told-no_state_files (Some held) items b s whole listed plain is out at =
+-- nothing is read where nothing stands
+none-read : (skips_db : Bool) (held : Held) → found false None None ≡ state_of held → found false None None ≡ hidden_read skips_db held
+none-read false held is = is
+none-read true held is = ap (λ (it : Hidden). record { rkr = it.rkr; state = read_state true it.state }) is
+
+pub told-no_state_files : (told : Option Held) (items : List Item) (skips_db b : Bool) (s : Hidden) → TellsWhole told → ListsRoot told items → IfSome told (λ held. hidden_special held ≡ None) → b ≡ is_dir_item (item_named hidden items) → b ≡ false → s ≡ found false None None
+    → IfSome told (λ held. (nothing_special held ≡ None) × (s ≡ hidden_read skips_db held))
+told-no_state_files None items skips_db b s whole listed plain is out at = tt
+told-no_state_files (Some held) items skips_db b s whole listed plain is out at =
     let gone : standing held hidden_dir ≡ None = no_dir (standing held hidden_dir) (state_special held) (dir_by held items b whole listed is ∙ out) plain in (
       refl,
-      at ∙ found_is held false None None (ap is_dir gone) (ap bytes_in (nothing_below held db_name whole db-named gone)) (ap bytes_in (nothing_below held attrs_name whole attrs-named gone)),
+      at ∙ none-read skips_db held (found_is held false None None (ap is_dir gone) (ap bytes_in (nothing_below held db_name whole db-named gone)) (ap bytes_in (nothing_below held attrs_name whole attrs-named gone))),
     )
 
 pub told-state_dir : (told : Option Held) (items : List Item) (b : Bool) → TellsWhole told → ListsRoot told items → b ≡ is_dir_item (item_named hidden items) → b ≡ true → IfSome told (λ held. standing held hidden_dir ≡ Some Dir)

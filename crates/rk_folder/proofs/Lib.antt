@@ -5,6 +5,7 @@ pub mod HeldLemmas
 pub mod HiddenLemmas
 pub mod ImportLemmas
 pub mod ListingLemmas
+pub mod LooksLemmas
 pub mod OrderLemmas
 pub mod ReadingLemmas
 pub mod SnapshotLemmas

@@ -17,6 +17,7 @@ use Rattle.rk_folder.specs.declared.folder.Standing.TheVariants.{File, Dir, Spec
 use Rattle.rk_folder.specs.declared.importing.ImportErr.{ImportErr}
 use Rattle.rk_folder.specs.declared.importing.ImportErr.TheVariants as err
 use Rattle.rk_folder.specs.declared.hidden_files.Hidden.{Hidden}
+use Rattle.rk_folder.specs.declared.hidden_files.State.{State}
 
 -- a file and a directory have their default modes, 0644 and 0755
 abbrev pub entry_of : Standing → Option Entry
@@ -37,6 +38,14 @@ state_of held = record {
   rkr = is_dir (standing held hidden_dir);
   state = record { db = bytes_in (standing held db_file); attrs = bytes_in (standing held attrs_file) };
 }
+
+-- the state files that are read: all of them, or all but the database
+abbrev pub read_state : Bool → State → State
+read_state skips_db state = record { db = if skips_db then None else state.db; attrs = state.attrs }
+
+-- whether `.rkr` stands, and the bytes of the state files that are read
+abbrev pub hidden_read : Bool → Held → Hidden
+hidden_read skips_db held = record { rkr = (state_of held).rkr; state = read_state skips_db (state_of held).state }
 
 -- whether a database stands
 abbrev pub has_database : Held → Bool

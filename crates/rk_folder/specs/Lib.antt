@@ -4,6 +4,7 @@ pub mod Counts
 pub mod Hidden
 pub mod Import
 pub mod Listing
+pub mod Looks
 pub mod Memory
 pub mod Schedule
 pub mod Sinks

@@ -1,5 +1,5 @@
 -- What a folder holds: what stands at each path, and the directories that hold a name which is none.
-use Rattle.std.specs.Prelude.{ℕ, max, List, Bool, true, false, not, ◌&&◌, [], ◌∷◌, ◌++◌, if◌then◌else◌, Option, Some, None}
+use Rattle.std.specs.Prelude.{ℕ, ◌^◌, max, List, Bool, true, false, not, ◌&&◌, [], ◌∷◌, ◌++◌, if◌then◌else◌, Option, Some, None}
 use Rattle.std.specs.FinMap.{FinMap, empty, entries, get, insert, remove}
 use Rattle.std.specs.List.{filter_map, list_any}
 use Rattle.rk_base.specs.Text.{Text, text_cmp, root, depth, parent, is_in, is_root, name_of, same_text}
@@ -15,6 +15,10 @@ Places = FinMap text_cmp Standing
 pub record Held : Type 0 where
   pub places : Places
   pub odd : List Text
+
+-- a folder reads no file of more bytes
+abbrev pub longest_file : ℕ
+longest_file = 2 ^ 32
 
 abbrev pub standing : Held → Text → Option Standing
 standing held path = get held.places path

@@ -70,6 +70,9 @@ impl<T: Drop> From<AllocFailed<T>> for FolderErr {
     }
 }
 
+/// A folder reads no file of more bytes than this.
+pub const LONGEST_FILE: u64 = 1 << 32;
+
 /// Files and directories that are listed, read and changed.
 ///
 /// A call that what the folder holds doesn't allow is `Failed` and is no fault. Every other

@@ -1,8 +1,9 @@
 // The hidden directory and its state files.
-ghost use Rattle.std.specs.Prelude.{◌≡◌, IfOk};
+ghost use Rattle.std.specs.Prelude.{◌≡◌, IfOk, true};
+ghost use Rattle.rk_base.specs.Canonical.{is_canonical};
 ghost use Rattle.rk_folder.specs.Hidden as paths;
 
-use rk_base::{Bytes, NoMemory, Path};
+use rk_base::{Bytes, NoMemory, Path, PathFault};
 use std::alloc::Global;
 
 /// The bytes of the state files that stand.
@@ -25,32 +26,38 @@ pub(crate) const ATTRS: &[u8] = b"attrs";
 
 pub(crate) const DB: &[u8] = b"db";
 
+// The path of a canonical text.
 fn path_of(alloc: Global, text: &[u8]) -> Result<Path, NoMemory>
+    requires { is_canonical text.now ≡ true }
     ensures { IfOk result (λ p. p ≡ text.now) }
 {
     match Path::parse(alloc, text) {
         Ok(path) => Ok(path),
-        Err(_) => Err(NoMemory),
+        Err(PathFault::NoMemory) => Err(NoMemory),
+        Err(PathFault::Invalid) => unreachable!(),
     }
 }
 
-pub(crate) fn hidden_dir(alloc: Global) -> Result<Path, NoMemory>
+/// The path of the directory that keeps what a build remembers, `/.rkr`.
+#[tactic(auto, unfolding(rk_base::specs::Text::join))]
+pub fn hidden_dir(alloc: Global) -> Result<Path, NoMemory>
     ensures { IfOk result (λ p. p ≡ paths.hidden_dir) }
 {
-    let path = path_of(alloc, b"/.rkr")?;
-    Ok(path)
+    path_of(alloc, b"/.rkr")
 }
 
-pub(crate) fn attrs_file(alloc: Global) -> Result<Path, NoMemory>
+/// The path of the file of attributes, `/.rkr/attrs`.
+#[tactic(auto, unfolding(rk_base::specs::Text::join))]
+pub fn attrs_file(alloc: Global) -> Result<Path, NoMemory>
     ensures { IfOk result (λ p. p ≡ paths.attrs_file) }
 {
-    let path = path_of(alloc, b"/.rkr/attrs")?;
-    Ok(path)
+    path_of(alloc, b"/.rkr/attrs")
 }
 
-pub(crate) fn db_file(alloc: Global) -> Result<Path, NoMemory>
+/// The path of the database, `/.rkr/db`.
+#[tactic(auto, unfolding(rk_base::specs::Text::join))]
+pub fn db_file(alloc: Global) -> Result<Path, NoMemory>
     ensures { IfOk result (λ p. p ≡ paths.db_file) }
 {
-    let path = path_of(alloc, b"/.rkr/db")?;
-    Ok(path)
+    path_of(alloc, b"/.rkr/db")
 }

@@ -2,7 +2,8 @@
 ghost use Rattle.std.specs.Prelude.{◌≡◌, IfOk};
 ghost use Rattle.rk_tree.specs.Entries.{IsWholeSnapshot};
 ghost use Rattle.rk_folder.specs.Specials.{first_special};
-ghost use Rattle.rk_folder.specs.Import.{Tells, ReadCaused, MemoryCounted, ReadSteadily, snapshot_of, state_of};
+ghost use Rattle.rk_folder.specs.Looks.{LooksFew, looks};
+ghost use Rattle.rk_folder.specs.Import.{Tells, ReadCaused, MemoryCounted, ReadSteadily, hidden_read, snapshot_of};
 
 use crate::importing::{entries_listed, list};
 use crate::state_files::state_listed;
@@ -22,9 +23,14 @@ pub struct Imported {
 /// The files and directories of a folder outside `.rkr`, a file with the mode 0644 and a directory with
 /// 0755, and the state files. Each directory is listed once, and each file read once: name by name,
 /// ascending, a directory's contents before the next name, and the state files last. What is special is
-/// told where it is met.
-pub fn import<F: Folder>(alloc: Global, folder: &mut F) -> Result<Imported, ImportErr>
-    ensures told { Tells (F.told folder.old) first_special (λ held it. (it.entries ≡ snapshot_of held) × (it.hidden ≡ state_of held)) result }
+/// told where it is met. Where the database is passed over it is looked at by the listing of `.rkr` alone,
+/// however large it is, and told as absent.
+pub fn import<F: Folder>(
+    alloc: Global,
+    folder: &mut F,
+    skips_db: bool,
+) -> Result<Imported, ImportErr>
+    ensures told { Tells (F.told folder.old) first_special (λ held it. (it.entries ≡ snapshot_of held) × (it.hidden ≡ hidden_read skips_db held)) result }
     ensures whole { IfOk result (λ it. IsWholeSnapshot it.entries) }
 
     // A read fault comes only where the count of them rose.
@@ -38,9 +44,14 @@ pub fn import<F: Folder>(alloc: Global, folder: &mut F) -> Result<Imported, Impo
 
     ensures held { F.told folder.new ≡ F.told folder.old }
     ensures writes { F.write_faults folder.new ≡ F.write_faults folder.old }
+
+    // A folder that counts its calls is asked no more than a listing of each directory, a read of each file and of the
+    // state files that aren't passed over.
+    ensures looks { LooksFew (F.told folder.old) (looks skips_db (F.reach folder.old)) (F.schedule folder.old) (F.schedule folder.new) }
+    ensures reach { F.reach folder.new ≡ F.reach folder.old }
 {
     let items = list(alloc, folder, &Path::root(alloc)?)?;
     let entries = entries_listed(alloc, folder, &items)?;
-    let hidden = state_listed(alloc, folder, &items)?;
+    let hidden = state_listed(alloc, folder, &items, skips_db)?;
     Ok(Imported { entries, hidden })
 }

@@ -14,8 +14,8 @@ mod specials;
 mod state_files;
 
 pub use attributes::{rows_apply, tree_of};
-pub use folder::{Folder, FolderErr, Got, Item, Standing};
-pub use hidden_files::{Hidden, State};
+pub use folder::{Folder, FolderErr, Got, Item, LONGEST_FILE, Standing};
+pub use hidden_files::{Hidden, State, attrs_file, db_file, hidden_dir};
 pub use imported::{Imported, import};
 pub use importing::ImportErr;
 pub use memory::{Change, MemFolder};

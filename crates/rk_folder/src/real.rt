@@ -3,7 +3,7 @@ ghost use Rattle.std.specs.Prelude.{◌≡◌, ◌≤◌, None, OnOk, IsOk, true
 ghost use Rattle.rk_base.specs.Text.{depth};
 ghost use Rattle.rk_folder.specs.Calls.{Caused, MemoryCaused};
 
-use crate::{Folder, FolderErr, Got, Item};
+use crate::{Folder, FolderErr, Got, Item, LONGEST_FILE};
 use rk_base::{Bytes, Name, Path, PathFault};
 use std::alloc::Global;
 use std::fs::{File, Files, Permissions};
@@ -24,9 +24,6 @@ const LONGEST_PIECE: usize = 1 << 20;
 
 /// A listing is about so long.
 const LISTING: usize = 1 << 12;
-
-/// A file has at most so many bytes.
-const LONGEST: u64 = 1 << 32;
 
 /// The folder below one directory. Links, devices and the like are special, and a file name that
 /// is no name is odd.
@@ -59,7 +56,7 @@ fn all_bytes(alloc: Global, reader: &mut impl Read, about: usize) -> io::Result<
             return Ok(bytes);
         }
         bytes.extend_from_slice(&piece[..n])?;
-        if bytes.len() as u64 > LONGEST {
+        if bytes.len() as u64 > LONGEST_FILE {
             break;
         }
     }
@@ -75,7 +72,7 @@ fn is_absent(e: &io::Error) -> bool {
 fn content(rt: &impl Files, alloc: Global, place: &str) -> io::Result<Got> {
     match fs::symlink_metadata(rt, place) {
         Ok(it) if !it.is_file() => Err(io::Error::from(ErrorKind::InvalidInput)),
-        Ok(it) if it.len() > LONGEST => Err(io::Error::from(ErrorKind::FileTooLarge)),
+        Ok(it) if it.len() > LONGEST_FILE => Err(io::Error::from(ErrorKind::FileTooLarge)),
         Ok(it) => {
             let mut file = File::open(rt, place)?;
             let bytes = all_bytes(alloc, &mut file, it.len() as usize)?;

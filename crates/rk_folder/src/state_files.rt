@@ -5,7 +5,8 @@ ghost use Rattle.rk_folder.specs.Hidden.{hidden_dir};
 ghost use Rattle.rk_folder.specs.declared.folder.Standing.TheVariants.{Dir};
 ghost use Rattle.rk_folder.specs.Specials.{hidden_special, state_special};
 ghost use Rattle.rk_folder.specs.Steps.{ListsRoot, is_dir_item, nothing_special};
-ghost use Rattle.rk_folder.specs.Import.{Tells, ReadCaused, MemoryCounted, ReadSteadily, has_database, state_of};
+ghost use Rattle.rk_folder.specs.Import.{Tells, ReadCaused, MemoryCounted, ReadSteadily, has_database, hidden_read, state_of};
+ghost use Rattle.rk_folder.specs.Looks.{LooksFew, state_looks, state_reads};
 ghost use Rattle.rk_folder.specs.Schedule.{MakesCalls};
 
 use crate::hidden_files::{HIDDEN, attrs_file, db_file, hidden_dir};
@@ -30,19 +31,23 @@ fn is_dir(item: Option<&Item>) -> bool
     matches!(item, Some(Item::Dir(_)))
 }
 
-// Reads the state files in `.rkr`, which is a directory.
-fn state_read<F: Folder>(alloc: Global, folder: &mut F) -> Result<Hidden, ImportErr>
+// Reads the state files in `.rkr`, which is a directory; the database only where it isn't passed over.
+fn state_read<F: Folder>(alloc: Global, folder: &mut F, skips_db: bool) -> Result<Hidden, ImportErr>
     requires dir { IfSome (F.told folder.old) (λ held. standing held hidden_dir ≡ Some Dir) }
     requires plain { IfSome (F.told folder.old) (λ held. state_special held ≡ None) }
-    ensures told { Tells (F.told folder.old) nothing_special (λ held s. s ≡ state_of held) result }
+    ensures told { Tells (F.told folder.old) nothing_special (λ held s. s ≡ hidden_read skips_db held) result }
     ensures cause { ReadCaused (F.read_faults folder.old) (F.read_faults folder.new) result }
     ensures memory { MemoryCounted (F.memory_failures folder.old) (F.memory_failures folder.new) result }
     ensures steady { ReadSteadily (F.steady folder.old) (F.steady folder.new) result }
     ensures held { F.told folder.new ≡ F.told folder.old }
     ensures writes { F.write_faults folder.new ≡ F.write_faults folder.old }
-    ensures calls { MakesCalls 2 (F.schedule folder.old) (F.schedule folder.new) }
+    ensures reach { F.reach folder.new ≡ F.reach folder.old }
+    ensures calls { MakesCalls (state_reads skips_db) (F.schedule folder.old) (F.schedule folder.new) }
 {
     let attrs = bytes_of(alloc, folder, &attrs_file(alloc)?)?;
+    if skips_db {
+        return Ok(found(true, None, attrs));
+    }
     let db = bytes_of(alloc, folder, &db_file(alloc)?)?;
     Ok(found(true, db, attrs))
 }
@@ -72,26 +77,30 @@ fn look_at_hidden<F: Folder>(
     }
 }
 
-/// Whether `.rkr` stands, and its state files, by what is listed in the root, where none of them is special.
+/// Whether `.rkr` stands, and its state files, by what is listed in the root, where none of them is special. The
+/// database is read only where it isn't passed over.
 pub(crate) fn state_listed<F: Folder>(
     alloc: Global,
     folder: &mut F,
     items: &[Item],
+    skips_db: bool,
 ) -> Result<Hidden, ImportErr>
     requires listed { ListsRoot (F.told folder.old) items.now }
     requires plain { IfSome (F.told folder.old) (λ held. hidden_special held ≡ None) }
-    ensures told { Tells (F.told folder.old) nothing_special (λ held s. s ≡ state_of held) result }
+    ensures told { Tells (F.told folder.old) nothing_special (λ held s. s ≡ hidden_read skips_db held) result }
     ensures cause { ReadCaused (F.read_faults folder.old) (F.read_faults folder.new) result }
     ensures memory { MemoryCounted (F.memory_failures folder.old) (F.memory_failures folder.new) result }
     ensures steady { ReadSteadily (F.steady folder.old) (F.steady folder.new) result }
     ensures held { F.told folder.new ≡ F.told folder.old }
     ensures writes { F.write_faults folder.new ≡ F.write_faults folder.old }
+    ensures reach { F.reach folder.new ≡ F.reach folder.old }
     ensures calls { MakesCalls 2 (F.schedule folder.old) (F.schedule folder.new) }
+    ensures looks { LooksFew (F.told folder.old) (state_looks skips_db) (F.schedule folder.old) (F.schedule folder.new) }
 {
     if !is_dir(named(items, HIDDEN)) {
         return Ok(found(false, None, None));
     }
-    let hidden = state_read(alloc, folder)?;
+    let hidden = state_read(alloc, folder, skips_db)?;
     Ok(hidden)
 }
 
@@ -111,7 +120,7 @@ pub fn state<F: Folder>(alloc: Global, folder: &mut F) -> Result<Hidden, ImportE
 {
     let items = list(alloc, folder, &Path::root(alloc)?)?;
     let _listed = look_at_hidden(alloc, folder, &items)?;
-    let hidden = state_listed(alloc, folder, &items)?;
+    let hidden = state_listed(alloc, folder, &items, false)?;
     Ok(hidden)
 }
 

@@ -152,8 +152,12 @@ fn imported_shown(alloc: Global, found: &Imported) -> Result<String, NoMemory> {
     Ok(out)
 }
 
-fn import_step<F: Folder>(alloc: Global, folder: &mut F) -> Result<String, NoMemory> {
-    match import(alloc, folder) {
+fn import_step<F: Folder>(
+    alloc: Global,
+    folder: &mut F,
+    skips_db: bool,
+) -> Result<String, NoMemory> {
+    match import(alloc, folder, skips_db) {
         Ok(found) => imported_shown(alloc, &found),
         Err(e) => not_imported(alloc, e),
     }
@@ -203,7 +207,8 @@ pub(crate) fn folder_step<F: Folder>(
     words: &[Vec<u8>],
 ) -> Result<String, NoMemory> {
     match text(words, 0) {
-        "import" => return import_step(alloc, folder),
+        "import" => return import_step(alloc, folder, false),
+        "import-but-db" => return import_step(alloc, folder, true),
         "state" => return state_step(alloc, folder),
         _ => {}
     }
@@ -390,7 +395,7 @@ impl Held {
 
     // The tree of the folder with the rows, and the rows that keep what of it the folder doesn't.
     fn grown(&mut self, attrs: &Attrs) -> Result<String, NoMemory> {
-        match import(self.alloc, &mut self.folder) {
+        match import(self.alloc, &mut self.folder, false) {
             Ok(found) => tree_shown(self.alloc, &tree_step(self.alloc, found, attrs)?),
             Err(e) => not_imported(self.alloc, e),
         }

@@ -1,8 +1,10 @@
-use Rattle.std.proofs.Common.{◌∙◌, ap, option_map}
+use Rattle.std.proofs.Common.{◌∙◌, ap, arith, option_map, refl}
 use Rattle.std.proofs.lemmas.Result.{err_from_is_err_and}
 use Rattle.rk_build.specs.Changes.{after_all}
 use Rattle.rk_build.specs.Fresh.{output_of, error_text_of}
 use Rattle.rk_build.proofs.BuildLemmas.{put-gains, put-gains-errors, put-order, put-starts, install-starts, install-leaves-now, install-gains, install-gains-errors, end-gains, end-leaves, end-status, end-checked, end-tally, text-told, output-told, error_text-told}
+use Rattle.rk_folder.proofs.CallsLemmas.{makes-none}
+use Rattle.rk_build.proofs.CallsLemmas.{asks-all, install-asks, prepare-asks, put-asks, end-asks}
 use Rattle.rk_build.proofs.build.build.Goals as goal
 
 pub returns-in_err-put_texts-clause-output : goal.returns-in_err-put_texts-clause-output
@@ -71,3 +73,23 @@ pub returns-in_err-carry_out-clause-starts : goal.returns-in_err-carry_out-claus
 returns-in_err-carry_out-clause-starts g c =
     let p = err_from_is_err_and c.from_residual-in_err-carry_out.result c.from_residual-in_err-carry_out.ensures.1 in
     rw (p.1, p.2) (install-starts g.M.Maker.first c.args.request.now _ _ _ _ _ _ _ _ c.in_ok-finished.field-0 _ c.in_ok-finished.ensures.prepares.0 c.in_err-carry_out.ensures.held c.in_ok-finished.ensures.few c.in_ok-finished.ensures.starts)
+
+pub returns-in_err-finished-clause-calls : goal.returns-in_err-finished-clause-calls
+returns-in_err-finished-clause-calls g c =
+    let p = err_from_is_err_and c.from_residual.result c.from_residual.ensures.1 in
+    rw (p.1, p.2) (prepare-asks g.M.Maker.first c.args.request.now (g.F.Folder.reach c.args.folder.now) (g.F.Folder.told c.args.folder.now) _ _ _ _ _ c.in_err-finished.ensures.prepares c.prepare.ensures.looks)
+
+pub returns-in_err-put_texts-clause-calls : goal.returns-in_err-put_texts-clause-calls
+returns-in_err-put_texts-clause-calls g c =
+    let p = err_from_is_err_and c.from_residual-in_err-put_texts.result c.from_residual-in_err-put_texts.ensures.1 in
+    rw (p.1, p.2) (put-asks g.M.Maker.first c.args.request.now (g.F.Folder.reach c.args.folder.now) (g.F.Folder.told c.args.folder.now) _ _ _ _ _ _ c.in_err-put_texts.ensures.output (asks-all g.M.Maker.first c.args.request.now (g.F.Folder.reach c.args.folder.now) (g.F.Folder.told c.args.folder.now) _ _ 0 c.in_ok-finished.field-0 _ _ _ c.in_ok-finished.ensures.prepares.0 c.prepare.ensures.looks (omega arith) (makes-none 0 _ _ refl)))
+
+pub returns-in_err-carry_out-clause-calls : goal.returns-in_err-carry_out-clause-calls
+returns-in_err-carry_out-clause-calls g c =
+    let p = err_from_is_err_and c.from_residual-in_err-carry_out.result c.from_residual-in_err-carry_out.ensures.1 in
+    rw (p.1, p.2) (install-asks g.M.Maker.first c.args.request.now (g.F.Folder.reach c.args.folder.now) (g.F.Folder.told c.args.folder.now) _ _ _ _ _ _ c.in_err-carry_out.ensures.held (asks-all g.M.Maker.first c.args.request.now (g.F.Folder.reach c.args.folder.now) (g.F.Folder.told c.args.folder.now) _ _ _ c.in_ok-finished.field-0 _ _ _ c.in_ok-finished.ensures.prepares.0 c.prepare.ensures.looks (omega arith) c.carry_out.ensures.calls))
+
+pub returns-clause-calls : goal.returns-clause-calls
+returns-clause-calls g c =
+    end-asks g.M.Maker.first c.args.request.now (g.F.Folder.reach c.args.folder.now) (g.F.Folder.told c.args.folder.now) _ _ _ _ _
+    (asks-all g.M.Maker.first c.args.request.now (g.F.Folder.reach c.args.folder.now) (g.F.Folder.told c.args.folder.now) _ _ _ c.in_ok-finished.field-0 _ _ _ c.in_ok-finished.ensures.prepares.0 c.prepare.ensures.looks (omega arith) c.carry_out.ensures.calls)

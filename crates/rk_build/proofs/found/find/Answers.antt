@@ -1,21 +1,20 @@
-use Rattle.std.proofs.Common.{Bool, Ok, subst}
-use Rattle.rk_build.specs.Kept.{ReadsState, decoded}
 use Rattle.std.proofs.lemmas.Result.{err_from_is_err_and}
-use Rattle.rk_build.proofs.FoundLemmas.{look-stops, kept-stops-so, kept-sealed, is_found}
+use Rattle.rk_build.proofs.FoundLemmas.{look-stops-so, kept-stops-so, kept-sealed, is_found}
 use Rattle.rk_build.proofs.found.find.Goals as goal
 
 pub returns-in_err-holding-clause-finds : goal.returns-in_err-holding-clause-finds
 returns-in_err-holding-clause-finds g c =
     let p = err_from_is_err_and c.from_residual.result c.from_residual.ensures.1 in
-    rw (p.1, p.2) (look-stops c.args.request.now _ _ c.in_err-holding.ensures.look)
+    rw (p.1, p.2) (look-stops-so c.args.request.now _ _ c.is_fresh.result c.is_fresh.ensures c.in_err-holding.ensures.look)
 
 pub returns-in_err-attrs-clause-finds : goal.returns-in_err-attrs-clause-finds
 returns-in_err-attrs-clause-finds g c =
     let p = err_from_is_err_and c.from_residual-in_err-attrs.result c.from_residual-in_err-attrs.ensures.1 in
-    rw (p.1, p.2) (kept-stops-so c.args.request.now _ c.in_ok-holding.holding _ c.is_fresh.result c.in_ok-holding.ensures.look c.is_fresh.ensures c.in_err-attrs.ensures)
+    rw (p.1, p.2) (kept-stops-so c.args.request.now _ c.in_ok-holding.holding _ c.is_fresh.result c.is_fresh.ensures c.in_ok-holding.ensures.look c.in_err-attrs.ensures)
 
 pub returns-clause-finds : goal.returns-clause-finds
-returns-clause-finds g c = is_found c.args.request.now _ (record { holding = c.in_ok-holding.holding; attrs = c.in_ok-attrs.field-0.attrs; old = c.in_ok-attrs.field-0.old }) c.in_ok-holding.ensures.look (subst (λ (b : Bool). ReadsState (decoded b c.in_ok-holding.holding.state) (Ok (record { attrs = c.in_ok-attrs.field-0.attrs; old = c.in_ok-attrs.field-0.old }))) c.is_fresh.ensures c.in_ok-attrs.ensures)
+returns-clause-finds g c =
+    is_found c.args.request.now _ (record { holding = c.in_ok-holding.holding; attrs = c.in_ok-attrs.field-0.attrs; old = c.in_ok-attrs.field-0.old }) c.is_fresh.result c.is_fresh.ensures c.in_ok-holding.ensures.look c.in_ok-attrs.ensures
 
 pub returns-clause-sealed : goal.returns-clause-sealed
-returns-clause-sealed g c = kept-sealed c.is_fresh.result _ c.in_ok-holding.holding.state _ c.is_fresh.ensures c.in_ok-attrs.ensures
+returns-clause-sealed g c = kept-sealed c.in_ok-holding.holding.state _ c.in_ok-attrs.ensures

@@ -9,4 +9,4 @@ pub returns-clause-odd : goal.returns-clause-odd
 returns-clause-odd c = odd-within
 
 pub returns-clause-becomes : goal.returns-clause-becomes
-returns-clause-becomes c = λ held after whole plain built. may_become-imported held whole plain after built
+returns-clause-becomes c = λ fresh held after whole plain built. may_become-imported held whole plain fresh after built

@@ -1,14 +1,9 @@
-use Rattle.std.proofs.Common.{Option, IfSome, length, refl, subst, sym}
-use Rattle.rk_base.specs.Text.{Text}
-use Rattle.tr_codec.specs.Reads.{IsSealed}
+use Rattle.std.proofs.Common.{length, refl}
 use Rattle.rk_build.specs.declared.prepare.Prepared.{Prepared}
 use Rattle.std.proofs.lemmas.Result.{err_from_is_err_and}
 use Rattle.rk_build.proofs.CheckLemmas.{both-cut, check-no-fault, check-reads, check-starts, find-starts, run-starts, starts-both}
 use Rattle.rk_build.proofs.PrepareLemmas.{check-stops, find-stops, run-stops, is_prepared}
 use Rattle.rk_build.proofs.prepare.prepare.Goals as goal
-
-pub held_after-requires : goal.held_after-requires
-held_after-requires g c = subst (λ (db : Option Text). IfSome db IsSealed) (sym c.decoded_db.ensures) c.in_ok-before.ensures.sealed
 
 pub returns-in_err-before-clause-prepares : goal.returns-in_err-before-clause-prepares
 returns-in_err-before-clause-prepares g c =
@@ -23,7 +18,7 @@ returns-in_err-finished-clause-prepares g c =
 pub returns-clause-prepares : goal.returns-clause-prepares
 returns-clause-prepares g c =
     is_prepared g.M.Maker.first c.args.request.now _ c.in_ok-before.field-0 c.in_ok-after.after _ _ c.in_ok-finished.finished c.in_ok-plan.plan c.in_ok-error_text.error_text (g.met.F.Folder.whole c.args.folder.now)
-    c.in_ok-before.ensures.finds c.in_ok-check_old.ensures.checked c.in_ok-finished.ensures.runs c.run.ensures.at_most c.in_ok-after.ensures.holding c.in_ok-after.ensures.built c.in_ok-after.ensures.memory c.in_ok-after.ensures.fits
+    c.in_ok-before.ensures.finds c.in_ok-check_old.ensures.checked c.in_ok-finished.ensures.runs c.run.ensures.at_most c.in_ok-after.ensures.holding c.in_ok-after.ensures.built c.in_ok-after.ensures.readable c.in_ok-after.ensures.fits
     c.in_ok-plan.ensures.planned c.in_ok-plan.ensures.allowed c.in_ok-plan.ensures.leads c.in_ok-error_text.ensures
 
 pub returns-in_err-plan-clause-reads : goal.returns-in_err-plan-clause-reads

@@ -1,6 +1,5 @@
-use Rattle.rk_base.specs.Text.{join}
+use Rattle.rk_folder.proofs.HiddenLemmas.{attrs_text-canonical}
 use Rattle.rk_folder.proofs.hidden_files.attrs_file.Goals as goal
 
-pub returns : goal.returns
-unfolding join
-returns c = c.in_ok-path.ensures
+pub path_of-requires : goal.path_of-requires
+path_of-requires c = attrs_text-canonical

@@ -1,4 +1,9 @@
-use Rattle.std.proofs.Common.{List, rules, refl, ap, ◌∙◌}
+use Rattle.std.proofs.Common.{◌≡◌, ℕ, ◌+◌, ◌-◌, suc, List, rules, refl, ap, subst, ◌∙◌, arith}
+use Rattle.rk_base.specs.Text.{depth}
+use Rattle.rk_folder.specs.Looks.{LooksFew, item_looks, looks_within}
+use Rattle.rk_folder.specs.Told.{Held}
+use Rattle.rk_folder.proofs.LooksLemmas.{all-listed, all-taken, looks-next, looks-last}
+use Rattle.std.proofs.lemmas.Grind.{common_steps}
 use Rattle.std.specs.List.{list_any}
 use Rattle.rk_folder.specs.Steps.{is_odd_item}
 use Rattle.rk_folder.specs.declared.folder.Item.{Item}
@@ -68,3 +73,47 @@ pub take_dir-returns-clause-taken : goal.take_dir-returns-clause-taken
 take_dir-returns-clause-taken g t c =
     told-dir _ _ c.args.dir.now c.args.name.now c.in_ok-path.path c.in_ok-copy.field-0 c.args.snapshot.now c.lay.new.snapshot c.take_all.new.snapshot c.take_all.result refl c.requires.seen c.in_ok-path.ensures.dir c.in_ok-path.ensures.name c.requires.agrees c.in_ok-path.ensures.path c.in_ok-copy.ensures.copy
     (not_hidden c.in_ok-path.path c.args.dir.now c.args.name.now _ c.in_ok-path.ensures.path c.is_hidden.ensures c.if-is_hidden.false) c.in_ok-lay.ensures c.take_all.ensures.taken
+
+pub take_all-returns-in_err-items-clause-looks : goal.take_all-returns-in_err-items-clause-looks
+take_all-returns-in_err-items-clause-looks g t c =
+    all-listed (g.F.Folder.told c.args.folder.now) (g.F.Folder.reach c.args.folder.now + 1 - depth c.args.dir.now) c.args.dir.now _ _ c.list.ensures.calls
+
+pub take_all-returns-in_err-copy-clause-looks : goal.take_all-returns-in_err-copy-clause-looks
+take_all-returns-in_err-copy-clause-looks g t c =
+    all-listed (g.F.Folder.told c.args.folder.now) (g.F.Folder.reach c.args.folder.now + 1 - depth c.args.dir.now) c.args.dir.now _ _ c.list.ensures.calls
+
+pub take_all-returns-then-has_odd-clause-looks : goal.take_all-returns-then-has_odd-clause-looks
+take_all-returns-then-has_odd-clause-looks g t c =
+    all-listed (g.F.Folder.told c.args.folder.now) (g.F.Folder.reach c.args.folder.now + 1 - depth c.args.dir.now) c.args.dir.now _ _ c.list.ensures.calls
+
+pub take_all-returns-clause-looks : goal.take_all-returns-clause-looks
+take_all-returns-clause-looks g t c =
+    let deep : (g.F.Folder.reach c.args.folder.now + 1) - depth c.args.dir.now ≡ suc (g.F.Folder.reach c.list.new.folder - depth c.args.dir.now) = omega (arith, c.in_ok-items.ensures.within, c.in_ok-items.ensures.reach) in
+    all-taken (g.F.Folder.told c.args.folder.now) (g.F.Folder.told c.list.new.folder) _ _ c.args.dir.now c.in_ok-items.items.items c.deref-2.result.now _ _ _ c.in_ok-items.ensures.held c.in_ok-items.ensures.items c.deref-2.ensures.value deep c.in_ok-items.ensures.calls c.take_items.ensures.looks
+
+pub take_items-returns-in_err-take_item-clause-looks :
+    goal.take_items-returns-in_err-take_item-clause-looks
+take_items-returns-in_err-take_item-clause-looks g t c =
+    let cost : ℕ → Held → Item → ℕ = λ r held. item_looks (looks_within (r - depth c.args.dir.now) held) c.args.dir.now in
+    let calls = subst (λ (r : ℕ). LooksFew (g.F.Folder.told c.loop-item.folder) (λ held. cost r held c.item-item.result) (g.F.Folder.schedule c.loop-item.folder) (g.F.Folder.schedule c.take_item.new.folder)) c.loop-item.invariant.reach c.take_item.ensures.looks in
+    looks-last (g.F.Folder.told c.args.folder.now) (cost (g.F.Folder.reach c.args.folder.now)) _ c.args.items.now _ _
+    (looks-next (g.F.Folder.told c.args.folder.now) (g.F.Folder.told c.loop-item.folder) (cost (g.F.Folder.reach c.args.folder.now)) c.args.items.now c.loop-item.item-index c.item-item.result _ _ _ c.loop-item.invariant.held c.loop-item-test.true c.item-item.is c.loop-item.invariant.looks calls)
+
+pub take_items-loop-item-preserved : goal.take_items-loop-item-preserved
+take_items-loop-item-preserved g t c =
+    let cost : ℕ → Held → Item → ℕ = λ r held. item_looks (looks_within (r - depth c.args.dir.now) held) c.args.dir.now in
+    let calls = subst (λ (r : ℕ). LooksFew (g.F.Folder.told c.loop-item.folder) (λ held. cost r held c.item-item.result) (g.F.Folder.schedule c.loop-item.folder) (g.F.Folder.schedule c.take_item.new.folder)) c.loop-item.invariant.reach c.take_item.ensures.looks in
+    record {
+      held = search rules;
+      reads = search rules;
+      memory = search rules;
+      steady = search rules;
+      writes = search rules;
+      reach = search rules;
+      agree = grind (arith, common_steps);
+      fault = grind (arith, common_steps);
+      whole = search rules;
+      placed = search rules;
+      looks = looks-next (g.F.Folder.told c.args.folder.now) (g.F.Folder.told c.loop-item.folder) (cost (g.F.Folder.reach c.args.folder.now)) c.args.items.now c.loop-item.item-index c.item-item.result _ _ _ c.loop-item.invariant.held c.loop-item-test.true c.item-item.is c.loop-item.invariant.looks calls;
+      same = grind (arith, common_steps);
+    }

@@ -3,6 +3,8 @@ use Rattle.std.specs.List.{list_all}
 use Rattle.std.specs.FinMap.{get}
 use Rattle.rk_base.specs.Text.{depth}
 use Rattle.rk_tree.specs.Entries.{IsWholeSnapshot, is_dir}
+use Rattle.rk_folder.specs.Looks.{item_looks, looks_within}
+use Rattle.rk_folder.proofs.LooksLemmas.{LooksSoFar}
 use Rattle.rk_folder.specs.Steps.{MayCall, agrees, first_fault, special_in, with_items}
 use Rattle.rk_folder.proofs.importing.+descent.Given as goal
 
@@ -31,5 +33,6 @@ invariant-take_items-loop-item g l = record {
   fault : IfSome (g.F.Folder.told l.fn.folder) (λ held. first_fault (special_in held l.dir) (drop l.item-index l.items) ≡ first_fault (special_in held l.dir) l.items);
   whole : IsWholeSnapshot l.snapshot;
   placed : is_dir (get l.snapshot l.dir) ≡ true;
+  looks : IfSome (g.F.Folder.told l.fn.folder) (λ held. LooksSoFar (item_looks (looks_within (g.F.Folder.reach l.fn.folder - depth l.dir) held) l.dir) (drop l.item-index l.items) l.items (g.F.Folder.schedule l.fn.folder) (g.F.Folder.schedule l.folder));
   same : IfSome (g.F.Folder.told l.fn.folder) (λ held. with_items held l.dir l.snapshot (drop l.item-index l.items) ≡ with_items held l.dir l.fn.snapshot l.items);
 }

@@ -1,4 +1,5 @@
-use Rattle.std.proofs.Common.{arith, ap, refl}
+use Rattle.std.proofs.Common.{◌≡◌, ◌-◌, arith, ap, refl}
+use Rattle.rk_folder.proofs.LooksLemmas.{root-part}
 use Rattle.rk_base.specs.Text.{depth}
 use Rattle.rk_folder.proofs.ImportLemmas.{root-depth, told-agree_root, told-odd_root, told-entries, told-no_entries}
 use Rattle.rk_folder.proofs.importing.entries_listed.Goals as goal
@@ -19,3 +20,13 @@ returns-in-Ok-clause-told g c =
 pub returns-clause-told : goal.returns-clause-told
 returns-clause-told g c =
     told-no_entries _ _ c.in_ok-root.root c.args.items.now c.has_odd.result c.in_ok-entries.entries c.take_items.new.snapshot c.in-Err.e refl (g.met.F.Folder.whole c.args.folder.now) c.in_ok-root.ensures c.requires c.in_ok-entries.ensures.entry c.has_odd.ensures c.if-has_odd.false c.in-Err.ensures.taken
+
+pub returns-in-Ok-clause-looks : goal.returns-in-Ok-clause-looks
+returns-in-Ok-clause-looks g c =
+    let deep : g.F.Folder.reach c.args.folder.now - depth c.in_ok-root.root ≡ g.F.Folder.reach c.args.folder.now = omega (arith, ap depth c.in_ok-root.ensures, root-depth) in
+    root-part (g.F.Folder.told c.args.folder.now) (g.F.Folder.told c.args.folder.now) _ (g.F.Folder.reach c.args.folder.now) c.in_ok-root.root c.args.items.now _ _ refl c.in_ok-root.ensures deep c.take_items.ensures.looks
+
+pub returns-clause-looks : goal.returns-clause-looks
+returns-clause-looks g c =
+    let deep : g.F.Folder.reach c.args.folder.now - depth c.in_ok-root.root ≡ g.F.Folder.reach c.args.folder.now = omega (arith, ap depth c.in_ok-root.ensures, root-depth) in
+    root-part (g.F.Folder.told c.args.folder.now) (g.F.Folder.told c.args.folder.now) _ (g.F.Folder.reach c.args.folder.now) c.in_ok-root.root c.args.items.now _ _ refl c.in_ok-root.ensures deep c.take_items.ensures.looks

@@ -1,5 +1,0 @@
-use Rattle.rk_build.proofs.HiddenLemmas.{db_text-canonical}
-use Rattle.rk_build.proofs.planning.db_file.Goals as goal
-
-pub path_of-requires : goal.path_of-requires
-path_of-requires c = db_text-canonical

@@ -1,0 +1,40 @@
+-- What a build asks of a folder that tells what it holds and counts its calls.
+use Rattle.std.specs.Prelude.{◌⊎◌, ◌+◌, ℕ, List, length, Option, IfSome}
+use Rattle.rk_calls.specs.Keys.{KeyValue}
+use Rattle.rk_calls.specs.Talk.{Says}
+use Rattle.rk_folder.specs.Looks.{LooksFew, looks}
+use Rattle.rk_folder.specs.Schedule.{Schedule, MakesCalls}
+use Rattle.rk_folder.specs.Told.{Held}
+use Rattle.rk_kernel.specs.World.{World}
+use Rattle.rk_runs.specs.Spoken.{AreSpoken}
+use Rattle.rk_tree.specs.Entries.{Entries}
+use Rattle.tr_record.specs.declared.records.Record.{Record}
+use Rattle.rk_words.specs.Asked.{is_fresh}
+use Rattle.rk_words.specs.declared.requests.Request.{Request}
+use Rattle.rk_build.specs.Fresh.{held_after}
+use Rattle.rk_build.specs.Imported.{holding_of}
+use Rattle.rk_build.specs.Kept.{Keeping}
+use Rattle.rk_build.specs.Outcomes.{IsLeft}
+use Rattle.rk_build.specs.Planned.{planned}
+use Rattle.rk_build.specs.Run.{fresh_run}
+use Rattle.rk_build.specs.declared.outcome.Outcome.{Outcome}
+use Rattle.rk_build.specs.declared.outcome.Outcome.TheVariants as out
+
+-- Whatever the records: no more calls than it takes to look at it and to lead to what a run left. Over spoken records that is
+-- what the fresh run leaves.
+pub record AsksPlan (first : KeyValue → Says) (request : Request) (reach : ℕ) (entries : Entries) (old : List Record) (held : Held) (before now : Option Schedule) : Type 0 where
+  pub world : World
+  pub table : List Record
+  pub is_left : AreSpoken first old → IsLeft (fresh_run first request entries) world table
+  pub calls : MakesCalls (looks (is_fresh request) reach held + length (planned (holding_of (is_fresh request) held) (held_after world table))) before now
+
+abbrev pub AsksAll : (KeyValue → Says) → Request → ℕ → Option Held → Option Schedule → Option Schedule → Type 0
+AsksAll first request reach told before now =
+    IfSome told (λ held. Keeping (is_fresh request) held (λ entries old. AsksPlan first request reach entries old held before now))
+
+-- Over an outcome for which nothing is installed no more than it takes to look at it.
+unfoldable pub AsksSo : (KeyValue → Says) → Request → ℕ → Option Held → Option Schedule → Option Schedule → Outcome → Type 0
+AsksSo first request reach told before now (out.Ended status launched ran) = AsksAll first request reach told before now
+AsksSo first request reach told before now out.WriteFault = AsksAll first request reach told before now
+AsksSo first request reach told before now out.NoMemory = LooksFew told (looks (is_fresh request) reach) before now ⊎ AsksAll first request reach told before now
+AsksSo first request reach told before now other = LooksFew told (looks (is_fresh request) reach) before now
