@@ -47,8 +47,10 @@ fn needed(items: &[Item]) -> Option<u8>
 }
 
 impl Bre {
-    /// A byte that each match holds, where one is told: nothing is found in a line without it.
+    /// A byte that each match holds, where one is told: nothing is found in a line without it. It is the last plain one
+    /// that the items can't do without.
     pub fn needed(&self) -> Option<u8>
+        ensures value { result ≡ needed (expression self.now).items }
         ensures held { IfSome result (IsHeld (expression self.now)) }
         ensures needed { IfSome result (IsNeeded (expression self.now)) }
     {

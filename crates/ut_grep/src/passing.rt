@@ -1,7 +1,7 @@
 // Lines that are passed, since they lack a byte.
 ghost use Rattle.std.specs.Prelude.{◌≡◌, ◌+◌, ◌<◌, ◌≤◌, ◌++◌, ◌∷◌, [], length, take, drop, IfOk, IfSome, MatchOption};
 ghost use Rattle.ut_filter.specs.Lines.{lines_of, Lacks};
-ghost use Rattle.ut_grep.specs.Passing.{IsNeeded, NoneSelected, SameNumber};
+ghost use Rattle.ut_grep.specs.Passing.{needed_in, IsNeeded, NoneSelected, SameNumber};
 ghost use Rattle.ut_grep.specs.Values.{grep_value};
 
 use crate::grep::Grep;
@@ -43,7 +43,8 @@ impl Grep {
     /// A byte that each selected line has, where one is told.
     // Depth: one level, to the method of its one pattern.
     pub(crate) fn needed(&self) -> Option<u8>
-        ensures { IfSome result (IsNeeded (grep_value self.now)) }
+        ensures value { result ≡ needed_in (grep_value self.now) }
+        ensures needed { IfSome result (IsNeeded (grep_value self.now)) }
     {
         if self.manner.inverted {
             return None;

@@ -3,7 +3,7 @@ ghost use Rattle.std.specs.Prelude.{◌≡◌, IfOk, IfSome};
 ghost use Rattle.ut_bre.specs.Reading.{read_folded};
 ghost use Rattle.ut_grep.specs.Chosen.{basic_of, pattern_of, patterns_of};
 ghost use Rattle.ut_grep.specs.Greps.{folded, is_whole};
-ghost use Rattle.ut_grep.specs.Passing.{IsNeededBy};
+ghost use Rattle.ut_grep.specs.Passing.{needed_by, IsNeededBy};
 ghost use Rattle.ut_grep.specs.Patterns.{IsPattern, ArePatterns};
 ghost use Rattle.ut_grep.specs.Values.{pattern_value};
 
@@ -23,7 +23,8 @@ pub enum Pattern {
 impl Pattern {
     /// A byte that each line with this pattern has, where one is told.
     pub(crate) fn needed(&self) -> Option<u8>
-        ensures { IfSome result (IsNeededBy (pattern_value self.now)) }
+        ensures value { result ≡ needed_by (pattern_value self.now) }
+        ensures needed { IfSome result (IsNeededBy (pattern_value self.now)) }
     {
         match self {
             Pattern::Fixed(_) => None,

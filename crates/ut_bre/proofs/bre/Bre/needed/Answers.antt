@@ -7,5 +7,6 @@ use Rattle.ut_bre.proofs.bre.Bre.needed.Goals as goal
 
 pub returns : goal.returns
 returns c =
-    let held = is-held (expression c.args.self.now) c.needed.result (c.needed.ensures ∙ ap (λ xs. needed (trees_of xs)) c.as_slice.ensures.value) in
-    record { held = held; needed = is-needed (expression c.args.self.now) c.needed.result held }
+    let value = c.needed.ensures ∙ ap (λ xs. needed (trees_of xs)) c.as_slice.ensures.value in
+    let held = is-held (expression c.args.self.now) c.needed.result value in
+    record { value = value; held = held; needed = is-needed (expression c.args.self.now) c.needed.result held }
