@@ -14,3 +14,7 @@ pub mod StartLemmas
 pub mod SpellLemmas
 pub mod NeededLemmas
 pub mod Settled
+pub mod BackLemmas
+pub mod Mirrored
+pub mod Ended
+pub mod GroupLemmas

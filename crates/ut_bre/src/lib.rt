@@ -1,8 +1,10 @@
 //! Basic regular expressions (XBD 9.3): what a text reads as, and the leftmost longest match in a line.
 #![tactic(auto)]
 
+mod back;
 mod bracket;
 mod bre;
+mod ends;
 mod error;
 mod fault;
 mod find;
