@@ -4,7 +4,6 @@
 
 mod activity;
 mod build;
-mod costs;
 mod hearing;
 mod paying;
 mod ran;

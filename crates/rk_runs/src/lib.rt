@@ -8,6 +8,7 @@ mod difference;
 mod feeding;
 mod laws;
 mod purse;
+mod turns;
 
 pub use active::{Active, Frame, ask, join};
 pub use check::{CheckErr, check_record, check_with};
@@ -15,3 +16,4 @@ pub use difference::first_difference;
 pub use feeding::{Fed, FeedErr, feed};
 pub use laws::fresh_runs;
 pub use purse::pay;
+pub use turns::own;

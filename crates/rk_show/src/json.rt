@@ -8,8 +8,8 @@ ghost use Rattle.rk_show.specs.Json.{json_text, record_data, record_members, rec
 ghost use Rattle.rk_show.specs.Traces.{IsCounted};
 
 use crate::showing::shown;
-use crate::turns::own;
 use rk_base::{Bytes, NoMemory};
+use rk_runs::own;
 use serde_json::{Map, Value, put};
 use std::alloc::Global;
 use tr_record::Record;
@@ -21,7 +21,7 @@ fn text_value(alloc: Global, text: &[u8]) -> Result<Value, NoMemory>
     let shown = shown(alloc, text)?;
     // What is shown is ASCII.
     let Ok(shown) = str::from_utf8(shown.as_slice()) else {
-        return Err(NoMemory);
+        unreachable!()
     };
     let value = Value::try_from_str(alloc, shown)?;
     Ok(value)

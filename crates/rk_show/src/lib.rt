@@ -6,7 +6,6 @@ mod json;
 mod ran;
 mod showing;
 mod trace;
-mod turns;
 
 pub use json::trace_json;
 pub use ran::{Why, add_launched, add_ran};

@@ -5,8 +5,8 @@ ghost use Rattle.std.specs.List.{AllByRecursion};
 ghost use Rattle.rk_show.specs.Traces.{IsCounted, digest_line, digest_of, record_counts, record_head, record_line, record_lines, records_line, trace_text};
 
 use crate::command::{add_command, add_number};
-use crate::turns::own;
 use rk_base::{Bytes, NoMemory};
+use rk_runs::own;
 use std::alloc::Global;
 use tr_record::Record;
 

@@ -1,9 +1,10 @@
-// What records paid.
+// What a record paid.
 ghost use Rattle.std.specs.Prelude.{◌≡◌, ◌<◌, ◌^◌};
 ghost use Rattle.rk_runs.specs.Own.{own, steps_cost};
 
 use tr_record::{Record, Step};
 
+// What steps cost.
 fn steps_cost(steps: &[Step]) -> u64
     requires { steps_cost steps.now < 2 ^ 64 }
     ensures { result ≡ steps_cost steps.now }
@@ -15,8 +16,8 @@ fn steps_cost(steps: &[Step]) -> u64
     total
 }
 
-/// What a command paid, in turns.
-pub(crate) fn own(rec: &Record) -> u64
+/// What a command itself paid, in turns: its steps and its end.
+pub fn own(rec: &Record) -> u64
     requires { own rec.now < 2 ^ 64 }
     ensures { result ≡ own rec.now }
 {
