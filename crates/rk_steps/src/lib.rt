@@ -8,6 +8,7 @@ mod calls;
 mod escapes;
 mod keys;
 mod parts;
+mod programs;
 mod rows;
 mod seen;
 mod spelling;
@@ -21,6 +22,7 @@ pub use keys::{key_of, key_of_parts, key_shown, map_of};
 pub use parts::{
     name_list, name_of, names_shown, path_of, var_list, vars_shown, word_list, words_shown,
 };
-pub use rows::{Subject, Told, carried_out, subject_of};
+pub use programs::{Subjects, run_files, steps_of};
+pub use rows::{Subject, Told, subject_of};
 pub use seen::Seen;
 pub use words::{behind, flag, mode, number, number_shown, plain, text, word};
