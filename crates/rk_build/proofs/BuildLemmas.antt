@@ -16,8 +16,8 @@ use Rattle.rk_kernel.specs.World.{World}
 use Rattle.rk_replay.specs.declared.ran.Ran.{Ran}
 use Rattle.rk_runs.specs.Run.{Outcome as Run}
 use Rattle.rk_runs.specs.Spoken.{AreSpoken}
-use Rattle.rk_words.specs.Asked.{turns, is_fresh}
-use Rattle.rk_words.specs.declared.requests.Request.{Request}
+use Rattle.rk_request.specs.Asked.{turns, is_fresh}
+use Rattle.rk_request.specs.declared.requests.Request.{Request}
 use Rattle.rk_build.specs.Outcomes.{Checked, outcome_of_stop, IfSpecial, IfDamaged, IfForged, EndsSo, EndsWith, HasStatus, Tallies, IsLeft, RanSo, StartsBoth, Leaves, FolderCounts, PartlyInstalled, Tried, Halts, GainsAll, Gains, GainsErrors, InOrder, Counts, Counted, ErrorsCounted, Ticked}
 use Rattle.rk_build.specs.Stages.{PreparesSo, IsPrepared, ReadsCounted, WritesCounted, MemoryRose, InstallsSo, StartsSo}
 use Rattle.rk_build.specs.Telling.{SinkState, IsPut, IsCut, PutsLine, PutsOutput, PutsErrors, PutsInOrder}

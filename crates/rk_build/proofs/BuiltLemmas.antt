@@ -4,7 +4,7 @@ use Rattle.rk_build.specs.Outcomes.{outcome_of, IfEnded, IsNoFault, Started}
 use Rattle.rk_calls.specs.Keys.{KeyValue}
 use Rattle.rk_calls.specs.Talk.{Says}
 use Rattle.rk_folder.specs.Told.{Held}
-use Rattle.rk_words.specs.declared.requests.Request.{Request}
+use Rattle.rk_request.specs.declared.requests.Request.{Request}
 use Rattle.rk_build.specs.Stages.{StartsSo}
 use Rattle.rk_build.specs.Texts.{IsNoFault as IsNoStop}
 use Rattle.rk_build.specs.declared.build.Ended.{Ended}

@@ -7,8 +7,8 @@ use Rattle.rk_runs.specs.CheckLaws.{started-adds}
 use Rattle.rk_runs.specs.Started.{started, StartsSome}
 use Rattle.rk_folder.specs.Told.{Held}
 use Rattle.tr_record.specs.declared.records.Record.{Record}
-use Rattle.rk_words.specs.Asked.{checks, turns}
-use Rattle.rk_words.specs.declared.requests.Request.{Request}
+use Rattle.rk_request.specs.Asked.{checks, turns}
+use Rattle.rk_request.specs.declared.requests.Request.{Request}
 use Rattle.rk_tree.specs.Entries.{Entries}
 use Rattle.rk_build.specs.Checks.{ChecksSo, ChecksWhole, StartsChecked, checked_count}
 use Rattle.rk_replay.specs.Starts.{StartsRan, StartsUpTo}

@@ -9,8 +9,8 @@ use Rattle.rk_folder.specs.Told.{Held}
 use Rattle.rk_folder.specs.declared.hidden_files.State.{State}
 use Rattle.rk_build.specs.Imported.{holding_of}
 use Rattle.rk_build.specs.declared.holding.Holding.{Holding}
-use Rattle.rk_words.specs.declared.requests.Request.{Request}
-use Rattle.rk_words.specs.Asked.{is_fresh}
+use Rattle.rk_request.specs.declared.requests.Request.{Request}
+use Rattle.rk_request.specs.Asked.{is_fresh}
 use Rattle.rk_build.specs.Kept.{IsKept, ReadsState, Spells, state_in, decoded}
 use Rattle.rk_build.specs.Stages.{LooksSo, FindsSo}
 use Rattle.rk_build.specs.declared.found.Found.{Found}

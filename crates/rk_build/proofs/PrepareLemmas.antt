@@ -18,8 +18,8 @@ use Rattle.rk_build.proofs.ImportedLemmas.{may_become-imported}
 use Rattle.rk_runs.specs.Following.{never-wrong}
 use Rattle.tr_record.specs.Rec.{rec_at}
 use Rattle.tr_record.specs.declared.records.Record.{Record}
-use Rattle.rk_words.specs.Asked.{checks, is_fresh, turns}
-use Rattle.rk_words.specs.declared.requests.Request.{Request}
+use Rattle.rk_request.specs.Asked.{checks, is_fresh, turns}
+use Rattle.rk_request.specs.declared.requests.Request.{Request}
 use Rattle.rk_base.specs.Text.{Text}
 use Rattle.rk_build.specs.Checks.{ChecksSo, ChecksWhole, IsForged, checked_count}
 use Rattle.rk_build.specs.Explained.{explanation}

@@ -28,8 +28,8 @@ use Rattle.rk_replay.specs.Stops.{Stops}
 use Rattle.rk_replay.specs.declared.stop.Stop.{Stop}
 use Rattle.rk_replay.specs.declared.stop.Stop.TheVariants as stop
 use Rattle.rk_replay.specs.Script.{script_key}
-use Rattle.rk_words.specs.Asked.{turns}
-use Rattle.rk_words.specs.declared.requests.Request.{Request}
+use Rattle.rk_request.specs.Asked.{turns}
+use Rattle.rk_request.specs.declared.requests.Request.{Request}
 use Rattle.rk_build.specs.Run.{fresh_run}
 
 pub fresh_run-is : (first : KeyValue → Says) (request : Request) (entries : Entries) (key : KeyValue) (budget : Paid) (tree : Hierarchy) (world : World) (o : Outcome World) → budget.limit ≡ turns request → budget.used ≡ 0 → key ≡ script_key → tree ≡ tree_of entries → world ≡ fresh_of tree → fresh (game first answered) (left budget) key top_refs world ≡ o → fresh_run first request entries ≡ o

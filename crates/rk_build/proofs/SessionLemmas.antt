@@ -19,8 +19,8 @@ use Rattle.rk_runs.specs.Speaking.{fresh-spoken}
 use Rattle.rk_runs.specs.Spoken.{AreSpoken}
 use Rattle.rk_replay.specs.Script.{script_key}
 use Rattle.rk_tree.specs.Entries.{Entries}
-use Rattle.rk_words.specs.Asked.{turns}
-use Rattle.rk_words.specs.declared.requests.Request.{Request}
+use Rattle.rk_request.specs.Asked.{turns}
+use Rattle.rk_request.specs.declared.requests.Request.{Request}
 use Rattle.rk_build.specs.Kept.{AreRows, IsTable}
 use Rattle.rk_build.specs.Run.{fresh_run}
 use Rattle.rk_build.specs.Sessions.{Item, Edit, Build, Edits, Builds, Becomes, Session, IsWell}

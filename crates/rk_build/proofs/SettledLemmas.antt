@@ -18,8 +18,8 @@ use Rattle.rk_folder.specs.Attributes.{with_rows}
 use Rattle.rk_folder.specs.Import.{snapshot_of}
 use Rattle.rk_runs.specs.Spoken.{AreSpoken}
 use Rattle.rk_tree.specs.Entries.{Entries}
-use Rattle.rk_words.specs.Asked.{is_fresh}
-use Rattle.rk_words.specs.declared.requests.Request.{Request}
+use Rattle.rk_request.specs.Asked.{is_fresh}
+use Rattle.rk_request.specs.declared.requests.Request.{Request}
 use Rattle.rk_build.specs.Kept.{AreRows, IsTable, IsKept, IsDamagedAttrs, IsDamagedDb, IsDamaged, state_in, Keeping, Refuses, decoded}
 use Rattle.rk_build.specs.Checks.{IsForged, TellsForged}
 use Rattle.rk_build.specs.Run.{fresh_run}

@@ -4,10 +4,12 @@ use Rattle.rk_base.specs.Text.{Text}
 use Rattle.rk_calls.specs.Keys.{KeyValue}
 use Rattle.rk_calls.specs.Talk.{Says}
 use Rattle.rk_folder.specs.Counts.{Still}
+use Rattle.rk_folder.specs.Schedule.{Schedule}
 use Rattle.rk_folder.specs.Told.{Held}
 use Rattle.tr_codec.specs.declared.fault.Damage.{Damage}
 use Rattle.rk_build.specs.declared.outcome.StateFile.{StateFile}
-use Rattle.rk_words.specs.declared.requests.Request.{Request}
+use Rattle.rk_request.specs.declared.requests.Request.{Request}
+use Rattle.rk_build.specs.Calls.{AsksSo}
 use Rattle.rk_build.specs.Outcomes.{IfEnded, Leaves, FolderCounts, Gains, GainsErrors, GainsLine, InOrder, ErrorsCounted, Counts, Counted, AfterLine, Faults, Ticked, IsNoFault, Settles, IfSpecial, IfDamaged, IfForged}
 use Rattle.rk_build.specs.Telling.{SinkState, IsNamed, IsTold, Put, PutsLine, Tells}
 use Rattle.rk_build.specs.declared.outcome.Outcome.{Outcome}
@@ -33,6 +35,22 @@ unnamed-leaves first request told new b n out.NoMemory named l = l
 
 pub line-leaves : (first : KeyValue → Says) (request : Request) (told new : Option Held) (b n : FolderCounts) (outcome it : Outcome) → IsTold outcome it → Leaves first request told new b n outcome → Leaves first request told new b n it
 line-leaves first request told new b n outcome it t l = as_told (Leaves first request told new b n) outcome it t l (unnamed-leaves first request told new b n outcome)
+
+unnamed-asks : (first : KeyValue → Says) (request : Request) (reach : ℕ) (told : Option Held) (before now : Option Schedule) (outcome : Outcome) → IsNamed outcome → AsksSo first request reach told before now outcome → AsksSo first request reach told before now out.NoMemory
+unfolding AsksSo
+unnamed-asks first request reach told before now (out.Special path) named a = inl a
+unnamed-asks first request reach told before now (out.Damaged file damage) named a = inl a
+unnamed-asks first request reach told before now (out.Forged rec step) named a = inl a
+unnamed-asks first request reach told before now (out.Ended status launched ran) named a = absurd named
+unnamed-asks first request reach told before now out.Usage named a = absurd named
+unnamed-asks first request reach told before now (out.Said status) named a = absurd named
+unnamed-asks first request reach told before now out.Spent named a = absurd named
+unnamed-asks first request reach told before now out.ReadFault named a = absurd named
+unnamed-asks first request reach told before now out.WriteFault named a = absurd named
+unnamed-asks first request reach told before now out.NoMemory named a = a
+
+pub line-asks : (first : KeyValue → Says) (request : Request) (reach : ℕ) (told : Option Held) (before now : Option Schedule) (outcome it : Outcome) → IsTold outcome it → AsksSo first request reach told before now outcome → AsksSo first request reach told before now it
+line-asks first request reach told before now outcome it t a = as_told (AsksSo first request reach told before now) outcome it t a (unnamed-asks first request reach told before now outcome)
 
 unnamed-gains : (first : KeyValue → Says) (request : Request) (told : Option Held) (old new : SinkState) (outcome : Outcome) → IsNamed outcome → Gains first request told old new outcome → Gains first request told old new out.NoMemory
 unnamed-gains first request told old new (out.Special path) named g = inl g

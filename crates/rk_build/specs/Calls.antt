@@ -1,16 +1,17 @@
--- What a build asks of a folder that tells what it holds and counts its calls.
-use Rattle.std.specs.Prelude.{◌⊎◌, ◌+◌, ℕ, List, length, Option, IfSome}
+-- What a build asks of a folder that tells what it holds and keeps its calls.
+use Rattle.std.specs.Prelude.{◌⊎◌, ◌++◌, ℕ, List, Option, IfSome}
 use Rattle.rk_calls.specs.Keys.{KeyValue}
 use Rattle.rk_calls.specs.Talk.{Says}
-use Rattle.rk_folder.specs.Looks.{LooksFew, looks}
+use Rattle.rk_folder.specs.Looks.{LooksInOrder, looks}
 use Rattle.rk_folder.specs.Schedule.{Schedule, MakesCalls}
 use Rattle.rk_folder.specs.Told.{Held}
 use Rattle.rk_kernel.specs.World.{World}
 use Rattle.rk_runs.specs.Spoken.{AreSpoken}
 use Rattle.rk_tree.specs.Entries.{Entries}
 use Rattle.tr_record.specs.declared.records.Record.{Record}
-use Rattle.rk_words.specs.Asked.{is_fresh}
-use Rattle.rk_words.specs.declared.requests.Request.{Request}
+use Rattle.rk_request.specs.Asked.{is_fresh}
+use Rattle.rk_request.specs.declared.requests.Request.{Request}
+use Rattle.rk_build.specs.Changes.{calls_of}
 use Rattle.rk_build.specs.Fresh.{held_after}
 use Rattle.rk_build.specs.Imported.{holding_of}
 use Rattle.rk_build.specs.Kept.{Keeping}
@@ -20,21 +21,21 @@ use Rattle.rk_build.specs.Run.{fresh_run}
 use Rattle.rk_build.specs.declared.outcome.Outcome.{Outcome}
 use Rattle.rk_build.specs.declared.outcome.Outcome.TheVariants as out
 
--- Whatever the records: no more calls than it takes to look at it and to lead to what a run left. Over spoken records that is
--- what the fresh run leaves.
+-- Whatever the records: the calls of a look at it, and then those that lead to what a run left, each once at most, in this order,
+-- and no other. Over spoken records that is what the fresh run leaves.
 pub record AsksPlan (first : KeyValue → Says) (request : Request) (reach : ℕ) (entries : Entries) (old : List Record) (held : Held) (before now : Option Schedule) : Type 0 where
   pub world : World
   pub table : List Record
   pub is_left : AreSpoken first old → IsLeft (fresh_run first request entries) world table
-  pub calls : MakesCalls (looks (is_fresh request) reach held + length (planned (holding_of (is_fresh request) held) (held_after world table))) before now
+  pub calls : MakesCalls (looks (is_fresh request) reach held ++ calls_of (planned (holding_of (is_fresh request) held) (held_after world table))) before now
 
 abbrev pub AsksAll : (KeyValue → Says) → Request → ℕ → Option Held → Option Schedule → Option Schedule → Type 0
 AsksAll first request reach told before now =
     IfSome told (λ held. Keeping (is_fresh request) held (λ entries old. AsksPlan first request reach entries old held before now))
 
--- Over an outcome for which nothing is installed no more than it takes to look at it.
+-- Over an outcome for which nothing is installed it is looked at alone.
 unfoldable pub AsksSo : (KeyValue → Says) → Request → ℕ → Option Held → Option Schedule → Option Schedule → Outcome → Type 0
 AsksSo first request reach told before now (out.Ended status launched ran) = AsksAll first request reach told before now
 AsksSo first request reach told before now out.WriteFault = AsksAll first request reach told before now
-AsksSo first request reach told before now out.NoMemory = LooksFew told (looks (is_fresh request) reach) before now ⊎ AsksAll first request reach told before now
-AsksSo first request reach told before now other = LooksFew told (looks (is_fresh request) reach) before now
+AsksSo first request reach told before now out.NoMemory = LooksInOrder told (looks (is_fresh request) reach) before now ⊎ AsksAll first request reach told before now
+AsksSo first request reach told before now other = LooksInOrder told (looks (is_fresh request) reach) before now

@@ -1,10 +1,12 @@
 -- Calls that change a folder, one after another.
-use Rattle.std.specs.Prelude.{◌≡◌, ◌≢◌, ◌≤◌, ◌⊎◌, option_map, ℕ, List, [], ◌∷◌, Bool, true, Option, Some, None, IfSome, Result, Ok, Err}
+use Rattle.std.specs.Prelude.{◌≡◌, ◌≢◌, ◌⊎◌, option_map, map, ℕ, List, [], ◌∷◌, Bool, true, false, Option, Some, None, IfSome, Result, Ok, Err}
 use Rattle.rk_base.specs.Text.{Text}
 use Rattle.rk_folder.specs.Told.{Held, standing, can_write, can_make_dir, can_remove_file, can_remove_dir, with_standing, without}
 use Rattle.rk_folder.specs.Calls.{Damages}
 use Rattle.rk_folder.specs.Counts.{Rose}
-use Rattle.rk_folder.specs.Schedule.{Schedule, after_calls}
+use Rattle.rk_folder.specs.Schedule.{Schedule, after_call}
+use Rattle.rk_folder.specs.declared.folder.FolderCall.{FolderCall}
+use Rattle.rk_folder.specs.declared.folder.FolderCall.TheVariants as asks
 use Rattle.rk_folder.specs.declared.folder.Standing.{Standing}
 use Rattle.rk_folder.specs.declared.folder.Standing.TheVariants.{File, Dir}
 use Rattle.rk_build.specs.declared.ops.Op.{Op}
@@ -71,10 +73,36 @@ MemoryCaused before now (Ok it) = now ≡ before
 MemoryCaused before now (Err WriteFault) = now ≡ before
 MemoryCaused before now (Err NoMemory) = Rose before now
 
--- each call was made once; at an error one at least, and no more than all
-abbrev pub CountsCalls : {T : Type 0} → ℕ → Option Schedule → Option Schedule → Result T InstallErr → Type 0
-CountsCalls n before now (Ok it) = now ≡ option_map (after_calls n) before
-CountsCalls n before now (Err e) = (k : ℕ) × ((1 ≤ k) × (k ≤ n) × (now ≡ option_map (after_calls k) before))
+-- what it asks of the folder
+abbrev pub asked_by : Op → FolderCall
+asked_by (RemoveFile path) = asks.RemoveFile path
+asked_by (RemoveDir path) = asks.RemoveDir path
+asked_by (MakeDir path) = asks.MakeDir path
+asked_by (Write path bytes) = asks.Write path
+
+abbrev pub calls_of : List Op → List FolderCall
+calls_of ops = map asked_by ops
+
+-- a call was made, and is kept unless it had no memory
+abbrev pub IsAsked : {T : Type 0} → Op → Option Schedule → Option Schedule → Result T InstallErr → Type 0
+IsAsked op before now (Ok it) = now ≡ option_map (after_call (asked_by op, true)) before
+IsAsked op before now (Err WriteFault) = now ≡ option_map (after_call (asked_by op, true)) before
+IsAsked op before now (Err NoMemory) = (now ≡ option_map (after_call (asked_by op, true)) before) ⊎ (now ≡ option_map (after_call (asked_by op, false)) before)
+
+-- once each was made
+abbrev pub asked_all : List Op → Schedule → Schedule
+asked_all [] schedule = schedule
+asked_all (op ∷ ops) schedule = asked_all ops (after_call (asked_by op, true) schedule)
+
+-- once those up to one of them were made, of which the last is kept unless it had no memory
+abbrev pub StopsAt : List Op → Option Schedule → Option Schedule → Type 0
+StopsAt [] before now = ⊥
+StopsAt (op ∷ ops) before now = (now ≡ option_map (after_call (asked_by op, true)) before) ⊎ (now ≡ option_map (after_call (asked_by op, false)) before) ⊎ StopsAt ops (option_map (after_call (asked_by op, true)) before) now
+
+-- each call was made once, in their order; at an error up to the one that failed
+abbrev pub CallsInOrder : {T : Type 0} → List Op → Option Schedule → Option Schedule → Result T InstallErr → Type 0
+CallsInOrder ops before now (Ok it) = now ≡ option_map (asked_all ops) before
+CallsInOrder ops before now (Err e) = StopsAt ops before now
 
 abbrev pub IsNoFault : {T : Type 0} → Result T InstallErr → Type 0
 IsNoFault (Ok it) = Unit {0}

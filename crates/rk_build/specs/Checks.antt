@@ -6,8 +6,8 @@ use Rattle.rk_runs.specs.Started.{started, StartsSome}
 use Rattle.rk_runs.specs.Spoken.{AreSpoken, IsSpoken, IsWrongStep}
 use Rattle.tr_record.specs.Rec.{rec_at}
 use Rattle.tr_record.specs.declared.records.Record.{Record}
-use Rattle.rk_words.specs.Asked.{checks}
-use Rattle.rk_words.specs.declared.requests.Request.{Request}
+use Rattle.rk_request.specs.Asked.{checks}
+use Rattle.rk_request.specs.declared.requests.Request.{Request}
 use Rattle.rk_build.specs.declared.stop.Stop.{Stop}
 use Rattle.rk_build.specs.declared.stop.Stop.TheVariants as stop
 

@@ -8,8 +8,8 @@ use Rattle.rk_show.specs.declared.ran.Why.TheVariants as why
 use Rattle.rk_replay.specs.declared.ran.Cause.{Cause}
 use Rattle.rk_replay.specs.declared.ran.Cause.TheVariants.{NoRecord, Differs}
 use Rattle.rk_replay.specs.declared.ran.Ran.{Ran}
-use Rattle.rk_words.specs.Asked.{explains}
-use Rattle.rk_words.specs.declared.requests.Request.{Request}
+use Rattle.rk_request.specs.Asked.{explains}
+use Rattle.rk_request.specs.declared.requests.Request.{Request}
 
 -- why a command ran, as its line tells
 abbrev pub why_of : Cause → Why

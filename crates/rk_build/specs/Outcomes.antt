@@ -22,8 +22,8 @@ use Rattle.rk_runs.specs.Run.{Outcome as Run, Done, Spent}
 use Rattle.rk_runs.specs.Spoken.{AreSpoken}
 use Rattle.rk_replay.specs.Ran.{ran_total}
 use Rattle.rk_replay.specs.Starts.{StartsRan, StartsUpTo}
-use Rattle.rk_words.specs.Asked.{checks, is_fresh, turns}
-use Rattle.rk_words.specs.declared.requests.Request.{Request}
+use Rattle.rk_request.specs.Asked.{checks, is_fresh, turns}
+use Rattle.rk_request.specs.declared.requests.Request.{Request}
 use Rattle.rk_build.specs.Fresh.{AreReadable, RunText, output_of, error_text_of, held_after}
 use Rattle.rk_build.specs.Kept.{Keeping, Refuses}
 use Rattle.rk_build.specs.Checks.{ChecksWhole, TellsForged, checked_count}

@@ -11,8 +11,8 @@ use Rattle.rk_runs.specs.Run.{Outcome, Done, Spent, game, fresh}
 use Rattle.rk_runs.specs.Spoken.{AreSpoken}
 use Rattle.tr_codec.specs.Sound.{IsSound}
 use Rattle.std.specs.List.{AllByRecursion}
-use Rattle.rk_words.specs.Asked.{turns}
-use Rattle.rk_words.specs.declared.requests.Request.{Request}
+use Rattle.rk_request.specs.Asked.{turns}
+use Rattle.rk_request.specs.declared.requests.Request.{Request}
 use Rattle.rk_replay.specs.Ran.{ran_of, ran_total}
 use Rattle.rk_replay.specs.Script.{script_key}
 use Rattle.rk_replay.specs.Starts.{StartsRan, StartsUpTo}

@@ -16,8 +16,8 @@ use Rattle.rk_runs.specs.Run.{Outcome as Run, Done, Spent}
 use Rattle.rk_runs.specs.Spoken.{AreSpoken}
 use Rattle.rk_tree.specs.Copies.{snapshot_of as entries_of}
 use Rattle.rk_tree.specs.Entries.{IsWholeSnapshot}
-use Rattle.rk_words.specs.Asked.{is_fresh}
-use Rattle.rk_words.specs.declared.requests.Request.{Request}
+use Rattle.rk_request.specs.Asked.{is_fresh}
+use Rattle.rk_request.specs.declared.requests.Request.{Request}
 use Rattle.rk_build.specs.Fresh.{AreInMemory, held_after}
 use Rattle.rk_build.specs.Kept.{Keeping}
 use Rattle.rk_build.specs.Run.{fresh_run}

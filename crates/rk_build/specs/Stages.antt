@@ -22,8 +22,8 @@ use Rattle.tr_record.specs.declared.records.Record.{Record}
 use Rattle.rk_base.specs.Text.{Text}
 use Rattle.rk_runs.specs.Run.{Spent}
 use Rattle.rk_runs.specs.Spoken.{AreSpoken}
-use Rattle.rk_words.specs.Asked.{checks, is_fresh, turns}
-use Rattle.rk_words.specs.declared.requests.Request.{Request}
+use Rattle.rk_request.specs.Asked.{checks, is_fresh, turns}
+use Rattle.rk_request.specs.declared.requests.Request.{Request}
 use Rattle.rk_build.specs.Checks.{ChecksWhole, TellsForged}
 use Rattle.rk_build.specs.Run.{IsRun, fresh_run}
 use Rattle.rk_build.specs.Explained.{explanation}

@@ -2,8 +2,8 @@
 ghost use Rattle.std.specs.Prelude.{◌≡◌, ◌<◌, ◌≤◌, Ok, length, IfOk, true};
 ghost use Rattle.rk_build.specs.Calls.{AsksSo};
 ghost use Rattle.rk_folder.specs.Schedule.{MakesCalls};
-ghost use Rattle.rk_build.specs.Changes.{MayRun};
-ghost use Rattle.rk_words.specs.Asked.{turns};
+ghost use Rattle.rk_build.specs.Changes.{MayRun, calls_of};
+ghost use Rattle.rk_request.specs.Asked.{turns};
 ghost use Rattle.rk_build.specs.Outcomes.{Checked, outcome_of, Leaves, HasStatus, Tallies, Gains, GainsErrors, InOrder, ErrorsCounted, Counted, Ticked};
 ghost use Rattle.rk_build.specs.Stages.{StartsSo, InstallsSo, WritesCounted, MemoryRose, Steadily};
 ghost use Rattle.rk_build.specs.Texts.{IsNoFault};
@@ -17,7 +17,7 @@ use rk_base::Steps;
 use rk_calls::Maker;
 use rk_folder::{Folder, Sink};
 use rk_replay::RanList;
-use rk_words::Request;
+use rk_request::Request;
 use std::alloc::Global;
 use std::sync::ledger::Ledger;
 
@@ -37,7 +37,7 @@ fn carry_out<F: Folder>(alloc: Global, folder: &mut F, plan: &Plan) -> Result<()
     ensures memory { MemoryRose (F.memory_failures folder.old) (F.memory_failures folder.new) result }
     ensures steady { Steadily (F.steady folder.old) (F.steady folder.new) result }
     ensures reads { F.read_faults folder.new ≡ F.read_faults folder.old }
-    ensures calls { MakesCalls (length plan.now) (F.schedule folder.old) (F.schedule folder.new) }
+    ensures calls { MakesCalls (calls_of plan.now) (F.schedule folder.old) (F.schedule folder.new) }
 {
     match install(alloc, folder, plan) {
         Ok(()) => Ok(()),

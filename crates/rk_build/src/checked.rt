@@ -1,13 +1,13 @@
 // Every record, checked before the script runs.
 ghost use Rattle.std.specs.Prelude.{◌≡◌};
-ghost use Rattle.rk_words.specs.Asked.{checks};
+ghost use Rattle.rk_request.specs.Asked.{checks};
 ghost use Rattle.rk_build.specs.Checks.{ChecksSo, StartsChecked};
 
 use crate::options::checks;
 use crate::stop::Stop;
 use rk_calls::Maker;
+use rk_request::Request;
 use rk_runs::{CheckErr, check_with};
-use rk_words::Request;
 use tr_record::Table;
 
 /// Checks every record of the old table, where that is asked for.

@@ -5,11 +5,12 @@ ghost use Rattle.rk_folder.specs.Told.{Held};
 ghost use Rattle.rk_folder.specs.Specials.{first_special};
 ghost use Rattle.rk_runs.specs.Run.{Spent};
 ghost use Rattle.rk_runs.specs.Spoken.{AreSpoken};
+ghost use Rattle.rk_build.specs.Calls.{AsksSo};
 ghost use Rattle.rk_build.specs.Outcomes.{Checked, outcome_of, outcome_of_stop, outcome_of_refusal, Leaves, HasStatus, Tallies, Gains, GainsErrors, InOrder, ErrorsCounted, Counted, Ticked, Started, IfEnded, IfSpecial, IfDamaged, IfForged, IsNoFault, Settles};
 ghost use Rattle.rk_build.specs.Kept.{decoded, state_in, IsDamaged, Keeping};
 ghost use Rattle.rk_build.specs.Checks.{TellsForged};
 ghost use Rattle.rk_build.specs.Run.{fresh_run};
-ghost use Rattle.rk_words.specs.Asked.{is_fresh, turns};
+ghost use Rattle.rk_request.specs.Asked.{is_fresh, turns};
 
 use crate::Outcome;
 use crate::build::{Ended, build};
@@ -17,7 +18,7 @@ use crate::stop::{Refusal, Stop};
 use rk_base::Steps;
 use rk_calls::Maker;
 use rk_folder::{Folder, Sink};
-use rk_words::Request;
+use rk_request::Request;
 use std::alloc::Global;
 use std::sync::ledger::Ledger;
 
@@ -89,6 +90,11 @@ pub fn build_in<M: Maker, F: Folder, O: Sink, E: Sink, L: Ledger>(
     ensures checked { IfEnded result (λ status launched ran. Checked M.first request.now (F.told folder.old)) }
     ensures live { Ticked request.now live.old live.new result }
     ensures rises { live.old ≤ live.new }
+
+    // What a folder that keeps its calls was asked: a listing of each directory and a read of each file, then the state files,
+    // and then the planned calls, each once at most, in this order, and nothing else; where nothing is installed, it is looked
+    // at alone.
+    ensures calls { AsksSo M.first request.now (F.reach folder.old) (F.told folder.old) (F.schedule folder.old) (F.schedule folder.new) result }
 
     // What was put: the run's output, and then its error text.
     ensures output { Gains M.first request.now (F.told folder.old) (record { so_far = O.so_far out.old; faults = O.faults out.old; memory = O.memory_failures out.old }) (record { so_far = O.so_far out.new; faults = O.faults out.new; memory = O.memory_failures out.new }) result }

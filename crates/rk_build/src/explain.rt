@@ -7,8 +7,8 @@ use crate::options::explains;
 use crate::run::Finished;
 use rk_base::{Bytes, NoMemory};
 use rk_replay::{Cause, Ran, RanList};
+use rk_request::Request;
 use rk_show::{Why, add_launched, add_ran};
-use rk_words::Request;
 use std::alloc::Global;
 
 fn why_of(cause: &Cause) -> Why

@@ -1,8 +1,8 @@
 // What a build finds in a folder.
 ghost use Rattle.std.specs.Prelude.{◌≡◌, IfOk, IfSome, OnOk};
-ghost use Rattle.rk_folder.specs.Looks.{LooksFew, looks};
+ghost use Rattle.rk_folder.specs.Looks.{LooksInOrder, looks};
 ghost use Rattle.rk_tree.specs.Entries.{IsWholeSnapshot};
-ghost use Rattle.rk_words.specs.Asked.{is_fresh};
+ghost use Rattle.rk_request.specs.Asked.{is_fresh};
 ghost use Rattle.tr_codec.specs.Reads.{IsSealed};
 ghost use Rattle.rk_build.specs.Stages.{FindsSo, ReadsCounted, Steadily};
 
@@ -12,7 +12,7 @@ use crate::look::look;
 use crate::options::is_fresh;
 use crate::stop::Stop;
 use rk_folder::Folder;
-use rk_words::Request;
+use rk_request::Request;
 use std::alloc::Global;
 use tr_codec::Attrs;
 use tr_record::Table;
@@ -34,7 +34,7 @@ pub(crate) fn find<F: Folder>(
 ) -> Result<Found, Stop>
     ensures held { F.told folder.new ≡ F.told folder.old }
     ensures writes { F.write_faults folder.new ≡ F.write_faults folder.old }
-    ensures looks { LooksFew (F.told folder.old) (looks (is_fresh request.now) (F.reach folder.old)) (F.schedule folder.old) (F.schedule folder.new) }
+    ensures looks { LooksInOrder (F.told folder.old) (looks (is_fresh request.now) (F.reach folder.old)) (F.schedule folder.old) (F.schedule folder.new) }
     ensures reads { ReadsCounted (F.read_faults folder.old) (F.read_faults folder.new) result }
     ensures memory { OnOk result (F.memory_failures folder.new ≡ F.memory_failures folder.old) }
     ensures steady { Steadily (F.steady folder.old) (F.steady folder.new) result }

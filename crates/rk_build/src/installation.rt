@@ -1,7 +1,6 @@
 // Making the planned calls.
-ghost use Rattle.std.specs.Prelude.{◌≡◌, OnOk, IfErr, option_map, length};
-ghost use Rattle.rk_build.specs.Changes.{step, after_all, MayMake, MayRun, Caused, MemoryCaused, CountsCalls, Steadily, LeftBy, Partly};
-ghost use Rattle.rk_folder.specs.Schedule.{after_call};
+ghost use Rattle.std.specs.Prelude.{◌≡◌, OnOk, IfErr, option_map};
+ghost use Rattle.rk_build.specs.Changes.{step, after_all, MayMake, MayRun, Caused, MemoryCaused, CallsInOrder, IsAsked, Steadily, LeftBy, Partly};
 
 use crate::{Op, Plan};
 use rk_folder::{Folder, FolderErr};
@@ -24,7 +23,7 @@ fn call<F: Folder>(alloc: Global, folder: &mut F, op: &Op) -> Result<(), Install
     ensures cause { Caused (F.write_faults folder.old) (F.write_faults folder.new) result }
     ensures memory { MemoryCaused (F.memory_failures folder.old) (F.memory_failures folder.new) result }
     ensures steady { Steadily (F.steady folder.old) (F.steady folder.new) result }
-    ensures calls { F.schedule folder.new ≡ option_map after_call (F.schedule folder.old) }
+    ensures calls { IsAsked op.now (F.schedule folder.old) (F.schedule folder.new) result }
     ensures reads { F.read_faults folder.new ≡ F.read_faults folder.old }
 {
     let done = match op {
@@ -52,8 +51,8 @@ pub fn install<F: Folder>(alloc: Global, folder: &mut F, plan: &Plan) -> Result<
     ensures cause { Caused (F.write_faults folder.old) (F.write_faults folder.new) result }
     ensures memory { MemoryCaused (F.memory_failures folder.old) (F.memory_failures folder.new) result }
     ensures steady { Steadily (F.steady folder.old) (F.steady folder.new) result }
-    // Each call is made once.
-    ensures calls { CountsCalls (length plan.now) (F.schedule folder.old) (F.schedule folder.new) result }
+    // Each call is made once, in their order.
+    ensures calls { CallsInOrder plan.now (F.schedule folder.old) (F.schedule folder.new) result }
     ensures reads { F.read_faults folder.new ≡ F.read_faults folder.old }
 {
     let ops = plan.as_slice();

@@ -1,6 +1,6 @@
 // What the folder holds.
 ghost use Rattle.std.specs.Prelude.{◌≡◌, IfOk, OnOk};
-ghost use Rattle.rk_folder.specs.Looks.{LooksFew, looks};
+ghost use Rattle.rk_folder.specs.Looks.{LooksInOrder, looks};
 ghost use Rattle.rk_tree.specs.Entries.{IsWholeSnapshot};
 ghost use Rattle.rk_build.specs.Stages.{LooksSo, ReadsCounted, Steadily, stop_of};
 
@@ -23,7 +23,7 @@ fn stop_of(e: ImportErr) -> Stop
 pub(crate) fn look<F: Folder>(alloc: Global, folder: &mut F, fresh: bool) -> Result<Holding, Stop>
     ensures held { F.told folder.new ≡ F.told folder.old }
     ensures writes { F.write_faults folder.new ≡ F.write_faults folder.old }
-    ensures looks { LooksFew (F.told folder.old) (looks fresh (F.reach folder.old)) (F.schedule folder.old) (F.schedule folder.new) }
+    ensures looks { LooksInOrder (F.told folder.old) (looks fresh (F.reach folder.old)) (F.schedule folder.old) (F.schedule folder.new) }
     ensures reads { ReadsCounted (F.read_faults folder.old) (F.read_faults folder.new) result }
     ensures memory { OnOk result (F.memory_failures folder.new ≡ F.memory_failures folder.old) }
     ensures steady { Steadily (F.steady folder.old) (F.steady folder.new) result }

@@ -1,8 +1,8 @@
 // What is asked of a build.
 ghost use Rattle.std.specs.Prelude.{◌≡◌, ◌<◌, ◌^◌};
-ghost use Rattle.rk_words.specs.Asked.{checks, explains, is_fresh, turns};
+ghost use Rattle.rk_request.specs.Asked.{checks, explains, is_fresh, turns};
 
-use rk_words::Request;
+use rk_request::Request;
 
 /// The turns within which it is to end; none of what isn't a build.
 pub(crate) fn turns(request: &Request) -> u32

@@ -1,6 +1,6 @@
 // What is to be done once the script has run.
 ghost use Rattle.std.specs.Prelude.{◌≡◌, ◌+◌, ◌<◌, ◌≤◌, IfOk, IfSome, OnOk, length, option_copied};
-ghost use Rattle.rk_folder.specs.Looks.{LooksFew, looks};
+ghost use Rattle.rk_folder.specs.Looks.{LooksInOrder, looks};
 ghost use Rattle.rk_folder.specs.Told.{longest_file};
 ghost use Rattle.rk_tree.specs.Entries.{IsWholeSnapshot};
 ghost use Rattle.rk_build.specs.Attributes.{attrs_of};
@@ -10,7 +10,7 @@ ghost use Rattle.tr_codec.specs.Fits.{Fits};
 ghost use Rattle.tr_codec.specs.Sound.{IsSound};
 ghost use Rattle.tr_codec.specs.Reads.{IsSealed};
 ghost use Rattle.tr_codec.specs.Spelling.{db_spelling};
-ghost use Rattle.rk_words.specs.Asked.{is_fresh, turns};
+ghost use Rattle.rk_request.specs.Asked.{is_fresh, turns};
 ghost use Rattle.rk_build.specs.Stages.{StartsSo, PreparesSo, ReadsCounted, Steadily};
 ghost use Rattle.rk_build.specs.Fresh.{IsReadable, attrs_bytes, held_after};
 
@@ -26,8 +26,8 @@ use crate::stop::Stop;
 use rk_base::{Bytes, NoMemory, Steps};
 use rk_calls::Maker;
 use rk_folder::{Folder, LONGEST_FILE, State};
+use rk_request::Request;
 use rk_tree::Snapshot;
-use rk_words::Request;
 use std::alloc::Global;
 use std::sync::ledger::Ledger;
 use tr_codec::{write_attrs, write_db, write_db_as};
@@ -116,7 +116,7 @@ pub(crate) fn prepare<M: Maker, F: Folder, L: Ledger>(
     requires { 0 < turns request.now }
     ensures held { F.told folder.new ≡ F.told folder.old }
     ensures writes { F.write_faults folder.new ≡ F.write_faults folder.old }
-    ensures looks { LooksFew (F.told folder.old) (looks (is_fresh request.now) (F.reach folder.old)) (F.schedule folder.old) (F.schedule folder.new) }
+    ensures looks { LooksInOrder (F.told folder.old) (looks (is_fresh request.now) (F.reach folder.old)) (F.schedule folder.old) (F.schedule folder.new) }
     ensures reads { ReadsCounted (F.read_faults folder.old) (F.read_faults folder.new) result }
     ensures memory { OnOk result (F.memory_failures folder.new ≡ F.memory_failures folder.old) }
     ensures steady { Steadily (F.steady folder.old) (F.steady folder.new) result }

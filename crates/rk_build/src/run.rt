@@ -2,7 +2,7 @@
 ghost use Rattle.std.specs.Prelude.{◌≡◌, ◌+◌, ◌<◌, ◌≤◌, ◌^◌, IfOk};
 ghost use Rattle.rk_tree.specs.Entries.{IsWholeSnapshot};
 ghost use Rattle.rk_folder.specs.Attributes.{with_rows};
-ghost use Rattle.rk_words.specs.Asked.{turns};
+ghost use Rattle.rk_request.specs.Asked.{turns};
 ghost use Rattle.rk_build.specs.Run.{Runs, StartsRun};
 
 use crate::options::turns;
@@ -12,8 +12,8 @@ use rk_calls::Maker;
 use rk_folder::tree_of;
 use rk_kernel::World;
 use rk_replay::{Built, RanList, build_with, script_key};
+use rk_request::Request;
 use rk_tree::Snapshot;
-use rk_words::Request;
 use std::alloc::Global;
 use std::sync::ledger::Ledger;
 use tr_codec::Attrs;

@@ -2,6 +2,7 @@
 ghost use Rattle.std.specs.Prelude.{◌≡◌, true, IfErr, IfOk};
 ghost use Rattle.rk_database.specs.Answers.{Checks, IsNoFault, ReadsCounted, Shows, WritesCounted};
 ghost use Rattle.rk_database.specs.Texts.{IsChecked, NoCheck, StartsRecords};
+ghost use Rattle.rk_folder.specs.Looks.{all_state_looks};
 ghost use Rattle.rk_folder.specs.Schedule.{MakesCalls};
 
 use crate::database::{database, table_of};
@@ -46,8 +47,8 @@ pub fn check<M: Maker, F: Folder, O: Sink>(
     ensures puts { WritesCounted (O.faults out.old) (O.faults out.new) result }
     ensures steady { F.steady folder.old ≡ true → O.steady out.old ≡ true → IsNoFault result }
 
-    // The root and `.rkr` are listed, and two files read, at most.
-    ensures calls { MakesCalls 4 (F.schedule folder.old) (F.schedule folder.new) }
+    // The root and `.rkr` are listed, and then the two files read; nothing else is asked.
+    ensures calls { MakesCalls all_state_looks (F.schedule folder.old) (F.schedule folder.new) }
 {
     match database(alloc, folder)? {
         None => say_none(out),

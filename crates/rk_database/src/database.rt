@@ -1,6 +1,7 @@
 // The database of a folder.
 ghost use Rattle.std.specs.Prelude.{◌≡◌, IfErr, IfOk, true};
 ghost use Rattle.rk_database.specs.Answers.{FindsDb, FindsWhether, IsNoFault, ReadsCounted};
+ghost use Rattle.rk_folder.specs.Looks.{all_state_looks, state_listings};
 ghost use Rattle.rk_folder.specs.Schedule.{MakesCalls};
 ghost use Rattle.rk_database.specs.Texts.{NoTrace, Spells};
 
@@ -19,7 +20,7 @@ pub(crate) fn database<F: Folder>(alloc: Global, folder: &mut F) -> Result<Optio
     ensures writes { F.write_faults folder.new ≡ F.write_faults folder.old }
     ensures steady { F.steady folder.new ≡ F.steady folder.old }
     ensures no_fault { F.steady folder.old ≡ true → IsNoFault result }
-    ensures calls { MakesCalls 4 (F.schedule folder.old) (F.schedule folder.new) }
+    ensures calls { MakesCalls all_state_looks (F.schedule folder.old) (F.schedule folder.new) }
 {
     match state(alloc, folder) {
         Ok(Hidden { state, .. }) => {
@@ -40,7 +41,7 @@ pub(crate) fn database_stands<F: Folder>(alloc: Global, folder: &mut F) -> Resul
     ensures writes { F.write_faults folder.new ≡ F.write_faults folder.old }
     ensures steady { F.steady folder.new ≡ F.steady folder.old }
     ensures no_fault { F.steady folder.old ≡ true → IsNoFault result }
-    ensures calls { MakesCalls 2 (F.schedule folder.old) (F.schedule folder.new) }
+    ensures calls { MakesCalls state_listings (F.schedule folder.old) (F.schedule folder.new) }
 {
     match has_database(alloc, folder) {
         Ok(stands) => Ok(stands),

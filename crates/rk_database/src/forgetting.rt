@@ -1,5 +1,7 @@
 // The database, removed.
-ghost use Rattle.std.specs.Prelude.{◌≡◌, true};
+ghost use Rattle.std.specs.Prelude.{◌≡◌, ◌++◌, true};
+ghost use Rattle.rk_folder.specs.Hidden as hidden;
+ghost use Rattle.rk_folder.specs.Looks.{removes, state_listings};
 ghost use Rattle.rk_folder.specs.Schedule.{MakesCalls};
 ghost use Rattle.rk_database.specs.Answers.{EitherCounted, Forgets, IsNoFault, ReadsCounted, SaysNone};
 
@@ -17,7 +19,7 @@ pub fn forget<F: Folder, O: Sink>(alloc: Global, folder: &mut F, out: &mut O) ->
     ensures reads { ReadsCounted (F.read_faults folder.old) (F.read_faults folder.new) result }
     ensures writes { EitherCounted (F.write_faults folder.old) (F.write_faults folder.new) (O.faults out.old) (O.faults out.new) result }
     ensures steady { F.steady folder.old ≡ true → O.steady out.old ≡ true → IsNoFault result }
-    ensures calls { MakesCalls 3 (F.schedule folder.old) (F.schedule folder.new) }
+    ensures calls { MakesCalls (state_listings ++ removes hidden.db_file) (F.schedule folder.old) (F.schedule folder.new) }
 {
     let stands = database_stands(alloc, folder)?;
     if !stands {

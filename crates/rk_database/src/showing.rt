@@ -4,6 +4,7 @@ ghost use Rattle.std.specs.List.{AllByRecursion};
 ghost use Rattle.rk_show.specs.Traces.{IsCounted};
 ghost use Rattle.rk_database.specs.Answers.{IsNoFault, ReadsCounted, Shows, WritesCounted};
 ghost use Rattle.rk_database.specs.Texts.{IsTrace, NoTrace, shown_text};
+ghost use Rattle.rk_folder.specs.Looks.{all_state_looks};
 ghost use Rattle.rk_folder.specs.Schedule.{MakesCalls};
 
 use crate::database::{database, table_of};
@@ -53,8 +54,8 @@ pub fn trace<F: Folder, O: Sink>(
     ensures puts { WritesCounted (O.faults out.old) (O.faults out.new) result }
     ensures steady { F.steady folder.old ≡ true → O.steady out.old ≡ true → IsNoFault result }
 
-    // The root and `.rkr` are listed, and two files read, at most.
-    ensures calls { MakesCalls 4 (F.schedule folder.old) (F.schedule folder.new) }
+    // The root and `.rkr` are listed, and then the two files read; nothing else is asked.
+    ensures calls { MakesCalls all_state_looks (F.schedule folder.old) (F.schedule folder.new) }
 {
     match database(alloc, folder)? {
         None => say_none(out),

@@ -6,6 +6,7 @@ ghost use Rattle.rk_folder.specs.Whole.{TellsWhole};
 ghost use Rattle.rk_folder.specs.Calls.{allows, Caused, MemoryCaused, Lists, Reads, Changes, Writes, Steadily};
 ghost use Rattle.rk_folder.specs.Schedule.{Schedule, OnSchedule, Leaves};
 ghost use Rattle.rk_folder.specs.declared.folder.Standing.TheVariants.{Dir};
+ghost use Rattle.rk_folder.specs.declared.folder.FolderCall.TheVariants as asks;
 ghost use Rattle.rk_folder.specs.declared.folder.FolderErr.TheVariants as err;
 
 use rk_base::{Bytes, Name, NoMemory, Path};
@@ -36,6 +37,33 @@ pub enum Got {
     Content(Bytes),
     /// Nothing stands there.
     Absent,
+}
+
+/// A call of a folder, by the paths that it names.
+#[derive(Debug, Drop)]
+pub enum FolderCall {
+    List(Path),
+    Read(Path),
+    Write(Path),
+    MakeDir(Path),
+    RemoveFile(Path),
+    RemoveDir(Path),
+    Rename(Path, Path),
+}
+
+impl FolderCall {
+    ghost use Rattle.rk_folder.specs.Schedule.{is_change};
+
+    /// Whether it is to change what the folder holds.
+    pub fn is_change(&self) -> bool
+        ensures { result ≡ is_change self.now }
+    {
+        match self {
+            FolderCall::List(_) => false,
+            FolderCall::Read(_) => false,
+            _ => true,
+        }
+    }
 }
 
 /// Why a call of a folder has no answer.
@@ -97,7 +125,7 @@ pub trait Folder {
     /// Whether no call that it allows is a fault.
     ghost steady: { Self → Bool };
 
-    /// Which calls are to be faults, where it tells that.
+    /// Which calls are to be faults, and which were made, where it tells that.
     ghost schedule: { Self → Option Schedule };
 
     /// What stands in a directory, ascending by name.
@@ -107,7 +135,7 @@ pub trait Folder {
         ensures cause { Caused (read_faults self.old) (read_faults self.new) (allows (told self.old) (can_list dir.now)) result }
         ensures memory { MemoryCaused (memory_failures self.old) (memory_failures self.new) result }
         ensures steady { Steadily (steady self.old) (steady self.new) (allows (told self.old) (can_list dir.now)) result }
-        ensures schedule { OnSchedule (schedule self.old) (schedule self.new) (allows (told self.old) (can_list dir.now)) result }
+        ensures schedule { OnSchedule (asks.List dir.now) (schedule self.old) (schedule self.new) (allows (told self.old) (can_list dir.now)) result }
 
         ensures held { told self.new ≡ told self.old }
         ensures other { write_faults self.new ≡ write_faults self.old }
@@ -119,7 +147,7 @@ pub trait Folder {
         ensures cause { Caused (read_faults self.old) (read_faults self.new) (allows (told self.old) (can_read file.now)) result }
         ensures memory { MemoryCaused (memory_failures self.old) (memory_failures self.new) result }
         ensures steady { Steadily (steady self.old) (steady self.new) (allows (told self.old) (can_read file.now)) result }
-        ensures schedule { OnSchedule (schedule self.old) (schedule self.new) (allows (told self.old) (can_read file.now)) result }
+        ensures schedule { OnSchedule (asks.Read file.now) (schedule self.old) (schedule self.new) (allows (told self.old) (can_read file.now)) result }
 
         ensures held { told self.new ≡ told self.old }
         ensures other { write_faults self.new ≡ write_faults self.old }
@@ -132,7 +160,7 @@ pub trait Folder {
         ensures cause { Caused (write_faults self.old) (write_faults self.new) (allows (told self.old) (can_write file.now)) result }
         ensures memory { MemoryCaused (memory_failures self.old) (memory_failures self.new) result }
         ensures steady { Steadily (steady self.old) (steady self.new) (allows (told self.old) (can_write file.now)) result }
-        ensures schedule { OnSchedule (schedule self.old) (schedule self.new) (allows (told self.old) (can_write file.now)) result }
+        ensures schedule { OnSchedule (asks.Write file.now) (schedule self.old) (schedule self.new) (allows (told self.old) (can_write file.now)) result }
         ensures left { Leaves file.now (schedule self.old) (allows (told self.old) (can_write file.now)) (told self.old) (told self.new) result }
         ensures other { read_faults self.new ≡ read_faults self.old };
 
@@ -142,7 +170,7 @@ pub trait Folder {
         ensures cause { Caused (write_faults self.old) (write_faults self.new) (allows (told self.old) (can_make_dir dir.now)) result }
         ensures memory { MemoryCaused (memory_failures self.old) (memory_failures self.new) result }
         ensures steady { Steadily (steady self.old) (steady self.new) (allows (told self.old) (can_make_dir dir.now)) result }
-        ensures schedule { OnSchedule (schedule self.old) (schedule self.new) (allows (told self.old) (can_make_dir dir.now)) result }
+        ensures schedule { OnSchedule (asks.MakeDir dir.now) (schedule self.old) (schedule self.new) (allows (told self.old) (can_make_dir dir.now)) result }
         ensures other { read_faults self.new ≡ read_faults self.old };
 
     /// Removes a file.
@@ -151,7 +179,7 @@ pub trait Folder {
         ensures cause { Caused (write_faults self.old) (write_faults self.new) (allows (told self.old) (can_remove_file file.now)) result }
         ensures memory { MemoryCaused (memory_failures self.old) (memory_failures self.new) result }
         ensures steady { Steadily (steady self.old) (steady self.new) (allows (told self.old) (can_remove_file file.now)) result }
-        ensures schedule { OnSchedule (schedule self.old) (schedule self.new) (allows (told self.old) (can_remove_file file.now)) result }
+        ensures schedule { OnSchedule (asks.RemoveFile file.now) (schedule self.old) (schedule self.new) (allows (told self.old) (can_remove_file file.now)) result }
         ensures other { read_faults self.new ≡ read_faults self.old };
 
     /// Removes an empty directory, which isn't the root.
@@ -160,7 +188,7 @@ pub trait Folder {
         ensures cause { Caused (write_faults self.old) (write_faults self.new) (allows (told self.old) (can_remove_dir dir.now)) result }
         ensures memory { MemoryCaused (memory_failures self.old) (memory_failures self.new) result }
         ensures steady { Steadily (steady self.old) (steady self.new) (allows (told self.old) (can_remove_dir dir.now)) result }
-        ensures schedule { OnSchedule (schedule self.old) (schedule self.new) (allows (told self.old) (can_remove_dir dir.now)) result }
+        ensures schedule { OnSchedule (asks.RemoveDir dir.now) (schedule self.old) (schedule self.new) (allows (told self.old) (can_remove_dir dir.now)) result }
         ensures other { read_faults self.new ≡ read_faults self.old };
 
     /// Gives a file another path, at which a file stands, or nothing.
@@ -169,7 +197,7 @@ pub trait Folder {
         ensures cause { Caused (write_faults self.old) (write_faults self.new) (allows (told self.old) (can_rename from.now to.now)) result }
         ensures memory { MemoryCaused (memory_failures self.old) (memory_failures self.new) result }
         ensures steady { Steadily (steady self.old) (steady self.new) (allows (told self.old) (can_rename from.now to.now)) result }
-        ensures schedule { OnSchedule (schedule self.old) (schedule self.new) (allows (told self.old) (can_rename from.now to.now)) result }
+        ensures schedule { OnSchedule (asks.Rename from.now to.now) (schedule self.old) (schedule self.new) (allows (told self.old) (can_rename from.now to.now)) result }
         ensures other { read_faults self.new ≡ read_faults self.old };
 
     /// The root is a directory, and so is what each other path stands in.

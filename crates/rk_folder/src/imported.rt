@@ -2,7 +2,7 @@
 ghost use Rattle.std.specs.Prelude.{◌≡◌, IfOk};
 ghost use Rattle.rk_tree.specs.Entries.{IsWholeSnapshot};
 ghost use Rattle.rk_folder.specs.Specials.{first_special};
-ghost use Rattle.rk_folder.specs.Looks.{LooksFew, looks};
+ghost use Rattle.rk_folder.specs.Looks.{LooksInOrder, looks};
 ghost use Rattle.rk_folder.specs.Import.{Tells, ReadCaused, MemoryCounted, ReadSteadily, hidden_read, snapshot_of};
 
 use crate::importing::{entries_listed, list};
@@ -45,9 +45,9 @@ pub fn import<F: Folder>(
     ensures held { F.told folder.new ≡ F.told folder.old }
     ensures writes { F.write_faults folder.new ≡ F.write_faults folder.old }
 
-    // A folder that counts its calls is asked no more than a listing of each directory, a read of each file and of the
-    // state files that aren't passed over.
-    ensures looks { LooksFew (F.told folder.old) (looks skips_db (F.reach folder.old)) (F.schedule folder.old) (F.schedule folder.new) }
+    // A folder that keeps its calls was asked for a listing of each directory and a read of each file, and then of the state
+    // files that aren't passed over, each once at most, in this order, and for nothing else.
+    ensures looks { LooksInOrder (F.told folder.old) (looks skips_db (F.reach folder.old)) (F.schedule folder.old) (F.schedule folder.new) }
     ensures reach { F.reach folder.new ≡ F.reach folder.old }
 {
     let items = list(alloc, folder, &Path::root(alloc)?)?;

@@ -1,5 +1,5 @@
 // What a folder holds for a build.
-ghost use Rattle.std.specs.Prelude.{◌≡◌, ◌≤◌, ◌+◌, ◌-◌, IfOk, OnOk, is_some, option_copied, sum_by, true, false};
+ghost use Rattle.std.specs.Prelude.{◌≡◌, ◌≤◌, ◌+◌, ◌-◌, IfOk, OnOk, is_some, option_copied, flat_map, true, false};
 ghost use Rattle.std.specs.FinMap.{get};
 ghost use Rattle.std.specs.List.{list_all, list_any};
 ghost use Rattle.rk_base.specs.Text as text;
@@ -12,7 +12,7 @@ ghost use Rattle.rk_folder.specs.Hidden.{hidden_dir, attrs_name, db_name};
 ghost use Rattle.rk_folder.specs.Specials.{first_special, state_special};
 ghost use Rattle.rk_folder.specs.Import.{Tells, ReadCaused, MemoryCounted, ReadSteadily, has_database, snapshot_of};
 ghost use Rattle.rk_folder.specs.Looks as looks;
-ghost use Rattle.rk_folder.specs.Looks.{LooksFew};
+ghost use Rattle.rk_folder.specs.Looks.{LooksInOrder, lists, reads};
 ghost use Rattle.rk_folder.specs.Schedule.{MakesCalls};
 ghost use Rattle.rk_folder.specs.Steps as steps;
 ghost use Rattle.rk_folder.specs.Steps.{MayCall};
@@ -71,7 +71,7 @@ pub(crate) fn list<F: Folder>(
     ensures held { F.told folder.new ≡ F.told folder.old }
     ensures writes { F.write_faults folder.new ≡ F.write_faults folder.old }
     ensures reach { F.reach folder.new ≡ F.reach folder.old }
-    ensures calls { MakesCalls 1 (F.schedule folder.old) (F.schedule folder.new) }
+    ensures calls { MakesCalls (lists dir.now) (F.schedule folder.old) (F.schedule folder.new) }
 {
     let items = folder.list(alloc, dir)?;
     Ok(items)
@@ -91,7 +91,7 @@ pub(crate) fn bytes_of<F: Folder>(
     ensures held { F.told folder.new ≡ F.told folder.old }
     ensures writes { F.write_faults folder.new ≡ F.write_faults folder.old }
     ensures reach { F.reach folder.new ≡ F.reach folder.old }
-    ensures calls { MakesCalls 1 (F.schedule folder.old) (F.schedule folder.new) }
+    ensures calls { MakesCalls (reads file.now) (F.schedule folder.old) (F.schedule folder.new) }
 {
     match folder.read(alloc, file)? {
         Got::Content(bytes) => Ok(Some(bytes)),
@@ -109,7 +109,7 @@ fn content<F: Folder>(alloc: Global, folder: &mut F, file: &Path) -> Result<Byte
     ensures held { F.told folder.new ≡ F.told folder.old }
     ensures writes { F.write_faults folder.new ≡ F.write_faults folder.old }
     ensures reach { F.reach folder.new ≡ F.reach folder.old }
-    ensures calls { MakesCalls 1 (F.schedule folder.old) (F.schedule folder.new) }
+    ensures calls { MakesCalls (reads file.now) (F.schedule folder.old) (F.schedule folder.new) }
 {
     match folder.read(alloc, file)? {
         Got::Content(bytes) => Ok(bytes),
@@ -196,7 +196,7 @@ pub(crate) fn database_listed<F: Folder>(alloc: Global, folder: &mut F) -> Resul
     ensures held { F.told folder.new ≡ F.told folder.old }
     ensures writes { F.write_faults folder.new ≡ F.write_faults folder.old }
     ensures reach { F.reach folder.new ≡ F.reach folder.old }
-    ensures calls { MakesCalls 1 (F.schedule folder.old) (F.schedule folder.new) }
+    ensures calls { MakesCalls (lists hidden_dir) (F.schedule folder.old) (F.schedule folder.new) }
 {
     let items = list(alloc, folder, &hidden_dir(alloc)?)?;
     match special_state(&items) {
@@ -216,7 +216,7 @@ pub(crate) fn look_at_state<F: Folder>(alloc: Global, folder: &mut F) -> Result<
     ensures held { F.told folder.new ≡ F.told folder.old }
     ensures writes { F.write_faults folder.new ≡ F.write_faults folder.old }
     ensures reach { F.reach folder.new ≡ F.reach folder.old }
-    ensures calls { MakesCalls 1 (F.schedule folder.old) (F.schedule folder.new) }
+    ensures calls { MakesCalls (lists hidden_dir) (F.schedule folder.old) (F.schedule folder.new) }
 {
     let _listed = database_listed(alloc, folder)?;
     Ok(())
@@ -273,7 +273,7 @@ fn take_file<F: Folder>(
     ensures held { F.told folder.new ≡ F.told folder.old }
     ensures writes { F.write_faults folder.new ≡ F.write_faults folder.old }
     ensures reach { F.reach folder.new ≡ F.reach folder.old }
-    ensures calls { MakesCalls 1 (F.schedule folder.old) (F.schedule folder.new) }
+    ensures calls { MakesCalls (reads (join dir.now name.now)) (F.schedule folder.old) (F.schedule folder.new) }
 {
     let path = dir.join(alloc, name)?;
     if is_hidden(&path) {
@@ -308,7 +308,7 @@ fn take_dir<F: Folder>(
     ensures held { F.told folder.new ≡ F.told folder.old }
     ensures writes { F.write_faults folder.new ≡ F.write_faults folder.old }
     ensures reach { F.reach folder.new ≡ F.reach folder.old }
-    ensures looks { LooksFew (F.told folder.old) (λ held. looks.item_looks (looks.looks_within (F.reach folder.old - depth dir.now) held) dir.now (item.Dir name.now)) (F.schedule folder.old) (F.schedule folder.new) }
+    ensures looks { LooksInOrder (F.told folder.old) (λ held. looks.item_looks (looks.looks_within (F.reach folder.old - depth dir.now) held) dir.now (item.Dir name.now)) (F.schedule folder.old) (F.schedule folder.new) }
 {
     let path = dir.join(alloc, name)?;
     if is_hidden(&path) {
@@ -341,7 +341,7 @@ fn take_item<F: Folder>(
     ensures held { F.told folder.new ≡ F.told folder.old }
     ensures writes { F.write_faults folder.new ≡ F.write_faults folder.old }
     ensures reach { F.reach folder.new ≡ F.reach folder.old }
-    ensures looks { LooksFew (F.told folder.old) (λ held. looks.item_looks (looks.looks_within (F.reach folder.old - depth dir.now) held) dir.now item.now) (F.schedule folder.old) (F.schedule folder.new) }
+    ensures looks { LooksInOrder (F.told folder.old) (λ held. looks.item_looks (looks.looks_within (F.reach folder.old - depth dir.now) held) dir.now item.now) (F.schedule folder.old) (F.schedule folder.new) }
 {
     match item {
         Item::File(name) => take_file(alloc, folder, dir, name, snapshot),
@@ -374,7 +374,7 @@ fn take_items<F: Folder>(
     ensures held { F.told folder.new ≡ F.told folder.old }
     ensures writes { F.write_faults folder.new ≡ F.write_faults folder.old }
     ensures reach { F.reach folder.new ≡ F.reach folder.old }
-    ensures looks { LooksFew (F.told folder.old) (λ held. sum_by (looks.item_looks (looks.looks_within (F.reach folder.old - depth dir.now) held) dir.now) items.now) (F.schedule folder.old) (F.schedule folder.new) }
+    ensures looks { LooksInOrder (F.told folder.old) (λ held. flat_map (looks.item_looks (looks.looks_within (F.reach folder.old - depth dir.now) held) dir.now) items.now) (F.schedule folder.old) (F.schedule folder.new) }
 {
     for item in items {
         take_item(alloc, folder, dir, item, snapshot)?;
@@ -404,7 +404,7 @@ fn take_all<F: Folder>(
     ensures held { F.told folder.new ≡ F.told folder.old }
     ensures writes { F.write_faults folder.new ≡ F.write_faults folder.old }
     ensures reach { F.reach folder.new ≡ F.reach folder.old }
-    ensures looks { LooksFew (F.told folder.old) (λ held. looks.looks_within (F.reach folder.old + 1 - depth dir.now) held dir.now) (F.schedule folder.old) (F.schedule folder.new) }
+    ensures looks { LooksInOrder (F.told folder.old) (λ held. looks.looks_within (F.reach folder.old + 1 - depth dir.now) held dir.now) (F.schedule folder.old) (F.schedule folder.new) }
 {
     let items = list(alloc, folder, dir)?;
     if has_odd(&items) {
@@ -439,7 +439,7 @@ pub(crate) fn entries_listed<F: Folder>(
     ensures held { F.told folder.new ≡ F.told folder.old }
     ensures writes { F.write_faults folder.new ≡ F.write_faults folder.old }
     ensures reach { F.reach folder.new ≡ F.reach folder.old }
-    ensures looks { LooksFew (F.told folder.old) (λ held. sum_by (looks.item_looks (looks.looks_within (F.reach folder.old) held) text.root) items.now) (F.schedule folder.old) (F.schedule folder.new) }
+    ensures looks { LooksInOrder (F.told folder.old) (λ held. flat_map (looks.item_looks (looks.looks_within (F.reach folder.old) held) text.root) items.now) (F.schedule folder.old) (F.schedule folder.new) }
 {
     let root = Path::root(alloc)?;
     if has_odd(items) {

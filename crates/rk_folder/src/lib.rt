@@ -14,11 +14,11 @@ mod specials;
 mod state_files;
 
 pub use attributes::{rows_apply, tree_of};
-pub use folder::{Folder, FolderErr, Got, Item, LONGEST_FILE, Standing};
+pub use folder::{Folder, FolderCall, FolderErr, Got, Item, LONGEST_FILE, Standing};
 pub use hidden_files::{Hidden, State, attrs_file, db_file, hidden_dir};
 pub use imported::{Imported, import};
 pub use importing::ImportErr;
-pub use memory::{Change, MemFolder};
+pub use memory::MemFolder;
 pub use real::RealFolder;
 pub use sink::{MemSink, RealSink, Sink, SinkErr};
 pub use specials::special_is_first;

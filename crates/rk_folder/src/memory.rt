@@ -1,94 +1,113 @@
 // A folder in memory. Calls of given numbers fail.
 ghost use Rattle.std.specs.Prelude.{◌≡◌, ◌++◌, ◌∷◌, IfOk, OnOk, OnErr, [], option_copied, Some, None, true, false, nat_lt};
 ghost use Rattle.rk_folder.specs.Counts.{one_more};
-ghost use Rattle.rk_folder.specs.Schedule.{failing_at};
+ghost use Rattle.rk_folder.specs.Schedule.{Keeps, failing_at};
 ghost use Rattle.rk_folder.specs.Told as told;
 ghost use Rattle.rk_folder.specs.Whole.{IsWhole};
+ghost use Rattle.rk_folder.specs.declared.folder.FolderCall.TheVariants as asks;
 ghost use Rattle.rk_folder.specs.declared.folder.Standing.TheVariants.{File, Dir, Special};
 
 use crate::held::HeldRows;
-use crate::{Folder, FolderErr, Got, Item, Standing};
+use crate::{Folder, FolderCall, FolderErr, Got, Item, Standing};
 use rk_base::{Bytes, NoMemory, Path};
 use std::alloc::Global;
 
-/// A call that is to change a folder.
-#[derive(Debug, Drop)]
-pub enum Change {
-    Write(Path),
-    MakeDir(Path),
-    RemoveFile(Path),
-    RemoveDir(Path),
-    Rename(Path, Path),
+// Each keeps a call that is asked for, and tells whether it is allowed.
+
+fn list_allowed(held: &HeldRows, asked: &mut Vec<FolderCall>, dir: &Path) -> Result<bool, NoMemory>
+    ensures allowed { IfOk result (λ b. b ≡ told.can_list dir.now held.now) }
+    ensures kept { Keeps (asks.List dir.now) asked.old.items asked.new.items result }
+{
+    let allowed = held.can_list(dir);
+    asked.push(FolderCall::List(dir.copy()?))?;
+    Ok(allowed)
 }
 
-// Each keeps a change that is called for, and tells whether it is allowed.
-
-fn write_allowed(held: &HeldRows, changes: &mut Vec<Change>, file: &Path) -> Result<bool, NoMemory>
-    ensures { IfOk result (λ b. b ≡ told.can_write file.now held.now) }
+fn read_allowed(held: &HeldRows, asked: &mut Vec<FolderCall>, file: &Path) -> Result<bool, NoMemory>
+    ensures allowed { IfOk result (λ b. b ≡ told.can_read file.now held.now) }
+    ensures kept { Keeps (asks.Read file.now) asked.old.items asked.new.items result }
 {
-    changes.push(Change::Write(file.copy()?))?;
+    let allowed = held.can_read(file);
+    asked.push(FolderCall::Read(file.copy()?))?;
+    Ok(allowed)
+}
+
+fn write_allowed(
+    held: &HeldRows,
+    asked: &mut Vec<FolderCall>,
+    file: &Path,
+) -> Result<bool, NoMemory>
+    ensures allowed { IfOk result (λ b. b ≡ told.can_write file.now held.now) }
+    ensures kept { Keeps (asks.Write file.now) asked.old.items asked.new.items result }
+{
     let allowed = held.can_write(file)?;
+    asked.push(FolderCall::Write(file.copy()?))?;
     Ok(allowed)
 }
 
 fn make_dir_allowed(
     held: &HeldRows,
-    changes: &mut Vec<Change>,
+    asked: &mut Vec<FolderCall>,
     dir: &Path,
 ) -> Result<bool, NoMemory>
-    ensures { IfOk result (λ b. b ≡ told.can_make_dir dir.now held.now) }
+    ensures allowed { IfOk result (λ b. b ≡ told.can_make_dir dir.now held.now) }
+    ensures kept { Keeps (asks.MakeDir dir.now) asked.old.items asked.new.items result }
 {
-    changes.push(Change::MakeDir(dir.copy()?))?;
     let allowed = held.can_make_dir(dir)?;
+    asked.push(FolderCall::MakeDir(dir.copy()?))?;
     Ok(allowed)
 }
 
 fn remove_file_allowed(
     held: &HeldRows,
-    changes: &mut Vec<Change>,
+    asked: &mut Vec<FolderCall>,
     file: &Path,
 ) -> Result<bool, NoMemory>
-    ensures { IfOk result (λ b. b ≡ told.can_remove_file file.now held.now) }
+    ensures allowed { IfOk result (λ b. b ≡ told.can_remove_file file.now held.now) }
+    ensures kept { Keeps (asks.RemoveFile file.now) asked.old.items asked.new.items result }
 {
-    changes.push(Change::RemoveFile(file.copy()?))?;
-    Ok(held.can_remove_file(file))
+    let allowed = held.can_remove_file(file);
+    asked.push(FolderCall::RemoveFile(file.copy()?))?;
+    Ok(allowed)
 }
 
 fn remove_dir_allowed(
     alloc: Global,
     held: &HeldRows,
-    changes: &mut Vec<Change>,
+    asked: &mut Vec<FolderCall>,
     dir: &Path,
 ) -> Result<bool, NoMemory>
-    ensures { IfOk result (λ b. b ≡ told.can_remove_dir dir.now held.now) }
+    ensures allowed { IfOk result (λ b. b ≡ told.can_remove_dir dir.now held.now) }
+    ensures kept { Keeps (asks.RemoveDir dir.now) asked.old.items asked.new.items result }
 {
-    changes.push(Change::RemoveDir(dir.copy()?))?;
     let allowed = held.can_remove_dir(alloc, dir)?;
+    asked.push(FolderCall::RemoveDir(dir.copy()?))?;
     Ok(allowed)
 }
 
 fn rename_allowed(
     held: &HeldRows,
-    changes: &mut Vec<Change>,
+    asked: &mut Vec<FolderCall>,
     from: &Path,
     to: &Path,
 ) -> Result<bool, NoMemory>
-    ensures { IfOk result (λ b. b ≡ told.can_rename from.now to.now held.now) }
+    ensures allowed { IfOk result (λ b. b ≡ told.can_rename from.now to.now held.now) }
+    ensures kept { Keeps (asks.Rename from.now to.now) asked.old.items asked.new.items result }
 {
-    changes.push(Change::Rename(from.copy()?, to.copy()?))?;
     let allowed = held.can_rename(from, to)?;
+    asked.push(FolderCall::Rename(from.copy()?, to.copy()?))?;
     Ok(allowed)
 }
 
-/// A folder in memory, with the numbers of the calls that are to fail, the changes that were called
-/// for, and its counts.
+/// A folder in memory, with the numbers of the calls that are to fail, the calls that were made, and its
+/// counts.
 #[derive(Drop)]
 pub struct MemFolder {
     held: HeldRows,
     // the numbers of the calls that are to fail, and what each leaves in its file if it is a write
     failing: Vec<(u64, Option<Bytes>)>,
     calls: u64,
-    changes: Vec<Change>,
+    asked: Vec<FolderCall>,
     read_faults: u64,
     write_faults: u64,
     memory_failures: u64,
@@ -120,14 +139,14 @@ impl MemFolder {
     pub fn new(alloc: Global) -> Result<MemFolder, NoMemory>
         ensures held { IfOk result (λ f. held_by f ≡ told.root_alone) }
         ensures steady { IfOk result (λ f. is_steady f ≡ true) }
-        ensures kept { IfOk result (λ f. kept_by f ≡ record { failing = []; calls = 0; changes = []; read_faults = 0; write_faults = 0; memory_failures = 0 }) }
+        ensures kept { IfOk result (λ f. kept_by f ≡ record { failing = []; calls = 0; asked = []; read_faults = 0; write_faults = 0; memory_failures = 0 }) }
     {
         let held = HeldRows::new(alloc)?;
         Ok(MemFolder {
             held,
             failing: Vec::new(alloc),
             calls: 0,
-            changes: Vec::new(alloc),
+            asked: Vec::new(alloc),
             read_faults: 0,
             write_faults: 0,
             memory_failures: 0,
@@ -219,19 +238,19 @@ impl MemFolder {
         self.calls
     }
 
-    /// The changes that were called for, in their order, those that failed as well.
-    pub fn changes(&self) -> &[Change]
-        ensures { result.now ≡ (kept_by self.now).changes }
+    /// The calls that were made, in their order, those that failed as well; one that had no memory may be missing.
+    pub fn asked(&self) -> &[FolderCall]
+        ensures { result.now ≡ (kept_by self.now).asked }
     {
-        &self.changes
+        &self.asked
     }
 
-    /// Forgets the changes that were called for.
-    pub fn clear_changes(&mut self)
-        ensures kept { kept_by self.new ≡ record (kept_by self.old) { changes = [] } }
+    /// Forgets the calls that were made.
+    pub fn clear_asked(&mut self)
+        ensures kept { kept_by self.new ≡ record (kept_by self.old) { asked = [] } }
         ensures held { held_by self.new ≡ held_by self.old }
     {
-        self.changes.clear();
+        self.asked.clear();
     }
 
     /// How many lists and reads were faults.
@@ -277,7 +296,11 @@ impl Folder for MemFolder {
 
     fn list(&mut self, alloc: Global, dir: &Path) -> Result<Vec<Item>, FolderErr> {
         let fault = counted(&mut self.calls, &self.failing);
-        if !self.held.can_list(dir) {
+        let Ok(allowed) = list_allowed(&self.held, &mut self.asked, dir) else {
+            self.memory_failures = self.memory_failures.saturating_add(1);
+            return Err(FolderErr::NoMemory);
+        };
+        if !allowed {
             return Err(FolderErr::Failed);
         }
         if fault.is_some() {
@@ -293,7 +316,11 @@ impl Folder for MemFolder {
 
     fn read(&mut self, alloc: Global, file: &Path) -> Result<Got, FolderErr> {
         let fault = counted(&mut self.calls, &self.failing);
-        if !self.held.can_read(file) {
+        let Ok(allowed) = read_allowed(&self.held, &mut self.asked, file) else {
+            self.memory_failures = self.memory_failures.saturating_add(1);
+            return Err(FolderErr::NoMemory);
+        };
+        if !allowed {
             return Err(FolderErr::Failed);
         }
         if fault.is_some() {
@@ -312,7 +339,7 @@ impl Folder for MemFolder {
 
     fn write(&mut self, alloc: Global, file: &Path, bytes: &[u8]) -> Result<(), FolderErr> {
         let fault = counted(&mut self.calls, &self.failing);
-        let Ok(allowed) = write_allowed(&self.held, &mut self.changes, file) else {
+        let Ok(allowed) = write_allowed(&self.held, &mut self.asked, file) else {
             self.memory_failures = self.memory_failures.saturating_add(1);
             return Err(FolderErr::NoMemory);
         };
@@ -340,7 +367,7 @@ impl Folder for MemFolder {
 
     fn make_dir(&mut self, alloc: Global, dir: &Path) -> Result<(), FolderErr> {
         let fault = counted(&mut self.calls, &self.failing);
-        let Ok(allowed) = make_dir_allowed(&self.held, &mut self.changes, dir) else {
+        let Ok(allowed) = make_dir_allowed(&self.held, &mut self.asked, dir) else {
             self.memory_failures = self.memory_failures.saturating_add(1);
             return Err(FolderErr::NoMemory);
         };
@@ -360,7 +387,7 @@ impl Folder for MemFolder {
 
     fn remove_file(&mut self, alloc: Global, file: &Path) -> Result<(), FolderErr> {
         let fault = counted(&mut self.calls, &self.failing);
-        let Ok(allowed) = remove_file_allowed(&self.held, &mut self.changes, file) else {
+        let Ok(allowed) = remove_file_allowed(&self.held, &mut self.asked, file) else {
             self.memory_failures = self.memory_failures.saturating_add(1);
             return Err(FolderErr::NoMemory);
         };
@@ -377,7 +404,7 @@ impl Folder for MemFolder {
 
     fn remove_dir(&mut self, alloc: Global, dir: &Path) -> Result<(), FolderErr> {
         let fault = counted(&mut self.calls, &self.failing);
-        let Ok(allowed) = remove_dir_allowed(alloc, &self.held, &mut self.changes, dir) else {
+        let Ok(allowed) = remove_dir_allowed(alloc, &self.held, &mut self.asked, dir) else {
             self.memory_failures = self.memory_failures.saturating_add(1);
             return Err(FolderErr::NoMemory);
         };
@@ -394,7 +421,7 @@ impl Folder for MemFolder {
 
     fn rename(&mut self, alloc: Global, from: &Path, to: &Path) -> Result<(), FolderErr> {
         let fault = counted(&mut self.calls, &self.failing);
-        let Ok(allowed) = rename_allowed(&self.held, &mut self.changes, from, to) else {
+        let Ok(allowed) = rename_allowed(&self.held, &mut self.asked, from, to) else {
             self.memory_failures = self.memory_failures.saturating_add(1);
             return Err(FolderErr::NoMemory);
         };

@@ -6,7 +6,7 @@ ghost use Rattle.rk_folder.specs.declared.folder.Standing.TheVariants.{Dir};
 ghost use Rattle.rk_folder.specs.Specials.{hidden_special, state_special};
 ghost use Rattle.rk_folder.specs.Steps.{ListsRoot, is_dir_item, nothing_special};
 ghost use Rattle.rk_folder.specs.Import.{Tells, ReadCaused, MemoryCounted, ReadSteadily, has_database, hidden_read, state_of};
-ghost use Rattle.rk_folder.specs.Looks.{LooksFew, state_looks, state_reads};
+ghost use Rattle.rk_folder.specs.Looks.{LooksInOrder, all_state_looks, lists, state_listings, state_looks, state_reads};
 ghost use Rattle.rk_folder.specs.Schedule.{MakesCalls};
 
 use crate::hidden_files::{HIDDEN, attrs_file, db_file, hidden_dir};
@@ -66,7 +66,7 @@ fn look_at_hidden<F: Folder>(
     ensures steady { ReadSteadily (F.steady folder.old) (F.steady folder.new) result }
     ensures held { F.told folder.new ≡ F.told folder.old }
     ensures writes { F.write_faults folder.new ≡ F.write_faults folder.old }
-    ensures calls { MakesCalls 1 (F.schedule folder.old) (F.schedule folder.new) }
+    ensures calls { MakesCalls (lists hidden_dir) (F.schedule folder.old) (F.schedule folder.new) }
 {
     match named(items, HIDDEN) {
         None => Ok(false),
@@ -94,14 +94,13 @@ pub(crate) fn state_listed<F: Folder>(
     ensures held { F.told folder.new ≡ F.told folder.old }
     ensures writes { F.write_faults folder.new ≡ F.write_faults folder.old }
     ensures reach { F.reach folder.new ≡ F.reach folder.old }
-    ensures calls { MakesCalls 2 (F.schedule folder.old) (F.schedule folder.new) }
-    ensures looks { LooksFew (F.told folder.old) (state_looks skips_db) (F.schedule folder.old) (F.schedule folder.new) }
+    ensures calls { MakesCalls (state_reads skips_db) (F.schedule folder.old) (F.schedule folder.new) }
+    ensures looks { LooksInOrder (F.told folder.old) (state_looks skips_db) (F.schedule folder.old) (F.schedule folder.new) }
 {
     if !is_dir(named(items, HIDDEN)) {
         return Ok(found(false, None, None));
     }
-    let hidden = state_read(alloc, folder, skips_db)?;
-    Ok(hidden)
+    state_read(alloc, folder, skips_db)
 }
 
 /// The state files of a folder. Nothing else of it is looked at.
@@ -115,13 +114,12 @@ pub fn state<F: Folder>(alloc: Global, folder: &mut F) -> Result<Hidden, ImportE
     ensures held { F.told folder.new ≡ F.told folder.old }
     ensures writes { F.write_faults folder.new ≡ F.write_faults folder.old }
 
-    // The root and `.rkr` are listed, and two files read, at most.
-    ensures calls { MakesCalls 4 (F.schedule folder.old) (F.schedule folder.new) }
+    // The root and `.rkr` are listed, and then the two files read; nothing else is asked.
+    ensures calls { MakesCalls all_state_looks (F.schedule folder.old) (F.schedule folder.new) }
 {
     let items = list(alloc, folder, &Path::root(alloc)?)?;
     let _listed = look_at_hidden(alloc, folder, &items)?;
-    let hidden = state_listed(alloc, folder, &items, false)?;
-    Ok(hidden)
+    state_listed(alloc, folder, &items, false)
 }
 
 /// Whether a folder has a database. The state files are looked at by the listings of the root and of `.rkr` alone: no file
@@ -136,10 +134,9 @@ pub fn has_database<F: Folder>(alloc: Global, folder: &mut F) -> Result<bool, Im
     ensures held { F.told folder.new ≡ F.told folder.old }
     ensures writes { F.write_faults folder.new ≡ F.write_faults folder.old }
 
-    // Two directories are listed at most.
-    ensures calls { MakesCalls 2 (F.schedule folder.old) (F.schedule folder.new) }
+    // The root and `.rkr` are listed; nothing else is asked.
+    ensures calls { MakesCalls state_listings (F.schedule folder.old) (F.schedule folder.new) }
 {
     let items = list(alloc, folder, &Path::root(alloc)?)?;
-    let listed = look_at_hidden(alloc, folder, &items)?;
-    Ok(listed)
+    look_at_hidden(alloc, folder, &items)
 }

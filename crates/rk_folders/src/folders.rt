@@ -4,8 +4,8 @@ ghost use Rattle.rk_tree.specs.Entries.{IsWholeSnapshot};
 use rk_base::{Bytes, NoMemory, Path};
 use rk_build::attrs_of;
 use rk_folder::{
-    Change, Folder, FolderErr, Got, ImportErr, Imported, Item, MemFolder, MemSink, Sink, SinkErr,
-    Standing, State, import, state, tree_of,
+    Folder, FolderCall, FolderErr, Got, ImportErr, Imported, Item, MemFolder, MemSink, Sink,
+    SinkErr, Standing, State, import, state, tree_of,
 };
 use rk_steps::{
     Subject, attrs_shown, behind, kind_shown, number, number_shown, path_of, plain, push_shown,
@@ -232,20 +232,35 @@ fn push_rename(alloc: Global, out: &mut String, from: &Path, to: &Path) -> Resul
     push_behind(alloc, out, "", to.text())
 }
 
-fn push_change(alloc: Global, out: &mut String, change: &Change) -> Result<(), NoMemory> {
-    match change {
-        Change::Write(path) => push_behind(alloc, out, " write", path.text()),
-        Change::MakeDir(path) => push_behind(alloc, out, " make-dir", path.text()),
-        Change::RemoveFile(path) => push_behind(alloc, out, " remove-file", path.text()),
-        Change::RemoveDir(path) => push_behind(alloc, out, " remove-dir", path.text()),
-        Change::Rename(from, to) => push_rename(alloc, out, from, to),
+fn push_call(alloc: Global, out: &mut String, call: &FolderCall) -> Result<(), NoMemory> {
+    match call {
+        FolderCall::List(dir) => push_behind(alloc, out, " list", dir.text()),
+        FolderCall::Read(file) => push_behind(alloc, out, " read", file.text()),
+        FolderCall::Write(file) => push_behind(alloc, out, " write", file.text()),
+        FolderCall::MakeDir(dir) => push_behind(alloc, out, " make-dir", dir.text()),
+        FolderCall::RemoveFile(file) => push_behind(alloc, out, " remove-file", file.text()),
+        FolderCall::RemoveDir(dir) => push_behind(alloc, out, " remove-dir", dir.text()),
+        FolderCall::Rename(from, to) => push_rename(alloc, out, from, to),
     }
 }
 
-fn changes_shown(alloc: Global, changes: &[Change]) -> Result<String, NoMemory> {
-    let mut out = number_shown(alloc, Some(changes.len()))?;
-    'changes: for change in changes {
-        push_change(alloc, &mut out, change)?;
+// The calls that were made.
+fn calls_shown(alloc: Global, asked: &[FolderCall]) -> Result<String, NoMemory> {
+    let mut out = number_shown(alloc, Some(asked.len()))?;
+    'calls: for call in asked {
+        push_call(alloc, &mut out, call)?;
+    }
+    Ok(out)
+}
+
+// Those of them that are to change the folder.
+fn changes_shown(alloc: Global, asked: &[FolderCall]) -> Result<String, NoMemory> {
+    let changes = asked.iter().filter(|call| call.is_change()).count();
+    let mut out = number_shown(alloc, Some(changes))?;
+    'calls: for call in asked {
+        if call.is_change() {
+            push_call(alloc, &mut out, call)?;
+        }
     }
     Ok(out)
 }
@@ -365,7 +380,7 @@ impl Held {
     }
 
     fn clear(&mut self) -> Result<String, NoMemory> {
-        self.folder.clear_changes();
+        self.folder.clear_asked();
         plain(self.alloc, "cleared")
     }
 
@@ -425,7 +440,8 @@ impl Subject for Held {
             "fail" => self.fail(number(words, 1)),
             "fail-write" => self.fail_write(number(words, 1), word(words, 2)),
             "faults" => self.faults(),
-            "changes" => changes_shown(alloc, self.folder.changes()),
+            "changes" => changes_shown(alloc, self.folder.asked()),
+            "asked" => calls_shown(alloc, self.folder.asked()),
             "clear" => self.clear(),
             "put" => put_shown(alloc, self.sink.put(word(words, 1))),
             "fail-put" => self.fail_put(number(words, 1), number(words, 2)),

@@ -11,69 +11,24 @@ use crate::folders::Held;
 use crate::made::Made;
 use crate::real::Real;
 use rk_base::NoMemory;
-use rk_steps::{Subject, Told, carried_out, subject_of};
-use std::alloc::Global;
+use rk_steps::{Subjects, Told, run_files, steps_of, subject_of};
 use std::process::ExitCode;
-use std::{env, fs, io};
 
-fn steps_of<S: Subject + Drop>(
-    alloc: Global,
-    name: &str,
-    text: &str,
-    subject: Result<S, NoMemory>,
-) -> Result<Told, NoMemory> {
-    let mut subject = subject?;
-    carried_out(alloc, name, text, &mut subject)
-}
+struct Program;
 
-fn told_of(rt: &HostRuntime, name: &str, text: &str) -> Result<Option<Told>, NoMemory> {
-    let alloc = rt.alloc();
-    let told = match subject_of(text) {
-        "folder" => steps_of(alloc, name, text, Held::new(alloc))?,
-        "made" => steps_of(alloc, name, text, Made::new(alloc))?,
-        "real" => steps_of(alloc, name, text, Real::new(rt.clone()?))?,
-        _ => return Ok(None),
-    };
-    Ok(Some(told))
-}
-
-fn print(rt: &HostRuntime, name: &str, told: Result<Option<Told>, NoMemory>) -> io::Result<()> {
-    match told {
-        Ok(Some(told)) => {
-            print!(rt; "{}", told.text())?;
-            println!(rt;
-                "{name}: {} steps, {} otherwise",
-                told.steps(),
-                told.otherwise()
-            )
-        }
-        Ok(None) => println!(rt; "{name}: of nothing known"),
-        Err(_) => println!(rt; "{name}: out of memory"),
+impl Subjects<HostRuntime> for Program {
+    fn told_of(rt: &HostRuntime, name: &str, text: &str) -> Result<Option<Told>, NoMemory> {
+        let alloc = rt.alloc();
+        let told = match subject_of(text) {
+            "folder" => steps_of(alloc, name, text, Held::new(alloc))?,
+            "made" => steps_of(alloc, name, text, Made::new(alloc))?,
+            "real" => steps_of(alloc, name, text, Real::new(rt.clone()?))?,
+            _ => return Ok(None),
+        };
+        Ok(Some(told))
     }
-}
-
-fn run(rt: &HostRuntime, names: &[String]) -> io::Result<()> {
-    'names: for name in names {
-        let text = fs::read_to_string(rt, name.as_str())?;
-        let told = told_of(rt, name.as_str(), text.as_str());
-        print(rt, name.as_str(), told)?;
-    }
-    Ok(())
 }
 
 fn main(rt: HostRuntime) -> ExitCode {
-    let words: Vec<String> = match env::args(&rt) {
-        Ok(words) => match words.collect(rt.alloc()) {
-            Ok(words) => words,
-            Err(_) => return ExitCode::from(1),
-        },
-        Err(_) => return ExitCode::from(1),
-    };
-    match words.as_slice() {
-        [_, names @ ..] => match run(&rt, names) {
-            Ok(()) => ExitCode::SUCCESS,
-            Err(_) => ExitCode::from(1),
-        },
-        [] => ExitCode::SUCCESS,
-    }
+    run_files::<HostRuntime, Program>(&rt)
 }

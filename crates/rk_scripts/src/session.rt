@@ -6,8 +6,8 @@ use crate::calls::{Built, Cut, ENOUGH, WHOLE, build_within};
 use rk_base::{NoMemory, Path};
 use rk_folder::{Folder, FolderErr, MemFolder};
 use rk_sessions::{
-    Kind, Step, bytes_of, contents, has_line, kind_at, number, ran, rows_at, shown, size, steps_of,
-    text_at, turns, unexplained,
+    Step, StepKind, asks_change, bytes_of, contents, has_line, kind_at, number, ran, rows_at,
+    shown, size, steps_of, text_at, turns, unexplained,
 };
 use rk_top::{Outcome, exit_code};
 use std::alloc::Global;
@@ -170,7 +170,7 @@ impl Session {
 
     // What is called for from here on is the next request's.
     fn begin_request(&mut self) {
-        self.folder.clear_changes();
+        self.folder.clear_asked();
         self.calls = self.folder.calls();
     }
 
@@ -241,7 +241,7 @@ impl Session {
     fn spent(&mut self, turns: u32) -> Result<(), NoMemory> {
         self.begin_request();
         let built = build_within(self.alloc, turns, &mut self.folder)?;
-        if !matches!(built.outcome, Outcome::Spent) || !self.folder.changes().is_empty() {
+        if !matches!(built.outcome, Outcome::Spent) || asks_change(self.folder.asked()) {
             self.tell("budget", "enough", "spent")?;
         }
         self.tell("output", shown(built.out.bytes()), "")
@@ -295,26 +295,26 @@ impl Session {
         let rest = step.rest.as_str();
         let text = step.text.as_str();
         match step.kind {
-            Kind::Fresh => self.begin(text),
-            Kind::Script => self.put("/Rikerfile", text),
-            Kind::File => self.put(rest, text),
-            Kind::Dir => self.make_dir(rest),
-            Kind::Removed => self.remove(rest),
-            Kind::Costs => {
+            StepKind::Fresh => self.begin(text),
+            StepKind::Script => self.put("/Rikerfile", text),
+            StepKind::File => self.put(rest, text),
+            StepKind::Dir => self.make_dir(rest),
+            StepKind::Removed => self.remove(rest),
+            StepKind::Costs => {
                 self.cost = turns(rest);
                 Ok(())
             }
-            Kind::Build => self.build(rest, text, step.errors.as_str()),
-            Kind::Asked => self.asked(rest, text, step.errors.as_str()),
-            Kind::Called => self.called(rest, text, step.errors.as_str()),
-            Kind::Refused => self.refused(rest),
-            Kind::Spent => self.spent(turns(rest)),
-            Kind::Ran => self.ran(rest),
-            Kind::Why => self.why(rest),
-            Kind::Holds => self.stands(rest, "file", text),
-            Kind::Lacks => self.stands(rest, "nothing", ""),
-            Kind::Directory => self.stands(rest, "directory", ""),
-            Kind::Attrs => self.attrs(rest),
+            StepKind::Build => self.build(rest, text, step.errors.as_str()),
+            StepKind::Asked => self.asked(rest, text, step.errors.as_str()),
+            StepKind::Called => self.called(rest, text, step.errors.as_str()),
+            StepKind::Refused => self.refused(rest),
+            StepKind::Spent => self.spent(turns(rest)),
+            StepKind::Ran => self.ran(rest),
+            StepKind::Why => self.why(rest),
+            StepKind::Holds => self.stands(rest, "file", text),
+            StepKind::Lacks => self.stands(rest, "nothing", ""),
+            StepKind::Directory => self.stands(rest, "directory", ""),
+            StepKind::Attrs => self.attrs(rest),
             _ => self.bear(step),
         }
     }
@@ -324,32 +324,33 @@ impl Session {
         let rest = step.rest.as_str();
         let text = step.text.as_str();
         match step.kind {
-            Kind::Has => self.has(rest, "file", text),
-            Kind::HasNot => self.has(rest, "nothing", ""),
-            Kind::Bytes => {
+            StepKind::Has => self.has(rest, "file", text),
+            StepKind::HasNot => self.has(rest, "nothing", ""),
+            StepKind::Bytes => {
                 let bytes = bytes_of(self.alloc, text)?;
                 self.put_bytes(rest, &bytes)
             }
-            Kind::Cut => self.cut(rest),
-            Kind::Turned => self.turn(rest),
-            Kind::Record => self.record(rest),
-            Kind::Special => self.put_special(rest),
-            Kind::Odd => self.make_odd(rest),
-            Kind::Fails => self.fail(rest),
-            Kind::Leaves => self.leave(rest, text),
-            Kind::OutputCut => {
+            StepKind::Cut => self.cut(rest),
+            StepKind::Turned => self.turn(rest),
+            StepKind::Record => self.record(rest),
+            StepKind::Special => self.put_special(rest),
+            StepKind::Odd => self.make_odd(rest),
+            StepKind::Fails => self.fail(rest),
+            StepKind::Leaves => self.leave(rest, text),
+            StepKind::OutputCut => {
                 self.output = cut_of(rest);
                 Ok(())
             }
-            Kind::ErrorsCut => {
+            StepKind::ErrorsCut => {
                 self.errors = cut_of(rest);
                 Ok(())
             }
-            Kind::Changes => self.changed(rest),
-            Kind::Calls => self.called_for(rest),
-            Kind::Starts => self.starts(rest),
-            Kind::Traced => self.traced(rest),
-            Kind::Talk => self.talk(rest, text),
+            StepKind::Changes => self.changed(rest),
+            StepKind::Calls => self.called_for(rest),
+            StepKind::Order => self.in_order(rest),
+            StepKind::Starts => self.starts(rest),
+            StepKind::Traced => self.traced(rest),
+            StepKind::Talk => self.talk(rest, text),
             _ => self.tell("step", "unknown", rest),
         }
     }

@@ -13,8 +13,8 @@ pub use altering::{altered, bytes_of, cut, turned};
 pub use drawing::{Draws, SOURCES, script, source};
 pub use numbers::{number, size, status, turns};
 pub use showing::{
-    changes_shown, contents, has_line, has_numbered, kind_at, ran, rows_at, shown, text_at,
-    unexplained,
+    asks_change, calls_shown, changes_shown, contents, has_line, has_numbered, kind_at, ran,
+    rows_at, shown, text_at, unexplained,
 };
-pub use steps::{Kind, Step, steps_of};
+pub use steps::{Step, StepKind, steps_of};
 pub use talks::db_of;

@@ -1,6 +1,6 @@
 // What came, as text.
 use rk_base::{Name, NoMemory, Path};
-use rk_folder::{Change, Folder, Item, MemFolder, Standing};
+use rk_folder::{Folder, FolderCall, Item, MemFolder, Standing};
 use std::alloc::Global;
 use tr_codec::{AttrRow, Attrs, read_attrs};
 
@@ -269,22 +269,44 @@ fn push_rename(text: &mut String, from: &Path, to: &Path) -> Result<(), NoMemory
     push_words(text, "", to.text())
 }
 
-fn push_change(text: &mut String, change: &Change) -> Result<(), NoMemory> {
-    match change {
-        Change::Write(path) => push_words(text, "write", path.text()),
-        Change::MakeDir(path) => push_words(text, "make", path.text()),
-        Change::RemoveFile(path) => push_words(text, "remove", path.text()),
-        Change::RemoveDir(path) => push_words(text, "remove directory", path.text()),
-        Change::Rename(from, to) => push_rename(text, from, to),
+fn push_call(text: &mut String, call: &FolderCall) -> Result<(), NoMemory> {
+    match call {
+        FolderCall::List(dir) => push_words(text, "list", dir.text()),
+        FolderCall::Read(file) => push_words(text, "read", file.text()),
+        FolderCall::Write(file) => push_words(text, "write", file.text()),
+        FolderCall::MakeDir(dir) => push_words(text, "make", dir.text()),
+        FolderCall::RemoveFile(file) => push_words(text, "remove", file.text()),
+        FolderCall::RemoveDir(dir) => push_words(text, "remove directory", dir.text()),
+        FolderCall::Rename(from, to) => push_rename(text, from, to),
     }
 }
 
-/// The changes that were called for.
-pub fn changes_shown(alloc: Global, changes: &[Change]) -> Result<String, NoMemory> {
+fn push_next(text: &mut String, call: &FolderCall) -> Result<(), NoMemory> {
+    text.push_str(if text.is_empty() { "" } else { "; " })?;
+    push_call(text, call)
+}
+
+/// The calls that were made.
+pub fn calls_shown(alloc: Global, asked: &[FolderCall]) -> Result<String, NoMemory> {
     let mut text = String::new(alloc);
-    'changes: for (i, change) in changes.iter().enumerate() {
-        text.push_str(if i == 0 { "" } else { "; " })?;
-        push_change(&mut text, change)?;
+    'calls: for call in asked {
+        push_next(&mut text, call)?;
     }
     Ok(text)
+}
+
+/// Those of them that are to change the folder.
+pub fn changes_shown(alloc: Global, asked: &[FolderCall]) -> Result<String, NoMemory> {
+    let mut text = String::new(alloc);
+    'calls: for call in asked {
+        if call.is_change() {
+            push_next(&mut text, call)?;
+        }
+    }
+    Ok(text)
+}
+
+/// Whether a call was to change the folder.
+pub fn asks_change(asked: &[FolderCall]) -> bool {
+    asked.iter().any(|call| call.is_change())
 }

@@ -4,7 +4,7 @@ use std::alloc::Global;
 
 /// What is done with a folder, or looked at in it.
 #[derive(Clone, Copy)]
-pub enum Kind {
+pub enum StepKind {
     /// A fresh folder with the text as its script, and nothing else.
     Fresh,
     /// Another script.
@@ -67,6 +67,8 @@ pub enum Kind {
     Changes,
     /// How many calls of the folder the last request made.
     Calls,
+    /// Which calls of the folder the last request made, in order.
+    Order,
     /// How many commands a build starts.
     Starts,
     /// A line of the trace, behind its number.
@@ -80,7 +82,7 @@ pub enum Kind {
 /// A step: its kind, what stands behind its word, and the texts below it.
 #[derive(Drop)]
 pub struct Step {
-    pub kind: Kind,
+    pub kind: StepKind,
     /// What stands behind its word.
     pub rest: String,
     /// The text below it.
@@ -89,50 +91,51 @@ pub struct Step {
     pub errors: String,
 }
 
-fn kind_of(word: &str) -> Kind {
+fn kind_of(word: &str) -> StepKind {
     match word {
-        "fresh" => Kind::Fresh,
-        "script" => Kind::Script,
-        "file" => Kind::File,
-        "dir" => Kind::Dir,
-        "removed" => Kind::Removed,
-        "costs" => Kind::Costs,
-        "build" => Kind::Build,
-        "asked" => Kind::Asked,
-        "called" => Kind::Called,
-        "refused" => Kind::Refused,
-        "spent" => Kind::Spent,
-        "ran" => Kind::Ran,
-        "why" => Kind::Why,
-        "holds" => Kind::Holds,
-        "lacks" => Kind::Lacks,
-        "directory" => Kind::Directory,
-        "attrs" => Kind::Attrs,
+        "fresh" => StepKind::Fresh,
+        "script" => StepKind::Script,
+        "file" => StepKind::File,
+        "dir" => StepKind::Dir,
+        "removed" => StepKind::Removed,
+        "costs" => StepKind::Costs,
+        "build" => StepKind::Build,
+        "asked" => StepKind::Asked,
+        "called" => StepKind::Called,
+        "refused" => StepKind::Refused,
+        "spent" => StepKind::Spent,
+        "ran" => StepKind::Ran,
+        "why" => StepKind::Why,
+        "holds" => StepKind::Holds,
+        "lacks" => StepKind::Lacks,
+        "directory" => StepKind::Directory,
+        "attrs" => StepKind::Attrs,
         _ => kind_of_other(word),
     }
 }
 
 // Of what a folder, its state files and the sinks have to bear.
-fn kind_of_other(word: &str) -> Kind {
+fn kind_of_other(word: &str) -> StepKind {
     match word {
-        "has" => Kind::Has,
-        "has_not" => Kind::HasNot,
-        "bytes" => Kind::Bytes,
-        "cut" => Kind::Cut,
-        "turned" => Kind::Turned,
-        "record" => Kind::Record,
-        "special" => Kind::Special,
-        "odd" => Kind::Odd,
-        "fails" => Kind::Fails,
-        "leaves" => Kind::Leaves,
-        "output_cut" => Kind::OutputCut,
-        "errors_cut" => Kind::ErrorsCut,
-        "changes" => Kind::Changes,
-        "calls" => Kind::Calls,
-        "starts" => Kind::Starts,
-        "traced" => Kind::Traced,
-        "talk" => Kind::Talk,
-        _ => Kind::Unknown,
+        "has" => StepKind::Has,
+        "has_not" => StepKind::HasNot,
+        "bytes" => StepKind::Bytes,
+        "cut" => StepKind::Cut,
+        "turned" => StepKind::Turned,
+        "record" => StepKind::Record,
+        "special" => StepKind::Special,
+        "odd" => StepKind::Odd,
+        "fails" => StepKind::Fails,
+        "leaves" => StepKind::Leaves,
+        "output_cut" => StepKind::OutputCut,
+        "errors_cut" => StepKind::ErrorsCut,
+        "changes" => StepKind::Changes,
+        "calls" => StepKind::Calls,
+        "order" => StepKind::Order,
+        "starts" => StepKind::Starts,
+        "traced" => StepKind::Traced,
+        "talk" => StepKind::Talk,
+        _ => StepKind::Unknown,
     }
 }
 

@@ -1,9 +1,9 @@
 -- What is so of the request that words are.
 use Rattle.std.proofs.Common.{◌≡◌, ℕ, List, Option, Some, None, IfSome, sym, subst}
 use Rattle.rk_base.specs.Text.{Text}
-use Rattle.rk_words.specs.Asked.{IfBuild, IfGen, IfQuery, request_of}
-use Rattle.rk_words.specs.declared.requests.Request.TheVariants.{Build, Check, Trace, Forget, Gen}
-use Rattle.rk_words.specs.declared.requests.Request.{Request}
+use Rattle.rk_request.specs.Asked.{IfBuild, IfGen, IfQuery, request_of}
+use Rattle.rk_request.specs.declared.requests.Request.TheVariants.{Build, Check, Trace, Forget, Gen}
+use Rattle.rk_request.specs.declared.requests.Request.{Request}
 use Rattle.rk_top.specs.Asks.{Asks, AsksBuild, AsksQuery}
 
 pub asks : (words : List Text) (P : Request → Type 0) (request : Request) → request_of words ≡ Some request → P request → Asks words P

@@ -10,8 +10,8 @@ use Rattle.rk_database.specs.declared.stop.Said.TheVariants as said
 use Rattle.rk_database.specs.declared.stop.Stop.{Stop}
 use Rattle.rk_database.specs.declared.stop.Stop.TheVariants as stop
 use Rattle.rk_folder.specs.Told.{Held}
-use Rattle.rk_words.specs.declared.requests.Request.{Request}
-use Rattle.rk_words.specs.declared.requests.Request.TheVariants as request
+use Rattle.rk_request.specs.declared.requests.Request.{Request}
+use Rattle.rk_request.specs.declared.requests.Request.TheVariants as request
 use Rattle.rk_build.specs.Outcomes.{Counted, Counts, IsNoFault}
 use Rattle.rk_top.specs.Queries.{IsAnswer, Queried, outcome_of_answer}
 use Rattle.rk_build.specs.Telling.{IsNamed, IsTold}

@@ -3,20 +3,21 @@ use Rattle.std.proofs.Common.{◌≡◌, ◌≢◌, ◌⊎◌, ◌≤◌, inl, i
 use Rattle.rk_base.specs.Text.{Text}
 use Rattle.rk_folder.specs.Counts.{Rose, one_more}
 use Rattle.rk_folder.proofs.CallsLemmas.{makes-none}
-use Rattle.rk_words.specs.Asked.{IfBuild, IfGen, IfQuery, request_of}
-use Rattle.rk_words.specs.declared.requests.Request.{Request}
-use Rattle.rk_words.specs.declared.requests.Request.TheVariants as request
+use Rattle.rk_request.specs.Asked.{IfBuild, IfGen, IfQuery, request_of}
+use Rattle.rk_request.specs.declared.requests.Request.{Request}
+use Rattle.rk_request.specs.declared.requests.Request.TheVariants as request
 use Rattle.rk_folder.specs.Told.{Held}
 use Rattle.rk_build.specs.Outcomes.{Counted, Counts, ErrorsCounted, Faults, GainsLine, IsNoFault}
 use Rattle.rk_build.specs.Telling.{IsTold, SinkState, Tells}
 use Rattle.rk_build.specs.declared.outcome.Outcome.{Outcome}
 use Rattle.rk_build.specs.declared.outcome.Outcome.TheVariants as out
-use Rattle.rk_build.proofs.TellLemmas.{line-damaged, line-ended, line-faults, line-forged, line-gains, line-leaves, line-no-fault, line-settles, line-special, line-ticked, mid-still, steady-same, told-counted, told-errors, told-gains}
+use Rattle.rk_build.proofs.CallsLemmas.{asks-none}
+use Rattle.rk_build.proofs.TellLemmas.{line-asks, line-damaged, line-ended, line-faults, line-forged, line-gains, line-leaves, line-no-fault, line-settles, line-special, line-ticked, mid-still, steady-same, told-counted, told-errors, told-gains}
 use Rattle.rk_top.specs.First.{first_talk}
 use Rattle.rk_top.specs.Outside.{GainsLineAlone, IsSteady, Outside, Steady, counts, with_line}
 use Rattle.rk_top.specs.Generated.{Generates}
 use Rattle.rk_top.specs.Queries.{IsAnswer, Queried}
-use Rattle.rk_top.specs.Serves.{BuildWorks, Builds, QueryWorks, Serves, Works}
+use Rattle.rk_top.specs.Serves.{BuildWorks, Builds, QueryWorks, Serves, Works, query_calls}
 use Rattle.rk_top.proofs.AskLemmas.{asks, asks-any, build-then, builds-any, gen-then, gens-any, queries-any, query-then, unasked}
 use Rattle.rk_top.proofs.GeneratedLemmas.{line-generates}
 use Rattle.rk_top.proofs.QueryLemmas.{asked-not-usage, line-queried, unread-queried}
@@ -43,7 +44,7 @@ errors-still err out.WriteFault = (omega arith, refl)
 errors-still err out.NoMemory = (refl, omega arith)
 
 -- nothing but a build puts anything on the error text
-pub works-of : (it : Request) (before now : Outside) (outcome : Outcome) → outcome ≢ out.Usage → IfBuild it (BuildWorks it before now outcome) → Queried first_talk it before.held now.held before.out.so_far now.out.so_far outcome → IfQuery it (QueryWorks before now)
+pub works-of : (it : Request) (before now : Outside) (outcome : Outcome) → outcome ≢ out.Usage → IfBuild it (BuildWorks it before now outcome) → Queried first_talk it before.held now.held before.out.so_far now.out.so_far outcome → IfQuery it (QueryWorks it before now)
     → IfGen it (λ seed. Generates first_talk seed before.live now.live before.out.so_far now.out.so_far outcome) → IfGen it (λ seed. (now.held ≡ before.held) × (now.err.so_far ≡ before.err.so_far))
     → ((errors : ℕ) → Counted (record { reads = before.reads; writes = before.writes; puts = before.out.faults; error_puts = errors }) (record { reads = now.reads; writes = now.writes; puts = now.out.faults; error_puts = errors }) outcome)
     → (IsSteady before → IsNoFault outcome) → now.err ≡ before.err → now.steady.err ≡ before.steady.err → Works it before now outcome
@@ -93,6 +94,7 @@ builds-told request before worked err steady outcome told b counted tells = reco
   tally = line-ended _ _ _ tells.0 b.tally;
   checked = line-ended _ _ _ tells.0 b.checked;
   live = line-ticked request _ _ _ _ tells.0 b.live;
+  calls = line-asks first_talk request _ _ _ _ _ _ tells.0 b.calls;
   output = told-gains first_talk request _ _ _ _ _ tells.0 b.output;
   special = line-special _ _ _ tells.0 b.special;
   damaged = line-damaged _ _ _ tells.0 b.damaged;
@@ -190,6 +192,7 @@ unread words before err steady tells steadily = record {
     tally = tt;
     checked = tt;
     live = omega arith;
+    calls = asks-none first_talk request before.reach before.held before.schedule;
     output = inl refl;
     special = tt;
     damaged = tt;
@@ -200,7 +203,7 @@ unread words before err steady tells steadily = record {
   errors = builds-any words _ (λ request. record { worked = before.err; order = inl refl; text = inl refl; counted = (refl, omega arith); line = tells.1 });
   queried = asks-any words _ (λ request. unread-queried first_talk request before.held before.out.so_far);
   silent = queries-any words _ (λ request. (refl, alone));
-  looks = queries-any words _ (λ request. makes-none 4 before.schedule before.schedule refl);
+  looks = queries-any words _ (λ request. makes-none (query_calls request) before.schedule before.schedule refl);
   generated = gens-any words _ (λ seed. inl refl);
   apart = gens-any words _ (λ seed. (refl, alone));
   read_fault = λ is. cc;

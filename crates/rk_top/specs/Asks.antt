@@ -1,9 +1,9 @@
 -- What is asked of a build.
 use Rattle.std.specs.Prelude.{List, IfSome}
 use Rattle.rk_base.specs.Text.{Text}
-use Rattle.rk_words.specs.Asked.{IfBuild, IfQuery, request_of}
-pub use Rattle.rk_words.specs.Asked.{turns}
-use Rattle.rk_words.specs.declared.requests.Request.{Request}
+use Rattle.rk_request.specs.Asked.{IfBuild, IfQuery, request_of}
+pub use Rattle.rk_request.specs.Asked.{turns}
+use Rattle.rk_request.specs.declared.requests.Request.{Request}
 
 -- this is so of the request that the words are, if they are one
 abbrev pub Asks : List Text → (Request → Type 0) → Type 0

@@ -16,8 +16,8 @@ use Rattle.rk_build.specs.Holdings.{IsAfter}
 use Rattle.rk_kernel.specs.World.{World}
 use Rattle.rk_replay.specs.Ran.{ran_total}
 use Rattle.rk_runs.specs.Run.{Outcome as Run, Done, Spent}
-use Rattle.rk_words.specs.declared.requests.Request.{Request}
-use Rattle.rk_words.specs.declared.requests.Request.TheVariants.{Build}
+use Rattle.rk_request.specs.declared.requests.Request.{Request}
+use Rattle.rk_request.specs.declared.requests.Request.TheVariants.{Build}
 use Rattle.rk_build.specs.Fresh.{held_after}
 use Rattle.rk_build.specs.Kept.{IsTable, Keeping, state_in}
 use Rattle.rk_build.specs.Outcomes.{IsNext}

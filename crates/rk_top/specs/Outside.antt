@@ -12,10 +12,12 @@ pub record Steady : Type 0 where
   pub out : Bool
   pub err : Bool
 
--- what the folder holds, and which of its calls are to fail after how many, where it tells that; how many of its lists and
+-- how many names deep the folder is looked at; what it holds, and which of its calls are to fail after how many, where it
+-- tells that; how many of its lists and
 -- reads were faults, how many of its other calls, and how many calls had no memory; the two sinks; and the turns that
 -- commands which ran have paid
 pub record Outside : Type 0 where
+  pub reach : ℕ
   pub held : Option Held
   pub schedule : Option Schedule
   pub reads : ℕ

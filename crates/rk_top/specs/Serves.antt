@@ -1,14 +1,19 @@
 -- What the call does for each request.
-use Rattle.std.specs.Prelude.{◌≡◌, ◌≢◌, ◌⊎◌, List, true, Some, None, IfSome}
+use Rattle.std.specs.Prelude.{◌≡◌, ◌≢◌, ◌⊎◌, ◌++◌, [], List, true, Some, None, IfSome}
 use Rattle.rk_base.specs.Text.{Text}
 use Rattle.rk_folder.specs.Counts.{Rose, Still}
+use Rattle.rk_folder.specs.Hidden.{db_file}
+use Rattle.rk_folder.specs.Looks.{all_state_looks, removes, state_listings}
 use Rattle.rk_folder.specs.Schedule.{MakesCalls}
 use Rattle.rk_folder.specs.Specials.{first_special}
 use Rattle.rk_folder.specs.Told.{Held}
 use Rattle.rk_runs.specs.Run.{Spent}
 use Rattle.rk_runs.specs.Spoken.{AreSpoken}
-use Rattle.rk_words.specs.Asked.{IfBuild, IfGen, IfQuery, is_fresh, request_of}
-use Rattle.rk_words.specs.declared.requests.Request.{Request}
+use Rattle.rk_request.specs.Asked.{IfBuild, IfGen, IfQuery, is_fresh, request_of}
+use Rattle.rk_folder.specs.declared.folder.FolderCall.{FolderCall}
+use Rattle.rk_request.specs.declared.requests.Request.{Request}
+use Rattle.rk_request.specs.declared.requests.Request.TheVariants as asked
+use Rattle.rk_build.specs.Calls.{AsksSo}
 use Rattle.rk_build.specs.Checks.{TellsForged}
 use Rattle.rk_build.specs.Kept.{IsDamaged, Keeping, decoded, state_in}
 use Rattle.rk_build.specs.Outcomes.{Checked, Counted, ErrorsCounted, Faults, Gains, GainsErrors, GainsLine, HasStatus, IfDamaged, IfEnded, IfForged, IfSpecial, InOrder, IsNoFault, Leaves, NoneRose, Settles, Tallies, Ticked}
@@ -33,6 +38,9 @@ pub record Builds (request : Request) (before now : Outside) (outcome : Outcome)
   pub tally : IfEnded outcome (λ status launched ran. Tallies first_talk request before.held now.held before.live now.live launched ran)
   pub checked : IfEnded outcome (λ status launched ran. Checked first_talk request before.held)
   pub live : Ticked request before.live now.live outcome
+  -- What a folder that keeps its calls was asked: a listing of each directory and a read of each file, then the state files, and
+  -- then the planned calls, each once at most, in this order, and nothing else; where nothing is installed, it is looked at alone.
+  pub calls : AsksSo first_talk request before.reach before.held before.schedule now.schedule outcome
   -- What the output gained.
   pub output : Gains first_talk request before.held before.out now.out outcome
   -- Special only with the first special path; Damaged only with the first state file that is damaged, and its damage; Forged
@@ -51,19 +59,27 @@ pub record BuildWorks (request : Request) (before now : Outside) (outcome : Outc
   pub errors : GainsErrors first_talk request before.held before.err now.err outcome
   pub order : InOrder first_talk request before.held (sinks before) (sinks now)
 
+-- What is asked of the folder for what is asked of the database alone: the listings of the root and of `.rkr`, and then the two
+-- files of it, or that the database is removed.
+abbrev pub query_calls : Request → List FolderCall
+query_calls asked.Check = all_state_looks
+query_calls (asked.Trace json) = all_state_looks
+query_calls asked.Forget = state_listings ++ removes db_file
+query_calls other = []
+
 -- Of what is asked of the database alone before the outcome's line: nothing is paid, and nothing put on the error text; and
--- the folder is asked for no more than the listings of the root and of `.rkr` and two files of it.
-pub record QueryWorks (before now : Outside) : Type 0 where
+-- the folder is asked for these calls and for no other.
+pub record QueryWorks (request : Request) (before now : Outside) : Type 0 where
   pub live : now.live ≡ before.live
   pub errors : now.err.so_far ≡ before.err.so_far
-  pub looks : MakesCalls 4 before.schedule now.schedule
+  pub looks : MakesCalls (query_calls request) before.schedule now.schedule
 
 -- What is done for a request before the outcome's line is put.
 pub record Works (request : Request) (before now : Outside) (outcome : Outcome) : Type 0 where
   pub asked : outcome ≢ out.Usage
   pub build : IfBuild request (BuildWorks request before now outcome)
   pub queried : Queried first_talk request before.held now.held before.out.so_far now.out.so_far outcome
-  pub query : IfQuery request (QueryWorks before now)
+  pub query : IfQuery request (QueryWorks request before now)
   pub generated : IfGen request (λ seed. Generates first_talk seed before.live now.live before.out.so_far now.out.so_far outcome)
   pub apart : IfGen request (λ seed. (now.held ≡ before.held) × (now.err.so_far ≡ before.err.so_far))
   pub counted : Counted (counts before) (counts now) outcome
@@ -83,10 +99,10 @@ pub record Serves (words : List Text) (before now : Outside) (outcome : Outcome)
   pub build : AsksBuild words (λ request. Builds request before now outcome)
   pub errors : AsksBuild words (λ request. GainsLine first_talk request before.held before.out now.out before.err now.err outcome)
   -- Of what is asked of the database alone: the folder and the output; nothing is paid, and nothing put on the error text but
-  -- the outcome's line; and the folder is asked for no more than the listings of the root and of `.rkr` and two files of it.
+  -- the outcome's line; and the folder is asked for its calls (`query_calls`), each once at most, in their order, and for no other.
   pub queried : Asks words (λ request. Queried first_talk request before.held now.held before.out.so_far now.out.so_far outcome)
   pub silent : AsksQuery words (λ request. (now.live ≡ before.live) × GainsLineAlone before.err now.err outcome)
-  pub looks : AsksQuery words (λ request. MakesCalls 4 before.schedule now.schedule)
+  pub looks : AsksQuery words (λ request. MakesCalls (query_calls request) before.schedule now.schedule)
   -- Of a made workload: the line of the session that its seed makes, and the turns that it tells; the folder stays as it was,
   -- and nothing is put on the error text but the outcome's line.
   pub generated : Asks words (λ request. IfGen request (λ seed. Generates first_talk seed before.live now.live before.out.so_far now.out.so_far outcome))

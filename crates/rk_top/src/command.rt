@@ -1,9 +1,9 @@
 // The command of a key.
-ghost use Rattle.std.specs.Prelude.{◌≡◌, IfOk};
+ghost use Rattle.std.specs.Prelude.{◌≡◌, IfOk, option_map};
 ghost use Rattle.std.specs.List.{list_any};
 ghost use Rattle.rk_base.specs.Text.{is_slash};
 ghost use Rattle.rk_calls.specs.Keys.{takes_variables};
-ghost use Rattle.rk_top.specs.First.{says_of, named_of, find_or, copy_or, file_or, grep_or, sed_or, sort_or, select_or, plain_or, utility_or, builtin_or, first_talk};
+ghost use Rattle.rk_top.specs.First.{first_of, first_talk, known_by, named_of, says_of};
 ghost use Rattle.rk_top.specs.Running.{running_talk, command_talk};
 ghost use Rattle.rk_top.specs.UnknownTalk.{is_unknown};
 
@@ -56,124 +56,41 @@ fn unknown(alloc: Global, name: &[u8]) -> Result<Running, NoMemory>
     Ok(Running::Complains(complaint))
 }
 
-// `find`, or an unknown name.
-fn find_utility(alloc: Global, wd: &Path, argv: &WordList, name: &[u8]) -> Result<Running, NoMemory>
-    ensures { IfOk result (λ r. running_talk r Answer.Go ≡ find_or wd.now argv.now (is_unknown name.now)) }
+// The builtin or the utility that knows the first word: the first of these.
+fn known(alloc: Global, wd: &Path, argv: &WordList) -> Result<Option<Running>, NoMemory>
+    ensures { IfOk result (λ o. option_map (λ r. running_talk r Answer.Go) o ≡ first_of (known_by wd.now argv.now)) }
 {
-    let found = FindUtility::start(alloc, wd, argv)?;
-    match found {
-        Some(utility) => Ok(Running::Finds(utility)),
-        None => unknown(alloc, name),
+    if let Some(command) = BuiltinCommand::start(alloc, wd, argv)? {
+        return Ok(Some(Running::Builtins(command)));
     }
-}
-
-// A utility that copies or moves, `find`, or an unknown name.
-fn copy_utility(alloc: Global, wd: &Path, argv: &WordList, name: &[u8]) -> Result<Running, NoMemory>
-    ensures { IfOk result (λ r. running_talk r Answer.Go ≡ copy_or wd.now argv.now (is_unknown name.now)) }
-{
-    let found = ut_copy::start(alloc, wd, argv)?;
-    match found {
-        Some(utility) => Ok(Running::Copies(utility)),
-        None => find_utility(alloc, wd, argv, name),
+    if let Some(utility) = TextUtility::start(alloc, wd, argv)? {
+        return Ok(Some(Running::Texts(utility)));
     }
-}
-
-// A file utility, one that copies, or an unknown name.
-fn file_utility(alloc: Global, wd: &Path, argv: &WordList, name: &[u8]) -> Result<Running, NoMemory>
-    ensures { IfOk result (λ r. running_talk r Answer.Go ≡ file_or wd.now argv.now (is_unknown name.now)) }
-{
-    let found = ut_files::start(alloc, wd, argv)?;
-    match found {
-        Some(utility) => Ok(Running::Files(utility)),
-        None => copy_utility(alloc, wd, argv, name),
+    if let Some(utility) = PlainUtility::start(alloc, wd, argv)? {
+        return Ok(Some(Running::Plain(utility)));
     }
-}
-
-// `grep`, a file utility, or an unknown name.
-fn grep_utility(alloc: Global, wd: &Path, argv: &WordList, name: &[u8]) -> Result<Running, NoMemory>
-    ensures { IfOk result (λ r. running_talk r Answer.Go ≡ grep_or wd.now argv.now (is_unknown name.now)) }
-{
-    let found = GrepUtility::start(alloc, wd, argv)?;
-    match found {
-        Some(utility) => Ok(Running::Greps(utility)),
-        None => file_utility(alloc, wd, argv, name),
+    if let Some(utility) = SelectUtility::start(alloc, wd, argv)? {
+        return Ok(Some(Running::Selects(utility)));
     }
-}
-
-// `sed`, `grep`, a file utility, or an unknown name.
-fn sed_utility(alloc: Global, wd: &Path, argv: &WordList, name: &[u8]) -> Result<Running, NoMemory>
-    ensures { IfOk result (λ r. running_talk r Answer.Go ≡ sed_or wd.now argv.now (is_unknown name.now)) }
-{
-    let found = SedUtility::start(alloc, wd, argv)?;
-    match found {
-        Some(utility) => Ok(Running::Seds(utility)),
-        None => grep_utility(alloc, wd, argv, name),
+    if let Some(utility) = SortUtility::start(alloc, wd, argv)? {
+        return Ok(Some(Running::Sorts(utility)));
     }
-}
-
-// `sort`, a utility after it, or an unknown name.
-fn sort_utility(alloc: Global, wd: &Path, argv: &WordList, name: &[u8]) -> Result<Running, NoMemory>
-    ensures { IfOk result (λ r. running_talk r Answer.Go ≡ sort_or wd.now argv.now (is_unknown name.now)) }
-{
-    let found = SortUtility::start(alloc, wd, argv)?;
-    match found {
-        Some(utility) => Ok(Running::Sorts(utility)),
-        None => sed_utility(alloc, wd, argv, name),
+    if let Some(utility) = SedUtility::start(alloc, wd, argv)? {
+        return Ok(Some(Running::Seds(utility)));
     }
-}
-
-// `cut` or `tr`, a utility after these, or an unknown name.
-fn select_utility(
-    alloc: Global,
-    wd: &Path,
-    argv: &WordList,
-    name: &[u8],
-) -> Result<Running, NoMemory>
-    ensures { IfOk result (λ r. running_talk r Answer.Go ≡ select_or wd.now argv.now (is_unknown name.now)) }
-{
-    let found = SelectUtility::start(alloc, wd, argv)?;
-    match found {
-        Some(utility) => Ok(Running::Selects(utility)),
-        None => sort_utility(alloc, wd, argv, name),
+    if let Some(utility) = GrepUtility::start(alloc, wd, argv)? {
+        return Ok(Some(Running::Greps(utility)));
     }
-}
-
-// `basename`, `dirname` or `tee`, a utility after these, or an unknown name.
-fn plain_utility(
-    alloc: Global,
-    wd: &Path,
-    argv: &WordList,
-    name: &[u8],
-) -> Result<Running, NoMemory>
-    ensures { IfOk result (λ r. running_talk r Answer.Go ≡ plain_or wd.now argv.now (is_unknown name.now)) }
-{
-    let found = PlainUtility::start(alloc, wd, argv)?;
-    match found {
-        Some(utility) => Ok(Running::Plain(utility)),
-        None => select_utility(alloc, wd, argv, name),
+    if let Some(utility) = ut_files::start(alloc, wd, argv)? {
+        return Ok(Some(Running::Files(utility)));
     }
-}
-
-// A utility, or an unknown name.
-fn utility(alloc: Global, wd: &Path, argv: &WordList, name: &[u8]) -> Result<Running, NoMemory>
-    ensures { IfOk result (λ r. running_talk r Answer.Go ≡ utility_or wd.now argv.now (is_unknown name.now)) }
-{
-    let found = TextUtility::start(alloc, wd, argv)?;
-    match found {
-        Some(utility) => Ok(Running::Texts(utility)),
-        None => plain_utility(alloc, wd, argv, name),
+    if let Some(utility) = ut_copy::start(alloc, wd, argv)? {
+        return Ok(Some(Running::Copies(utility)));
     }
-}
-
-// A builtin, a utility, or an unknown name.
-fn builtin(alloc: Global, wd: &Path, argv: &WordList, name: &[u8]) -> Result<Running, NoMemory>
-    ensures { IfOk result (λ r. running_talk r Answer.Go ≡ builtin_or wd.now argv.now (is_unknown name.now)) }
-{
-    let found = BuiltinCommand::start(alloc, wd, argv)?;
-    match found {
-        Some(builtin) => Ok(Running::Builtins(builtin)),
-        None => utility(alloc, wd, argv, name),
+    if let Some(utility) = FindUtility::start(alloc, wd, argv)? {
+        return Ok(Some(Running::Finds(utility)));
     }
+    Ok(None)
 }
 
 // The builtin or the utility of a first word, or an unknown name.
@@ -182,7 +99,10 @@ fn named(alloc: Global, wd: &Path, argv: &WordList) -> Result<Running, NoMemory>
 {
     match argv.as_slice() {
         [] => unknown(alloc, b""),
-        [name, ..] => builtin(alloc, wd, argv, name.as_slice()),
+        [name, ..] => match known(alloc, wd, argv)? {
+            Some(running) => Ok(running),
+            None => unknown(alloc, name.as_slice()),
+        },
     }
 }
 

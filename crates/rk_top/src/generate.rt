@@ -16,7 +16,7 @@ use rk_calls::Maker;
 use rk_folder::{MemFolder, MemSink, Sink, SinkErr, Standing, db_file};
 use rk_gen::{Figures, Start, Workload, change, generate, start_folder, summary};
 use rk_replay::paid;
-use rk_words::{DEFAULT_STEPS, Request};
+use rk_request::{DEFAULT_STEPS, Request};
 use std::alloc::Global;
 use std::sync::ledger::Ledger;
 use tr_record::Table;

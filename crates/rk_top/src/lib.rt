@@ -14,6 +14,6 @@ pub use rk_build::{
     Outcome, StateFile, build_in, exit_code, finds_next, fresh_spoken, refused_settle,
     spoken_settle, stays_well,
 };
-pub use rk_words::{Request, RequestErr, request};
+pub use rk_request::{Request, RequestErr, request};
 pub use top::rkr;
 pub use tr_codec::Damage;

@@ -1,6 +1,6 @@
 // The top call.
 ghost use Rattle.std.specs.Prelude.{◌<◌, map, string_bytes};
-ghost use Rattle.rk_words.specs.Asked.{turns, IfBuild};
+ghost use Rattle.rk_request.specs.Asked.{turns, IfBuild};
 ghost use Rattle.rk_top.specs.Serves.{Serves, Works};
 
 use crate::commands::Commands;
@@ -9,7 +9,7 @@ use crate::queries::{check_records, forget_records, show_records};
 use rk_base::Steps;
 use rk_build::{Outcome, build_in, tell};
 use rk_folder::{Folder, Sink};
-use rk_words::{Request, RequestErr, request};
+use rk_request::{Request, RequestErr, request};
 use std::alloc::Global;
 use std::sync::ledger::Ledger;
 
@@ -25,6 +25,7 @@ fn work<F: Folder, O: Sink, E: Sink, L: Ledger>(
     requires { IfBuild request.now (0 < turns request.now) }
     ensures { Works request.now
         (record {
+          reach = F.reach folder.old;
           held = F.told folder.old;
           schedule = F.schedule folder.old;
           reads = F.read_faults folder.old;
@@ -36,6 +37,7 @@ fn work<F: Folder, O: Sink, E: Sink, L: Ledger>(
           live = live.old;
         })
         (record {
+          reach = F.reach folder.new;
           held = F.told folder.new;
           schedule = F.schedule folder.new;
           reads = F.read_faults folder.new;
@@ -74,6 +76,7 @@ pub fn rkr<F: Folder, O: Sink, E: Sink, L: Ledger>(
     // What is outside before the call, what is there after it, and the outcome.
     ensures { Serves (map string_bytes words.now)
         (record {
+          reach = F.reach folder.old;
           held = F.told folder.old;
           schedule = F.schedule folder.old;
           reads = F.read_faults folder.old;
@@ -85,6 +88,7 @@ pub fn rkr<F: Folder, O: Sink, E: Sink, L: Ledger>(
           live = live.old;
         })
         (record {
+          reach = F.reach folder.new;
           held = F.told folder.new;
           schedule = F.schedule folder.new;
           reads = F.read_faults folder.new;

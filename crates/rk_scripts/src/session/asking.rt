@@ -3,7 +3,7 @@ use super::{Session, at, digits, status_shown};
 use crate::calls::{WHOLE, ask_in, started};
 use rk_base::NoMemory;
 use rk_folder::MemFolder;
-use rk_sessions::{changes_shown, db_of, has_numbered, shown};
+use rk_sessions::{asks_change, calls_shown, changes_shown, db_of, has_numbered, shown};
 use rk_top::Outcome;
 
 const USAGE: &str =
@@ -21,7 +21,7 @@ impl Session {
 
     // Nothing is changed where a request is refused, and wrong words aren't followed by a call.
     pub(crate) fn untouched(&mut self, outcome: &Outcome) -> Result<(), NoMemory> {
-        let is_changed = !self.folder.changes().is_empty();
+        let is_changed = asks_change(self.folder.asked());
         let is_wrong = match outcome {
             Outcome::Usage => self.folder.calls() != self.calls,
             Outcome::Special(_) => is_changed,
@@ -120,8 +120,14 @@ impl Session {
 
     // What the last request changed.
     pub(crate) fn changed(&mut self, wanted: &str) -> Result<(), NoMemory> {
-        let came = changes_shown(self.alloc, self.folder.changes())?;
+        let came = changes_shown(self.alloc, self.folder.asked())?;
         self.tell("changes", came.as_str(), wanted)
+    }
+
+    // Which calls of the folder the last request made.
+    pub(crate) fn in_order(&mut self, wanted: &str) -> Result<(), NoMemory> {
+        let came = calls_shown(self.alloc, self.folder.asked())?;
+        self.tell("order", came.as_str(), wanted)
     }
 
     // How many calls the last request made.

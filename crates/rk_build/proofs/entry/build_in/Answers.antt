@@ -9,6 +9,9 @@ returns-clause-folder g c = rw c.outcome_of.ensures c.build.ensures.folder
 pub returns-clause-live : goal.returns-clause-live
 returns-clause-live g c = rw c.outcome_of.ensures c.build.ensures.live
 
+pub returns-clause-calls : goal.returns-clause-calls
+returns-clause-calls g c = rw c.outcome_of.ensures c.build.ensures.calls
+
 pub returns-clause-output : goal.returns-clause-output
 returns-clause-output g c = rw c.outcome_of.ensures c.build.ensures.output
 

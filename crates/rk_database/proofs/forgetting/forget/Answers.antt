@@ -1,6 +1,8 @@
-use Rattle.std.proofs.Common.{arith, Bool, inl, refl, ◌∙◌}
+use Rattle.std.proofs.Common.{Bool, inl, refl, ◌∙◌}
 use Rattle.std.proofs.lemmas.Result.{err_from_is_err_and}
-use Rattle.rk_folder.proofs.CallsLemmas.{makes-one, makes-then}
+use Rattle.rk_folder.specs.Hidden.{db_file}
+use Rattle.rk_folder.specs.Looks.{removes, state_listings}
+use Rattle.rk_folder.proofs.CallsLemmas.{makes-first, makes-one, makes-then, removes-at}
 use Rattle.rk_database.specs.declared.stop.Said.{Said}
 use Rattle.rk_database.proofs.AnswerLemmas.{finds-forgets, forgets-none, says-none, stands-none, stands-some, stands-stops}
 use Rattle.rk_database.proofs.CallLemmas.{forgets-done, no-fault-again, reads-again, removable-now, removal-counted, removal-steady, said-counted, unread, unremoved, unsaid}
@@ -78,11 +80,20 @@ pub returns-in-Err-Failed-clause-steady : goal.returns-in-Err-Failed-clause-stea
 returns-in-Err-Failed-clause-steady g c = λ folder out.
     absurd (removal-steady _ _ _ c.in-Err-Failed.field-0 c.in-Err-Failed.field-0-is (c.in_ok-stands.ensures.steady ∙ folder) (removable-now (g.F.Folder.told c.args.folder.now) _ _ _ (stands-some (g.F.Folder.told c.args.folder.now) _ c.if-not-stands.false c.in_ok-stands.ensures.stands).1 c.in_ok-stands.ensures.held c.in_ok-file.ensures) c.in-Err-Failed.ensures.steady)
 
+pub returns-in_err-stands-clause-calls : goal.returns-in_err-stands-clause-calls
+returns-in_err-stands-clause-calls g c = makes-first state_listings (removes db_file) _ _ c.in_err-stands.ensures.calls
+
+pub returns-then-not-stands-clause-calls : goal.returns-then-not-stands-clause-calls
+returns-then-not-stands-clause-calls g c = makes-first state_listings (removes db_file) _ _ c.in_ok-stands.ensures.calls
+
+pub returns-in_err-file-clause-calls : goal.returns-in_err-file-clause-calls
+returns-in_err-file-clause-calls g c = makes-first state_listings (removes db_file) _ _ c.in_ok-stands.ensures.calls
+
 pub returns-in-Ok-clause-calls : goal.returns-in-Ok-clause-calls
-returns-in-Ok-clause-calls g c = makes-then 2 1 3 _ _ _ (omega arith) c.in_ok-stands.ensures.calls (makes-one _ _ _ c.remove_file.result c.remove_file.ensures.schedule)
+returns-in-Ok-clause-calls g c = makes-then state_listings (removes db_file) _ _ _ c.in_ok-stands.ensures.calls (removes-at _ db_file _ _ c.in_ok-file.ensures (makes-one _ _ _ _ c.remove_file.result c.remove_file.ensures.schedule))
 
 pub returns-in-Err-Failed-clause-calls : goal.returns-in-Err-Failed-clause-calls
-returns-in-Err-Failed-clause-calls g c = makes-then 2 1 3 _ _ _ (omega arith) c.in_ok-stands.ensures.calls (makes-one _ _ _ c.remove_file.result c.remove_file.ensures.schedule)
+returns-in-Err-Failed-clause-calls g c = makes-then state_listings (removes db_file) _ _ _ c.in_ok-stands.ensures.calls (removes-at _ db_file _ _ c.in_ok-file.ensures (makes-one _ _ _ _ c.remove_file.result c.remove_file.ensures.schedule))
 
 pub returns-clause-calls : goal.returns-clause-calls
-returns-clause-calls g c = makes-then 2 1 3 _ _ _ (omega arith) c.in_ok-stands.ensures.calls (makes-one _ _ _ c.remove_file.result c.remove_file.ensures.schedule)
+returns-clause-calls g c = makes-then state_listings (removes db_file) _ _ _ c.in_ok-stands.ensures.calls (removes-at _ db_file _ _ c.in_ok-file.ensures (makes-one _ _ _ _ c.remove_file.result c.remove_file.ensures.schedule))

@@ -2,7 +2,7 @@ use Rattle.std.proofs.Common.{◌≡◌, None, sym}
 use Rattle.rk_folder.specs.Specials.{hidden_special}
 use Rattle.rk_folder.specs.Import.{snapshot_of}
 use Rattle.rk_folder.proofs.ReadingLemmas.{moved-told}
-use Rattle.rk_folder.proofs.LooksLemmas.{looks-entries, looks-listed, looks-state}
+use Rattle.rk_folder.proofs.LooksLemmas.{looks-entries, looks-listed, looks-none, looks-state}
 use Rattle.rk_folder.proofs.ImportLemmas.{told-plain}
 use Rattle.rk_folder.proofs.imported.import.Goals as goal
 
@@ -23,4 +23,7 @@ returns-clause-looks g c =
     looks-state (g.F.Folder.told c.args.folder.now) (g.F.Folder.told c.list-2.new.folder) c.args.skips_db (g.F.Folder.reach c.args.folder.now) (g.F.Folder.reach c.list-2.new.folder) c.in_ok-root.field-0 c.in_ok-items.items.items c.deref.result.now _ _ c.in_ok-items.ensures.held c.in_ok-items.ensures.reach c.in_ok-root.ensures c.in_ok-items.ensures.items c.deref.ensures.value c.in_ok-items.ensures.calls _ _ (g.F.Folder.told c.entries_listed.new.folder) c.in_ok-entries.ensures.held c.entries_listed.ensures.looks c.state_listed.ensures.looks
 
 pub returns-in_err-items-clause-looks : goal.returns-in_err-items-clause-looks
-returns-in_err-items-clause-looks g c = looks-listed (g.F.Folder.told c.args.folder.now) c.args.skips_db (g.F.Folder.reach c.args.folder.now) _ _ c.list-2.ensures.calls
+returns-in_err-items-clause-looks g c = looks-listed (g.F.Folder.told c.args.folder.now) c.args.skips_db (g.F.Folder.reach c.args.folder.now) c.in_ok-root.field-0 _ _ c.in_ok-root.ensures c.list-2.ensures.calls
+
+pub returns-in_err-root-clause-looks : goal.returns-in_err-root-clause-looks
+returns-in_err-root-clause-looks g c = looks-none (g.F.Folder.told c.args.folder.now) _ (g.F.Folder.schedule c.args.folder.now)

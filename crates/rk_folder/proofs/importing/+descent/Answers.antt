@@ -1,11 +1,12 @@
 use Rattle.std.proofs.Common.{◌≡◌, ℕ, ◌+◌, ◌-◌, suc, List, rules, refl, ap, subst, ◌∙◌, arith}
 use Rattle.rk_base.specs.Text.{depth}
-use Rattle.rk_folder.specs.Looks.{LooksFew, item_looks, looks_within}
+use Rattle.rk_folder.specs.Looks.{LooksInOrder, item_looks, looks_within}
 use Rattle.rk_folder.specs.Told.{Held}
-use Rattle.rk_folder.proofs.LooksLemmas.{all-listed, all-taken, looks-next, looks-last}
+use Rattle.rk_folder.proofs.LooksLemmas.{all-listed, all-taken, looks-last, looks-next, looks-none}
 use Rattle.std.proofs.lemmas.Grind.{common_steps}
 use Rattle.std.specs.List.{list_any}
 use Rattle.rk_folder.specs.Steps.{is_odd_item}
+use Rattle.rk_folder.specs.declared.folder.FolderCall.{FolderCall}
 use Rattle.rk_folder.specs.declared.folder.Item.{Item}
 use Rattle.rk_folder.proofs.ReadingLemmas.{told-same, told-agree-now}
 use Rattle.rk_folder.proofs.TakenLemmas.{not_hidden, entered-canonical, entered-seen, with_dir-whole, with_dir-stands, told-lists, told-special_item, told-odd, told-items, told-state_taken, told-dir, placed-on}
@@ -94,15 +95,15 @@ take_all-returns-clause-looks g t c =
 pub take_items-returns-in_err-take_item-clause-looks :
     goal.take_items-returns-in_err-take_item-clause-looks
 take_items-returns-in_err-take_item-clause-looks g t c =
-    let cost : ℕ → Held → Item → ℕ = λ r held. item_looks (looks_within (r - depth c.args.dir.now) held) c.args.dir.now in
-    let calls = subst (λ (r : ℕ). LooksFew (g.F.Folder.told c.loop-item.folder) (λ held. cost r held c.item-item.result) (g.F.Folder.schedule c.loop-item.folder) (g.F.Folder.schedule c.take_item.new.folder)) c.loop-item.invariant.reach c.take_item.ensures.looks in
+    let cost : ℕ → Held → Item → List FolderCall = λ r held. item_looks (looks_within (r - depth c.args.dir.now) held) c.args.dir.now in
+    let calls = subst (λ (r : ℕ). LooksInOrder (g.F.Folder.told c.loop-item.folder) (λ held. cost r held c.item-item.result) (g.F.Folder.schedule c.loop-item.folder) (g.F.Folder.schedule c.take_item.new.folder)) c.loop-item.invariant.reach c.take_item.ensures.looks in
     looks-last (g.F.Folder.told c.args.folder.now) (cost (g.F.Folder.reach c.args.folder.now)) _ c.args.items.now _ _
     (looks-next (g.F.Folder.told c.args.folder.now) (g.F.Folder.told c.loop-item.folder) (cost (g.F.Folder.reach c.args.folder.now)) c.args.items.now c.loop-item.item-index c.item-item.result _ _ _ c.loop-item.invariant.held c.loop-item-test.true c.item-item.is c.loop-item.invariant.looks calls)
 
 pub take_items-loop-item-preserved : goal.take_items-loop-item-preserved
 take_items-loop-item-preserved g t c =
-    let cost : ℕ → Held → Item → ℕ = λ r held. item_looks (looks_within (r - depth c.args.dir.now) held) c.args.dir.now in
-    let calls = subst (λ (r : ℕ). LooksFew (g.F.Folder.told c.loop-item.folder) (λ held. cost r held c.item-item.result) (g.F.Folder.schedule c.loop-item.folder) (g.F.Folder.schedule c.take_item.new.folder)) c.loop-item.invariant.reach c.take_item.ensures.looks in
+    let cost : ℕ → Held → Item → List FolderCall = λ r held. item_looks (looks_within (r - depth c.args.dir.now) held) c.args.dir.now in
+    let calls = subst (λ (r : ℕ). LooksInOrder (g.F.Folder.told c.loop-item.folder) (λ held. cost r held c.item-item.result) (g.F.Folder.schedule c.loop-item.folder) (g.F.Folder.schedule c.take_item.new.folder)) c.loop-item.invariant.reach c.take_item.ensures.looks in
     record {
       held = search rules;
       reads = search rules;
@@ -117,3 +118,12 @@ take_items-loop-item-preserved g t c =
       looks = looks-next (g.F.Folder.told c.args.folder.now) (g.F.Folder.told c.loop-item.folder) (cost (g.F.Folder.reach c.args.folder.now)) c.args.items.now c.loop-item.item-index c.item-item.result _ _ _ c.loop-item.invariant.held c.loop-item-test.true c.item-item.is c.loop-item.invariant.looks calls;
       same = grind (arith, common_steps);
     }
+
+pub take_dir-returns-in_err-path-clause-looks : goal.take_dir-returns-in_err-path-clause-looks
+take_dir-returns-in_err-path-clause-looks g t c = looks-none (g.F.Folder.told c.args.folder.now) _ (g.F.Folder.schedule c.args.folder.now)
+
+pub take_dir-returns-in_err-copy-clause-looks : goal.take_dir-returns-in_err-copy-clause-looks
+take_dir-returns-in_err-copy-clause-looks g t c = looks-none (g.F.Folder.told c.args.folder.now) _ (g.F.Folder.schedule c.args.folder.now)
+
+pub take_dir-returns-in_err-lay-clause-looks : goal.take_dir-returns-in_err-lay-clause-looks
+take_dir-returns-in_err-lay-clause-looks g t c = looks-none (g.F.Folder.told c.args.folder.now) _ (g.F.Folder.schedule c.args.folder.now)

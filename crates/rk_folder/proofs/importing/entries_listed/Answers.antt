@@ -1,5 +1,5 @@
 use Rattle.std.proofs.Common.{◌≡◌, ◌-◌, arith, ap, refl}
-use Rattle.rk_folder.proofs.LooksLemmas.{root-part}
+use Rattle.rk_folder.proofs.LooksLemmas.{looks-none, root-part}
 use Rattle.rk_base.specs.Text.{depth}
 use Rattle.rk_folder.proofs.ImportLemmas.{root-depth, told-agree_root, told-odd_root, told-entries, told-no_entries}
 use Rattle.rk_folder.proofs.importing.entries_listed.Goals as goal
@@ -30,3 +30,12 @@ pub returns-clause-looks : goal.returns-clause-looks
 returns-clause-looks g c =
     let deep : g.F.Folder.reach c.args.folder.now - depth c.in_ok-root.root ≡ g.F.Folder.reach c.args.folder.now = omega (arith, ap depth c.in_ok-root.ensures, root-depth) in
     root-part (g.F.Folder.told c.args.folder.now) (g.F.Folder.told c.args.folder.now) _ (g.F.Folder.reach c.args.folder.now) c.in_ok-root.root c.args.items.now _ _ refl c.in_ok-root.ensures deep c.take_items.ensures.looks
+
+pub returns-in_err-root-clause-looks : goal.returns-in_err-root-clause-looks
+returns-in_err-root-clause-looks g c = looks-none (g.F.Folder.told c.args.folder.now) _ (g.F.Folder.schedule c.args.folder.now)
+
+pub returns-then-has_odd-clause-looks : goal.returns-then-has_odd-clause-looks
+returns-then-has_odd-clause-looks g c = looks-none (g.F.Folder.told c.args.folder.now) _ (g.F.Folder.schedule c.args.folder.now)
+
+pub returns-in_err-entries-clause-looks : goal.returns-in_err-entries-clause-looks
+returns-in_err-entries-clause-looks g c = looks-none (g.F.Folder.told c.args.folder.now) _ (g.F.Folder.schedule c.args.folder.now)

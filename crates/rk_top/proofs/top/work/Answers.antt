@@ -1,5 +1,4 @@
-use Rattle.std.proofs.Common.{refl, arith}
-use Rattle.rk_folder.proofs.CallsLemmas.{makes-fewer}
+use Rattle.std.proofs.Common.{refl}
 use Rattle.rk_top.proofs.AskLemmas.{a-gen, a-query, if-build}
 use Rattle.rk_top.proofs.ServeLemmas.{answer-asked, line-asked, unqueried, works-as, works-of}
 use Rattle.rk_top.proofs.top.work.Goals as goal
@@ -14,6 +13,7 @@ returns-in-Build g c = record {
       tally = c.build_in.ensures.tally;
       checked = c.build_in.ensures.checked;
       live = c.build_in.ensures.live;
+      calls = c.build_in.ensures.calls;
       output = c.build_in.ensures.output;
       special = c.build_in.ensures.special;
       damaged = c.build_in.ensures.damaged;
@@ -45,7 +45,7 @@ returns-in-Trace g c =
 
 pub returns-in-Forget : goal.returns-in-Forget
 returns-in-Forget g c =
-    works-as _ _ _ _ _ c.in-Forget.is (works-of _ _ _ _ (answer-asked _ _ c.forget_records.ensures.asked) tt c.forget_records.ensures.asked (record { live = refl; errors = refl; looks = makes-fewer 3 4 _ _ (omega arith) c.forget_records.ensures.calls }) tt tt c.forget_records.ensures.counts
+    works-as _ _ _ _ _ c.in-Forget.is (works-of _ _ _ _ (answer-asked _ _ c.forget_records.ensures.asked) tt c.forget_records.ensures.asked (record { live = refl; errors = refl; looks = c.forget_records.ensures.calls }) tt tt c.forget_records.ensures.counts
     (λ s. c.forget_records.ensures.steady s.folder s.out) refl refl)
 
 pub returns-in-Gen : goal.returns-in-Gen
