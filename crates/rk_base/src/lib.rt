@@ -4,7 +4,7 @@
 mod budget;
 mod bytes;
 mod errno;
-mod kind;
+mod file_type;
 mod memory;
 mod name;
 mod names;
@@ -20,7 +20,7 @@ mod writing;
 pub use budget::Budget;
 pub use bytes::Bytes;
 pub use errno::Errno;
-pub use kind::Kind;
+pub use file_type::FileType;
 pub use memory::NoMemory;
 pub use name::Name;
 pub use names::NameList;

@@ -33,8 +33,8 @@ use Rattle.rk_build.specs.declared.outcome.Outcome.TheVariants as out
 use Rattle.rk_build.specs.declared.build.Ended.{Ended}
 use Rattle.rk_build.proofs.CheckLemmas.{both-cut}
 use Rattle.rk_build.specs.declared.prepare.Prepared.{Prepared}
-use Rattle.rk_build.specs.declared.stop.Stop.{Stop}
-use Rattle.rk_build.specs.declared.stop.Stop.TheVariants as stop
+use Rattle.rk_build.specs.declared.stop.BuildErr.{BuildErr}
+use Rattle.rk_build.specs.declared.stop.BuildErr.TheVariants as stop
 
 pub with_bytes-nil : (old : Option Text) → with_bytes [] old ≡ old
 with_bytes-nil None = refl
@@ -49,7 +49,7 @@ counts-same before now r w p e =
 
 -- Before anything was put out.
 
-pub prepare-leaves : (first : KeyValue → Says) (request : Request) (told new : Option Held) (before now : ℕ) (b n : FolderCounts) (e : Stop) → PreparesSo first request told before now (Err e) → new ≡ told → Leaves first request told new b n (outcome_of_stop e)
+pub prepare-leaves : (first : KeyValue → Says) (request : Request) (told new : Option Held) (before now : ℕ) (b n : FolderCounts) (e : BuildErr) → PreparesSo first request told before now (Err e) → new ≡ told → Leaves first request told new b n (outcome_of_stop e)
 prepare-leaves first request told new before now b n (stop.Refused (refusal.Special path)) p same = (same, p.0)
 prepare-leaves first request told new before now b n (stop.Refused (refusal.Damaged file damage)) p same = (same, p.0)
 prepare-leaves first request told new before now b n (stop.Forged rec step) p same = (same, p.0)
@@ -58,7 +58,7 @@ prepare-leaves first request told new before now b n stop.ReadFault p same = sam
 prepare-leaves first request told new before now b n stop.WriteFault p same = absurd p
 prepare-leaves first request told new before now b n stop.NoMemory p same = inl same
 
-pub prepare-gains : (first : KeyValue → Says) (request : Request) (told : Option Held) (old new : SinkState) (before now : ℕ) (e : Stop) → PreparesSo first request told before now (Err e) → new ≡ old → Gains first request told old new (outcome_of_stop e)
+pub prepare-gains : (first : KeyValue → Says) (request : Request) (told : Option Held) (old new : SinkState) (before now : ℕ) (e : BuildErr) → PreparesSo first request told before now (Err e) → new ≡ old → Gains first request told old new (outcome_of_stop e)
 prepare-gains first request told old new before now (stop.Refused (refusal.Special path)) p same = same
 prepare-gains first request told old new before now (stop.Refused (refusal.Damaged file damage)) p same = same
 prepare-gains first request told old new before now (stop.Forged rec step) p same = same
@@ -67,7 +67,7 @@ prepare-gains first request told old new before now stop.ReadFault p same = same
 prepare-gains first request told old new before now stop.WriteFault p same = absurd p
 prepare-gains first request told old new before now stop.NoMemory p same = inl same
 
-pub prepare-errors : (first : KeyValue → Says) (request : Request) (told : Option Held) (old new : SinkState) (before now : ℕ) (e : Stop) → PreparesSo first request told before now (Err e) → new ≡ old → GainsErrors first request told old new (outcome_of_stop e)
+pub prepare-errors : (first : KeyValue → Says) (request : Request) (told : Option Held) (old new : SinkState) (before now : ℕ) (e : BuildErr) → PreparesSo first request told before now (Err e) → new ≡ old → GainsErrors first request told old new (outcome_of_stop e)
 prepare-errors first request told old new before now (stop.Refused (refusal.Special path)) p same = same
 prepare-errors first request told old new before now (stop.Refused (refusal.Damaged file damage)) p same = same
 prepare-errors first request told old new before now (stop.Forged rec step) p same = same
@@ -76,7 +76,7 @@ prepare-errors first request told old new before now stop.ReadFault p same = sam
 prepare-errors first request told old new before now stop.WriteFault p same = absurd p
 prepare-errors first request told old new before now stop.NoMemory p same = inl same
 
-pub prepare-ticked : (first : KeyValue → Says) (request : Request) (told : Option Held) (before now : ℕ) (e : Stop) → PreparesSo first request told before now (Err e) → Ticked request before now (outcome_of_stop e)
+pub prepare-ticked : (first : KeyValue → Says) (request : Request) (told : Option Held) (before now : ℕ) (e : BuildErr) → PreparesSo first request told before now (Err e) → Ticked request before now (outcome_of_stop e)
 prepare-ticked first request told before now (stop.Refused (refusal.Special path)) p = p.1
 prepare-ticked first request told before now (stop.Refused (refusal.Damaged file damage)) p = p.1
 prepare-ticked first request told before now (stop.Forged rec step) p = (p.1, p.2)
@@ -85,7 +85,7 @@ prepare-ticked first request told before now stop.ReadFault p = p
 prepare-ticked first request told before now stop.WriteFault p = absurd p
 prepare-ticked first request told before now stop.NoMemory p = p
 
-pub prepare-counted : (first : KeyValue → Says) (request : Request) (told : Option Held) (before now : ℕ) (b n : Counts) (e : Stop) → PreparesSo first request told before now (Err e) → ReadsCounted {T = Prepared} b.reads n.reads (Err e) → n.writes ≡ b.writes → n.puts ≡ b.puts → n.error_puts ≡ b.error_puts → Counted b n (outcome_of_stop e)
+pub prepare-counted : (first : KeyValue → Says) (request : Request) (told : Option Held) (before now : ℕ) (b n : Counts) (e : BuildErr) → PreparesSo first request told before now (Err e) → ReadsCounted {T = Prepared} b.reads n.reads (Err e) → n.writes ≡ b.writes → n.puts ≡ b.puts → n.error_puts ≡ b.error_puts → Counted b n (outcome_of_stop e)
 prepare-counted first request told before now b n (stop.Refused (refusal.Special path)) p r w o x = counts-same b n r w o x
 prepare-counted first request told before now b n (stop.Refused (refusal.Damaged file damage)) p r w o x = counts-same b n r w o x
 prepare-counted first request told before now b n (stop.Forged rec step) p r w o x = counts-same b n r w o x
@@ -109,7 +109,7 @@ unput-errors s out.NoMemory = (refl, omega arith)
 
 -- A put failed.
 
-pub put-leaves : (first : KeyValue → Says) (request : Request) (told new : Option Held) (b n : FolderCounts) (text : Text) (o m : SinkState) (e : Stop) → PutsOutput {T = Unit {0}} text o m (Err e) → new ≡ told → Leaves first request told new b n (outcome_of_stop e)
+pub put-leaves : (first : KeyValue → Says) (request : Request) (told new : Option Held) (b n : FolderCounts) (text : Text) (o m : SinkState) (e : BuildErr) → PutsOutput {T = Unit {0}} text o m (Err e) → new ≡ told → Leaves first request told new b n (outcome_of_stop e)
 put-leaves first request told new b n text o m (stop.Refused refusal) p same = absurd p
 put-leaves first request told new b n text o m (stop.Forged rec step) p same = absurd p
 put-leaves first request told new b n text o m stop.Spent p same = absurd p
@@ -137,7 +137,7 @@ tried : (first : KeyValue → Says) (request : Request) (text : RunText) (told :
 tried first request text None it old new is put = tt
 tried first request text (Some held) it old new is put = record { plain = is.plain; rows = is.rows; old = is.old; kept = is.kept; so = record { it = it; is_text = is.so; put = put } }
 
-pub put-gains : (first : KeyValue → Says) (request : Request) (told : Option Held) (it : Text) (old new : SinkState) (e : Stop) → IsTextOf first request output_of told it → PutsOutput {T = Unit {0}} it old new (Err e) → Gains first request told old new (outcome_of_stop e)
+pub put-gains : (first : KeyValue → Says) (request : Request) (told : Option Held) (it : Text) (old new : SinkState) (e : BuildErr) → IsTextOf first request output_of told it → PutsOutput {T = Unit {0}} it old new (Err e) → Gains first request told old new (outcome_of_stop e)
 put-gains first request told it old new (stop.Refused refusal) is p = absurd p
 put-gains first request told it old new (stop.Forged rec step) is p = absurd p
 put-gains first request told it old new stop.Spent is p = absurd p
@@ -149,7 +149,7 @@ errors-cut : (first : KeyValue → Says) (request : Request) (told : Option Held
 errors-cut first request told it old new is (inl same) = inl same
 errors-cut first request told it old new is (inr cut) = inr (tried first request error_text_of told it old new is (inr cut))
 
-pub put-gains-errors : (first : KeyValue → Says) (request : Request) (told : Option Held) (it : Text) (old new : SinkState) (e : Stop) → IsTextOf first request error_text_of told it → PutsErrors {T = Unit {0}} it old new (Err e) → GainsErrors first request told old new (outcome_of_stop e)
+pub put-gains-errors : (first : KeyValue → Says) (request : Request) (told : Option Held) (it : Text) (old new : SinkState) (e : BuildErr) → IsTextOf first request error_text_of told it → PutsErrors {T = Unit {0}} it old new (Err e) → GainsErrors first request told old new (outcome_of_stop e)
 put-gains-errors first request told it old new (stop.Refused refusal) is p = absurd p
 put-gains-errors first request told it old new (stop.Forged rec step) is p = absurd p
 put-gains-errors first request told it old new stop.Spent is p = absurd p
@@ -164,7 +164,7 @@ put-order first request None it old new err_old err_new is (inr put) = inr tt
 put-order first request (Some held) it old new err_old err_new is (inr put) =
     inr (record { plain = is.plain; rows = is.rows; old = is.old; kept = is.kept; so = record { it = it; is_text = is.so; put = put } })
 
-pub put-counted : (b n : Counts) (text : Text) (old new : SinkState) (e : Stop) → PutsOutput {T = Unit {0}} text old new (Err e) → BothCounted {T = Unit {0}} b.puts n.puts b.error_puts n.error_puts (Err e) → n.reads ≡ b.reads → n.writes ≡ b.writes → Counted b n (outcome_of_stop e)
+pub put-counted : (b n : Counts) (text : Text) (old new : SinkState) (e : BuildErr) → PutsOutput {T = Unit {0}} text old new (Err e) → BothCounted {T = Unit {0}} b.puts n.puts b.error_puts n.error_puts (Err e) → n.reads ≡ b.reads → n.writes ≡ b.writes → Counted b n (outcome_of_stop e)
 put-counted b n text old new (stop.Refused refusal) p c r w = absurd p
 put-counted b n text old new (stop.Forged rec step) p c r w = absurd p
 put-counted b n text old new stop.Spent p c r w = absurd p
@@ -172,7 +172,7 @@ put-counted b n text old new stop.ReadFault p c r w = absurd p
 put-counted b n text old new stop.WriteFault p c r w = (r, inr c.2)
 put-counted b n text old new stop.NoMemory p c r w = counts-same b n r w c.0 c.1
 
-pub put-errors : (b n : ℕ) (before now : SinkState) (text : Text) (old new : SinkState) (e : Stop) → PutsOutput {T = Unit {0}} text old new (Err e) → BothCounted {T = Unit {0}} b n before.faults now.faults (Err e) → MemoryCounted {T = Unit {0}} before.memory now.memory (Err e) → ErrorsCounted before now (outcome_of_stop e)
+pub put-errors : (b n : ℕ) (before now : SinkState) (text : Text) (old new : SinkState) (e : BuildErr) → PutsOutput {T = Unit {0}} text old new (Err e) → BothCounted {T = Unit {0}} b n before.faults now.faults (Err e) → MemoryCounted {T = Unit {0}} before.memory now.memory (Err e) → ErrorsCounted before now (outcome_of_stop e)
 put-errors b n before now text old new (stop.Refused refusal) p c m = absurd p
 put-errors b n before now text old new (stop.Forged rec step) p c m = absurd p
 put-errors b n before now text old new stop.Spent p c m = absurd p
@@ -180,7 +180,7 @@ put-errors b n before now text old new stop.ReadFault p c m = absurd p
 put-errors b n before now text old new stop.WriteFault p c m = (c.1, m)
 put-errors b n before now text old new stop.NoMemory p c m = (c.1, m)
 
-pub put-ticked : (request : Request) (before now : ℕ) (text : Text) (old new : SinkState) (e : Stop) → PutsOutput {T = Unit {0}} text old new (Err e) → now ≤ before + turns request → Ticked request before now (outcome_of_stop e)
+pub put-ticked : (request : Request) (before now : ℕ) (text : Text) (old new : SinkState) (e : BuildErr) → PutsOutput {T = Unit {0}} text old new (Err e) → now ≤ before + turns request → Ticked request before now (outcome_of_stop e)
 put-ticked request before now text old new (stop.Refused refusal) p most = absurd p
 put-ticked request before now text old new (stop.Forged rec step) p most = absurd p
 put-ticked request before now text old new stop.Spent p most = most
@@ -208,7 +208,7 @@ ran-so first request (Some held) before now p is = record {
   };
 }
 
-pub put-starts : (first : KeyValue → Says) (request : Request) (told : Option Held) (live late before now : ℕ) (p : Prepared) (text : Text) (old new : SinkState) (e : Stop) → IfSome told (λ held. IsPrepared first request held live late p) → PutsOutput {T = Unit {0}} text old new (Err e) → length p.finished.ran ≤ turns request + 1 → StartsBoth request told before now (length p.finished.ran) → StartsSo {T = Ended} (λ e. length e.ran) first request told before now (Err e)
+pub put-starts : (first : KeyValue → Says) (request : Request) (told : Option Held) (live late before now : ℕ) (p : Prepared) (text : Text) (old new : SinkState) (e : BuildErr) → IfSome told (λ held. IsPrepared first request held live late p) → PutsOutput {T = Unit {0}} text old new (Err e) → length p.finished.ran ≤ turns request + 1 → StartsBoth request told before now (length p.finished.ran) → StartsSo {T = Ended} (λ e. length e.ran) first request told before now (Err e)
 put-starts first request told live late before now p text old new (stop.Refused refusal) is put few starts = absurd put
 put-starts first request told live late before now p text old new (stop.Forged rec step) is put few starts = absurd put
 put-starts first request told live late before now p text old new stop.Spent is put few starts = absurd put
@@ -216,7 +216,7 @@ put-starts first request told live late before now p text old new stop.ReadFault
 put-starts first request told live late before now p text old new stop.WriteFault is put few starts = (length p.finished.ran, (ran-so first request told live late p is, starts))
 put-starts first request told live late before now p text old new stop.NoMemory is put few starts = both-cut request told before now (length p.finished.ran) starts few
 
-pub install-starts : (first : KeyValue → Says) (request : Request) (told h k : Option Held) (ops : List Op) (live late before now : ℕ) (p : Prepared) (e : Stop) → IfSome told (λ held. IsPrepared first request held live late p) → InstallsSo {T = Unit {0}} ops h k (Err e) → length p.finished.ran ≤ turns request + 1 → StartsBoth request told before now (length p.finished.ran) → StartsSo {T = Ended} (λ e. length e.ran) first request told before now (Err e)
+pub install-starts : (first : KeyValue → Says) (request : Request) (told h k : Option Held) (ops : List Op) (live late before now : ℕ) (p : Prepared) (e : BuildErr) → IfSome told (λ held. IsPrepared first request held live late p) → InstallsSo {T = Unit {0}} ops h k (Err e) → length p.finished.ran ≤ turns request + 1 → StartsBoth request told before now (length p.finished.ran) → StartsSo {T = Ended} (λ e. length e.ran) first request told before now (Err e)
 install-starts first request told h k ops live late before now p (stop.Refused refusal) is part few starts = absurd part
 install-starts first request told h k ops live late before now p (stop.Forged rec step) is part few starts = absurd part
 install-starts first request told h k ops live late before now p stop.Spent is part few starts = absurd part
@@ -246,7 +246,7 @@ partly first request (Some held) new before now p e is part = record {
   };
 }
 
-pub install-leaves : (first : KeyValue → Says) (request : Request) (told new : Option Held) (before now : ℕ) (b n : FolderCounts) (p : Prepared) (e : Stop) → IfSome told (λ held. IsPrepared first request held before now p) → InstallsSo {T = Unit {0}} p.plan told new (Err e) → WritesCounted {T = Unit {0}} b.writes n.writes (Err e) → MemoryRose {T = Unit {0}} b.memory n.memory (Err e) → Leaves first request told new b n (outcome_of_stop e)
+pub install-leaves : (first : KeyValue → Says) (request : Request) (told new : Option Held) (before now : ℕ) (b n : FolderCounts) (p : Prepared) (e : BuildErr) → IfSome told (λ held. IsPrepared first request held before now p) → InstallsSo {T = Unit {0}} p.plan told new (Err e) → WritesCounted {T = Unit {0}} b.writes n.writes (Err e) → MemoryRose {T = Unit {0}} b.memory n.memory (Err e) → Leaves first request told new b n (outcome_of_stop e)
 install-leaves first request told new before now b n p (stop.Refused refusal) is part w m = absurd part
 install-leaves first request told new before now b n p (stop.Forged rec step) is part w m = absurd part
 install-leaves first request told new before now b n p stop.Spent is part w m = absurd part
@@ -255,13 +255,13 @@ install-leaves first request told new before now b n p stop.WriteFault is part w
 install-leaves first request told new before now b n p stop.NoMemory is part w m = inr (m, partly first request told new before now p install.NoMemory is part)
 
 -- a folder that tells the same
-pub install-leaves-now : (first : KeyValue → Says) (request : Request) (told h new : Option Held) (before now : ℕ) (b c n : FolderCounts) (p : Prepared) (e : Stop) → h ≡ told → c.writes ≡ b.writes → c.memory ≡ b.memory → IfSome told (λ held. IsPrepared first request held before now p) → InstallsSo {T = Unit {0}} p.plan h new (Err e) → WritesCounted {T = Unit {0}} c.writes n.writes (Err e) → MemoryRose {T = Unit {0}} c.memory n.memory (Err e) → Leaves first request told new b n (outcome_of_stop e)
+pub install-leaves-now : (first : KeyValue → Says) (request : Request) (told h new : Option Held) (before now : ℕ) (b c n : FolderCounts) (p : Prepared) (e : BuildErr) → h ≡ told → c.writes ≡ b.writes → c.memory ≡ b.memory → IfSome told (λ held. IsPrepared first request held before now p) → InstallsSo {T = Unit {0}} p.plan h new (Err e) → WritesCounted {T = Unit {0}} c.writes n.writes (Err e) → MemoryRose {T = Unit {0}} c.memory n.memory (Err e) → Leaves first request told new b n (outcome_of_stop e)
 install-leaves-now first request told h new before now b c n p e same writes memory is part w m =
     install-leaves first request told new before now b n p e is (subst (λ (t : Option Held). InstallsSo {T = Unit {0}} p.plan t new (Err e)) same part)
     (subst (λ (k : ℕ). WritesCounted {T = Unit {0}} k n.writes (Err e)) writes w)
     (subst (λ (k : ℕ). MemoryRose {T = Unit {0}} k n.memory (Err e)) memory m)
 
-pub install-gains : (first : KeyValue → Says) (request : Request) (told h n : Option Held) (ops : List Op) (it : Text) (old new : SinkState) (e : Stop) → IsTextOf first request output_of told it → InstallsSo {T = Unit {0}} ops h n (Err e) → IsPut it old new → Gains first request told old new (outcome_of_stop e)
+pub install-gains : (first : KeyValue → Says) (request : Request) (told h n : Option Held) (ops : List Op) (it : Text) (old new : SinkState) (e : BuildErr) → IsTextOf first request output_of told it → InstallsSo {T = Unit {0}} ops h n (Err e) → IsPut it old new → Gains first request told old new (outcome_of_stop e)
 install-gains first request told h n ops it old new (stop.Refused refusal) is part put = absurd part
 install-gains first request told h n ops it old new (stop.Forged rec step) is part put = absurd part
 install-gains first request told h n ops it old new stop.Spent is part put = absurd part
@@ -269,7 +269,7 @@ install-gains first request told h n ops it old new stop.ReadFault is part put =
 install-gains first request told h n ops it old new stop.WriteFault is part put = tried first request output_of told it old new is (inl put)
 install-gains first request told h n ops it old new stop.NoMemory is part put = inr (tried first request output_of told it old new is (inl put))
 
-pub install-gains-errors : (first : KeyValue → Says) (request : Request) (told h n : Option Held) (ops : List Op) (it : Text) (old new : SinkState) (e : Stop) → IsTextOf first request error_text_of told it → InstallsSo {T = Unit {0}} ops h n (Err e) → IsPut it old new → GainsErrors first request told old new (outcome_of_stop e)
+pub install-gains-errors : (first : KeyValue → Says) (request : Request) (told h n : Option Held) (ops : List Op) (it : Text) (old new : SinkState) (e : BuildErr) → IsTextOf first request error_text_of told it → InstallsSo {T = Unit {0}} ops h n (Err e) → IsPut it old new → GainsErrors first request told old new (outcome_of_stop e)
 install-gains-errors first request told h n ops it old new (stop.Refused refusal) is part put = absurd part
 install-gains-errors first request told h n ops it old new (stop.Forged rec step) is part put = absurd part
 install-gains-errors first request told h n ops it old new stop.Spent is part put = absurd part
@@ -277,7 +277,7 @@ install-gains-errors first request told h n ops it old new stop.ReadFault is par
 install-gains-errors first request told h n ops it old new stop.WriteFault is part put = inr (tried first request error_text_of told it old new is (inl put))
 install-gains-errors first request told h n ops it old new stop.NoMemory is part put = inr (tried first request error_text_of told it old new is (inl put))
 
-pub install-counted : (b n : Counts) (h k : Option Held) (ops : List Op) (e : Stop) → InstallsSo {T = Unit {0}} ops h k (Err e) → WritesCounted {T = Unit {0}} b.writes n.writes (Err e) → n.reads ≡ b.reads → n.puts ≡ b.puts → n.error_puts ≡ b.error_puts → Counted b n (outcome_of_stop e)
+pub install-counted : (b n : Counts) (h k : Option Held) (ops : List Op) (e : BuildErr) → InstallsSo {T = Unit {0}} ops h k (Err e) → WritesCounted {T = Unit {0}} b.writes n.writes (Err e) → n.reads ≡ b.reads → n.puts ≡ b.puts → n.error_puts ≡ b.error_puts → Counted b n (outcome_of_stop e)
 install-counted b n h k ops (stop.Refused refusal) part w r o x = absurd part
 install-counted b n h k ops (stop.Forged rec step) part w r o x = absurd part
 install-counted b n h k ops stop.Spent part w r o x = absurd part
@@ -285,7 +285,7 @@ install-counted b n h k ops stop.ReadFault part w r o x = absurd part
 install-counted b n h k ops stop.WriteFault part w r o x = (r, inl w)
 install-counted b n h k ops stop.NoMemory part w r o x = counts-same b n r w o x
 
-pub install-errors : (before now : SinkState) (h k : Option Held) (ops : List Op) (e : Stop) → InstallsSo {T = Unit {0}} ops h k (Err e) → now.faults ≡ before.faults → now.memory ≡ before.memory → ErrorsCounted before now (outcome_of_stop e)
+pub install-errors : (before now : SinkState) (h k : Option Held) (ops : List Op) (e : BuildErr) → InstallsSo {T = Unit {0}} ops h k (Err e) → now.faults ≡ before.faults → now.memory ≡ before.memory → ErrorsCounted before now (outcome_of_stop e)
 install-errors before now h k ops (stop.Refused refusal) part f m = absurd part
 install-errors before now h k ops (stop.Forged rec step) part f m = absurd part
 install-errors before now h k ops stop.Spent part f m = absurd part
@@ -293,7 +293,7 @@ install-errors before now h k ops stop.ReadFault part f m = absurd part
 install-errors before now h k ops stop.WriteFault part f m = (omega arith, m)
 install-errors before now h k ops stop.NoMemory part f m = (f, omega arith)
 
-pub install-ticked : (request : Request) (h k : Option Held) (ops : List Op) (before now : ℕ) (e : Stop) → InstallsSo {T = Unit {0}} ops h k (Err e) → now ≤ before + turns request → Ticked request before now (outcome_of_stop e)
+pub install-ticked : (request : Request) (h k : Option Held) (ops : List Op) (before now : ℕ) (e : BuildErr) → InstallsSo {T = Unit {0}} ops h k (Err e) → now ≤ before + turns request → Ticked request before now (outcome_of_stop e)
 install-ticked request h k ops before now (stop.Refused refusal) part most = absurd part
 install-ticked request h k ops before now (stop.Forged rec step) part most = absurd part
 install-ticked request h k ops before now stop.Spent part most = most

@@ -19,8 +19,8 @@ use Rattle.rk_build.specs.declared.ops.Op.{Op}
 use Rattle.rk_build.specs.declared.outcome.Outcome.TheVariants as out
 use Rattle.rk_build.specs.declared.prepare.Prepared.{Prepared}
 use Rattle.rk_build.specs.declared.stop.Refusal.TheVariants as refusal
-use Rattle.rk_build.specs.declared.stop.Stop.{Stop}
-use Rattle.rk_build.specs.declared.stop.Stop.TheVariants as stop
+use Rattle.rk_build.specs.declared.stop.BuildErr.{BuildErr}
+use Rattle.rk_build.specs.declared.stop.BuildErr.TheVariants as stop
 use Rattle.rk_build.proofs.BuildLemmas.{left}
 
 -- An installation makes the planned calls.
@@ -62,7 +62,7 @@ asks-all first request reach (Some held) live late p before on now is looked mad
 }
 
 -- nothing was prepared
-pub prepare-asks : (first : KeyValue → Says) (request : Request) (reach : ℕ) (told : Option Held) (live late : ℕ) (before now : Option Schedule) (e : Stop) → PreparesSo first request told live late (Err e) → LooksInOrder told (looks (is_fresh request) reach) before now → AsksSo first request reach told before now (outcome_of_stop e)
+pub prepare-asks : (first : KeyValue → Says) (request : Request) (reach : ℕ) (told : Option Held) (live late : ℕ) (before now : Option Schedule) (e : BuildErr) → PreparesSo first request told live late (Err e) → LooksInOrder told (looks (is_fresh request) reach) before now → AsksSo first request reach told before now (outcome_of_stop e)
 unfolding AsksSo
 prepare-asks first request reach told live late before now (stop.Refused (refusal.Special path)) prepares looked = looked
 prepare-asks first request reach told live late before now (stop.Refused (refusal.Damaged file damage)) prepares looked = looked
@@ -73,7 +73,7 @@ prepare-asks first request reach told live late before now stop.WriteFault prepa
 prepare-asks first request reach told live late before now stop.NoMemory prepares looked = inl looked
 
 -- the texts weren't put
-pub put-asks : (first : KeyValue → Says) (request : Request) (reach : ℕ) (told : Option Held) (before now : Option Schedule) (text : Text) (old new : SinkState) (e : Stop) → PutsOutput {T = Unit {0}} text old new (Err e) → AsksAll first request reach told before now → AsksSo first request reach told before now (outcome_of_stop e)
+pub put-asks : (first : KeyValue → Says) (request : Request) (reach : ℕ) (told : Option Held) (before now : Option Schedule) (text : Text) (old new : SinkState) (e : BuildErr) → PutsOutput {T = Unit {0}} text old new (Err e) → AsksAll first request reach told before now → AsksSo first request reach told before now (outcome_of_stop e)
 unfolding AsksSo
 put-asks first request reach told before now text old new (stop.Refused refusal) put asks = absurd put
 put-asks first request reach told before now text old new (stop.Forged rec step) put asks = absurd put
@@ -83,7 +83,7 @@ put-asks first request reach told before now text old new stop.WriteFault put as
 put-asks first request reach told before now text old new stop.NoMemory put asks = inr asks
 
 -- a call of the installation failed
-pub install-asks : (first : KeyValue → Says) (request : Request) (reach : ℕ) (told h k : Option Held) (ops : List Op) (before now : Option Schedule) (e : Stop) → InstallsSo {T = Unit {0}} ops h k (Err e) → AsksAll first request reach told before now → AsksSo first request reach told before now (outcome_of_stop e)
+pub install-asks : (first : KeyValue → Says) (request : Request) (reach : ℕ) (told h k : Option Held) (ops : List Op) (before now : Option Schedule) (e : BuildErr) → InstallsSo {T = Unit {0}} ops h k (Err e) → AsksAll first request reach told before now → AsksSo first request reach told before now (outcome_of_stop e)
 unfolding AsksSo
 install-asks first request reach told h k ops before now (stop.Refused refusal) part asks = absurd part
 install-asks first request reach told h k ops before now (stop.Forged rec step) part asks = absurd part

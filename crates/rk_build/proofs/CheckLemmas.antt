@@ -18,13 +18,13 @@ use Rattle.rk_build.specs.Stages.{FindsSo, ReadsCounted, StartsSo}
 use Rattle.rk_build.specs.Texts.{IsNoFault}
 use Rattle.rk_build.specs.declared.found.Found.{Found}
 use Rattle.rk_build.specs.declared.stop.Refusal.TheVariants as refusal
-use Rattle.rk_build.specs.declared.stop.Stop.{Stop}
-use Rattle.rk_build.specs.declared.stop.Stop.TheVariants as stop
+use Rattle.rk_build.specs.declared.stop.BuildErr.{BuildErr}
+use Rattle.rk_build.specs.declared.stop.BuildErr.TheVariants as stop
 use Rattle.rk_build.proofs.PrepareLemmas.{checks-many, unasked}
 use Rattle.rk_build.proofs.SettledLemmas.{forged-clash}
 
 -- it reads nothing
-pub check-reads : (T : Type 0) (first : KeyValue → Says) (check : Bool) (old : List Record) (before now : ℕ) (e : Stop) → ChecksSo first check old (Err e) → now ≡ before → ReadsCounted {T = T} before now (Err e)
+pub check-reads : (T : Type 0) (first : KeyValue → Says) (check : Bool) (old : List Record) (before now : ℕ) (e : BuildErr) → ChecksSo first check old (Err e) → now ≡ before → ReadsCounted {T = T} before now (Err e)
 check-reads T first check old before now (stop.Refused refusal) told same = absurd told
 check-reads T first check old before now (stop.Forged rec step) told same = same
 check-reads T first check old before now stop.Spent told same = absurd told
@@ -33,7 +33,7 @@ check-reads T first check old before now stop.WriteFault told same = absurd told
 check-reads T first check old before now stop.NoMemory told same = same
 
 -- and is no fault
-pub check-no-fault : (T : Type 0) (first : KeyValue → Says) (check : Bool) (old : List Record) (e : Stop) → ChecksSo first check old (Err e) → IsNoFault {T = T} (Err e)
+pub check-no-fault : (T : Type 0) (first : KeyValue → Says) (check : Bool) (old : List Record) (e : BuildErr) → ChecksSo first check old (Err e) → IsNoFault {T = T} (Err e)
 check-no-fault T first check old (stop.Refused refusal) told = absurd told
 check-no-fault T first check old (stop.Forged rec step) told = tt
 check-no-fault T first check old stop.Spent told = absurd told
@@ -46,7 +46,7 @@ pub keeps-many : (request : Request) (told : Option Held) (f : Found) → FindsS
 keeps-many request None f found = tt
 keeps-many request (Some held) f found = record { plain = found.0; rows = f.attrs; old = f.old; kept = found.2; so = refl }
 
-pub check-starts : {T : Type 0} (ran : T → ℕ) (first : KeyValue → Says) (request : Request) (told : Option Held) (f : Found) (before now : ℕ) (e : Stop) → FindsSo request told (Ok f) → ChecksSo first (checks request) f.old (Err e) → StartsChecked (checks request) f.old before now (Err e) → StartsSo ran first request told before now (Err e)
+pub check-starts : {T : Type 0} (ran : T → ℕ) (first : KeyValue → Says) (request : Request) (told : Option Held) (f : Found) (before now : ℕ) (e : BuildErr) → FindsSo request told (Ok f) → ChecksSo first (checks request) f.old (Err e) → StartsChecked (checks request) f.old before now (Err e) → StartsSo ran first request told before now (Err e)
 check-starts ran first request told f before now (stop.Refused refusal) found so starts = absurd so
 check-starts ran first request told f before now (stop.Forged rec step) found so starts = (λ all. starts, λ none. absurd (true≢false (sym so.0 ∙ none)))
 check-starts ran first request told f before now stop.Spent found so starts = absurd so
@@ -57,7 +57,7 @@ check-starts ran first request told f before now stop.NoMemory found so starts =
     inr (length f.old, (keeps-many request told f found, record { looked = starts.many; within = omega arith; starts = record { ran = 0; few = omega arith; now_is = starts.now_is } }))
 
 -- where the folder is refused, or couldn't be read, none is started
-pub find-starts : {T : Type 0} (ran : T → ℕ) (first : KeyValue → Says) (request : Request) (told : Option Held) (n : ℕ) (e : Stop) → FindsSo request told (Err e) → StartsSo ran first request told n n (Err e)
+pub find-starts : {T : Type 0} (ran : T → ℕ) (first : KeyValue → Says) (request : Request) (told : Option Held) (n : ℕ) (e : BuildErr) → FindsSo request told (Err e) → StartsSo ran first request told n n (Err e)
 find-starts ran first request told n (stop.Refused (refusal.Special path)) so = refl
 find-starts ran first request told n (stop.Refused (refusal.Damaged file damage)) so = refl
 find-starts ran first request told n (stop.Forged rec step) so = absurd so
@@ -76,7 +76,7 @@ started-last : (a b c n : ℕ) → started a (started b (started c n)) ≡ start
 started-last a b c n = ap (started a) (started-swap b c n) ∙ sym (started-adds a c (started b n))
 
 -- where every record was checked, the run finds none that is forged
-pub run-starts : {T : Type 0} (ran : T → ℕ) (first : KeyValue → Says) (request : Request) (told : Option Held) (f : Found) (entries : Entries) (live late before mid now : ℕ) (e : Stop) → FindsSo request told (Ok f) → Runs first request entries f.old live late (Err e) → ChecksWhole first (checks request) f.old → mid ≡ started (checked_count (checks request) f.old) before → StartsRun request f.old mid now (Err e) → StartsSo ran first request told before now (Err e)
+pub run-starts : {T : Type 0} (ran : T → ℕ) (first : KeyValue → Says) (request : Request) (told : Option Held) (f : Found) (entries : Entries) (live late before mid now : ℕ) (e : BuildErr) → FindsSo request told (Ok f) → Runs first request entries f.old live late (Err e) → ChecksWhole first (checks request) f.old → mid ≡ started (checked_count (checks request) f.old) before → StartsRun request f.old mid now (Err e) → StartsSo ran first request told before now (Err e)
 run-starts ran first request told f entries live late before mid now (stop.Refused refusal) found runs whole was starts = absurd runs
 run-starts ran first request told f entries live late before mid now (stop.Forged rec step) found runs whole was starts = (
   λ all. absurd (forged-clash first f.old rec step (whole all) runs),

@@ -16,14 +16,14 @@ use Rattle.rk_build.specs.Stages.{LooksSo, FindsSo}
 use Rattle.rk_build.specs.declared.found.Found.{Found}
 use Rattle.rk_build.specs.declared.kept.KeptState.{KeptState}
 use Rattle.rk_build.specs.declared.stop.Refusal.TheVariants as refusal
-use Rattle.rk_build.specs.declared.stop.Stop.{Stop}
-use Rattle.rk_build.specs.declared.stop.Stop.TheVariants as stop
+use Rattle.rk_build.specs.declared.stop.BuildErr.{BuildErr}
+use Rattle.rk_build.specs.declared.stop.BuildErr.TheVariants as stop
 
 state-same : (fresh : Bool) (held : Held) (holding : Holding) → holding ≡ holding_of fresh held → holding.state ≡ decoded fresh (state_in held)
 state-same fresh held holding same = ap (λ (h : Holding). h.state) same
 
 -- the look failed
-look-stops : (request : Request) (told : Option Held) (e : Stop) → LooksSo (is_fresh request) told (Err e) → FindsSo request told (Err e)
+look-stops : (request : Request) (told : Option Held) (e : BuildErr) → LooksSo (is_fresh request) told (Err e) → FindsSo request told (Err e)
 look-stops request None (stop.Refused (refusal.Special path)) look = tt
 look-stops request (Some held) (stop.Refused (refusal.Special path)) look = look
 look-stops request told (stop.Refused (refusal.Damaged file damage)) look = absurd look
@@ -34,7 +34,7 @@ look-stops request told stop.WriteFault look = absurd look
 look-stops request told stop.NoMemory look = tt
 
 -- a state file is damaged
-kept-stops : (request : Request) (told : Option Held) (holding : Holding) (e : Stop) → LooksSo (is_fresh request) told (Ok holding) → ReadsState holding.state (Err e) → FindsSo request told (Err e)
+kept-stops : (request : Request) (told : Option Held) (holding : Holding) (e : BuildErr) → LooksSo (is_fresh request) told (Ok holding) → ReadsState holding.state (Err e) → FindsSo request told (Err e)
 kept-stops request told holding (stop.Refused (refusal.Special path)) look kept = absurd kept
 kept-stops request None holding (stop.Refused (refusal.Damaged file damage)) look kept = tt
 kept-stops request (Some held) holding (stop.Refused (refusal.Damaged file damage)) look kept =
@@ -47,13 +47,13 @@ kept-stops request told holding stop.NoMemory look kept = tt
 
 -- by a test of whether the build begins afresh
 
-asked : (told : Option Held) (result : Result Holding Stop) (fresh asks : Bool) → fresh ≡ asks → LooksSo fresh told result → LooksSo asks told result
+asked : (told : Option Held) (result : Result Holding BuildErr) (fresh asks : Bool) → fresh ≡ asks → LooksSo fresh told result → LooksSo asks told result
 asked told result fresh asks same look = subst (λ (b : Bool). LooksSo b told result) same look
 
-pub look-stops-so : (request : Request) (told : Option Held) (e : Stop) (fresh : Bool) → fresh ≡ is_fresh request → LooksSo fresh told (Err e) → FindsSo request told (Err e)
+pub look-stops-so : (request : Request) (told : Option Held) (e : BuildErr) (fresh : Bool) → fresh ≡ is_fresh request → LooksSo fresh told (Err e) → FindsSo request told (Err e)
 look-stops-so request told e fresh same look = look-stops request told e (asked told (Err e) fresh (is_fresh request) same look)
 
-pub kept-stops-so : (request : Request) (told : Option Held) (holding : Holding) (e : Stop) (fresh : Bool) → fresh ≡ is_fresh request → LooksSo fresh told (Ok holding) → ReadsState holding.state (Err e) → FindsSo request told (Err e)
+pub kept-stops-so : (request : Request) (told : Option Held) (holding : Holding) (e : BuildErr) (fresh : Bool) → fresh ≡ is_fresh request → LooksSo fresh told (Ok holding) → ReadsState holding.state (Err e) → FindsSo request told (Err e)
 kept-stops-so request told holding e fresh same look kept = kept-stops request told holding e (asked told (Ok holding) fresh (is_fresh request) same look) kept
 
 -- a database that was read ends with its digest

@@ -32,8 +32,8 @@ use Rattle.rk_build.specs.Stages.{FindsSo, PreparesSo}
 use Rattle.rk_build.specs.Fresh.{AreInMemory, AreReadable, IsInMemory, IsReadable, held_after}
 use Rattle.rk_build.specs.declared.found.Found.{Found}
 use Rattle.rk_build.specs.declared.run.Finished.{Finished}
-use Rattle.rk_build.specs.declared.stop.Stop.{Stop}
-use Rattle.rk_build.specs.declared.stop.Stop.TheVariants as stop
+use Rattle.rk_build.specs.declared.stop.BuildErr.{BuildErr}
+use Rattle.rk_build.specs.declared.stop.BuildErr.TheVariants as stop
 use Rattle.rk_build.proofs.KeptLemmas.{finds-next}
 
 entries-same : (request : Request) (held : Held) (found : Found) → found.holding ≡ holding_of (is_fresh request) held → with_rows found.holding.entries found.attrs ≡ with_rows (snapshot_of held) found.attrs
@@ -44,7 +44,7 @@ unasked true old is = absurd (true≢false is)
 unasked false old is = refl
 
 -- nothing was found to build on
-pub find-stops : (first : KeyValue → Says) (request : Request) (told : Option Held) (before now : ℕ) (e : Stop) → FindsSo request told (Err e) → now ≡ before → PreparesSo first request told before now (Err e)
+pub find-stops : (first : KeyValue → Says) (request : Request) (told : Option Held) (before now : ℕ) (e : BuildErr) → FindsSo request told (Err e) → now ≡ before → PreparesSo first request told before now (Err e)
 find-stops first request told before now (stop.Refused refusal) found same = (found, same)
 find-stops first request told before now (stop.Forged rec step) found same = absurd found
 find-stops first request told before now stop.Spent found same = absurd found
@@ -57,7 +57,7 @@ unchecked : {P : Type 0} (first : KeyValue → Says) (request : Request) (old : 
 unchecked first request old rec step forged whole check = absurd (never-wrong first (rec_at rec old) step (whole check rec forged.0) forged.1)
 
 -- a record is forged
-pub check-stops : (first : KeyValue → Says) (request : Request) (told : Option Held) (f : Found) (before now : ℕ) (e : Stop) → FindsSo request told (Ok f) → ChecksSo first (checks request) f.old (Err e) → now ≡ before → PreparesSo first request told before now (Err e)
+pub check-stops : (first : KeyValue → Says) (request : Request) (told : Option Held) (f : Found) (before now : ℕ) (e : BuildErr) → FindsSo request told (Ok f) → ChecksSo first (checks request) f.old (Err e) → now ≡ before → PreparesSo first request told before now (Err e)
 check-stops first request told f before now (stop.Refused refusal) found told_so same = absurd told_so
 check-stops first request None f before now (stop.Forged rec step) found told_so same = (tt, omega arith, λ check. same)
 check-stops first request (Some held) f before now (stop.Forged rec step) found told_so same =
@@ -73,7 +73,7 @@ checks-many request None f found = (unasked (checks request) f.old, tt)
 checks-many request (Some held) f found = (unasked (checks request) f.old, record { plain = found.0; rows = f.attrs; old = f.old; kept = found.2; so = refl })
 
 -- the run failed
-pub run-stops : (first : KeyValue → Says) (request : Request) (told : Option Held) (f : Found) (before now : ℕ) (e : Stop) → FindsSo request told (Ok f) → Runs first request (with_rows f.holding.entries f.attrs) f.old before now (Err e) → ChecksWhole first (checks request) f.old → now ≤ before + turns request → PreparesSo first request told before now (Err e)
+pub run-stops : (first : KeyValue → Says) (request : Request) (told : Option Held) (f : Found) (before now : ℕ) (e : BuildErr) → FindsSo request told (Ok f) → Runs first request (with_rows f.holding.entries f.attrs) f.old before now (Err e) → ChecksWhole first (checks request) f.old → now ≤ before + turns request → PreparesSo first request told before now (Err e)
 run-stops first request told f before now (stop.Refused refusal) found runs whole most = absurd runs
 run-stops first request None f before now (stop.Forged rec step) found runs whole most = (tt, most, unchecked first request f.old rec step runs whole)
 run-stops first request (Some held) f before now (stop.Forged rec step) found runs whole most =

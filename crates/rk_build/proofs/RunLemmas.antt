@@ -25,8 +25,8 @@ use Rattle.rk_replay.specs.Ran.{ran_of}
 use Rattle.rk_replay.specs.Starts.{StartsRan, StartsStopped, StartsUpTo}
 use Rattle.rk_replay.specs.declared.ran.Ran.{Ran}
 use Rattle.rk_replay.specs.Stops.{Stops}
-use Rattle.rk_replay.specs.declared.stop.Stop.{Stop}
-use Rattle.rk_replay.specs.declared.stop.Stop.TheVariants as stop
+use Rattle.rk_replay.specs.declared.stop.ReplayErr.{ReplayErr}
+use Rattle.rk_replay.specs.declared.stop.ReplayErr.TheVariants as stop
 use Rattle.rk_replay.specs.Script.{script_key}
 use Rattle.rk_request.specs.Asked.{turns}
 use Rattle.rk_request.specs.declared.requests.Request.{Request}
@@ -43,7 +43,7 @@ fresh_run-is first request entries key budget tree world o limit used is_key is_
     ∙ run
 
 -- where the build's budget was spent
-pub spent-is : {S : Type 0} (first : KeyValue → Says) (old : List Record) (spent : Type 0) (stopped : S → Type 0) (e : Stop S) → e ≡ stop.Spent → Stops first old spent stopped e → AreSpoken first old × spent
+pub spent-is : {S : Type 0} (first : KeyValue → Says) (old : List Record) (spent : Type 0) (stopped : S → Type 0) (e : ReplayErr S) → e ≡ stop.Spent → Stops first old spent stopped e → AreSpoken first old × spent
 spent-is first old spent stopped e is stops = subst (Stops first old spent stopped) is stops
 
 -- no more commands ran than turns were paid, beside the script
@@ -63,13 +63,13 @@ ran-within paid most looked before now h s = let few : s.ran ≤ paid + 1 = s.fe
 upto-within : (paid most up before now : ℕ) → paid ≤ most → StartsUpTo paid up before now → StartsUpTo most up before now
 upto-within paid most up before now h s = record { looked = s.looked; within = s.within; starts = ran-within paid most s.looked before now h s.starts }
 
-pub starts-spent : {S : Type 0} (old : List Record) (paid most before now : ℕ) (e : Stop S) → paid ≤ most → e ≡ stop.Spent → StartsStopped old paid before now e → StartsRan most (length old) before now
+pub starts-spent : {S : Type 0} (old : List Record) (paid most before now : ℕ) (e : ReplayErr S) → paid ≤ most → e ≡ stop.Spent → StartsStopped old paid before now e → StartsRan most (length old) before now
 starts-spent old paid most before now e h is s = ran-within paid most (length old) before now h (subst (StartsStopped old paid before now) is s)
 
-pub starts-forged : {S : Type 0} (old : List Record) (paid most before now rec step : ℕ) (e : Stop S) → paid ≤ most → e ≡ stop.Forged rec step → StartsStopped old paid before now e → StartsUpTo most (rec + 1) before now
+pub starts-forged : {S : Type 0} (old : List Record) (paid most before now rec step : ℕ) (e : ReplayErr S) → paid ≤ most → e ≡ stop.Forged rec step → StartsStopped old paid before now e → StartsUpTo most (rec + 1) before now
 starts-forged old paid most before now rec step e h is s = upto-within paid most (rec + 1) before now h (subst (StartsStopped old paid before now) is s)
 
-pub starts-stopped : {S : Type 0} (old : List Record) (paid most before now : ℕ) (e : Stop S) (reason : S) → paid ≤ most → e ≡ stop.Stopped reason → StartsStopped old paid before now e → StartsUpTo most (length old) before now
+pub starts-stopped : {S : Type 0} (old : List Record) (paid most before now : ℕ) (e : ReplayErr S) (reason : S) → paid ≤ most → e ≡ stop.Stopped reason → StartsStopped old paid before now e → StartsUpTo most (length old) before now
 starts-stopped old paid most before now e reason h is s = upto-within paid most (length old) before now h (subst (StartsStopped old paid before now) is s)
 
 -- there was no memory yet

@@ -5,11 +5,11 @@ use Rattle.rk_folder.specs.Sinks.{Puts, PutCaused, PutMemoryCaused}
 use Rattle.rk_folder.specs.declared.sink.SinkErr.{SinkErr}
 use Rattle.rk_folder.specs.declared.sink.SinkErr.TheVariants as sink
 use Rattle.rk_build.specs.Telling.{SinkState, IsPut, PutsLine, PutSo, PutsOutput, PutsErrors}
-use Rattle.rk_build.specs.declared.stop.Stop.{Stop}
-use Rattle.rk_build.specs.declared.stop.Stop.TheVariants as stop
+use Rattle.rk_build.specs.declared.stop.BuildErr.{BuildErr}
+use Rattle.rk_build.specs.declared.stop.BuildErr.TheVariants as stop
 
 -- the output went out whole, whatever the put of the error text came to
-pub put-first : {T : Type 0} (text : Text) (old new : SinkState) (later : Text) (before now : SinkState) (r : Result T Stop) → PutSo later before now r → IsPut text old new → PutsOutput text old new r
+pub put-first : {T : Type 0} (text : Text) (old new : SinkState) (later : Text) (before now : SinkState) (r : Result T BuildErr) → PutSo later before now r → IsPut text old new → PutsOutput text old new r
 put-first text old new later before now (Ok it) put whole = whole
 put-first text old new later before now (Err (stop.Refused refusal)) put whole = absurd put
 put-first text old new later before now (Err (stop.Forged rec step)) put whole = absurd put
@@ -19,7 +19,7 @@ put-first text old new later before now (Err stop.WriteFault) put whole = inl wh
 put-first text old new later before now (Err stop.NoMemory) put whole = inl whole
 
 -- the error text was put or cut
-pub put-last : {T : Type 0} (text : Text) (old new : SinkState) (r : Result T Stop) → PutSo text old new r → PutsErrors text old new r
+pub put-last : {T : Type 0} (text : Text) (old new : SinkState) (r : Result T BuildErr) → PutSo text old new r → PutsErrors text old new r
 put-last text old new (Ok it) put = put
 put-last text old new (Err (stop.Refused refusal)) put = absurd put
 put-last text old new (Err (stop.Forged rec step)) put = absurd put

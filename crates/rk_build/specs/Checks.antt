@@ -8,8 +8,8 @@ use Rattle.tr_record.specs.Rec.{rec_at}
 use Rattle.tr_record.specs.declared.records.Record.{Record}
 use Rattle.rk_request.specs.Asked.{checks}
 use Rattle.rk_request.specs.declared.requests.Request.{Request}
-use Rattle.rk_build.specs.declared.stop.Stop.{Stop}
-use Rattle.rk_build.specs.declared.stop.Stop.TheVariants as stop
+use Rattle.rk_build.specs.declared.stop.BuildErr.{BuildErr}
+use Rattle.rk_build.specs.declared.stop.BuildErr.TheVariants as stop
 
 -- this record isn't what its command says, and this is the first step that its command doesn't take
 abbrev pub IsForged : (KeyValue → Says) → List Record → ℕ → ℕ → Type 0
@@ -35,14 +35,14 @@ checked_count check table = if check then length table else 0
 
 -- What the check of an old table tells.
 
-abbrev pub ChecksSo : (KeyValue → Says) → Bool → List Record → Result (Unit {0}) Stop → Type 0
+abbrev pub ChecksSo : (KeyValue → Says) → Bool → List Record → Result (Unit {0}) BuildErr → Type 0
 ChecksSo first check old (Ok it) = ChecksWhole first check old
 ChecksSo first check old (Err (stop.Forged rec step)) = (check ≡ true) × IsForged first old rec step × SpokenBefore first old rec
 ChecksSo first check old (Err stop.NoMemory) = Unit {0}
 ChecksSo first check old (Err other) = ⊥
 
 -- each record that is checked is started once; those up to the one that is forged; no more where there was no memory
-abbrev pub StartsChecked : Bool → List Record → ℕ → ℕ → Result (Unit {0}) Stop → Type 0
+abbrev pub StartsChecked : Bool → List Record → ℕ → ℕ → Result (Unit {0}) BuildErr → Type 0
 StartsChecked check old before now (Ok it) = now ≡ started (checked_count check old) before
 StartsChecked check old before now (Err (stop.Forged rec step)) = now ≡ started (rec + 1) before
 StartsChecked check old before now (Err stop.NoMemory) = StartsSome (checked_count check old) before now

@@ -19,8 +19,8 @@ use Rattle.rk_build.specs.declared.outcome.StateFile.{StateFile}
 use Rattle.rk_build.specs.declared.outcome.StateFile.TheVariants as file
 use Rattle.rk_build.specs.declared.stop.Refusal.{Refusal}
 use Rattle.rk_build.specs.declared.stop.Refusal.TheVariants as refusal
-use Rattle.rk_build.specs.declared.stop.Stop.{Stop}
-use Rattle.rk_build.specs.declared.stop.Stop.TheVariants as stop
+use Rattle.rk_build.specs.declared.stop.BuildErr.{BuildErr}
+use Rattle.rk_build.specs.declared.stop.BuildErr.TheVariants as stop
 
 -- these are the rows that attrs spells; where it doesn't stand there are none
 abbrev pub SpellsRows : Option Text → List (Text × AttrRow) → Type 0
@@ -83,7 +83,7 @@ Refuses fresh held (refusal.Damaged file damage) = (first_special held ≡ None)
 
 -- What reading tells.
 
-abbrev pub ReadsAttrs : Option Text → Result (List (Text × AttrRow)) Stop → Type 0
+abbrev pub ReadsAttrs : Option Text → Result (List (Text × AttrRow)) BuildErr → Type 0
 ReadsAttrs attrs (Ok rows) = AreRows attrs rows
 ReadsAttrs attrs (Err (stop.Refused (refusal.Special path))) = ⊥
 ReadsAttrs attrs (Err (stop.Refused (refusal.Damaged file.Attrs damage))) = IsDamagedAttrs attrs damage
@@ -94,7 +94,7 @@ ReadsAttrs attrs (Err stop.ReadFault) = ⊥
 ReadsAttrs attrs (Err stop.WriteFault) = ⊥
 ReadsAttrs attrs (Err stop.NoMemory) = Unit {0}
 
-abbrev pub ReadsDb : Option Text → Result (List Record) Stop → Type 0
+abbrev pub ReadsDb : Option Text → Result (List Record) BuildErr → Type 0
 ReadsDb db (Ok table) = IsTable db table
 ReadsDb db (Err (stop.Refused (refusal.Special path))) = ⊥
 ReadsDb db (Err (stop.Refused (refusal.Damaged file.Attrs damage))) = ⊥
@@ -105,7 +105,7 @@ ReadsDb db (Err stop.ReadFault) = ⊥
 ReadsDb db (Err stop.WriteFault) = ⊥
 ReadsDb db (Err stop.NoMemory) = Unit {0}
 
-abbrev pub ReadsState : State → Result KeptState Stop → Type 0
+abbrev pub ReadsState : State → Result KeptState BuildErr → Type 0
 ReadsState state (Ok kept) = IsKept state kept.attrs kept.old
 ReadsState state (Err (stop.Refused (refusal.Special path))) = ⊥
 ReadsState state (Err (stop.Refused (refusal.Damaged file damage))) = IsDamaged state file damage

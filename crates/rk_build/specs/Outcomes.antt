@@ -33,8 +33,8 @@ use Rattle.rk_build.specs.declared.build.Ended.{Ended}
 use Rattle.rk_build.specs.declared.outcome.StateFile.{StateFile}
 use Rattle.rk_build.specs.declared.stop.Refusal.{Refusal}
 use Rattle.rk_build.specs.declared.stop.Refusal.TheVariants as refusal
-use Rattle.rk_build.specs.declared.stop.Stop.{Stop}
-use Rattle.rk_build.specs.declared.stop.Stop.TheVariants as stop
+use Rattle.rk_build.specs.declared.stop.BuildErr.{BuildErr}
+use Rattle.rk_build.specs.declared.stop.BuildErr.TheVariants as stop
 use Rattle.rk_build.specs.declared.outcome.Outcome.{Outcome}
 use Rattle.rk_build.specs.declared.outcome.Outcome.TheVariants as out
 
@@ -42,7 +42,7 @@ abbrev pub outcome_of_refusal : Refusal → Outcome
 outcome_of_refusal (refusal.Special path) = out.Special path
 outcome_of_refusal (refusal.Damaged file damage) = out.Damaged file damage
 
-abbrev pub outcome_of_stop : Stop → Outcome
+abbrev pub outcome_of_stop : BuildErr → Outcome
 outcome_of_stop (stop.Refused refusal) = outcome_of_refusal refusal
 outcome_of_stop (stop.Forged rec step) = out.Forged rec step
 outcome_of_stop stop.Spent = out.Spent
@@ -50,7 +50,7 @@ outcome_of_stop stop.ReadFault = out.ReadFault
 outcome_of_stop stop.WriteFault = out.WriteFault
 outcome_of_stop stop.NoMemory = out.NoMemory
 
-abbrev pub outcome_of : Result Ended Stop → Outcome
+abbrev pub outcome_of : Result Ended BuildErr → Outcome
 outcome_of (Ok e) = out.Ended e.status e.launched (length e.ran)
 outcome_of (Err e) = outcome_of_stop e
 

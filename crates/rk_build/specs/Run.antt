@@ -18,8 +18,8 @@ use Rattle.rk_replay.specs.Script.{script_key}
 use Rattle.rk_replay.specs.Starts.{StartsRan, StartsUpTo}
 use Rattle.rk_runs.specs.Started.{started}
 use Rattle.rk_build.specs.Checks.{IsForged}
-use Rattle.rk_build.specs.declared.stop.Stop.{Stop}
-use Rattle.rk_build.specs.declared.stop.Stop.TheVariants as stop
+use Rattle.rk_build.specs.declared.stop.BuildErr.{BuildErr}
+use Rattle.rk_build.specs.declared.stop.BuildErr.TheVariants as stop
 use Rattle.rk_build.specs.declared.run.Finished.{Finished}
 
 -- the run of the script, by what the command of each key says, on a tree of these entries, in which nothing is recorded
@@ -41,7 +41,7 @@ pub record IsRun (first : KeyValue → Says) (request : Request) (entries : Entr
   pub ran : f.ran ≡ ran_of old f.table
   pub ticked : now ≡ before + ran_total old f.table
 
-abbrev pub Runs : (KeyValue → Says) → Request → Entries → List Record → ℕ → ℕ → Result Finished Stop → Type 0
+abbrev pub Runs : (KeyValue → Says) → Request → Entries → List Record → ℕ → ℕ → Result Finished BuildErr → Type 0
 Runs first request entries old before now (Ok f) = IsRun first request entries old before now f
 Runs first request entries old before now (Err (stop.Forged rec step)) = IsForged first old rec step
 Runs first request entries old before now (Err stop.Spent) = AreSpoken first old × (fresh_run first request entries ≡ Spent)
@@ -50,7 +50,7 @@ Runs first request entries old before now (Err other) = ⊥
 
 -- A machine was started for each command that ran, no more of them than turns, beside the script; where the run stops, for each
 -- that ran so far, and for each record that was looked at.
-abbrev pub StartsRun : Request → List Record → ℕ → ℕ → Result Finished Stop → Type 0
+abbrev pub StartsRun : Request → List Record → ℕ → ℕ → Result Finished BuildErr → Type 0
 StartsRun request old before now (Ok f) = (now ≡ started (length f.ran) before) × (length f.ran ≤ turns request + 1)
 StartsRun request old before now (Err (stop.Forged rec step)) = StartsUpTo (turns request) (rec + 1) before now
 StartsRun request old before now (Err stop.Spent) = StartsRan (turns request) (length old) before now

@@ -34,16 +34,16 @@ use Rattle.rk_build.specs.Texts.{IsNoFault}
 use Rattle.rk_build.specs.declared.stop.Refusal.TheVariants as refusal
 use Rattle.rk_build.specs.declared.found.Found.{Found}
 use Rattle.rk_build.specs.declared.prepare.Prepared.{Prepared}
-use Rattle.rk_build.specs.declared.stop.Stop.{Stop}
-use Rattle.rk_build.specs.declared.stop.Stop.TheVariants as stop
+use Rattle.rk_build.specs.declared.stop.BuildErr.{BuildErr}
+use Rattle.rk_build.specs.declared.stop.BuildErr.TheVariants as stop
 
-abbrev pub stop_of : ImportErr → Stop
+abbrev pub stop_of : ImportErr → BuildErr
 stop_of (import.Special path) = stop.Refused (refusal.Special path)
 stop_of import.ReadFault = stop.ReadFault
 stop_of import.NoMemory = stop.NoMemory
 
 -- nothing is special and this is what the folder holds, or this is the first special path
-abbrev pub LooksSo : Bool → Option Held → Result Holding Stop → Type 0
+abbrev pub LooksSo : Bool → Option Held → Result Holding BuildErr → Type 0
 LooksSo fresh told (Ok holding) = IfSome told (λ held. (first_special held ≡ None) × (holding ≡ holding_of fresh held))
 LooksSo fresh told (Err (stop.Refused (refusal.Special path))) = IfSome told (λ held. first_special held ≡ Some path)
 LooksSo fresh told (Err stop.ReadFault) = Unit {0}
@@ -51,17 +51,17 @@ LooksSo fresh told (Err stop.NoMemory) = Unit {0}
 LooksSo fresh told (Err other) = ⊥
 
 -- a read fault only where the count rose
-abbrev pub ReadsCounted : {T : Type 0} → ℕ → ℕ → Result T Stop → Type 0
+abbrev pub ReadsCounted : {T : Type 0} → ℕ → ℕ → Result T BuildErr → Type 0
 ReadsCounted before now (Err stop.ReadFault) = Rose before now
 ReadsCounted before now other = now ≡ before
 
 -- a steady folder stays steady, and then nothing is a fault
-abbrev pub Steadily : {T : Type 0} → Bool → Bool → Result T Stop → Type 0
+abbrev pub Steadily : {T : Type 0} → Bool → Bool → Result T BuildErr → Type 0
 Steadily before now result = (now ≡ before) × (before ≡ true → IsNoFault result)
 
 -- nothing is special, this is what the folder holds, and these are the records and the rows that it keeps; or why it is
 -- refused
-abbrev pub FindsSo : Request → Option Held → Result Found Stop → Type 0
+abbrev pub FindsSo : Request → Option Held → Result Found BuildErr → Type 0
 FindsSo request told (Ok found) = IfSome told (λ held. (first_special held ≡ None) × (found.holding ≡ holding_of (is_fresh request) held) × IsKept (decoded (is_fresh request) (state_in held)) found.attrs found.old)
 FindsSo request told (Err (stop.Refused refusal)) = IfSome told (λ held. Refuses (is_fresh request) held refusal)
 FindsSo request told (Err stop.ReadFault) = Unit {0}
@@ -69,19 +69,19 @@ FindsSo request told (Err stop.NoMemory) = Unit {0}
 FindsSo request told (Err other) = ⊥
 
 -- the planned calls lead on, or some were made and the next one failed
-abbrev pub InstallsSo : {T : Type 0} → List Op → Option Held → Option Held → Result T Stop → Type 0
+abbrev pub InstallsSo : {T : Type 0} → List Op → Option Held → Option Held → Result T BuildErr → Type 0
 InstallsSo ops old new (Ok it) = new ≡ option_map (after_all ops) old
 InstallsSo ops old new (Err stop.WriteFault) = Partly ops old new install.WriteFault
 InstallsSo ops old new (Err stop.NoMemory) = Partly ops old new install.NoMemory
 InstallsSo ops old new (Err other) = ⊥
 
 -- a write fault only where the count rose
-abbrev pub WritesCounted : {T : Type 0} → ℕ → ℕ → Result T Stop → Type 0
+abbrev pub WritesCounted : {T : Type 0} → ℕ → ℕ → Result T BuildErr → Type 0
 WritesCounted before now (Err stop.WriteFault) = Rose before now
 WritesCounted before now other = now ≡ before
 
 -- want of memory only where the count of it rose
-abbrev pub MemoryRose : {T : Type 0} → ℕ → ℕ → Result T Stop → Type 0
+abbrev pub MemoryRose : {T : Type 0} → ℕ → ℕ → Result T BuildErr → Type 0
 MemoryRose before now (Err stop.NoMemory) = Rose before now
 MemoryRose before now other = now ≡ before
 
@@ -102,7 +102,7 @@ pub record IsPrepared (first : KeyValue → Says) (request : Request) (held : He
   pub fits : AreSpoken first old → Fits p.finished.table
   pub next : AreSpoken first old → IsNext p.finished.world p.finished.table (after_all p.plan held)
 
-abbrev pub PreparesSo : (KeyValue → Says) → Request → Option Held → ℕ → ℕ → Result Prepared Stop → Type 0
+abbrev pub PreparesSo : (KeyValue → Says) → Request → Option Held → ℕ → ℕ → Result Prepared BuildErr → Type 0
 PreparesSo first request told before now (Ok p) = IfSome told (λ held. IsPrepared first request held before now p) × (now ≤ before + turns request)
 PreparesSo first request told before now (Err (stop.Refused refusal)) = IfSome told (λ held. Refuses (is_fresh request) held refusal) × (now ≡ before)
 PreparesSo first request told before now (Err (stop.Forged rec step)) = IfSome told (λ held. Keeping (is_fresh request) held (λ entries old. TellsForged first request old rec step)) × (now ≤ before + turns request) × (checks request ≡ true → now ≡ before)
@@ -113,6 +113,6 @@ PreparesSo first request told before now (Err stop.WriteFault) = ⊥
 
 -- A machine was started for each record that is checked and then for each command that ran; where a stage stops, what is said of
 -- the outcome that it comes to.
-abbrev pub StartsSo : {T : Type 0} → (T → ℕ) → (KeyValue → Says) → Request → Option Held → ℕ → ℕ → Result T Stop → Type 0
+abbrev pub StartsSo : {T : Type 0} → (T → ℕ) → (KeyValue → Says) → Request → Option Held → ℕ → ℕ → Result T BuildErr → Type 0
 StartsSo ran first request told before now (Ok it) = StartsBoth request told before now (ran it)
 StartsSo ran first request told before now (Err e) = Started first request told before now (outcome_of_stop e)

@@ -7,8 +7,8 @@ use Rattle.rk_build.specs.Lines.{line_of}
 use Rattle.rk_build.specs.Texts.{Front}
 use Rattle.rk_build.specs.declared.outcome.Outcome.{Outcome}
 use Rattle.rk_build.specs.declared.outcome.Outcome.TheVariants as out
-use Rattle.rk_build.specs.declared.stop.Stop.{Stop}
-use Rattle.rk_build.specs.declared.stop.Stop.TheVariants as stop
+use Rattle.rk_build.specs.declared.stop.BuildErr.{BuildErr}
+use Rattle.rk_build.specs.declared.stop.BuildErr.TheVariants as stop
 
 -- a sink at a moment: its bytes, where it tells them, how many puts were faults, and how many had no memory
 pub record SinkState : Type 0 where
@@ -33,7 +33,7 @@ abbrev pub PutsLine : Text → SinkState → SinkState → Type 0
 PutsLine line old new = IsPut line old new ⊎ IsCut line old new
 
 -- What putting a text leaves: all of it went out at Ok; else the put failed or had no memory.
-abbrev pub PutSo : {T : Type 0} → Text → SinkState → SinkState → Result T Stop → Type 0
+abbrev pub PutSo : {T : Type 0} → Text → SinkState → SinkState → Result T BuildErr → Type 0
 PutSo text old new (Ok it) = IsPut text old new
 PutSo text old new (Err stop.WriteFault) = IsCut text old new
 PutSo text old new (Err stop.NoMemory) = IsCut text old new
@@ -41,14 +41,14 @@ PutSo text old new (Err other) = ⊥
 
 -- What putting the run's output leaves, which is put first: all of it went out at Ok; else it was put, or that put failed or
 -- had no memory.
-abbrev pub PutsOutput : {T : Type 0} → Text → SinkState → SinkState → Result T Stop → Type 0
+abbrev pub PutsOutput : {T : Type 0} → Text → SinkState → SinkState → Result T BuildErr → Type 0
 PutsOutput text old new (Ok it) = IsPut text old new
 PutsOutput text old new (Err stop.WriteFault) = PutsLine text old new
 PutsOutput text old new (Err stop.NoMemory) = PutsLine text old new
 PutsOutput text old new (Err other) = ⊥
 
 -- What putting the run's error text leaves: all of it went out at Ok; else nothing was put, or the put failed or had no memory.
-abbrev pub PutsErrors : {T : Type 0} → Text → SinkState → SinkState → Result T Stop → Type 0
+abbrev pub PutsErrors : {T : Type 0} → Text → SinkState → SinkState → Result T BuildErr → Type 0
 PutsErrors text old new (Ok it) = IsPut text old new
 PutsErrors text old new (Err stop.WriteFault) = (new ≡ old) ⊎ IsCut text old new
 PutsErrors text old new (Err stop.NoMemory) = (new ≡ old) ⊎ IsCut text old new

@@ -11,7 +11,7 @@ ghost use Rattle.rk_build.specs.Texts.{IsNoFault};
 use crate::installation::{InstallErr, install};
 use crate::ops::Plan;
 use crate::prepare::{Prepared, prepare};
-use crate::stop::Stop;
+use crate::stop::BuildErr;
 use crate::texts::put_texts;
 use rk_base::Steps;
 use rk_calls::Maker;
@@ -30,7 +30,7 @@ pub(crate) struct Ended {
 }
 
 // Makes the planned calls.
-fn carry_out<F: Folder>(alloc: Global, folder: &mut F, plan: &Plan) -> Result<(), Stop>
+fn carry_out<F: Folder>(alloc: Global, folder: &mut F, plan: &Plan) -> Result<(), BuildErr>
     requires { MayRun (F.told folder.old) plan.now }
     ensures held { InstallsSo plan.now (F.told folder.old) (F.told folder.new) result }
     ensures writes { WritesCounted (F.write_faults folder.old) (F.write_faults folder.new) result }
@@ -41,8 +41,8 @@ fn carry_out<F: Folder>(alloc: Global, folder: &mut F, plan: &Plan) -> Result<()
 {
     match install(alloc, folder, plan) {
         Ok(()) => Ok(()),
-        Err(InstallErr::WriteFault) => Err(Stop::WriteFault),
-        Err(InstallErr::NoMemory) => Err(Stop::NoMemory),
+        Err(InstallErr::WriteFault) => Err(BuildErr::WriteFault),
+        Err(InstallErr::NoMemory) => Err(BuildErr::NoMemory),
     }
 }
 
@@ -55,7 +55,7 @@ pub(crate) fn build<M: Maker, F: Folder, O: Sink, E: Sink, L: Ledger>(
     out: &mut O,
     err: &mut E,
     live: &mut Steps<L>,
-) -> Result<Ended, Stop>
+) -> Result<Ended, BuildErr>
     requires { 0 < turns request.now }
     ensures folder { Leaves M.first request.now (F.told folder.old) (F.told folder.new) (record { writes = F.write_faults folder.old; memory = F.memory_failures folder.old }) (record { writes = F.write_faults folder.new; memory = F.memory_failures folder.new }) (outcome_of result) }
     ensures status { IfOk result (λ e. HasStatus M.first request.now (F.told folder.old) e.status) }

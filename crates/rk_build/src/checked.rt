@@ -4,14 +4,18 @@ ghost use Rattle.rk_request.specs.Asked.{checks};
 ghost use Rattle.rk_build.specs.Checks.{ChecksSo, StartsChecked};
 
 use crate::options::checks;
-use crate::stop::Stop;
+use crate::stop::BuildErr;
 use rk_calls::Maker;
 use rk_request::Request;
 use rk_runs::{CheckErr, check_with};
 use tr_record::Table;
 
 /// Checks every record of the old table, where that is asked for.
-pub(crate) fn check_old<M: Maker>(maker: &mut M, request: &Request, old: &Table) -> Result<(), Stop>
+pub(crate) fn check_old<M: Maker>(
+    maker: &mut M,
+    request: &Request,
+    old: &Table,
+) -> Result<(), BuildErr>
     ensures checked { ChecksSo M.first (checks request.now) old.now result }
     ensures starts { StartsChecked (checks request.now) old.now (M.starts maker.old) (M.starts maker.new) result }
 {
@@ -20,7 +24,7 @@ pub(crate) fn check_old<M: Maker>(maker: &mut M, request: &Request, old: &Table)
     }
     match check_with(maker, old) {
         Ok(()) => Ok(()),
-        Err(CheckErr::Forged { rec, step }) => Err(Stop::Forged { rec, step }),
-        Err(CheckErr::NoMemory) => Err(Stop::NoMemory),
+        Err(CheckErr::Forged { rec, step }) => Err(BuildErr::Forged { rec, step }),
+        Err(CheckErr::NoMemory) => Err(BuildErr::NoMemory),
     }
 }

@@ -14,7 +14,7 @@ ghost use Rattle.rk_request.specs.Asked.{is_fresh, turns};
 
 use crate::Outcome;
 use crate::build::{Ended, build};
-use crate::stop::{Refusal, Stop};
+use crate::stop::{BuildErr, Refusal};
 use rk_base::Steps;
 use rk_calls::Maker;
 use rk_folder::{Folder, Sink};
@@ -31,20 +31,20 @@ fn outcome_of_refusal(refusal: Refusal) -> Outcome
     }
 }
 
-fn outcome_of_stop(stop: Stop) -> Outcome
+fn outcome_of_stop(stop: BuildErr) -> Outcome
     ensures { result ≡ outcome_of_stop stop }
 {
     match stop {
-        Stop::Refused(refusal) => outcome_of_refusal(refusal),
-        Stop::Forged { rec, step } => Outcome::Forged { rec, step },
-        Stop::Spent => Outcome::Spent,
-        Stop::ReadFault => Outcome::ReadFault,
-        Stop::WriteFault => Outcome::WriteFault,
-        Stop::NoMemory => Outcome::NoMemory,
+        BuildErr::Refused(refusal) => outcome_of_refusal(refusal),
+        BuildErr::Forged { rec, step } => Outcome::Forged { rec, step },
+        BuildErr::Spent => Outcome::Spent,
+        BuildErr::ReadFault => Outcome::ReadFault,
+        BuildErr::WriteFault => Outcome::WriteFault,
+        BuildErr::NoMemory => Outcome::NoMemory,
     }
 }
 
-fn outcome_of(built: Result<Ended, Stop>) -> Outcome
+fn outcome_of(built: Result<Ended, BuildErr>) -> Outcome
     ensures { result ≡ outcome_of built }
 {
     match built {

@@ -10,7 +10,7 @@ use crate::holding::Holding;
 use crate::kept::{KeptState, kept};
 use crate::look::look;
 use crate::options::is_fresh;
-use crate::stop::Stop;
+use crate::stop::BuildErr;
 use rk_folder::Folder;
 use rk_request::Request;
 use std::alloc::Global;
@@ -31,7 +31,7 @@ pub(crate) fn find<F: Folder>(
     alloc: Global,
     request: &Request,
     folder: &mut F,
-) -> Result<Found, Stop>
+) -> Result<Found, BuildErr>
     ensures held { F.told folder.new ≡ F.told folder.old }
     ensures writes { F.write_faults folder.new ≡ F.write_faults folder.old }
     ensures looks { LooksInOrder (F.told folder.old) (looks (is_fresh request.now) (F.reach folder.old)) (F.schedule folder.old) (F.schedule folder.new) }

@@ -2,10 +2,10 @@
 ghost use Rattle.std.specs.Prelude.{◌≡◌};
 ghost use Rattle.rk_build.specs.Kept.{ReadsAttrs, ReadsDb, ReadsState};
 ghost use Rattle.rk_build.specs.declared.stop.Refusal.TheVariants as refusal;
-ghost use Rattle.rk_build.specs.declared.stop.Stop.TheVariants as stop;
+ghost use Rattle.rk_build.specs.declared.stop.BuildErr.TheVariants as stop;
 
 use crate::outcome::StateFile;
-use crate::stop::{Refusal, Stop};
+use crate::stop::{BuildErr, Refusal};
 use rk_base::Bytes;
 use rk_folder::State;
 use std::alloc::Global;
@@ -19,13 +19,13 @@ pub(crate) struct KeptState {
     pub old: Table,
 }
 
-fn damaged(file: StateFile, damage: Damage) -> Stop
+fn damaged(file: StateFile, damage: Damage) -> BuildErr
     ensures { result ≡ stop.Refused (refusal.Damaged file damage) }
 {
-    Stop::Refused(Refusal::Damaged(file, damage))
+    BuildErr::Refused(Refusal::Damaged(file, damage))
 }
 
-fn attrs_in(alloc: Global, attrs: &Option<Bytes>) -> Result<Attrs, Stop>
+fn attrs_in(alloc: Global, attrs: &Option<Bytes>) -> Result<Attrs, BuildErr>
     ensures { ReadsAttrs attrs.now result }
 {
     match attrs {
@@ -33,13 +33,13 @@ fn attrs_in(alloc: Global, attrs: &Option<Bytes>) -> Result<Attrs, Stop>
         Some(bytes) => match read_attrs(alloc, bytes.as_slice()) {
             Ok(attrs) => Ok(attrs),
             Err(CodecErr::Damaged(damage)) => Err(damaged(StateFile::Attrs, damage)),
-            Err(CodecErr::NoMemory) => Err(Stop::NoMemory),
+            Err(CodecErr::NoMemory) => Err(BuildErr::NoMemory),
         },
     }
 }
 
 /// The records of the database, none where it is absent. It answers `Damaged` or `NoMemory`.
-pub fn table_in(alloc: Global, db: &Option<Bytes>) -> Result<Table, Stop>
+pub fn table_in(alloc: Global, db: &Option<Bytes>) -> Result<Table, BuildErr>
     ensures { ReadsDb db.now result }
 {
     match db {
@@ -47,13 +47,13 @@ pub fn table_in(alloc: Global, db: &Option<Bytes>) -> Result<Table, Stop>
         Some(bytes) => match read_db(alloc, bytes.as_slice()) {
             Ok(table) => Ok(table),
             Err(CodecErr::Damaged(damage)) => Err(damaged(StateFile::Db, damage)),
-            Err(CodecErr::NoMemory) => Err(Stop::NoMemory),
+            Err(CodecErr::NoMemory) => Err(BuildErr::NoMemory),
         },
     }
 }
 
 /// Decodes the state files that were read, attrs before the database, and gives what they keep.
-pub(crate) fn kept(alloc: Global, state: &State) -> Result<KeptState, Stop>
+pub(crate) fn kept(alloc: Global, state: &State) -> Result<KeptState, BuildErr>
     ensures { ReadsState state.now result }
 {
     let attrs = attrs_in(alloc, &state.attrs)?;

@@ -37,4 +37,4 @@ pub use lines::tell;
 pub use ops::{Op, Plan};
 pub use outcome::{Outcome, StateFile};
 pub use planning::plan;
-pub use stop::{Refusal, Stop};
+pub use stop::{BuildErr, Refusal};

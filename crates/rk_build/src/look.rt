@@ -5,22 +5,26 @@ ghost use Rattle.rk_tree.specs.Entries.{IsWholeSnapshot};
 ghost use Rattle.rk_build.specs.Stages.{LooksSo, ReadsCounted, Steadily, stop_of};
 
 use crate::holding::Holding;
-use crate::stop::{Refusal, Stop};
+use crate::stop::{BuildErr, Refusal};
 use rk_folder::{Folder, Hidden, ImportErr, Imported, import};
 use std::alloc::Global;
 
-fn stop_of(e: ImportErr) -> Stop
+fn stop_of(e: ImportErr) -> BuildErr
     ensures { result ≡ stop_of e }
 {
     match e {
-        ImportErr::Special(path) => Stop::Refused(Refusal::Special(path)),
-        ImportErr::ReadFault => Stop::ReadFault,
-        ImportErr::NoMemory => Stop::NoMemory,
+        ImportErr::Special(path) => BuildErr::Refused(Refusal::Special(path)),
+        ImportErr::ReadFault => BuildErr::ReadFault,
+        ImportErr::NoMemory => BuildErr::NoMemory,
     }
 }
 
 /// Lists and reads the folder; of a build that begins afresh the database is passed over.
-pub(crate) fn look<F: Folder>(alloc: Global, folder: &mut F, fresh: bool) -> Result<Holding, Stop>
+pub(crate) fn look<F: Folder>(
+    alloc: Global,
+    folder: &mut F,
+    fresh: bool,
+) -> Result<Holding, BuildErr>
     ensures held { F.told folder.new ≡ F.told folder.old }
     ensures writes { F.write_faults folder.new ≡ F.write_faults folder.old }
     ensures looks { LooksInOrder (F.told folder.old) (looks fresh (F.reach folder.old)) (F.schedule folder.old) (F.schedule folder.new) }

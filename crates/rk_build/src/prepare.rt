@@ -22,7 +22,7 @@ use crate::holding::Holding;
 use crate::ops::Plan;
 use crate::planning::plan;
 use crate::run::{Finished, run};
-use crate::stop::Stop;
+use crate::stop::BuildErr;
 use rk_base::{Bytes, NoMemory, Steps};
 use rk_calls::Maker;
 use rk_folder::{Folder, LONGEST_FILE, State};
@@ -112,7 +112,7 @@ pub(crate) fn prepare<M: Maker, F: Folder, L: Ledger>(
     request: &Request,
     folder: &mut F,
     live: &mut Steps<L>,
-) -> Result<Prepared, Stop>
+) -> Result<Prepared, BuildErr>
     requires { 0 < turns request.now }
     ensures held { F.told folder.new ≡ F.told folder.old }
     ensures writes { F.write_faults folder.new ≡ F.write_faults folder.old }

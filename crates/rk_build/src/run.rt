@@ -6,7 +6,7 @@ ghost use Rattle.rk_request.specs.Asked.{turns};
 ghost use Rattle.rk_build.specs.Run.{Runs, StartsRun};
 
 use crate::options::turns;
-use crate::stop::Stop;
+use crate::stop::BuildErr;
 use rk_base::{Budget, NoMemory, Steps};
 use rk_calls::Maker;
 use rk_folder::tree_of;
@@ -60,7 +60,7 @@ pub(crate) fn run<M: Maker, L: Ledger>(
     attrs: &Attrs,
     old: &Table,
     live: &mut Steps<L>,
-) -> Result<Finished, Stop>
+) -> Result<Finished, BuildErr>
     requires whole { IsWholeSnapshot entries.now }
     requires some { 0 < turns request.now }
     ensures runs { Runs M.first request.now (with_rows entries.now attrs.now) old.now live.old live.new result }
@@ -80,8 +80,8 @@ pub(crate) fn run<M: Maker, L: Ledger>(
             table,
             ran,
         }),
-        Err(rk_replay::Stop::Forged { rec, step }) => Err(Stop::Forged { rec, step }),
-        Err(rk_replay::Stop::Spent) => Err(Stop::Spent),
-        Err(rk_replay::Stop::Stopped(_)) => Err(Stop::NoMemory),
+        Err(rk_replay::ReplayErr::Forged { rec, step }) => Err(BuildErr::Forged { rec, step }),
+        Err(rk_replay::ReplayErr::Spent) => Err(BuildErr::Spent),
+        Err(rk_replay::ReplayErr::Stopped(_)) => Err(BuildErr::NoMemory),
     }
 }

@@ -1,6 +1,6 @@
 // Why the work stopped.
 ghost use Rattle.std.specs.Prelude.{◌≡◌};
-ghost use Rattle.rk_build.specs.declared.stop.Stop.TheVariants as stop;
+ghost use Rattle.rk_build.specs.declared.stop.BuildErr.TheVariants as stop;
 
 use crate::outcome::StateFile;
 use rk_base::{NoMemory, Path};
@@ -15,7 +15,7 @@ pub enum Refusal {
 
 /// Why the work stopped before its end.
 #[derive(Debug, Drop)]
-pub enum Stop {
+pub enum BuildErr {
     Refused(Refusal),
     Forged { rec: u64, step: u64 },
     Spent,
@@ -24,10 +24,10 @@ pub enum Stop {
     NoMemory,
 }
 
-impl From<NoMemory> for Stop {
+impl From<NoMemory> for BuildErr {
     ghost from_gives = { λ _ e. e ≡ stop.NoMemory };
 
-    fn from(_: NoMemory) -> Stop {
-        Stop::NoMemory
+    fn from(_: NoMemory) -> BuildErr {
+        BuildErr::NoMemory
     }
 }

@@ -1,7 +1,7 @@
 // Answers.
 ghost use Rattle.std.specs.Prelude.{◌≡◌, IfOk};
 
-use rk_base::{Bytes, Errno, Kind, NameList, NoMemory, Path};
+use rk_base::{Bytes, Errno, FileType, NameList, NoMemory, Path};
 
 /// What a call is answered.
 #[derive(Debug, Drop, Clone)]
@@ -15,7 +15,11 @@ pub enum Answer {
     Piped,
     Content(Bytes),
     /// What stands there, its mode (0777 for a link), and whether it is a file without bytes.
-    Stat { kind: Kind, mode: u16, empty: bool },
+    Stat {
+        kind: FileType,
+        mode: u16,
+        empty: bool,
+    },
     Names(NameList),
     /// The text of a link.
     Text(Bytes),

@@ -2,7 +2,7 @@
 ghost use Rattle.std.specs.Prelude.{◌≡◌, ◌↔◌, IsTrue};
 
 use crate::{Answer, Call, How};
-use rk_base::{Errno, Kind};
+use rk_base::{Errno, FileType};
 
 fn same_how(a: How, b: How) -> bool
     ensures { IsTrue result ↔ (a ≡ b) }
@@ -54,13 +54,13 @@ fn same_errno(a: Errno, b: Errno) -> bool
     a == b
 }
 
-fn same_kind(a: Kind, b: Kind) -> bool
+fn same_kind(a: FileType, b: FileType) -> bool
     ensures { IsTrue result ↔ (a ≡ b) }
 {
     match (a, b) {
-        (Kind::File, Kind::File) => true,
-        (Kind::Dir, Kind::Dir) => true,
-        (Kind::Link, Kind::Link) => true,
+        (FileType::File, FileType::File) => true,
+        (FileType::Dir, FileType::Dir) => true,
+        (FileType::Link, FileType::Link) => true,
         _ => false,
     }
 }

@@ -16,8 +16,8 @@ use Rattle.rk_folder.specs.declared.hidden_files.Hidden.{Hidden}
 use Rattle.rk_database.specs.Answers.{EitherCounted, FindsDb, Forgets, Holds, IsNoFault, PutSo, PutsNone, ReadsCounted, SaysNone, WritesCounted, db_in}
 use Rattle.rk_database.specs.declared.stop.Said.{Said}
 use Rattle.rk_database.specs.declared.stop.Said.TheVariants as said
-use Rattle.rk_database.specs.declared.stop.Stop.{Stop}
-use Rattle.rk_database.specs.declared.stop.Stop.TheVariants as stop
+use Rattle.rk_database.specs.declared.stop.QueryErr.{QueryErr}
+use Rattle.rk_database.specs.declared.stop.QueryErr.TheVariants as stop
 use Rattle.rk_database.proofs.AnswerLemmas.{IsTextStop}
 
 -- The state files.
@@ -31,7 +31,7 @@ found-db (Some held) it h = (h.0, ap (λ (s : Hidden). s.state.db) h.1)
 
 -- The same of an answer of another type.
 
-pub writes-again : (T U : Type 0) (before now : ℕ) (e : Stop) → WritesCounted {T = T} before now (Err e) → WritesCounted {T = U} before now (Err e)
+pub writes-again : (T U : Type 0) (before now : ℕ) (e : QueryErr) → WritesCounted {T = T} before now (Err e) → WritesCounted {T = U} before now (Err e)
 writes-again T U before now (stop.Special path) h = h
 writes-again T U before now (stop.Damaged damage) h = h
 writes-again T U before now (stop.Forged rec step) h = h
@@ -39,7 +39,7 @@ writes-again T U before now stop.ReadFault h = h
 writes-again T U before now stop.WriteFault h = h
 writes-again T U before now stop.NoMemory h = h
 
-pub reads-again : (T U : Type 0) (before now : ℕ) (e : Stop) → ReadsCounted {T = T} before now (Err e) → ReadsCounted {T = U} before now (Err e)
+pub reads-again : (T U : Type 0) (before now : ℕ) (e : QueryErr) → ReadsCounted {T = T} before now (Err e) → ReadsCounted {T = U} before now (Err e)
 reads-again T U before now (stop.Special path) h = h
 reads-again T U before now (stop.Damaged damage) h = h
 reads-again T U before now (stop.Forged rec step) h = h
@@ -47,7 +47,7 @@ reads-again T U before now stop.ReadFault h = h
 reads-again T U before now stop.WriteFault h = h
 reads-again T U before now stop.NoMemory h = h
 
-pub no-fault-again : (T U : Type 0) (e : Stop) → IsNoFault {T = T} (Err e) → IsNoFault {T = U} (Err e)
+pub no-fault-again : (T U : Type 0) (e : QueryErr) → IsNoFault {T = T} (Err e) → IsNoFault {T = U} (Err e)
 no-fault-again T U (stop.Special path) h = h
 no-fault-again T U (stop.Damaged damage) h = h
 no-fault-again T U (stop.Forged rec step) h = h
@@ -58,7 +58,7 @@ no-fault-again T U stop.NoMemory h = h
 -- What isn't counted.
 
 -- the state files weren't read: nothing was put or removed
-pub unput : (told : Option Held) (n : ℕ) (e : Stop) → FindsDb told (Err e) → WritesCounted {T = Said} n n (Err e)
+pub unput : (told : Option Held) (n : ℕ) (e : QueryErr) → FindsDb told (Err e) → WritesCounted {T = Said} n n (Err e)
 unput told n (stop.Special path) h = refl
 unput told n (stop.Damaged damage) h = absurd h
 unput told n (stop.Forged rec step) h = absurd h
@@ -66,7 +66,7 @@ unput told n stop.ReadFault h = refl
 unput told n stop.WriteFault h = absurd h
 unput told n stop.NoMemory h = refl
 
-pub unsaid : (told : Option Held) (old : Option Text) (e : Stop) → FindsDb told (Err e) → SaysNone told old old (Err e)
+pub unsaid : (told : Option Held) (old : Option Text) (e : QueryErr) → FindsDb told (Err e) → SaysNone told old old (Err e)
 unsaid told old (stop.Special path) h = refl
 unsaid told old (stop.Damaged damage) h = absurd h
 unsaid told old (stop.Forged rec step) h = absurd h
@@ -74,7 +74,7 @@ unsaid told old stop.ReadFault h = refl
 unsaid told old stop.WriteFault h = absurd h
 unsaid told old stop.NoMemory h = inl refl
 
-pub unremoved : (told : Option Held) (m n k : ℕ) (e : Stop) → FindsDb told (Err e) → n ≡ m → EitherCounted {T = Said} m n k k (Err e)
+pub unremoved : (told : Option Held) (m n k : ℕ) (e : QueryErr) → FindsDb told (Err e) → n ≡ m → EitherCounted {T = Said} m n k k (Err e)
 unremoved told m n k (stop.Special path) h same = (same, refl)
 unremoved told m n k (stop.Damaged damage) h same = absurd h
 unremoved told m n k (stop.Forged rec step) h same = absurd h
@@ -83,7 +83,7 @@ unremoved told m n k stop.WriteFault h same = absurd h
 unremoved told m n k stop.NoMemory h same = (same, refl)
 
 -- that there is no database is no read fault
-pub unread : (before now : ℕ) (old new : Option Text) (r : Result Said Stop) → PutsNone old new r → now ≡ before → ReadsCounted before now r
+pub unread : (before now : ℕ) (old new : Option Text) (r : Result Said QueryErr) → PutsNone old new r → now ≡ before → ReadsCounted before now r
 unread before now old new (Ok said.Done) h same = same
 unread before now old new (Ok said.NoTrace) h same = same
 unread before now old new (Err (stop.Special path)) h same = same
@@ -94,7 +94,7 @@ unread before now old new (Err stop.WriteFault) h same = same
 unread before now old new (Err stop.NoMemory) h same = same
 
 -- nor is that a text wasn't put whole
-pub cut-reads : (before now : ℕ) (text : Text) (old new : Option Text) (e : Stop) → PutSo {T = Unit {0}} text old new (Err e) → now ≡ before → ReadsCounted {T = Said} before now (Err e)
+pub cut-reads : (before now : ℕ) (text : Text) (old new : Option Text) (e : QueryErr) → PutSo {T = Unit {0}} text old new (Err e) → now ≡ before → ReadsCounted {T = Said} before now (Err e)
 cut-reads before now text old new (stop.Special path) h same = same
 cut-reads before now text old new (stop.Damaged damage) h same = same
 cut-reads before now text old new (stop.Forged rec step) h same = same
@@ -103,7 +103,7 @@ cut-reads before now text old new stop.WriteFault h same = same
 cut-reads before now text old new stop.NoMemory h same = same
 
 -- and why there is no text is no fault
-pub text-reads : (before now : ℕ) (e : Stop) → IsTextStop e → now ≡ before → ReadsCounted {T = Said} before now (Err e)
+pub text-reads : (before now : ℕ) (e : QueryErr) → IsTextStop e → now ≡ before → ReadsCounted {T = Said} before now (Err e)
 text-reads before now (stop.Special path) h same = same
 text-reads before now (stop.Damaged damage) h same = same
 text-reads before now (stop.Forged rec step) h same = same
@@ -111,7 +111,7 @@ text-reads before now stop.ReadFault h same = absurd h
 text-reads before now stop.WriteFault h same = same
 text-reads before now stop.NoMemory h same = same
 
-pub text-unput : (n : ℕ) (e : Stop) → IsTextStop e → WritesCounted {T = Said} n n (Err e)
+pub text-unput : (n : ℕ) (e : QueryErr) → IsTextStop e → WritesCounted {T = Said} n n (Err e)
 text-unput n (stop.Special path) h = refl
 text-unput n (stop.Damaged damage) h = refl
 text-unput n (stop.Forged rec step) h = refl
@@ -119,7 +119,7 @@ text-unput n stop.ReadFault h = refl
 text-unput n stop.WriteFault h = absurd h
 text-unput n stop.NoMemory h = refl
 
-pub text-no-fault : (e : Stop) → IsTextStop e → IsNoFault {T = Said} (Err e)
+pub text-no-fault : (e : QueryErr) → IsTextStop e → IsNoFault {T = Said} (Err e)
 text-no-fault (stop.Special path) h = tt
 text-no-fault (stop.Damaged damage) h = tt
 text-no-fault (stop.Forged rec step) h = tt
@@ -128,7 +128,7 @@ text-no-fault stop.WriteFault h = absurd h
 text-no-fault stop.NoMemory h = tt
 
 -- a put that failed is all that is counted of it
-pub said-counted : (m n before now : ℕ) (r : Result Said Stop) → n ≡ m → WritesCounted before now r → EitherCounted m n before now r
+pub said-counted : (m n before now : ℕ) (r : Result Said QueryErr) → n ≡ m → WritesCounted before now r → EitherCounted m n before now r
 said-counted m n before now (Ok said.Done) same h = (same, h)
 said-counted m n before now (Ok said.NoTrace) same h = (same, h)
 said-counted m n before now (Err (stop.Special path)) same h = (same, h)

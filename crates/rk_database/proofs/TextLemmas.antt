@@ -8,11 +8,11 @@ use Rattle.rk_show.specs.Traces.{IsCounted}
 use Rattle.tr_codec.specs.Fits.{Fits, FitsRecord}
 use Rattle.tr_record.specs.declared.records.Record.{Record}
 use Rattle.rk_database.specs.Texts.{NoCheck, NoTrace, StartsRecords}
-use Rattle.rk_database.specs.declared.stop.Stop.{Stop}
-use Rattle.rk_database.specs.declared.stop.Stop.TheVariants as stop
+use Rattle.rk_database.specs.declared.stop.QueryErr.{QueryErr}
+use Rattle.rk_database.specs.declared.stop.QueryErr.TheVariants as stop
 use Rattle.rk_database.proofs.AnswerLemmas.{IsTextStop}
 
-pub trace-stop : (db : Text) (e : Stop) → NoTrace db e → IsTextStop e
+pub trace-stop : (db : Text) (e : QueryErr) → NoTrace db e → IsTextStop e
 trace-stop db (stop.Special path) h = h
 trace-stop db (stop.Damaged damage) h = tt
 trace-stop db (stop.Forged rec step) h = tt
@@ -20,7 +20,7 @@ trace-stop db stop.ReadFault h = h
 trace-stop db stop.WriteFault h = h
 trace-stop db stop.NoMemory h = tt
 
-pub check-stop : (first : KeyValue → Says) (db : Text) (e : Stop) → NoCheck first db e → IsTextStop e
+pub check-stop : (first : KeyValue → Says) (db : Text) (e : QueryErr) → NoCheck first db e → IsTextStop e
 check-stop first db (stop.Special path) h = h
 check-stop first db (stop.Damaged damage) h = tt
 check-stop first db (stop.Forged rec step) h = tt
@@ -29,7 +29,7 @@ check-stop first db stop.WriteFault h = h
 check-stop first db stop.NoMemory h = tt
 
 -- a check is refused for what a trace is refused for
-pub trace-check : (first : KeyValue → Says) (db : Text) (e : Stop) → NoTrace db e → NoCheck first db e
+pub trace-check : (first : KeyValue → Says) (db : Text) (e : QueryErr) → NoTrace db e → NoCheck first db e
 trace-check first db (stop.Special path) h = h
 trace-check first db (stop.Damaged damage) h = h
 trace-check first db (stop.Forged rec step) h = absurd h
@@ -38,7 +38,7 @@ trace-check first db stop.WriteFault h = h
 trace-check first db stop.NoMemory h = h
 
 -- and then nothing was started
-pub trace-unstarted : (db : Text) (n : ℕ) (e : Stop) → NoTrace db e → StartsRecords db n n (Err e)
+pub trace-unstarted : (db : Text) (n : ℕ) (e : QueryErr) → NoTrace db e → StartsRecords db n n (Err e)
 trace-unstarted db n (stop.Special path) h = absurd h
 trace-unstarted db n (stop.Damaged damage) h = refl
 trace-unstarted db n (stop.Forged rec step) h = absurd h

@@ -13,8 +13,8 @@ use Rattle.tr_codec.specs.Reads.{IsDamage}
 use Rattle.tr_codec.specs.Spelling.{db_spelling}
 use Rattle.tr_codec.specs.declared.fault.Damage.{Damage}
 use Rattle.tr_record.specs.declared.records.Record.{Record}
-use Rattle.rk_database.specs.declared.stop.Stop.{Stop}
-use Rattle.rk_database.specs.declared.stop.Stop.TheVariants as stop
+use Rattle.rk_database.specs.declared.stop.QueryErr.{QueryErr}
+use Rattle.rk_database.specs.declared.stop.QueryErr.TheVariants as stop
 
 -- a text that the bytes of a database call for
 abbrev pub TextOf : Type 1
@@ -52,7 +52,7 @@ abbrev pub IsForged : (KeyValue → Says) → Text → ℕ → ℕ → Type 0
 IsForged first db rec step = (table : List Record) × (Spells db table × IsFirstWrong first table rec step)
 
 -- each record that was looked at was started once
-abbrev pub StartsRecords : Text → ℕ → ℕ → Result Text Stop → Type 0
+abbrev pub StartsRecords : Text → ℕ → ℕ → Result Text QueryErr → Type 0
 StartsRecords db before now (Ok text) = (table : List Record) × (Spells db table × (now ≡ started (length table) before))
 StartsRecords db before now (Err (stop.Forged rec step)) = now ≡ started (rec + 1) before
 StartsRecords db before now (Err (stop.Damaged damage)) = now ≡ before
@@ -61,13 +61,13 @@ StartsRecords db before now (Err other) = Unit {0}
 -- Why there is no text.
 
 -- a trace is refused only for damage
-abbrev pub NoTrace : Text → Stop → Type 0
+abbrev pub NoTrace : Text → QueryErr → Type 0
 NoTrace db (stop.Damaged damage) = IsDamaged db damage
 NoTrace db stop.NoMemory = Unit {0}
 NoTrace db other = ⊥
 
 -- a check also for the first record that isn't spoken
-abbrev pub NoCheck : (KeyValue → Says) → Text → Stop → Type 0
+abbrev pub NoCheck : (KeyValue → Says) → Text → QueryErr → Type 0
 NoCheck first db (stop.Damaged damage) = IsDamaged db damage
 NoCheck first db (stop.Forged rec step) = IsForged first db rec step
 NoCheck first db stop.NoMemory = Unit {0}

@@ -7,7 +7,7 @@ ghost use Rattle.rk_folder.specs.Schedule.{MakesCalls};
 
 use crate::database::{database, table_of};
 use crate::output::{put, say_none};
-use crate::stop::{Said, Stop};
+use crate::stop::{QueryErr, Said};
 use rk_base::Bytes;
 use rk_calls::Maker;
 use rk_folder::{Folder, Sink};
@@ -16,7 +16,7 @@ use rk_show::records_text;
 use std::alloc::Global;
 
 // How many records a database's bytes spell, where each of them is spoken.
-fn text_of<M: Maker>(alloc: Global, maker: &mut M, db: &[u8]) -> Result<Bytes, Stop>
+fn text_of<M: Maker>(alloc: Global, maker: &mut M, db: &[u8]) -> Result<Bytes, QueryErr>
     ensures checked { IfOk result (λ text. IsChecked M.first db.now text) }
     ensures refused { IfErr result (NoCheck M.first db.now) }
     ensures starts { StartsRecords db.now (M.starts maker.old) (M.starts maker.new) result }
@@ -24,8 +24,8 @@ fn text_of<M: Maker>(alloc: Global, maker: &mut M, db: &[u8]) -> Result<Bytes, S
     let table = table_of(alloc, db)?;
     match check_with(maker, &table) {
         Ok(()) => Ok(records_text(alloc, table.len() as u64)?),
-        Err(CheckErr::Forged { rec, step }) => Err(Stop::Forged { rec, step }),
-        Err(CheckErr::NoMemory) => Err(Stop::NoMemory),
+        Err(CheckErr::Forged { rec, step }) => Err(QueryErr::Forged { rec, step }),
+        Err(CheckErr::NoMemory) => Err(QueryErr::NoMemory),
     }
 }
 
@@ -38,7 +38,7 @@ pub fn check<M: Maker, F: Folder, O: Sink>(
     maker: &mut M,
     folder: &mut F,
     out: &mut O,
-) -> Result<Said, Stop>
+) -> Result<Said, QueryErr>
     ensures shows { Shows (IsChecked M.first) (NoCheck M.first) (F.told folder.old) (O.so_far out.old) (O.so_far out.new) result }
     ensures held { F.told folder.new ≡ F.told folder.old }
     ensures starts { Checks (F.told folder.old) (M.starts maker.old) (M.starts maker.new) result }

@@ -5,7 +5,7 @@ ghost use Rattle.rk_folder.specs.Looks.{all_state_looks, state_listings};
 ghost use Rattle.rk_folder.specs.Schedule.{MakesCalls};
 ghost use Rattle.rk_database.specs.Texts.{NoTrace, Spells};
 
-use crate::stop::Stop;
+use crate::stop::QueryErr;
 use rk_base::Bytes;
 use rk_folder::{Folder, Hidden, ImportErr, State, has_database, state};
 use std::alloc::Global;
@@ -13,7 +13,7 @@ use tr_codec::{CodecErr, read_db};
 use tr_record::Table;
 
 /// The bytes of the database; nothing where it doesn't stand. Only `.rkr` and its state files are looked at.
-pub(crate) fn database<F: Folder>(alloc: Global, folder: &mut F) -> Result<Option<Bytes>, Stop>
+pub(crate) fn database<F: Folder>(alloc: Global, folder: &mut F) -> Result<Option<Bytes>, QueryErr>
     ensures finds { FindsDb (F.told folder.old) result }
     ensures held { F.told folder.new ≡ F.told folder.old }
     ensures reads { ReadsCounted (F.read_faults folder.old) (F.read_faults folder.new) result }
@@ -27,14 +27,14 @@ pub(crate) fn database<F: Folder>(alloc: Global, folder: &mut F) -> Result<Optio
             let State { db, .. } = state;
             Ok(db)
         }
-        Err(ImportErr::Special(path)) => Err(Stop::Special(path)),
-        Err(ImportErr::ReadFault) => Err(Stop::ReadFault),
-        Err(ImportErr::NoMemory) => Err(Stop::NoMemory),
+        Err(ImportErr::Special(path)) => Err(QueryErr::Special(path)),
+        Err(ImportErr::ReadFault) => Err(QueryErr::ReadFault),
+        Err(ImportErr::NoMemory) => Err(QueryErr::NoMemory),
     }
 }
 
 /// Whether the database stands, by the listings of the root and of `.rkr`: no file is read.
-pub(crate) fn database_stands<F: Folder>(alloc: Global, folder: &mut F) -> Result<bool, Stop>
+pub(crate) fn database_stands<F: Folder>(alloc: Global, folder: &mut F) -> Result<bool, QueryErr>
     ensures stands { FindsWhether (F.told folder.old) result }
     ensures held { F.told folder.new ≡ F.told folder.old }
     ensures reads { ReadsCounted (F.read_faults folder.old) (F.read_faults folder.new) result }
@@ -45,20 +45,20 @@ pub(crate) fn database_stands<F: Folder>(alloc: Global, folder: &mut F) -> Resul
 {
     match has_database(alloc, folder) {
         Ok(stands) => Ok(stands),
-        Err(ImportErr::Special(path)) => Err(Stop::Special(path)),
-        Err(ImportErr::ReadFault) => Err(Stop::ReadFault),
-        Err(ImportErr::NoMemory) => Err(Stop::NoMemory),
+        Err(ImportErr::Special(path)) => Err(QueryErr::Special(path)),
+        Err(ImportErr::ReadFault) => Err(QueryErr::ReadFault),
+        Err(ImportErr::NoMemory) => Err(QueryErr::NoMemory),
     }
 }
 
 /// The records that a database's bytes spell.
-pub(crate) fn table_of(alloc: Global, db: &[u8]) -> Result<Table, Stop>
+pub(crate) fn table_of(alloc: Global, db: &[u8]) -> Result<Table, QueryErr>
     ensures spelt { IfOk result (λ table. Spells db.now table) }
     ensures refused { IfErr result (NoTrace db.now) }
 {
     match read_db(alloc, db) {
         Ok(table) => Ok(table),
-        Err(CodecErr::Damaged(damage)) => Err(Stop::Damaged(damage)),
-        Err(CodecErr::NoMemory) => Err(Stop::NoMemory),
+        Err(CodecErr::Damaged(damage)) => Err(QueryErr::Damaged(damage)),
+        Err(CodecErr::NoMemory) => Err(QueryErr::NoMemory),
     }
 }

@@ -7,13 +7,17 @@ ghost use Rattle.rk_database.specs.Answers.{EitherCounted, Forgets, IsNoFault, R
 
 use crate::database::database_stands;
 use crate::output::say_none;
-use crate::stop::{Said, Stop};
+use crate::stop::{QueryErr, Said};
 use rk_folder::{Folder, FolderErr, Sink, db_file};
 use std::alloc::Global;
 
 /// Removes the folder's database, and leaves all else; or puts `no trace` on the output where there is no database. No file is
 /// read: the root and `.rkr` are listed, and the database is removed.
-pub fn forget<F: Folder, O: Sink>(alloc: Global, folder: &mut F, out: &mut O) -> Result<Said, Stop>
+pub fn forget<F: Folder, O: Sink>(
+    alloc: Global,
+    folder: &mut F,
+    out: &mut O,
+) -> Result<Said, QueryErr>
     ensures folder { Forgets (F.told folder.old) (F.told folder.new) result }
     ensures output { SaysNone (F.told folder.old) (O.so_far out.old) (O.so_far out.new) result }
     ensures reads { ReadsCounted (F.read_faults folder.old) (F.read_faults folder.new) result }
@@ -28,7 +32,7 @@ pub fn forget<F: Folder, O: Sink>(alloc: Global, folder: &mut F, out: &mut O) ->
     let file = db_file(alloc)?;
     match folder.remove_file(alloc, &file) {
         Ok(()) => Ok(Said::Done),
-        Err(FolderErr::Failed) => Err(Stop::WriteFault),
-        Err(FolderErr::NoMemory) => Err(Stop::NoMemory),
+        Err(FolderErr::Failed) => Err(QueryErr::WriteFault),
+        Err(FolderErr::NoMemory) => Err(QueryErr::NoMemory),
     }
 }

@@ -12,4 +12,4 @@ mod stop;
 pub use checking::check;
 pub use forgetting::forget;
 pub use showing::trace;
-pub use stop::{Said, Stop};
+pub use stop::{QueryErr, Said};

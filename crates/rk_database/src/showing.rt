@@ -9,7 +9,7 @@ ghost use Rattle.rk_folder.specs.Schedule.{MakesCalls};
 
 use crate::database::{database, table_of};
 use crate::output::{put, say_none};
-use crate::stop::{Said, Stop};
+use crate::stop::{QueryErr, Said};
 use rk_base::{Bytes, NoMemory};
 use rk_folder::{Folder, Sink};
 use rk_show::{trace_json, trace_text};
@@ -29,7 +29,7 @@ fn shown(alloc: Global, table: &Table, db: &[u8], json: bool) -> Result<Bytes, N
 }
 
 // The text that shows the records which a database's bytes spell.
-fn text_of(alloc: Global, db: &[u8], json: bool) -> Result<Bytes, Stop>
+fn text_of(alloc: Global, db: &[u8], json: bool) -> Result<Bytes, QueryErr>
     ensures shown { IfOk result (λ text. IsTrace json db.now text) }
     ensures refused { IfErr result (NoTrace db.now) }
 {
@@ -46,7 +46,7 @@ pub fn trace<F: Folder, O: Sink>(
     folder: &mut F,
     out: &mut O,
     json: bool,
-) -> Result<Said, Stop>
+) -> Result<Said, QueryErr>
     ensures shows { Shows (IsTrace json) NoTrace (F.told folder.old) (O.so_far out.old) (O.so_far out.new) result }
     ensures held { F.told folder.new ≡ F.told folder.old }
     ensures reads { ReadsCounted (F.read_faults folder.old) (F.read_faults folder.new) result }

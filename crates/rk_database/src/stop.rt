@@ -1,6 +1,6 @@
 // How the work ends.
 ghost use Rattle.std.specs.Prelude.{◌≡◌};
-ghost use Rattle.rk_database.specs.declared.stop.Stop.TheVariants as stop;
+ghost use Rattle.rk_database.specs.declared.stop.QueryErr.TheVariants as stop;
 
 use rk_base::{NoMemory, Path};
 use tr_codec::Damage;
@@ -16,7 +16,7 @@ pub enum Said {
 
 /// Why the work stopped before its end.
 #[derive(Debug, Drop)]
-pub enum Stop {
+pub enum QueryErr {
     /// At this path, `.rkr` or a state file in it, stands what is out of its place.
     Special(Path),
     /// The database is damaged.
@@ -31,10 +31,10 @@ pub enum Stop {
     NoMemory,
 }
 
-impl From<NoMemory> for Stop {
+impl From<NoMemory> for QueryErr {
     ghost from_gives = { λ _ e. e ≡ stop.NoMemory };
 
-    fn from(_: NoMemory) -> Stop {
-        Stop::NoMemory
+    fn from(_: NoMemory) -> QueryErr {
+        QueryErr::NoMemory
     }
 }

@@ -4,7 +4,7 @@ use Rattle.rk_base.specs.Text.{Text}
 use Rattle.rk_base.specs.Canonical.{is_empty}
 use Rattle.rk_base.specs.declared.errno.Errno.{Errno}
 use Rattle.rk_base.specs.declared.errno.Errno.TheVariants.{NoEntry, NotDir, Denied, Invalid}
-use Rattle.rk_base.specs.declared.kind.Kind.TheVariants as kind
+use Rattle.rk_base.specs.declared.file_type.FileType.TheVariants as kind
 use Rattle.rk_calls.specs.declared.answer.Answer.{Answer}
 use Rattle.rk_calls.specs.declared.answer.Answer.TheVariants as answer
 use Rattle.rk_calls.specs.Given.{Given}

@@ -4,8 +4,8 @@ use Rattle.std.specs.Cmp.Lexicographic.{bytes_decides, pointwise_decides}
 use Rattle.std.proofs.lemmas.Bool.{eqb-true}
 use Rattle.rk_base.specs.declared.errno.Errno.{Errno}
 use Rattle.rk_base.specs.declared.errno.Errno.TheVariants.{NoEntry, NotDir, IsDir, Exists, Denied, Loops, NotEmpty, BadRef, Invalid}
-use Rattle.rk_base.specs.declared.kind.Kind.{Kind}
-use Rattle.rk_base.specs.declared.kind.Kind.TheVariants.{File, Dir, Link}
+use Rattle.rk_base.specs.declared.file_type.FileType.{FileType}
+use Rattle.rk_base.specs.declared.file_type.FileType.TheVariants.{File, Dir, Link}
 use Rattle.rk_calls.specs.declared.answer.Answer.{Answer}
 use Rattle.rk_calls.specs.declared.answer.Answer.TheVariants.{Go, Done, Opened, Piped, Content, Stat, Names, Text, Place, Same, Joined, No}
 use Rattle.tr_record.specs.declared.steps.Step.{Step}
@@ -51,13 +51,13 @@ flag-itself : (a : Bool) → same_flag a a ≡ true
 flag-itself true = refl
 flag-itself false = refl
 
-same-kind : (a b : Kind) → same_kind a b ≡ true → a ≡ b
+same-kind : (a b : FileType) → same_kind a b ≡ true → a ≡ b
 same-kind File File e = refl
 same-kind Dir Dir e = refl
 same-kind Link Link e = refl
 same-kind a b e = cc
 
-kind-itself : (a : Kind) → same_kind a a ≡ true
+kind-itself : (a : FileType) → same_kind a a ≡ true
 kind-itself File = refl
 kind-itself Dir = refl
 kind-itself Link = refl
@@ -66,7 +66,7 @@ both : (a b : Bool) → (a && b) ≡ true → (a ≡ true) × (b ≡ true)
 both true b h = (refl, h)
 both false b h = cc
 
-same-stat : (k l : Kind) (m n : ℕ) (a b : Bool) → (same_kind k l && (eqb m n && same_flag a b)) ≡ true → Stat k m a ≡ Stat l n b
+same-stat : (k l : FileType) (m n : ℕ) (a b : Bool) → (same_kind k l && (eqb m n && same_flag a b)) ≡ true → Stat k m a ≡ Stat l n b
 same-stat k l m n a b h =
     let x = both (same_kind k l) (eqb m n && same_flag a b) h in
     let y = both (eqb m n) (same_flag a b) x.1 in
@@ -75,7 +75,7 @@ same-stat k l m n a b h =
     let ea = same-flag a b y.1 in
     ap (λ k. Stat k m a) ek ∙ ap (λ m. Stat l m a) em ∙ ap (Stat l n) ea
 
-stat-itself : (k : Kind) (m : ℕ) (a : Bool) → (same_kind k k && (eqb m m && same_flag a a)) ≡ true
+stat-itself : (k : FileType) (m : ℕ) (a : Bool) → (same_kind k k && (eqb m m && same_flag a a)) ≡ true
 stat-itself k m a = rw (kind-itself k, eqb-itself m) (flag-itself a)
 
 pub same-answer : (a b : Answer) → same_answer a b ≡ true → a ≡ b

@@ -16,8 +16,8 @@ use Rattle.rk_runs.specs.Started.{started, StartsSome, StartsEach}
 use Rattle.rk_runs.specs.declared.check.CheckErr.{CheckErr}
 use Rattle.rk_runs.specs.declared.check.CheckErr.TheVariants as check
 use Rattle.rk_replay.specs.declared.ran.Cause.{Cause}
-use Rattle.rk_replay.specs.declared.stop.Stop.{Stop}
-use Rattle.rk_replay.specs.declared.stop.Stop.TheVariants.{Spent, Forged, Stopped}
+use Rattle.rk_replay.specs.declared.stop.ReplayErr.{ReplayErr}
+use Rattle.rk_replay.specs.declared.stop.ReplayErr.TheVariants.{Spent, Forged, Stopped}
 use Rattle.rk_replay.specs.Ran.{cause_of}
 use Rattle.rk_replay.specs.Starts.{StartsFor, StartsRan, StartsUpTo, StartsStopped}
 use Rattle.rk_replay.specs.Stops.{Stops, IsWant, IsHandedOn}
@@ -57,34 +57,34 @@ module _ (old : List Record) (paid n before then now : ℕ) (few : n ≤ paid + 
   upto looked most h e = record { looked = looked; within = h; starts = ran looked e }
 
   -- the world stopped, or a record was given up
-  pub stopped-asked : {S : Type 0} (first : KeyValue → Says) (stopped : S → Type 0) (stop : Stop S) → Stops first old ⊥ stopped stop → StartsFor old then now → StartsStopped old paid before now stop
+  pub stopped-asked : {S : Type 0} (first : KeyValue → Says) (stopped : S → Type 0) (stop : ReplayErr S) → Stops first old ⊥ stopped stop → StartsFor old then now → StartsStopped old paid before now stop
   stopped-asked first stopped Spent h s = absurd h.1
   stopped-asked first stopped (Forged rec step) h s = upto s.many (rec + 1) (let one : s.many ≤ 1 = s.one in omega arith) s.now_is
   stopped-asked first stopped (Stopped reason) h s = upto s.many (length old) s.of_old s.now_is
 
   module _ {S : Type 0} (gives : NoMemory → S → Type 0) where
-    wanted : (stop : Stop S) → IsWant gives stop → (looked : ℕ) → looked ≤ length old → now ≡ started looked then → StartsStopped old paid before now stop
+    wanted : (stop : ReplayErr S) → IsWant gives stop → (looked : ℕ) → looked ≤ length old → now ≡ started looked then → StartsStopped old paid before now stop
     wanted Spent w looked h e = absurd w
     wanted (Forged rec step) w looked h e = absurd w
     wanted (Stopped reason) w looked h e = upto looked (length old) h e
 
     -- there was no memory
-    pub stopped-want : (stop : Stop S) → IsWant gives stop → now ≡ then → StartsStopped old paid before now stop
+    pub stopped-want : (stop : ReplayErr S) → IsWant gives stop → now ≡ then → StartsStopped old paid before now stop
     stopped-want stop w e = wanted stop w 0 (omega arith) e
 
     -- a record was given up, or there was no memory
-    pub stopped-handed : (e : CheckErr) (stop : Stop S) → IsHandedOn gives e stop → StartsFor old then now → StartsStopped old paid before now stop
+    pub stopped-handed : (e : CheckErr) (stop : ReplayErr S) → IsHandedOn gives e stop → StartsFor old then now → StartsStopped old paid before now stop
     stopped-handed (check.Forged rec step) stop h s =
         subst (StartsStopped old paid before now) (sym h) (upto s.many (rec + 1) (let one : s.many ≤ 1 = s.one in omega arith) s.now_is)
     stopped-handed check.NoMemory stop h s = wanted stop h s.many s.of_old s.now_is
 
     -- each record was looked at, or those up to one that is forged
-    pub stopped-checked : (e : CheckErr) (stop : Stop S) → IsHandedOn gives e stop → StartsEach {T = Unit {0}} (length old) then now (Err e) → StartsStopped old paid before now stop
+    pub stopped-checked : (e : CheckErr) (stop : ReplayErr S) → IsHandedOn gives e stop → StartsEach {T = Unit {0}} (length old) then now (Err e) → StartsStopped old paid before now stop
     stopped-checked (check.Forged rec step) stop h s = subst (StartsStopped old paid before now) (sym h) (upto (rec + 1) (rec + 1) (omega arith) s)
     stopped-checked check.NoMemory stop h s = wanted stop h s.many s.few s.now_is
 
 -- a command was launched, or there was no memory for it
-pub stopped-launch : {S : Type 0} (gives : NoMemory → S → Type 0) (old : List Record) (paid n before then now : ℕ) (stop : Stop S) → n ≤ paid → then ≡ started n before → StartsSome 1 then now → IsWant gives stop → StartsStopped old paid before now stop
+pub stopped-launch : {S : Type 0} (gives : NoMemory → S → Type 0) (old : List Record) (paid n before then now : ℕ) (stop : ReplayErr S) → n ≤ paid → then ≡ started n before → StartsSome 1 then now → IsWant gives stop → StartsStopped old paid before now stop
 stopped-launch gives old paid n before then now stop few was s w =
     let one : s.many ≤ 1 = s.few in
     let e : now ≡ started (s.many + n) before = s.now_is ∙ ap (started s.many) was ∙ sym (started-adds s.many n before) in

@@ -7,8 +7,8 @@ use Rattle.tr_record.specs.declared.records.Record.{Record}
 use Rattle.rk_runs.specs.Checked.{IsTold}
 use Rattle.rk_runs.specs.declared.check.CheckErr.{CheckErr}
 use Rattle.rk_runs.specs.declared.check.CheckErr.TheVariants as check
-use Rattle.rk_replay.specs.declared.stop.Stop.{Stop}
-use Rattle.rk_replay.specs.declared.stop.Stop.TheVariants.{Spent, Forged, Stopped}
+use Rattle.rk_replay.specs.declared.stop.ReplayErr.{ReplayErr}
+use Rattle.rk_replay.specs.declared.stop.ReplayErr.TheVariants.{Spent, Forged, Stopped}
 use Rattle.rk_replay.specs.Stops.{Stops, IsForged, IsWant, IsHandedOn}
 
 -- what is told of a table is a wrong step of a record
@@ -19,17 +19,17 @@ told-forged first old check.NoMemory h = tt
 module _ {S : Type 0} (first : KeyValue → Says) (old : List Record) (spent : Type 0) (stopped : S → Type 0) where
   -- where want of memory may stop it
   module _ (gives : NoMemory → S → Type 0) (memory : (want : NoMemory) (reason : S) → gives want reason → stopped reason) where
-    pub stops-want : (stop : Stop S) → IsWant gives stop → Stops first old spent stopped stop
+    pub stops-want : (stop : ReplayErr S) → IsWant gives stop → Stops first old spent stopped stop
     stops-want Spent h = absurd h
     stops-want (Forged rec step) h = absurd h
     stops-want (Stopped reason) h = memory h.0 reason h.1
 
-    pub stops-forged : (e : CheckErr) (stop : Stop S) → IsForged first old e → IsHandedOn gives e stop → Stops first old spent stopped stop
+    pub stops-forged : (e : CheckErr) (stop : ReplayErr S) → IsForged first old e → IsHandedOn gives e stop → Stops first old spent stopped stop
     stops-forged (check.Forged rec step) stop h e = subst (Stops first old spent stopped) (sym e) h
     stops-forged check.NoMemory stop h e = stops-want stop e
 
   -- it isn't spent, and what holds of a reason holds still
-  pub stops-since : (before : S → Type 0) → ((reason : S) → before reason → stopped reason) → (stop : Stop S) → Stops first old ⊥ before stop → Stops first old spent stopped stop
+  pub stops-since : (before : S → Type 0) → ((reason : S) → before reason → stopped reason) → (stop : ReplayErr S) → Stops first old ⊥ before stop → Stops first old spent stopped stop
   stops-since before since Spent h = absurd h.1
   stops-since before since (Forged rec step) h = h
   stops-since before since (Stopped reason) h = since reason h

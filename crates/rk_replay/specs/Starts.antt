@@ -2,8 +2,8 @@
 use Rattle.std.specs.Prelude.{◌≡◌, ◌≤◌, ◌+◌, ℕ, List, length}
 use Rattle.tr_record.specs.declared.records.Record.{Record}
 use Rattle.rk_runs.specs.Started.{started}
-use Rattle.rk_replay.specs.declared.stop.Stop.{Stop}
-use Rattle.rk_replay.specs.declared.stop.Stop.TheVariants.{Spent, Forged, Stopped}
+use Rattle.rk_replay.specs.declared.stop.ReplayErr.{ReplayErr}
+use Rattle.rk_replay.specs.declared.stop.ReplayErr.TheVariants.{Spent, Forged, Stopped}
 
 -- one machine for a record of a table, or none
 pub record StartsFor (old : List Record) (before now : ℕ) : Type 0 where
@@ -26,7 +26,7 @@ pub record StartsUpTo (paid most before now : ℕ) : Type 0 where
   pub starts : StartsRan paid looked before now
 
 -- Where the budget is spent, each record of the old table was looked at; where one is forged, those up to it at most.
-abbrev pub StartsStopped : {S : Type 0} → List Record → ℕ → ℕ → ℕ → Stop S → Type 0
+abbrev pub StartsStopped : {S : Type 0} → List Record → ℕ → ℕ → ℕ → ReplayErr S → Type 0
 StartsStopped old paid before now Spent = StartsRan paid (length old) before now
 StartsStopped old paid before now (Forged rec step) = StartsUpTo paid (rec + 1) before now
 StartsStopped old paid before now (Stopped reason) = StartsUpTo paid (length old) before now

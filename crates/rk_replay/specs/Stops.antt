@@ -8,12 +8,12 @@ use Rattle.tr_record.specs.Rec.{rec_at}
 use Rattle.rk_runs.specs.Spoken.{AreSpoken, IsWrongStep}
 use Rattle.rk_runs.specs.declared.check.CheckErr.{CheckErr}
 use Rattle.rk_runs.specs.declared.check.CheckErr.TheVariants as check
-use Rattle.rk_replay.specs.declared.stop.Stop.{Stop}
-use Rattle.rk_replay.specs.declared.stop.Stop.TheVariants.{Spent, Forged, Stopped}
+use Rattle.rk_replay.specs.declared.stop.ReplayErr.{ReplayErr}
+use Rattle.rk_replay.specs.declared.stop.ReplayErr.TheVariants.{Spent, Forged, Stopped}
 
 -- The told step of the told record is wrong; where the budget is spent the table is spoken, and this holds of
 -- the fresh run; and this holds of the reason for which the world stopped.
-abbrev pub Stops : {S : Type 0} → (KeyValue → Says) → List Record → Type 0 → (S → Type 0) → Stop S → Type 0
+abbrev pub Stops : {S : Type 0} → (KeyValue → Says) → List Record → Type 0 → (S → Type 0) → ReplayErr S → Type 0
 Stops first old spent stopped (Forged rec step) = (rec < length old) × IsWrongStep first (rec_at rec old) step
 Stops first old spent stopped Spent = AreSpoken first old × spent
 Stops first old spent stopped (Stopped reason) = stopped reason
@@ -24,11 +24,11 @@ IsForged first old (check.Forged rec step) = (rec < length old) × IsWrongStep f
 IsForged first old check.NoMemory = Unit {0}
 
 -- want of memory, as a reason of the world's
-abbrev pub IsWant : {S : Type 0} → (NoMemory → S → Type 0) → Stop S → Type 0
+abbrev pub IsWant : {S : Type 0} → (NoMemory → S → Type 0) → ReplayErr S → Type 0
 IsWant gives (Stopped reason) = (want : NoMemory) × gives want reason
 IsWant gives stop = ⊥
 
 -- what a check tells, as a reason why a build stops
-abbrev pub IsHandedOn : {S : Type 0} → (NoMemory → S → Type 0) → CheckErr → Stop S → Type 0
+abbrev pub IsHandedOn : {S : Type 0} → (NoMemory → S → Type 0) → CheckErr → ReplayErr S → Type 0
 IsHandedOn gives (check.Forged rec step) stop = stop ≡ Forged rec step
 IsHandedOn gives check.NoMemory stop = IsWant gives stop

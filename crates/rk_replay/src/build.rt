@@ -14,7 +14,7 @@ ghost use Rattle.rk_replay.specs.Stops.{Stops};
 use crate::activity::{Activity, begin, exit_counted};
 use crate::hearing::hear;
 use crate::ran::{RanList, ran_of};
-use crate::stop::Stop;
+use crate::stop::ReplayErr;
 use crate::turns::{answer_call, launch_below, resume};
 use rk_base::{Budget, NoMemory, Steps};
 use rk_calls::{Answer, Answerer, Call, Key, Machine, Maker, Refs, Spoke};
@@ -45,7 +45,7 @@ pub fn build_with<K: Maker, W: Answerer, L: Ledger>(
     old: &Table,
     budget: &mut Budget,
     live: &mut Steps<L>,
-) -> Result<Built, Stop<W::Stop>>
+) -> Result<Built, ReplayErr<W::Stop>>
     // Where the world tells what it means, it ends as the run in which nothing is recorded yet, and leaves the same
     // records. What didn't run is the old table's.
     ensures done { IfOk result (λ b. IfSome (W.told world.old) (λ before. IsSomeAnd (W.told world.new) (λ now. AreSpoken K.first old.now → fresh (game K.first W.given) (left budget.old) key.now top_refs before ≡ Done now b.status (left budget.new) b.table))) }
@@ -107,7 +107,7 @@ pub fn build_with<K: Maker, W: Answerer, L: Ledger>(
             }
             Spoke::Short => {
                 check_with(maker, old)?;
-                return Err(Stop::Spent);
+                return Err(ReplayErr::Spent);
             }
         }
     }

@@ -15,4 +15,4 @@ pub use build::{Built, build_with};
 pub use paying::paid;
 pub use ran::{Cause, Ran, RanList};
 pub use script::script_key;
-pub use stop::Stop;
+pub use stop::ReplayErr;

@@ -6,7 +6,7 @@ use rk_runs::CheckErr;
 
 /// Why a build over an old table doesn't end.
 #[derive(Debug, Drop)]
-pub enum Stop<S> {
+pub enum ReplayErr<S> {
     /// The budget was spent.
     Spent,
     /// The record of this number isn't what its command says; the step's number counts from 1 on, and one past
@@ -16,21 +16,21 @@ pub enum Stop<S> {
     Stopped(S),
 }
 
-impl<S: From<NoMemory>> From<NoMemory> for Stop<S> {
+impl<S: From<NoMemory>> From<NoMemory> for ReplayErr<S> {
     ghost from_gives = { λ _ stop. IsWant S.from_gives stop };
 
-    fn from(want: NoMemory) -> Stop<S> {
-        Stop::Stopped(S::from(want))
+    fn from(want: NoMemory) -> ReplayErr<S> {
+        ReplayErr::Stopped(S::from(want))
     }
 }
 
-impl<S: From<NoMemory>> From<CheckErr> for Stop<S> {
+impl<S: From<NoMemory>> From<CheckErr> for ReplayErr<S> {
     ghost from_gives = { λ told stop. IsHandedOn S.from_gives told stop };
 
-    fn from(told: CheckErr) -> Stop<S> {
+    fn from(told: CheckErr) -> ReplayErr<S> {
         match told {
-            CheckErr::Forged { rec, step } => Stop::Forged { rec, step },
-            CheckErr::NoMemory => Stop::Stopped(S::from(NoMemory)),
+            CheckErr::Forged { rec, step } => ReplayErr::Forged { rec, step },
+            CheckErr::NoMemory => ReplayErr::Stopped(S::from(NoMemory)),
         }
     }
 }

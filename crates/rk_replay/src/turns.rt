@@ -13,7 +13,7 @@ ghost use Rattle.rk_replay.specs.Starts.{StartsFor};
 ghost use Rattle.rk_replay.specs.Stops.{Stops, IsForged};
 
 use crate::activity::{Activity, begin, settle};
-use crate::stop::Stop;
+use crate::stop::ReplayErr;
 use rk_base::{NoMemory, Steps};
 use rk_calls::{Answer, Answerer, Call, Key, Machine, Maker, RefMap};
 use rk_runs::{Active, CheckErr, Frame, ask, join};
@@ -63,7 +63,7 @@ pub(crate) fn answer_call<K: Maker, W: Answerer, L: Ledger>(
     cost: u32,
     old: &Table,
     live: &mut Steps<L>,
-) -> Result<Answer, Stop<W::Stop>>
+) -> Result<Answer, ReplayErr<W::Stop>>
     requires waiting { IsWaiting old.now top.old.machine }
     requires here { top.old.place < length table.old }
     ensures place { IfOk result (λ _. top.new.place ≡ top.old.place) }
@@ -80,7 +80,7 @@ pub(crate) fn answer_call<K: Maker, W: Answerer, L: Ledger>(
 {
     let answer = match ask(world, table, top.place, &mut top.refs, call, cost) {
         Ok(answer) => answer,
-        Err(reason) => return Err(Stop::Stopped(reason)),
+        Err(reason) => return Err(ReplayErr::Stopped(reason)),
     };
     settle(
         maker,

@@ -1,6 +1,6 @@
 // Records as text: what a command asks, what it is answered, and how it ends.
 use crate::numbers::{number, status, turns};
-use rk_base::{Bytes, Errno, Kind, Name, NameList, NoMemory, Path, VarList, WordList};
+use rk_base::{Bytes, Errno, FileType, Name, NameList, NoMemory, Path, VarList, WordList};
 use rk_calls::{Answer, Call, How, Key};
 use std::alloc::Global;
 use tr_codec::write_db;
@@ -79,7 +79,7 @@ fn refusal(text: &str) -> Errno {
     }
 }
 
-fn stat(kind: Kind, mode: u16, empty: bool) -> Answer {
+fn stat(kind: FileType, mode: u16, empty: bool) -> Answer {
     Answer::Stat { kind, mode, empty }
 }
 
@@ -122,10 +122,10 @@ pub(crate) fn answer_of(alloc: Global, text: &str) -> Result<Answer, NoMemory> {
         "done" => Ok(Answer::Done),
         "opened" => Ok(Answer::Opened),
         "content" => Ok(Answer::Content(bytes(alloc, rest)?)),
-        "file" => Ok(stat(Kind::File, mode(rest), false)),
-        "empty" => Ok(stat(Kind::File, mode(rest), true)),
-        "directory" => Ok(stat(Kind::Dir, mode(rest), false)),
-        "link" => Ok(stat(Kind::Link, mode(rest), false)),
+        "file" => Ok(stat(FileType::File, mode(rest), false)),
+        "empty" => Ok(stat(FileType::File, mode(rest), true)),
+        "directory" => Ok(stat(FileType::Dir, mode(rest), false)),
+        "link" => Ok(stat(FileType::Link, mode(rest), false)),
         "names" => names(alloc, rest),
         "text" => Ok(Answer::Text(bytes(alloc, rest)?)),
         "place" => Ok(Answer::Place(path(alloc, rest)?)),

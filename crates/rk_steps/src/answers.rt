@@ -1,24 +1,24 @@
 // Answers as words.
 use crate::calls::{bytes, numbered, one};
 use crate::{behind, mode, name_list, names_shown, path_of, plain, shown, text, word};
-use rk_base::{Errno, Kind, NoMemory, Path};
+use rk_base::{Errno, FileType, NoMemory, Path};
 use rk_calls::Answer;
 use std::alloc::Global;
 
 /// A kind as a word.
-pub fn kind_shown(kind: Kind) -> &'static str {
+pub fn kind_shown(kind: FileType) -> &'static str {
     match kind {
-        Kind::File => "file",
-        Kind::Dir => "dir",
-        Kind::Link => "link",
+        FileType::File => "file",
+        FileType::Dir => "dir",
+        FileType::Link => "link",
     }
 }
 
-fn kind_of(word: &str) -> Kind {
+fn kind_of(word: &str) -> FileType {
     match word {
-        "dir" => Kind::Dir,
-        "link" => Kind::Link,
-        _ => Kind::File,
+        "dir" => FileType::Dir,
+        "link" => FileType::Link,
+        _ => FileType::File,
     }
 }
 
@@ -82,7 +82,7 @@ pub fn answer_of(alloc: Global, words: &[Vec<u8>]) -> Result<Option<Answer>, NoM
     })
 }
 
-fn stat_shown(alloc: Global, kind: Kind, mode: u16, empty: bool) -> Result<String, NoMemory> {
+fn stat_shown(alloc: Global, kind: FileType, mode: u16, empty: bool) -> Result<String, NoMemory> {
     let kind = kind_shown(kind);
     let empty = if empty { "empty" } else { "full" };
     let text = format!(in alloc; "stat {kind} {mode:o} {empty}")?;

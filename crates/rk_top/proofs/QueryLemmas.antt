@@ -7,8 +7,8 @@ use Rattle.rk_database.specs.Answers.{EitherCounted, Forgets, IsNoFault as IsNoS
 use Rattle.rk_database.specs.Texts.{IsChecked, IsTrace, NoCheck, NoTrace, TextOf}
 use Rattle.rk_database.specs.declared.stop.Said.{Said}
 use Rattle.rk_database.specs.declared.stop.Said.TheVariants as said
-use Rattle.rk_database.specs.declared.stop.Stop.{Stop}
-use Rattle.rk_database.specs.declared.stop.Stop.TheVariants as stop
+use Rattle.rk_database.specs.declared.stop.QueryErr.{QueryErr}
+use Rattle.rk_database.specs.declared.stop.QueryErr.TheVariants as stop
 use Rattle.rk_folder.specs.Told.{Held}
 use Rattle.rk_request.specs.declared.requests.Request.{Request}
 use Rattle.rk_request.specs.declared.requests.Request.TheVariants as request
@@ -20,7 +20,7 @@ use Rattle.rk_build.specs.declared.outcome.Outcome.TheVariants as out
 use Rattle.rk_build.proofs.BuildLemmas.{counts-same}
 use Rattle.rk_build.proofs.TellLemmas.{as_told}
 
-pub query-no-fault : (answer : Result Said Stop) → IsNoStop answer → IsNoFault (outcome_of_answer answer)
+pub query-no-fault : (answer : Result Said QueryErr) → IsNoStop answer → IsNoFault (outcome_of_answer answer)
 query-no-fault (Ok said.Done) h = tt
 query-no-fault (Ok said.NoTrace) h = tt
 query-no-fault (Err (stop.Special path)) h = tt
@@ -31,7 +31,7 @@ query-no-fault (Err stop.WriteFault) h = absurd h
 query-no-fault (Err stop.NoMemory) h = tt
 
 -- the counts of faults of a check or a trace
-pub shown-counted : (b n : Counts) (answer : Result Said Stop) → ReadsCounted b.reads n.reads answer → n.writes ≡ b.writes → WritesCounted b.puts n.puts answer → n.error_puts ≡ b.error_puts → Counted b n (outcome_of_answer answer)
+pub shown-counted : (b n : Counts) (answer : Result Said QueryErr) → ReadsCounted b.reads n.reads answer → n.writes ≡ b.writes → WritesCounted b.puts n.puts answer → n.error_puts ≡ b.error_puts → Counted b n (outcome_of_answer answer)
 shown-counted b n (Ok said.Done) r w p x = counts-same b n r w p x
 shown-counted b n (Ok said.NoTrace) r w p x = counts-same b n r w p x
 shown-counted b n (Err (stop.Special path)) r w p x = counts-same b n r w p x
@@ -42,7 +42,7 @@ shown-counted b n (Err stop.WriteFault) r w p x = (r, inr (inl p.1))
 shown-counted b n (Err stop.NoMemory) r w p x = counts-same b n r w p x
 
 -- and of a removal
-pub forgotten-counted : (b n : Counts) (answer : Result Said Stop) → ReadsCounted b.reads n.reads answer → EitherCounted b.writes n.writes b.puts n.puts answer → n.error_puts ≡ b.error_puts → Counted b n (outcome_of_answer answer)
+pub forgotten-counted : (b n : Counts) (answer : Result Said QueryErr) → ReadsCounted b.reads n.reads answer → EitherCounted b.writes n.writes b.puts n.puts answer → n.error_puts ≡ b.error_puts → Counted b n (outcome_of_answer answer)
 forgotten-counted b n (Ok said.Done) r w x = counts-same b n r w.0 w.1 x
 forgotten-counted b n (Ok said.NoTrace) r w x = counts-same b n r w.0 w.1 x
 forgotten-counted b n (Err (stop.Special path)) r w x = counts-same b n r w.0 w.1 x
@@ -52,7 +52,7 @@ forgotten-counted b n (Err stop.ReadFault) r w x = (r, w.0, w.1, x)
 forgotten-counted b n (Err stop.WriteFault) r w x = (r, elim w.2 [ inl writes ↦ inl writes | inr puts ↦ inr (inl puts) ])
 forgotten-counted b n (Err stop.NoMemory) r w x = counts-same b n r w.0 w.1 x
 
-pub asked-not-usage : (answer : Result Said Stop) → outcome_of_answer answer ≡ out.Usage → ⊥
+pub asked-not-usage : (answer : Result Said QueryErr) → outcome_of_answer answer ≡ out.Usage → ⊥
 asked-not-usage (Ok said.Done) same = cc
 asked-not-usage (Ok said.NoTrace) same = cc
 asked-not-usage (Err (stop.Special path)) same = cc
@@ -65,7 +65,7 @@ asked-not-usage (Err stop.NoMemory) same = cc
 -- There was no memory for the line that names something.
 
 -- what named something leaves the output as it was
-shown-named : (Of : TextOf) (R : Text → Stop → Type 0) (told : Option Held) (old new : Option Text) (answer : Result Said Stop) → IsNamed (outcome_of_answer answer) → Shows Of R told old new answer → Shows Of R told old new (Err stop.NoMemory)
+shown-named : (Of : TextOf) (R : Text → QueryErr → Type 0) (told : Option Held) (old new : Option Text) (answer : Result Said QueryErr) → IsNamed (outcome_of_answer answer) → Shows Of R told old new answer → Shows Of R told old new (Err stop.NoMemory)
 shown-named Of R told old new (Ok said.Done) named h = absurd named
 shown-named Of R told old new (Ok said.NoTrace) named h = absurd named
 shown-named Of R told old new (Err (stop.Special path)) named h = inl h.1
@@ -75,7 +75,7 @@ shown-named Of R told old new (Err stop.ReadFault) named h = absurd named
 shown-named Of R told old new (Err stop.WriteFault) named h = absurd named
 shown-named Of R told old new (Err stop.NoMemory) named h = h
 
-forgotten-named : (told now : Option Held) (old new : Option Text) (answer : Result Said Stop) → IsNamed (outcome_of_answer answer) → Forgets told now answer × SaysNone told old new answer → Forgets told now (Err stop.NoMemory) × SaysNone told old new (Err stop.NoMemory)
+forgotten-named : (told now : Option Held) (old new : Option Text) (answer : Result Said QueryErr) → IsNamed (outcome_of_answer answer) → Forgets told now answer × SaysNone told old new answer → Forgets told now (Err stop.NoMemory) × SaysNone told old new (Err stop.NoMemory)
 forgotten-named told now old new (Ok said.Done) named h = absurd named
 forgotten-named told now old new (Ok said.NoTrace) named h = absurd named
 forgotten-named told now old new (Err (stop.Special path)) named h = (h.0.1, inl h.1)
@@ -85,7 +85,7 @@ forgotten-named told now old new (Err stop.ReadFault) named h = absurd named
 forgotten-named told now old new (Err stop.WriteFault) named h = absurd named
 forgotten-named told now old new (Err stop.NoMemory) named h = h
 
-named-answer : (P : Result Said Stop → Type 0) (outcome : Outcome) → ((answer : Result Said Stop) → IsNamed (outcome_of_answer answer) → P answer → P (Err stop.NoMemory)) → IsNamed outcome → IsAnswer outcome P → IsAnswer out.NoMemory P
+named-answer : (P : Result Said QueryErr → Type 0) (outcome : Outcome) → ((answer : Result Said QueryErr) → IsNamed (outcome_of_answer answer) → P answer → P (Err stop.NoMemory)) → IsNamed outcome → IsAnswer outcome P → IsAnswer out.NoMemory P
 named-answer P outcome f named a = (Err stop.NoMemory, (refl, f a.0 (subst IsNamed a.1.0 named) a.1.1))
 
 unnamed-queried : (first : KeyValue → Says) (it : Request) (told now : Option Held) (old new : Option Text) (outcome : Outcome) → IsNamed outcome → Queried first it told now old new outcome → Queried first it told now old new out.NoMemory

@@ -22,7 +22,7 @@ use Rattle.rk_top.proofs.AskLemmas.{asks, asks-any, build-then, builds-any, gen-
 use Rattle.rk_top.proofs.GeneratedLemmas.{line-generates}
 use Rattle.rk_top.proofs.QueryLemmas.{asked-not-usage, line-queried, unread-queried}
 use Rattle.rk_database.specs.declared.stop.Said.{Said}
-use Rattle.rk_database.specs.declared.stop.Stop.{Stop}
+use Rattle.rk_database.specs.declared.stop.QueryErr.{QueryErr}
 
 -- The work.
 
@@ -65,7 +65,7 @@ pub unqueried : (it : Request) (steps : ℕ) (explain fresh check : Bool) (told 
 unqueried it steps explain fresh check told now old new outcome same = subst (λ (r : Request). Queried first_talk r told now old new outcome) (sym same) tt
 
 -- an answer is no refusal of the words
-pub answer-asked : (outcome : Outcome) (P : Result Said Stop → Type 0) → IsAnswer outcome P → outcome ≢ out.Usage
+pub answer-asked : (outcome : Outcome) (P : Result Said QueryErr → Type 0) → IsAnswer outcome P → outcome ≢ out.Usage
 answer-asked outcome P a = λ e. asked-not-usage a.0 (sym a.1.0 ∙ e)
 
 pub line-asked : (seed before now : ℕ) (old new : Option Text) (outcome : Outcome) → Generates first_talk seed before now old new outcome → outcome ≢ out.Usage

@@ -11,7 +11,7 @@ ghost use Rattle.rk_build.specs.Sessions.{IsWell};
 
 use crate::commands::Commands;
 use rk_base::{Bytes, NoMemory, Path, Steps};
-use rk_build::{Outcome, Stop, build_in, table_in};
+use rk_build::{BuildErr, Outcome, build_in, table_in};
 use rk_calls::Maker;
 use rk_folder::{MemFolder, MemSink, Sink, SinkErr, Standing, db_file};
 use rk_gen::{Figures, Start, Workload, change, generate, start_folder, summary};
@@ -70,7 +70,7 @@ fn table_of(alloc: Global, folder: &MemFolder) -> Result<Table, NoMemory>
     let db = db_of(alloc, folder)?;
     match table_in(alloc, &db) {
         Ok(table) => Ok(table),
-        Err(Stop::NoMemory) => Err(NoMemory),
+        Err(BuildErr::NoMemory) => Err(NoMemory),
         Err(_) => unreachable!(),
     }
 }

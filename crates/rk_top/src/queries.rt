@@ -14,20 +14,20 @@ use rk_database::{Said, check, forget, trace};
 use rk_folder::{Folder, Sink};
 use std::alloc::Global;
 
-fn outcome_of_refused(stop: rk_database::Stop) -> Outcome
+fn outcome_of_refused(stop: rk_database::QueryErr) -> Outcome
     ensures { result ≡ outcome_of_refused stop }
 {
     match stop {
-        rk_database::Stop::Special(path) => Outcome::Special(path),
-        rk_database::Stop::Damaged(damage) => Outcome::Damaged(StateFile::Db, damage),
-        rk_database::Stop::Forged { rec, step } => Outcome::Forged { rec, step },
-        rk_database::Stop::ReadFault => Outcome::ReadFault,
-        rk_database::Stop::WriteFault => Outcome::WriteFault,
-        rk_database::Stop::NoMemory => Outcome::NoMemory,
+        rk_database::QueryErr::Special(path) => Outcome::Special(path),
+        rk_database::QueryErr::Damaged(damage) => Outcome::Damaged(StateFile::Db, damage),
+        rk_database::QueryErr::Forged { rec, step } => Outcome::Forged { rec, step },
+        rk_database::QueryErr::ReadFault => Outcome::ReadFault,
+        rk_database::QueryErr::WriteFault => Outcome::WriteFault,
+        rk_database::QueryErr::NoMemory => Outcome::NoMemory,
     }
 }
 
-fn outcome_of_answer(answer: Result<Said, rk_database::Stop>) -> Outcome
+fn outcome_of_answer(answer: Result<Said, rk_database::QueryErr>) -> Outcome
     ensures { result ≡ outcome_of_answer answer }
 {
     match answer {

@@ -3,8 +3,8 @@ use Rattle.std.specs.Prelude.{◌≡◌, ◌≢◌, ◌≤◌, [], Bool, true, f
 use Rattle.std.specs.FinMap.{FinMap, get}
 use Rattle.rk_base.specs.Text.{Text, text_cmp, root, parent, join, hidden, is_within}
 use Rattle.rk_base.specs.Canonical.{has_nul, is_canonical}
-use Rattle.rk_base.specs.declared.kind.Kind.{Kind}
-use Rattle.rk_base.specs.declared.kind.Kind.TheVariants as kind
+use Rattle.rk_base.specs.declared.file_type.FileType.{FileType}
+use Rattle.rk_base.specs.declared.file_type.FileType.TheVariants as kind
 use Rattle.rk_tree.specs.declared.entry.Entry.{Entry}
 use Rattle.rk_tree.specs.declared.entry.Entry.TheVariants as entry
 use Rattle.rk_tree.specs.Node.{Node, File, Dir, Link}
@@ -19,7 +19,7 @@ node_of (entry.Link text) = Link text
 abbrev pub Entries : Type 0
 Entries = FinMap text_cmp Node
 
-abbrev pub kind_of : Node → Kind
+abbrev pub kind_of : Node → FileType
 kind_of (File mode bytes) = kind.File
 kind_of (Dir mode) = kind.Dir
 kind_of (Link text) = kind.Link

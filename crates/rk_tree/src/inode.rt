@@ -7,7 +7,7 @@ ghost use Rattle.rk_tree.specs.Inodes.{change, cleared, nodes_of, lost, names_in
 
 use crate::names::Names;
 use crate::{Node, NodeId};
-use rk_base::{Bytes, Kind, Name, NoMemory};
+use rk_base::{Bytes, FileType, Name, NoMemory};
 use std::alloc::Global;
 
 /// A node as the tree keeps it: what it is, for a directory the one in which it stands and its name
@@ -28,12 +28,12 @@ pub(crate) fn place_of(
     ensures { IfOk result (λ place. place ≡ place_of it.now dir name.now) }
 {
     match it.kind() {
-        Kind::File => Ok(None),
-        Kind::Dir => {
+        FileType::File => Ok(None),
+        FileType::Dir => {
             let name = name.copy()?;
             Ok(Some((dir, name)))
         }
-        Kind::Link => Ok(None),
+        FileType::Link => Ok(None),
     }
 }
 

@@ -4,7 +4,7 @@ ghost use Rattle.rk_tree.specs.Entries.{is_dir, kind_of, node_of};
 ghost use Rattle.rk_tree.specs.Hierarchy.{file_bytes, mode_of, over_written, replaced, text_of, with_mode};
 
 use crate::Entry;
-use rk_base::{Bytes, Kind, NoMemory};
+use rk_base::{Bytes, FileType, NoMemory};
 use std::alloc::Global;
 use std::marker::Model;
 
@@ -42,13 +42,13 @@ impl Node {
     }
 
     /// Whether it is a file, a directory or a link.
-    pub fn kind(&self) -> Kind
+    pub fn kind(&self) -> FileType
         ensures { result ≡ kind_of self.now }
     {
         match &self.entry {
-            Entry::File(_, _) => Kind::File,
-            Entry::Dir(_) => Kind::Dir,
-            Entry::Link(_) => Kind::Link,
+            Entry::File(_, _) => FileType::File,
+            Entry::Dir(_) => FileType::Dir,
+            Entry::Link(_) => FileType::Link,
         }
     }
 

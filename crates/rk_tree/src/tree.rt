@@ -18,7 +18,7 @@ mod renaming;
 
 use crate::inode::{Inode, names_of, node_at, number_under, place_at, replace_bytes, write_over};
 use crate::{Entry, Node, NodeId};
-use rk_base::{Bytes, Kind, Name, NameList, NoMemory};
+use rk_base::{Bytes, FileType, Name, NameList, NoMemory};
 use std::alloc::Global;
 use std::marker::Model;
 
@@ -87,7 +87,7 @@ impl Tree {
     }
 
     /// What a node of the tree is.
-    pub fn kind(&self, n: NodeId) -> Kind
+    pub fn kind(&self, n: NodeId) -> FileType
         requires { is_there (hierarchy.node self.now n) ≡ true }
         ensures { Some result ≡ option_map kind_of (hierarchy.node self.now n) }
     {

@@ -10,7 +10,7 @@ ghost use Rattle.rk_walk.specs.declared.place.Place.TheVariants.{Found};
 ghost use Rattle.rk_walk.specs.declared.step.Step.TheVariants.{Ends};
 
 use crate::{Here, Label, Place};
-use rk_base::{Errno, Kind, is_name};
+use rk_base::{Errno, FileType, is_name};
 use rk_tree::{NodeId, Tree, has_x};
 use std::marker::Model;
 
@@ -76,19 +76,19 @@ fn at_name<'a>(
         };
     };
     match tree.kind(n) {
-        Kind::Dir => Step::On(Here {
+        FileType::Dir => Step::On(Here {
             node: n,
             up: Some((at, Label::new(name))),
             slash,
         }),
-        Kind::File => {
+        FileType::File => {
             if slash {
                 Step::Fails(Errno::NotDir)
             } else {
                 found(n, at, name)
             }
         }
-        Kind::Link => {
+        FileType::Link => {
             if slash || follow {
                 Step::Follow(LinkText::new(tree.link_text(n)))
             } else {

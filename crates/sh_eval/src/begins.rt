@@ -9,7 +9,7 @@ ghost use Rattle.sh_means.specs.Stack.{Steps, IsStep};
 ghost use Rattle.sh_means.specs.Starts.{fails, is_directory, has_x, looked, runs_script, runs_command, script_opened, script_read};
 ghost use Rattle.sh_means.specs.Views.{shell_of};
 
-use rk_base::{Bytes, Kind, NoMemory};
+use rk_base::{Bytes, FileType, NoMemory};
 use rk_calls::{Answer, Call, How, Turn, absolute, brought};
 use sh_means::control::{Acted, Begin, Control, SimpleStep};
 use sh_means::flow::{Flow, Place};
@@ -64,13 +64,13 @@ fn look(alloc: Global, file: Bytes, state: &State) -> Result<Acted, NoMemory>
     })
 }
 
-fn is_directory(kind: Kind) -> bool
+fn is_directory(kind: FileType) -> bool
     ensures { result ≡ is_directory kind }
 {
     match kind {
-        Kind::File => false,
-        Kind::Dir => true,
-        Kind::Link => false,
+        FileType::File => false,
+        FileType::Dir => true,
+        FileType::Link => false,
     }
 }
 
@@ -85,7 +85,7 @@ fn has_x(mode: u16) -> bool
 fn found(
     alloc: Global,
     file: Bytes,
-    kind: Kind,
+    kind: FileType,
     mode: u16,
     state: &mut State,
 ) -> Result<Acted, NoMemory>

@@ -12,8 +12,8 @@ use Rattle.sh_expand.specs.declared.steps.Stage.{Stage}
 use Rattle.sh_expand.specs.declared.steps.Stage.TheVariants.{Between, Matching, Checking}
 use Rattle.sh_expand.specs.declared.steps.Wait.{Wait}
 use Rattle.sh_expand.specs.declared.steps.Wait.TheVariants.{Ready, Listing, Stating, Over}
-use Rattle.sh_expand.specs.declared.steps.Step.{Step}
-use Rattle.sh_expand.specs.declared.steps.Step.TheVariants.{Goes, Wants}
+use Rattle.sh_expand.specs.declared.steps.GlobStep.{GlobStep}
+use Rattle.sh_expand.specs.declared.steps.GlobStep.TheVariants.{Goes, Wants}
 use Rattle.sh_expand.specs.Globbing.{Numbered, asks, Found, globs, lists, stats, kept}
 use Rattle.sh_expand.specs.Told.{names_of, stands}
 
@@ -33,7 +33,7 @@ abbrev pub after_glob : Globbing → (Answer → Numbered) → Found → Numbere
 after_glob (Ask call) next k = asks call 1 next
 after_glob (Finds paths) next k = k paths
 
-abbrev pub IsStep : (Found → Numbered) → Text → List Component → Step → Type 0
+abbrev pub IsStep : (Found → Numbered) → Text → List Component → GlobStep → Type 0
 IsStep x wd cs (Goes stage) = (k : Found) (n p : ℕ) → x k n p ≡ stage_talk wd cs stage k n p
 IsStep x wd cs (Wants wait t) = (k : Found) (n p : ℕ) → x k n p ≡ after_glob t (λ a. wait_talk wd cs wait a k) k n p
 
@@ -43,7 +43,7 @@ weight cs (Between globbed prefixes) = 2 * length cs
 weight cs (Matching pattern todo done) = 2 * length cs + 1
 weight cs (Checking todo done) = 2 * length cs
 
-abbrev pub IsShorter : ℕ → List Component → Step → Type 0
+abbrev pub IsShorter : ℕ → List Component → GlobStep → Type 0
 IsShorter n cs (Goes stage) = weight cs stage < n
 IsShorter n cs (Wants wait t) = Unit {0}
 

@@ -13,8 +13,8 @@ use Rattle.sh_expand.specs.declared.mode.Expanded.TheVariants.{Fields}
 use Rattle.sh_expand.specs.declared.names.Names.{Names}
 use Rattle.sh_expand.specs.declared.names.Named.{Named}
 use Rattle.sh_expand.specs.declared.names.Named.TheVariants.{Goes, Ends, Waits}
-use Rattle.sh_expand.specs.declared.expander.Step.{Step}
-use Rattle.sh_expand.specs.declared.expander.Step.TheVariants as step
+use Rattle.sh_expand.specs.declared.expander.Phase.{Phase}
+use Rattle.sh_expand.specs.declared.expander.Phase.TheVariants as step
 use Rattle.sh_expand.specs.declared.expander.Expander.{Expander}
 use Rattle.sh_expand.specs.declared.expander.Expanding.{Expanding}
 use Rattle.sh_expand.specs.declared.expander.Expanding.TheVariants.{Ask, More, Body as Evaluate, Done, Fault}
@@ -46,13 +46,13 @@ IsShorter n (Goes names) = length (fields_left names) < n
 IsShorter n (Ends done) = Unit {0}
 IsShorter n (Waits glob text names call) = Unit {0}
 
-abbrev pub at_step : Step → Mode → Answer → (ℕ → Body) → With_expanded → Failed → Go_on
+abbrev pub at_step : Phase → Mode → Answer → (ℕ → Body) → With_expanded → Failed → Go_on
 at_step (step.Parts machine) m a body k fail e p = says machine a body (λ marks e'. finished m marks k e') fail e p
 at_step (step.Looks glob text names) m a body k fail e p = looks glob text names a (pay_fields k) e p
 at_step step.Over m a body k fail e p = pay 0 (k (Fields []) e) p
 
 -- what it wants, and what it does afterwards
-abbrev pub after_step : Expanding → Step → Mode → (ℕ → Body) → With_expanded → Failed → Go_on
+abbrev pub after_step : Expanding → Phase → Mode → (ℕ → Body) → With_expanded → Failed → Go_on
 after_step (Ask call c) s m body k fail e p = ask call c (λ a. at_step s m a body k fail (counted a e)) p
 after_step (More c) s m body k fail e p = pay c (at_step s m Go body k fail e) p
 after_step (Evaluate n) s m body k fail e p = body n e (at_step s m Go body k fail) p

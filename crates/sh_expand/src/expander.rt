@@ -26,7 +26,7 @@ use std::mem;
 
 /// Where an expander stands: its parts are expanded, pathnames are looked for, or it has ended.
 #[derive(Drop)]
-pub enum Step {
+pub enum Phase {
     Parts(Machine),
     /// The pathnames of a field with this text; and the fields of the word.
     Looks(Glob, Bytes, Names),
@@ -38,7 +38,7 @@ pub enum Step {
 pub struct Expander {
     pub(crate) alloc: Global,
     pub(crate) mode: Mode,
-    pub(crate) step: Step,
+    pub(crate) step: Phase,
 }
 
 /// What an expander wants; the number of each is what is paid with it, in turns.
@@ -98,16 +98,16 @@ fn cost_of_all(words: &[Bytes]) -> Result<u64, NoMemory>
 }
 
 // All fields went by.
-fn end(done: WordList) -> Result<(Step, Expanding), NoMemory>
+fn end(done: WordList) -> Result<(Phase, Expanding), NoMemory>
     ensures talk { IfOk result (λ r. (m : Mode) (body : ℕ → Body) (k : With_expanded) (fail : Failed) (e : Env) (p : ℕ) → pay_fields k done e p ≡ after_step r.1 r.0 m body k fail e p) }
     ensures costly { IfOk result (λ r. IsCostly r.1) }
 {
     let cost = cost_of_all(done.as_slice())?;
-    Ok((Step::Over, Expanding::Done(Expanded::Fields(done), cost)))
+    Ok((Phase::Over, Expanding::Done(Expanded::Fields(done), cost)))
 }
 
 // The fields that are left, up to the next call or the end.
-fn run(alloc: Global, env: &Env, names: Names) -> Result<(Step, Expanding), NoMemory>
+fn run(alloc: Global, env: &Env, names: Names) -> Result<(Phase, Expanding), NoMemory>
     ensures talk { IfOk result (λ r. (m : Mode) (body : ℕ → Body) (k : With_expanded) (fail : Failed) (p : ℕ) → all_left names (pay_fields k) env.now p ≡ after_step r.1 r.0 m body k fail env.now p) }
     ensures costly { IfOk result (λ r. IsCostly r.1) }
 {
@@ -117,14 +117,14 @@ fn run(alloc: Global, env: &Env, names: Names) -> Result<(Step, Expanding), NoMe
             Named::Goes(next) => names = next,
             Named::Ends(done) => return end(done),
             Named::Waits(glob, text, names, call) => {
-                return Ok((Step::Looks(glob, text, names), Expanding::Ask(call, 1)));
+                return Ok((Phase::Looks(glob, text, names), Expanding::Ask(call, 1)));
             }
         }
     }
 }
 
 // After a field.
-fn on_named(alloc: Global, env: &Env, named: Named) -> Result<(Step, Expanding), NoMemory>
+fn on_named(alloc: Global, env: &Env, named: Named) -> Result<(Phase, Expanding), NoMemory>
     ensures talk { IfOk result (λ r. (m : Mode) (body : ℕ → Body) (k : With_expanded) (fail : Failed) (p : ℕ) → named_talk named (pay_fields k) env.now p ≡ after_step r.1 r.0 m body k fail env.now p) }
     ensures costly { IfOk result (λ r. IsCostly r.1) }
 {
@@ -132,7 +132,7 @@ fn on_named(alloc: Global, env: &Env, named: Named) -> Result<(Step, Expanding),
         Named::Goes(names) => run(alloc, env, names),
         Named::Ends(done) => end(done),
         Named::Waits(glob, text, names, call) => {
-            Ok((Step::Looks(glob, text, names), Expanding::Ask(call, 1)))
+            Ok((Phase::Looks(glob, text, names), Expanding::Ask(call, 1)))
         }
     }
 }
@@ -156,7 +156,7 @@ fn finish(
     mode: Mode,
     marks: &[Mark],
     env: &Env,
-) -> Result<(Step, Expanding), NoMemory>
+) -> Result<(Phase, Expanding), NoMemory>
     ensures talk { IfOk result (λ r. (body : ℕ → Body) (k : With_expanded) (fail : Failed) (p : ℕ) → finished mode marks.now k env.now p ≡ after_step r.1 r.0 mode body k fail env.now p) }
     ensures costly { IfOk result (λ r. IsCostly r.1) }
 {
@@ -169,13 +169,13 @@ fn finish(
         Mode::Value => {
             let text = text_of(alloc, marks)?;
             let cost = turns(text.as_slice());
-            Ok((Step::Over, Expanding::Done(Expanded::Value(text), cost)))
+            Ok((Phase::Over, Expanding::Done(Expanded::Value(text), cost)))
         }
         Mode::Pattern => {
             let text = text_of(alloc, marks)?;
             let cost = turns(text.as_slice());
             let pattern = pattern_of(alloc, marks)?;
-            Ok((Step::Over, Expanding::Done(Expanded::Value(pattern), cost)))
+            Ok((Phase::Over, Expanding::Done(Expanded::Value(pattern), cost)))
         }
     }
 }
@@ -187,22 +187,22 @@ fn on_parts(
     machine: Machine,
     env: &mut Env,
     answer: Answer,
-) -> Result<(Step, Expanding), NoMemory>
-    ensures talk { IfOk result (λ r. (body : ℕ → Body) (k : With_expanded) (fail : Failed) (p : ℕ) → at_step (Step.Parts machine) mode answer body k fail env.old p ≡ after_step r.1 r.0 mode body k fail env.new p) }
+) -> Result<(Phase, Expanding), NoMemory>
+    ensures talk { IfOk result (λ r. (body : ℕ → Body) (k : With_expanded) (fail : Failed) (p : ℕ) → at_step (Phase.Parts machine) mode answer body k fail env.old p ≡ after_step r.1 r.0 mode body k fail env.new p) }
     ensures costly { IfOk result (λ r. IsCostly r.1) }
 {
     let mut machine = machine;
     match machine.resume(env, answer)? {
-        Wants::Pipe => Ok((Step::Parts(machine), Expanding::Ask(Call::Pipe, 2))),
-        Wants::Read(from) => Ok((Step::Parts(machine), Expanding::Ask(Call::Read(from), 1))),
-        Wants::Evaluate(number) => Ok((Step::Parts(machine), Expanding::Body(number))),
+        Wants::Pipe => Ok((Phase::Parts(machine), Expanding::Ask(Call::Pipe, 2))),
+        Wants::Read(from) => Ok((Phase::Parts(machine), Expanding::Ask(Call::Read(from), 1))),
+        Wants::Evaluate(number) => Ok((Phase::Parts(machine), Expanding::Body(number))),
         Wants::Done(field) => {
             let turn = finish(alloc, mode, field.as_slice(), env)?;
             Ok(turn)
         }
         Wants::Fault(parameter, message) => {
             let fault = ExpandFault { parameter, message };
-            Ok((Step::Over, Expanding::Fault(fault, 0)))
+            Ok((Phase::Over, Expanding::Fault(fault, 0)))
         }
     }
 }
@@ -211,26 +211,26 @@ fn on_parts(
 fn go_on(
     alloc: Global,
     mode: Mode,
-    step: Step,
+    step: Phase,
     env: &mut Env,
     answer: Answer,
-) -> Result<(Step, Expanding), NoMemory>
+) -> Result<(Phase, Expanding), NoMemory>
     ensures talk { IfOk result (λ r. (body : ℕ → Body) (k : With_expanded) (fail : Failed) (p : ℕ) → at_step step mode answer body k fail env.old p ≡ after_step r.1 r.0 mode body k fail env.new p) }
     ensures costly { IfOk result (λ r. IsCostly r.1) }
 {
     match step {
-        Step::Parts(machine) => {
+        Phase::Parts(machine) => {
             let turn = on_parts(alloc, mode, machine, env, answer)?;
             Ok(turn)
         }
-        Step::Looks(glob, text, names) => {
+        Phase::Looks(glob, text, names) => {
             let named = look(alloc, glob, text, names, answer)?;
             let turn = on_named(alloc, env, named)?;
             Ok(turn)
         }
-        Step::Over => {
+        Phase::Over => {
             let none = WordList::new(Vec::new(alloc));
-            Ok((Step::Over, Expanding::Done(Expanded::Fields(none), 0)))
+            Ok((Phase::Over, Expanding::Done(Expanded::Fields(none), 0)))
         }
     }
 }
@@ -245,7 +245,7 @@ impl Expander {
         Ok(Expander {
             alloc,
             mode,
-            step: Step::Parts(machine),
+            step: Phase::Parts(machine),
         })
     }
 
@@ -256,7 +256,7 @@ impl Expander {
         ensures costly { IfOk result IsCostly }
         ensures talk { IfOk result (λ t. (body : ℕ → Body) (k : With_expanded) (fail : Failed) (p : ℕ) → expander_says self.old answer body k fail env.old p ≡ after_turn t self.new body k fail env.new p) }
     {
-        let step = mem::replace(&mut self.step, Step::Over);
+        let step = mem::replace(&mut self.step, Phase::Over);
         let (step, wants) = go_on(self.alloc, self.mode, step, env, answer)?;
         self.step = step;
         Ok(wants)

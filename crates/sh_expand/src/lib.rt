@@ -19,7 +19,7 @@ mod steps;
 mod told;
 
 pub use acts::{Acted, Then};
-pub use expander::{Expander, Expanding, Step};
+pub use expander::{Expander, Expanding, Phase};
 pub use machine::{Frame, Level, Machine, Stage, Wants};
 pub use mode::{ExpandFault, Expanded, Mode};
 pub use names::{Named, Names};

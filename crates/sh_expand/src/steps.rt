@@ -40,7 +40,7 @@ pub enum Wait {
 
 /// What a step does.
 #[derive(Drop)]
-pub enum Step {
+pub enum GlobStep {
     Goes(Stage),
     Wants(Wait, Globbing),
 }
@@ -62,15 +62,15 @@ fn begin(
     components: &mut VecDeque<Component>,
     globbed: bool,
     prefixes: PathList,
-) -> Result<Step, NoMemory>
+) -> Result<GlobStep, NoMemory>
     ensures step { IfOk result (IsStep (λ k. globs wd.now globbed components.old.items prefixes k) wd.now components.new.items) }
     ensures shorter { IfOk result (IsShorter (2 * length components.old.items) components.new.items) }
 {
     match components.pop_front() {
-        None => Ok(Step::Wants(Wait::Over, Globbing::Found(prefixes))),
+        None => Ok(GlobStep::Wants(Wait::Over, Globbing::Found(prefixes))),
         Some(Component::Pattern(pattern)) => {
             let done = PathList::new(alloc);
-            Ok(Step::Goes(Stage::Matching(pattern, prefixes, done)))
+            Ok(GlobStep::Goes(Stage::Matching(pattern, prefixes, done)))
         }
         Some(Component::Literal(value)) => {
             let last = components.is_empty();
@@ -80,7 +80,7 @@ fn begin(
             } else {
                 Stage::Between(globbed, paths)
             };
-            Ok(Step::Goes(stage))
+            Ok(GlobStep::Goes(stage))
         }
     }
 }
@@ -92,16 +92,16 @@ fn list_next(
     pattern: Bytes,
     todo: PathList,
     done: PathList,
-) -> Result<Step, NoMemory>
+) -> Result<GlobStep, NoMemory>
     ensures step { IfOk result (λ s. (cs : List Component) → IsStep (λ k. lists wd.now (is_empty cs) pattern todo done (λ found. globs wd.now true cs found k)) wd.now cs s) }
     ensures shorter { IfOk result (λ s. (cs : List Component) → IsShorter (2 * length cs + 1) cs s) }
 {
     let mut todo = todo;
     match todo.pop() {
-        None => Ok(Step::Goes(Stage::Between(true, done))),
+        None => Ok(GlobStep::Goes(Stage::Between(true, done))),
         Some(prefix) => {
             let path = listed(alloc, wd, prefix.as_slice())?;
-            Ok(Step::Wants(
+            Ok(GlobStep::Wants(
                 Wait::Listing(pattern, prefix, todo, done),
                 Globbing::Ask(Call::List(path)),
             ))
@@ -110,16 +110,21 @@ fn list_next(
 }
 
 // The next path is looked at.
-fn check_next(alloc: Global, wd: &Path, todo: PathList, done: PathList) -> Result<Step, NoMemory>
+fn check_next(
+    alloc: Global,
+    wd: &Path,
+    todo: PathList,
+    done: PathList,
+) -> Result<GlobStep, NoMemory>
     ensures step { IfOk result (λ s. (cs : List Component) → IsStep (λ k. stats wd.now todo done k) wd.now cs s) }
     ensures shorter { IfOk result (λ s. (cs : List Component) (n : ℕ) → IsShorter n cs s) }
 {
     let mut todo = todo;
     match todo.pop() {
-        None => Ok(Step::Wants(Wait::Over, Globbing::Found(done))),
+        None => Ok(GlobStep::Wants(Wait::Over, Globbing::Found(done))),
         Some(path) => {
             let text = absolute(alloc, wd, path.as_slice())?;
-            Ok(Step::Wants(
+            Ok(GlobStep::Wants(
                 Wait::Stating(path, todo, done),
                 Globbing::Ask(Call::Stat(text, false)),
             ))
@@ -132,7 +137,7 @@ pub(crate) fn next_step(
     wd: &Path,
     components: &mut VecDeque<Component>,
     stage: Stage,
-) -> Result<Step, NoMemory>
+) -> Result<GlobStep, NoMemory>
     ensures step { IfOk result (IsStep (λ k. stage_talk wd.now components.old.items stage k) wd.now components.new.items) }
     ensures shorter { IfOk result (IsShorter (weight components.old.items stage) components.new.items) }
 {
@@ -219,8 +224,8 @@ pub(crate) fn run(
     let mut stage = stage;
     'steps: loop {
         match next_step(alloc, wd, components, stage)? {
-            Step::Goes(next) => stage = next,
-            Step::Wants(wait, wants) => return Ok((wait, wants)),
+            GlobStep::Goes(next) => stage = next,
+            GlobStep::Wants(wait, wants) => return Ok((wait, wants)),
         }
     }
 }

@@ -1,15 +1,15 @@
 -- A kind's number tells the kind.
 use Rattle.std.proofs.Common.{◌≡◌, ℕ, zero, suc, List, [], ◌∷◌, Option, Some, None, refl, sym, ap, ◌∙◌}
-use Rattle.sh_rules.specs.declared.kind.Kind.{Kind}
-use Rattle.sh_rules.specs.declared.kind.Kind.TheVariants as k
+use Rattle.sh_rules.specs.declared.token_kind.TokenKind.{TokenKind}
+use Rattle.sh_rules.specs.declared.token_kind.TokenKind.TheVariants as k
 use Rattle.sh_rules.specs.LookAhead.{number, all_kinds}
 
-nth : ℕ → List Kind → Option Kind
+nth : ℕ → List TokenKind → Option TokenKind
 nth n [] = None
 nth zero (k ∷ ks) = Some k
 nth (suc n) (k ∷ ks) = nth n ks
 
-numbered : (kind : Kind) → nth (number kind) all_kinds ≡ Some kind
+numbered : (kind : TokenKind) → nth (number kind) all_kinds ≡ Some kind
 unfolding nth
 numbered k.Semi = refl
 numbered k.Newline = refl
@@ -86,8 +86,8 @@ numbered k.ParenthesisClose = refl
 numbered k.ArithmeticClose = refl
 numbered k.End = refl
 
-some_same : (a b : Kind) → Some a ≡ Some b → a ≡ b
+some_same : (a b : TokenKind) → Some a ≡ Some b → a ≡ b
 some_same a b h = cc
 
-pub same_number : (a b : Kind) → number a ≡ number b → a ≡ b
+pub same_number : (a b : TokenKind) → number a ≡ number b → a ≡ b
 same_number a b h = some_same a b (sym (numbered a) ∙ ap (λ n. nth n all_kinds) h ∙ numbered b)

@@ -1,6 +1,6 @@
 -- The table of choices is the one of the grammar.
 use Rattle.std.proofs.Common.{◌≡◌, List, Option, Some, None, true, refl}
-use Rattle.sh_rules.specs.declared.kind.Kind.{Kind}
+use Rattle.sh_rules.specs.declared.token_kind.TokenKind.{TokenKind}
 use Rattle.sh_rules.specs.Parts.{Part}
 use Rattle.sh_rules.specs.Rules.{Rule}
 use Rattle.sh_rules.specs.LookAhead.{choose}
@@ -15,5 +15,5 @@ agreed (Some q) None h = cc
 agreed None (Some q) h = cc
 agreed (Some x) (Some q) h = rule_is (Some x) q h
 
-pub told : (part : Part) (choices : List (Begins × dr.Rule)) → tells part choices ≡ true → (kind : Kind) → first_met choices kind ≡ choose part kind
+pub told : (part : Part) (choices : List (Begins × dr.Rule)) → tells part choices ≡ true → (kind : TokenKind) → first_met choices kind ≡ choose part kind
 told part choices h kind = agreed (first_met choices kind) (choose part kind) (every (λ k. agree (first_met choices k) (choose part k)) h kind)

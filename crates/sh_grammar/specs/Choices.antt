@@ -1,6 +1,6 @@
 -- Which rule a token chooses, by what each rule begins with.
 use Rattle.std.specs.Prelude.{nat_eq, List, [], ◌∷◌, Option, Some, None, Bool, true, false}
-use Rattle.sh_rules.specs.declared.kind.Kind.{Kind}
+use Rattle.sh_rules.specs.declared.token_kind.TokenKind.{TokenKind}
 use Rattle.sh_rules.specs.Parts.{Part}
 use Rattle.sh_rules.specs.Rules.{Rule}
 use Rattle.sh_rules.specs.LookAhead.{number, all_kinds, choose}
@@ -12,7 +12,7 @@ use Rattle.sh_grammar.specs.declared.choice.Begins.TheVariants as b
 use Rattle.sh_grammar.specs.Named.{rule_named}
 
 -- a token of a kind begins so
-abbrev pub is_met : Begins → Kind → Bool
+abbrev pub is_met : Begins → TokenKind → Bool
 is_met (b.Token token) kind = nat_eq (number token) (number kind)
 is_met b.Command kind = begins_command kind
 is_met b.Stage kind = begins_stage kind
@@ -28,7 +28,7 @@ rule_if true rule other = Some rule
 rule_if false rule other = other
 
 -- the first of the rules that begins so
-abbrev pub first_met : List (Begins × dr.Rule) → Kind → Option Rule
+abbrev pub first_met : List (Begins × dr.Rule) → TokenKind → Option Rule
 first_met [] kind = None
 first_met (choice ∷ choices) kind = rule_if (is_met choice.0 kind) (rule_named choice.1) (first_met choices kind)
 

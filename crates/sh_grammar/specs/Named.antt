@@ -1,6 +1,6 @@
 -- Parts, rules and symbols by their names in the grammar.
 use Rattle.sh_rules.specs.Grammar.{Symbol, Want, Do}
-use Rattle.sh_rules.specs.declared.kind.Kind.{Kind}
+use Rattle.sh_rules.specs.declared.token_kind.TokenKind.{TokenKind}
 use Rattle.sh_rules.specs.Parts as p
 use Rattle.sh_rules.specs.Rules as r
 use Rattle.sh_grammar.specs.declared.part.Part as dp
@@ -168,6 +168,6 @@ rule_named rule.ParenthesisClose = r.Parenthesis_close
 rule_named rule.ArithmeticBraces = r.Arithmetic_braces
 rule_named rule.ArithmeticExpansion = r.Arithmetic_expansion
 
-abbrev pub symbol_named : ds.Symbol → Symbol Kind p.Part
+abbrev pub symbol_named : ds.Symbol → Symbol TokenKind p.Part
 symbol_named (symbol.Want kind) = Want kind
 symbol_named (symbol.Do part) = Do (part_named part)

@@ -7,14 +7,14 @@ ghost use Rattle.sh_grammar.specs.Choices.{is_met as is_met_lem, first_met as fi
 use crate::part::Part;
 use crate::rule::Rule;
 use sh_rules::{
-    Kind, Mode, begins_command, begins_compound, begins_expansion, begins_quoted, begins_redirect,
-    begins_stage, begins_word,
+    Mode, TokenKind, begins_command, begins_compound, begins_expansion, begins_quoted,
+    begins_redirect, begins_stage, begins_word,
 };
 
 /// With what a rule begins: a token of a kind, one that begins a part of the syntax, or any.
 #[derive(Clone, Copy)]
 pub enum Begins {
-    Token(Kind),
+    Token(TokenKind),
     Command,
     Stage,
     Compound,
@@ -25,20 +25,20 @@ pub enum Begins {
     Anything,
 }
 
-fn number(kind: Kind) -> u8
+fn number(kind: TokenKind) -> u8
     ensures { result ≡ number_lem kind }
 {
     kind as u8
 }
 
 /// Whether two kinds are the same.
-pub fn same_kind(a: Kind, b: Kind) -> bool
+pub fn same_kind(a: TokenKind, b: TokenKind) -> bool
     ensures { IsTrue result ↔ (a ≡ b) }
 {
     number(a) == number(b)
 }
 
-fn is_met(begins: Begins, kind: Kind) -> bool
+fn is_met(begins: Begins, kind: TokenKind) -> bool
     ensures { result ≡ is_met_lem begins kind }
 {
     match begins {
@@ -60,119 +60,119 @@ fn choices(part: Part) -> &'static [(Begins, Rule)]
 {
     match part {
         Part::OptList => &[
-            (Begins::Token(Kind::Newline), Rule::MoreLines),
+            (Begins::Token(TokenKind::Newline), Rule::MoreLines),
             (Begins::Command, Rule::Commands),
             (Begins::Anything, Rule::NothingMore),
         ],
         Part::List => &[
-            (Begins::Token(Kind::Newline), Rule::Lines),
+            (Begins::Token(TokenKind::Newline), Rule::Lines),
             (Begins::Command, Rule::Listed),
         ],
         Part::ListRest => &[
-            (Begins::Token(Kind::Semi), Rule::SemiList),
-            (Begins::Token(Kind::Newline), Rule::LineList),
+            (Begins::Token(TokenKind::Semi), Rule::SemiList),
+            (Begins::Token(TokenKind::Newline), Rule::LineList),
             (Begins::Anything, Rule::Last),
         ],
-        Part::Newline => &[(Begins::Token(Kind::Newline), Rule::Line)],
+        Part::Newline => &[(Begins::Token(TokenKind::Newline), Rule::Line)],
         Part::Bodies => &[
-            (Begins::Token(Kind::NoBody), Rule::NoBody),
-            (Begins::Token(Kind::LiteralBody), Rule::LiteralBody),
-            (Begins::Token(Kind::BodyOpen), Rule::Body),
+            (Begins::Token(TokenKind::NoBody), Rule::NoBody),
+            (Begins::Token(TokenKind::LiteralBody), Rule::LiteralBody),
+            (Begins::Token(TokenKind::BodyOpen), Rule::Body),
         ],
         Part::BodyParts => &[
-            (Begins::Token(Kind::BodyClose), Rule::BodyEnd),
-            (Begins::Token(Kind::BodyText), Rule::BodyText),
-            (Begins::Token(Kind::BodyEscape), Rule::BodyEscape),
-            (Begins::Token(Kind::QuotedBrace), Rule::BodyBraced),
+            (Begins::Token(TokenKind::BodyClose), Rule::BodyEnd),
+            (Begins::Token(TokenKind::BodyText), Rule::BodyText),
+            (Begins::Token(TokenKind::BodyEscape), Rule::BodyEscape),
+            (Begins::Token(TokenKind::QuotedBrace), Rule::BodyBraced),
             (Begins::Expansion, Rule::BodyExpansion),
         ],
         Part::AndOr => &[(Begins::Command, Rule::AndOr)],
         Part::AndOrRest => &[
-            (Begins::Token(Kind::AndIf), Rule::AndThen),
-            (Begins::Token(Kind::OrIf), Rule::OrElse),
+            (Begins::Token(TokenKind::AndIf), Rule::AndThen),
+            (Begins::Token(TokenKind::OrIf), Rule::OrElse),
             (Begins::Anything, Rule::Alone),
         ],
         Part::Linebreak => &[
-            (Begins::Token(Kind::Newline), Rule::Break),
+            (Begins::Token(TokenKind::Newline), Rule::Break),
             (Begins::Anything, Rule::NoBreak),
         ],
         Part::Pipeline => &[
-            (Begins::Token(Kind::Bang), Rule::Negated),
+            (Begins::Token(TokenKind::Bang), Rule::Negated),
             (Begins::Stage, Rule::Plain),
         ],
         Part::PipeRest => &[
-            (Begins::Token(Kind::Pipe), Rule::Piped),
+            (Begins::Token(TokenKind::Pipe), Rule::Piped),
             (Begins::Anything, Rule::Unpiped),
         ],
         Part::Command => &[
             (Begins::Compound, Rule::Compound),
-            (Begins::Token(Kind::FunctionName), Rule::Function),
-            (Begins::Token(Kind::Assignment), Rule::Assigned),
+            (Begins::Token(TokenKind::FunctionName), Rule::Function),
+            (Begins::Token(TokenKind::Assignment), Rule::Assigned),
             (Begins::Redirect, Rule::Redirected),
-            (Begins::Token(Kind::CommandText), Rule::Named),
+            (Begins::Token(TokenKind::CommandText), Rule::Named),
             (Begins::Quoted, Rule::QuotedName),
         ],
         Part::Compound => &[
-            (Begins::Token(Kind::LeftBrace), Rule::Group),
-            (Begins::Token(Kind::LeftParen), Rule::Subshell),
-            (Begins::Token(Kind::If), Rule::If),
-            (Begins::Token(Kind::While), Rule::While),
-            (Begins::Token(Kind::Until), Rule::Until),
-            (Begins::Token(Kind::For), Rule::For),
-            (Begins::Token(Kind::Case), Rule::Case),
+            (Begins::Token(TokenKind::LeftBrace), Rule::Group),
+            (Begins::Token(TokenKind::LeftParen), Rule::Subshell),
+            (Begins::Token(TokenKind::If), Rule::If),
+            (Begins::Token(TokenKind::While), Rule::While),
+            (Begins::Token(TokenKind::Until), Rule::Until),
+            (Begins::Token(TokenKind::For), Rule::For),
+            (Begins::Token(TokenKind::Case), Rule::Case),
         ],
         Part::IfRest => &[
-            (Begins::Token(Kind::Fi), Rule::Fi),
-            (Begins::Token(Kind::Else), Rule::Else),
-            (Begins::Token(Kind::Elif), Rule::Elif),
+            (Begins::Token(TokenKind::Fi), Rule::Fi),
+            (Begins::Token(TokenKind::Else), Rule::Else),
+            (Begins::Token(TokenKind::Elif), Rule::Elif),
         ],
         Part::ForIn => &[
-            (Begins::Token(Kind::Semi), Rule::ForSemi),
-            (Begins::Token(Kind::Newline), Rule::ForLine),
-            (Begins::Token(Kind::In), Rule::ForWords),
+            (Begins::Token(TokenKind::Semi), Rule::ForSemi),
+            (Begins::Token(TokenKind::Newline), Rule::ForLine),
+            (Begins::Token(TokenKind::In), Rule::ForWords),
             (Begins::Anything, Rule::ForParameters),
         ],
         Part::ForInLater => &[
-            (Begins::Token(Kind::Newline), Rule::LaterLine),
-            (Begins::Token(Kind::In), Rule::LaterWords),
+            (Begins::Token(TokenKind::Newline), Rule::LaterLine),
+            (Begins::Token(TokenKind::In), Rule::LaterWords),
             (Begins::Anything, Rule::LaterParameters),
         ],
         Part::ForWords => &[
-            (Begins::Token(Kind::Semi), Rule::WordsSemi),
-            (Begins::Token(Kind::Newline), Rule::WordsLine),
+            (Begins::Token(TokenKind::Semi), Rule::WordsSemi),
+            (Begins::Token(TokenKind::Newline), Rule::WordsLine),
             (Begins::Word, Rule::WordsMore),
         ],
         Part::CaseIn => &[
-            (Begins::Token(Kind::CaseIn), Rule::CaseIn),
-            (Begins::Token(Kind::Newline), Rule::CaseLine),
+            (Begins::Token(TokenKind::CaseIn), Rule::CaseIn),
+            (Begins::Token(TokenKind::Newline), Rule::CaseLine),
         ],
         Part::Items => &[
-            (Begins::Token(Kind::Esac), Rule::Esac),
-            (Begins::Token(Kind::Newline), Rule::ItemLine),
-            (Begins::Token(Kind::PatternOpen), Rule::ItemOpen),
-            (Begins::Token(Kind::PatternText), Rule::ItemText),
+            (Begins::Token(TokenKind::Esac), Rule::Esac),
+            (Begins::Token(TokenKind::Newline), Rule::ItemLine),
+            (Begins::Token(TokenKind::PatternOpen), Rule::ItemOpen),
+            (Begins::Token(TokenKind::PatternText), Rule::ItemText),
             (Begins::Quoted, Rule::ItemQuoted),
         ],
         Part::PatternRest => &[
-            (Begins::Token(Kind::PatternClose), Rule::PatternEnd),
-            (Begins::Token(Kind::PatternBar), Rule::PatternMore),
+            (Begins::Token(TokenKind::PatternClose), Rule::PatternEnd),
+            (Begins::Token(TokenKind::PatternBar), Rule::PatternMore),
         ],
         Part::ItemEnd => &[
-            (Begins::Token(Kind::Esac), Rule::ItemEsac),
-            (Begins::Token(Kind::DoubleSemi), Rule::ItemNext),
+            (Begins::Token(TokenKind::Esac), Rule::ItemEsac),
+            (Begins::Token(TokenKind::DoubleSemi), Rule::ItemNext),
         ],
         Part::Redirects => &[
             (Begins::Redirect, Rule::Redirects),
             (Begins::Anything, Rule::NoRedirects),
         ],
         Part::Redirect => &[
-            (Begins::Token(Kind::Redirect), Rule::ToFile),
-            (Begins::Token(Kind::Here), Rule::Here),
+            (Begins::Token(TokenKind::Redirect), Rule::ToFile),
+            (Begins::Token(TokenKind::Here), Rule::Here),
         ],
         Part::Prefix => &[
-            (Begins::Token(Kind::Assignment), Rule::MoreAssigned),
+            (Begins::Token(TokenKind::Assignment), Rule::MoreAssigned),
             (Begins::Redirect, Rule::MoreRedirected),
-            (Begins::Token(Kind::PrefixText), Rule::CommandText),
+            (Begins::Token(TokenKind::PrefixText), Rule::CommandText),
             (Begins::Quoted, Rule::CommandQuoted),
             (Begins::Anything, Rule::NoCommand),
         ],
@@ -182,81 +182,99 @@ fn choices(part: Part) -> &'static [(Begins, Rule)]
             (Begins::Anything, Rule::NoArguments),
         ],
         Part::Word => &[
-            (Begins::Token(Kind::WordText), Rule::WordText),
+            (Begins::Token(TokenKind::WordText), Rule::WordText),
             (Begins::Quoted, Rule::WordQuoted),
         ],
         Part::Value => &[
-            (Begins::Token(Kind::WordEnd), Rule::NoValue),
-            (Begins::Token(Kind::ValueText), Rule::ValueText),
+            (Begins::Token(TokenKind::WordEnd), Rule::NoValue),
+            (Begins::Token(TokenKind::ValueText), Rule::ValueText),
             (Begins::Quoted, Rule::ValueQuoted),
         ],
         Part::Parts => &[
-            (Begins::Token(Kind::WordEnd), Rule::EndOfWord),
-            (Begins::Token(Kind::Text), Rule::Text),
+            (Begins::Token(TokenKind::WordEnd), Rule::EndOfWord),
+            (Begins::Token(TokenKind::Text), Rule::Text),
             (Begins::Quoted, Rule::Quoted),
         ],
         Part::Quoted => &[
-            (Begins::Token(Kind::Escape), Rule::Escape),
-            (Begins::Token(Kind::Single), Rule::Single),
-            (Begins::Token(Kind::QuoteOpen), Rule::Double),
-            (Begins::Token(Kind::Brace), Rule::Braces),
+            (Begins::Token(TokenKind::Escape), Rule::Escape),
+            (Begins::Token(TokenKind::Single), Rule::Single),
+            (Begins::Token(TokenKind::QuoteOpen), Rule::Double),
+            (Begins::Token(TokenKind::Brace), Rule::Braces),
             (Begins::Expansion, Rule::Expands),
         ],
         Part::Expansion => &[
-            (Begins::Token(Kind::Parameter), Rule::Parameter),
-            (Begins::Token(Kind::Braced), Rule::BracedParameter),
-            (Begins::Token(Kind::Substitution), Rule::Substitution),
-            (Begins::Token(Kind::Dollar), Rule::Dollar),
-            (Begins::Token(Kind::PatternBrace), Rule::PatternBraces),
-            (Begins::Token(Kind::Arithmetic), Rule::Arithmetic),
+            (Begins::Token(TokenKind::Parameter), Rule::Parameter),
+            (Begins::Token(TokenKind::Braced), Rule::BracedParameter),
+            (Begins::Token(TokenKind::Substitution), Rule::Substitution),
+            (Begins::Token(TokenKind::Dollar), Rule::Dollar),
+            (Begins::Token(TokenKind::PatternBrace), Rule::PatternBraces),
+            (Begins::Token(TokenKind::Arithmetic), Rule::Arithmetic),
         ],
         Part::QuotedParts => &[
-            (Begins::Token(Kind::QuoteClose), Rule::QuoteEnd),
-            (Begins::Token(Kind::QuotedText), Rule::QuotedText),
-            (Begins::Token(Kind::QuotedEscape), Rule::QuotedEscape),
-            (Begins::Token(Kind::QuotedBrace), Rule::QuotedBraces),
+            (Begins::Token(TokenKind::QuoteClose), Rule::QuoteEnd),
+            (Begins::Token(TokenKind::QuotedText), Rule::QuotedText),
+            (Begins::Token(TokenKind::QuotedEscape), Rule::QuotedEscape),
+            (Begins::Token(TokenKind::QuotedBrace), Rule::QuotedBraces),
             (Begins::Expansion, Rule::QuotedExpansion),
         ],
         Part::BraceStart => &[
-            (Begins::Token(Kind::BraceClose), Rule::BraceEmpty),
-            (Begins::Token(Kind::BraceStartText), Rule::BraceStartText),
+            (Begins::Token(TokenKind::BraceClose), Rule::BraceEmpty),
+            (
+                Begins::Token(TokenKind::BraceStartText),
+                Rule::BraceStartText,
+            ),
             (Begins::Quoted, Rule::BraceStartQuoted),
         ],
         Part::BraceParts => &[
-            (Begins::Token(Kind::BraceClose), Rule::BraceEnd),
-            (Begins::Token(Kind::BraceText), Rule::BraceText),
+            (Begins::Token(TokenKind::BraceClose), Rule::BraceEnd),
+            (Begins::Token(TokenKind::BraceText), Rule::BraceText),
             (Begins::Quoted, Rule::BraceQuoted),
         ],
         Part::QuotedBraceParts => &[
-            (Begins::Token(Kind::BraceClose), Rule::QuotedBraceEnd),
-            (Begins::Token(Kind::QuotedBraceText), Rule::QuotedBraceText),
+            (Begins::Token(TokenKind::BraceClose), Rule::QuotedBraceEnd),
             (
-                Begins::Token(Kind::QuotedBraceEscape),
+                Begins::Token(TokenKind::QuotedBraceText),
+                Rule::QuotedBraceText,
+            ),
+            (
+                Begins::Token(TokenKind::QuotedBraceEscape),
                 Rule::QuotedBraceEscape,
             ),
-            (Begins::Token(Kind::QuoteOpen), Rule::InnerQuoted),
-            (Begins::Token(Kind::QuotedBrace), Rule::InnerBraces),
+            (Begins::Token(TokenKind::QuoteOpen), Rule::InnerQuoted),
+            (Begins::Token(TokenKind::QuotedBrace), Rule::InnerBraces),
             (Begins::Expansion, Rule::InnerExpansion),
         ],
         Part::Arithmetic => &[
-            (Begins::Token(Kind::ArithmeticClose), Rule::ArithmeticEnd),
-            (Begins::Token(Kind::ArithmeticText), Rule::ArithmeticText),
             (
-                Begins::Token(Kind::ArithmeticEscape),
+                Begins::Token(TokenKind::ArithmeticClose),
+                Rule::ArithmeticEnd,
+            ),
+            (
+                Begins::Token(TokenKind::ArithmeticText),
+                Rule::ArithmeticText,
+            ),
+            (
+                Begins::Token(TokenKind::ArithmeticEscape),
                 Rule::ArithmeticEscape,
             ),
-            (Begins::Token(Kind::ParenthesisOpen), Rule::ParenthesisOpen),
             (
-                Begins::Token(Kind::ParenthesisClose),
+                Begins::Token(TokenKind::ParenthesisOpen),
+                Rule::ParenthesisOpen,
+            ),
+            (
+                Begins::Token(TokenKind::ParenthesisClose),
                 Rule::ParenthesisClose,
             ),
-            (Begins::Token(Kind::QuotedBrace), Rule::ArithmeticBraces),
+            (
+                Begins::Token(TokenKind::QuotedBrace),
+                Rule::ArithmeticBraces,
+            ),
             (Begins::Expansion, Rule::ArithmeticExpansion),
         ],
     }
 }
 
-fn first_met(choices: &[(Begins, Rule)], kind: Kind) -> Option<Rule>
+fn first_met(choices: &[(Begins, Rule)], kind: TokenKind) -> Option<Rule>
     ensures { option_map rule_named result ≡ first_met_lem choices.now kind }
 {
     for choice in choices {
@@ -268,7 +286,7 @@ fn first_met(choices: &[(Begins, Rule)], kind: Kind) -> Option<Rule>
 }
 
 /// The rule that a token of a kind chooses at a part, where it chooses one.
-pub fn choose(part: Part, kind: Kind) -> Option<Rule>
+pub fn choose(part: Part, kind: TokenKind) -> Option<Rule>
     ensures { option_map rule_named result ≡ choose_lem (part_named part) kind }
 {
     first_met(choices(part), kind)

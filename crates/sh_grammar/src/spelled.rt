@@ -5,12 +5,12 @@ ghost use Rattle.sh_grammar.specs.Named.{rule_named, symbol_named};
 
 use crate::part::Part;
 use crate::rule::Rule;
-use sh_rules::Kind;
+use sh_rules::TokenKind;
 
 /// In the text of a rule: a token of a kind, or a part of the syntax.
 #[derive(Clone, Copy)]
 pub enum Symbol {
-    Want(Kind),
+    Want(TokenKind),
     Do(Part),
 }
 
@@ -28,24 +28,33 @@ pub fn spelling(rule: Rule) -> &'static [Symbol]
         Rule::Listed => &[Symbol::Do(Part::AndOr), Symbol::Do(Part::ListRest)],
         // list_rest
         Rule::Last => &[],
-        Rule::SemiList => &[Symbol::Want(Kind::Semi), Symbol::Do(Part::OptList)],
+        Rule::SemiList => &[Symbol::Want(TokenKind::Semi), Symbol::Do(Part::OptList)],
         Rule::LineList => &[Symbol::Do(Part::Newline), Symbol::Do(Part::OptList)],
         // newline
-        Rule::Line => &[Symbol::Want(Kind::Newline), Symbol::Do(Part::Bodies)],
+        Rule::Line => &[Symbol::Want(TokenKind::Newline), Symbol::Do(Part::Bodies)],
         // bodies
-        Rule::NoBody => &[Symbol::Want(Kind::NoBody)],
-        Rule::LiteralBody => &[Symbol::Want(Kind::LiteralBody), Symbol::Do(Part::Bodies)],
+        Rule::NoBody => &[Symbol::Want(TokenKind::NoBody)],
+        Rule::LiteralBody => &[
+            Symbol::Want(TokenKind::LiteralBody),
+            Symbol::Do(Part::Bodies),
+        ],
         Rule::Body => &[
-            Symbol::Want(Kind::BodyOpen),
+            Symbol::Want(TokenKind::BodyOpen),
             Symbol::Do(Part::BodyParts),
             Symbol::Do(Part::Bodies),
         ],
         // body_parts
-        Rule::BodyEnd => &[Symbol::Want(Kind::BodyClose)],
-        Rule::BodyText => &[Symbol::Want(Kind::BodyText), Symbol::Do(Part::BodyParts)],
-        Rule::BodyEscape => &[Symbol::Want(Kind::BodyEscape), Symbol::Do(Part::BodyParts)],
+        Rule::BodyEnd => &[Symbol::Want(TokenKind::BodyClose)],
+        Rule::BodyText => &[
+            Symbol::Want(TokenKind::BodyText),
+            Symbol::Do(Part::BodyParts),
+        ],
+        Rule::BodyEscape => &[
+            Symbol::Want(TokenKind::BodyEscape),
+            Symbol::Do(Part::BodyParts),
+        ],
         Rule::BodyBraced => &[
-            Symbol::Want(Kind::QuotedBrace),
+            Symbol::Want(TokenKind::QuotedBrace),
             Symbol::Do(Part::QuotedBraceParts),
             Symbol::Do(Part::BodyParts),
         ],
@@ -55,13 +64,13 @@ pub fn spelling(rule: Rule) -> &'static [Symbol]
         // and_or_rest
         Rule::Alone => &[],
         Rule::AndThen => &[
-            Symbol::Want(Kind::AndIf),
+            Symbol::Want(TokenKind::AndIf),
             Symbol::Do(Part::Linebreak),
             Symbol::Do(Part::Pipeline),
             Symbol::Do(Part::AndOrRest),
         ],
         Rule::OrElse => &[
-            Symbol::Want(Kind::OrIf),
+            Symbol::Want(TokenKind::OrIf),
             Symbol::Do(Part::Linebreak),
             Symbol::Do(Part::Pipeline),
             Symbol::Do(Part::AndOrRest),
@@ -71,7 +80,7 @@ pub fn spelling(rule: Rule) -> &'static [Symbol]
         Rule::Break => &[Symbol::Do(Part::Newline), Symbol::Do(Part::Linebreak)],
         // pipeline
         Rule::Negated => &[
-            Symbol::Want(Kind::Bang),
+            Symbol::Want(TokenKind::Bang),
             Symbol::Do(Part::Command),
             Symbol::Do(Part::PipeRest),
         ],
@@ -79,7 +88,7 @@ pub fn spelling(rule: Rule) -> &'static [Symbol]
         // pipe_rest
         Rule::Unpiped => &[],
         Rule::Piped => &[
-            Symbol::Want(Kind::Pipe),
+            Symbol::Want(TokenKind::Pipe),
             Symbol::Do(Part::Linebreak),
             Symbol::Do(Part::Command),
             Symbol::Do(Part::PipeRest),
@@ -87,21 +96,21 @@ pub fn spelling(rule: Rule) -> &'static [Symbol]
         // command
         Rule::Compound => &[Symbol::Do(Part::Compound), Symbol::Do(Part::Redirects)],
         Rule::Function => &[
-            Symbol::Want(Kind::FunctionName),
-            Symbol::Want(Kind::FunctionOpen),
-            Symbol::Want(Kind::FunctionClose),
+            Symbol::Want(TokenKind::FunctionName),
+            Symbol::Want(TokenKind::FunctionOpen),
+            Symbol::Want(TokenKind::FunctionClose),
             Symbol::Do(Part::Linebreak),
             Symbol::Do(Part::Compound),
             Symbol::Do(Part::Redirects),
         ],
         Rule::Assigned => &[
-            Symbol::Want(Kind::Assignment),
+            Symbol::Want(TokenKind::Assignment),
             Symbol::Do(Part::Value),
             Symbol::Do(Part::Prefix),
         ],
         Rule::Redirected => &[Symbol::Do(Part::Redirect), Symbol::Do(Part::Prefix)],
         Rule::Named => &[
-            Symbol::Want(Kind::CommandText),
+            Symbol::Want(TokenKind::CommandText),
             Symbol::Do(Part::Parts),
             Symbol::Do(Part::Arguments),
         ],
@@ -112,92 +121,92 @@ pub fn spelling(rule: Rule) -> &'static [Symbol]
         ],
         // compound
         Rule::Group => &[
-            Symbol::Want(Kind::LeftBrace),
+            Symbol::Want(TokenKind::LeftBrace),
             Symbol::Do(Part::List),
-            Symbol::Want(Kind::RightBrace),
+            Symbol::Want(TokenKind::RightBrace),
         ],
         Rule::Subshell => &[
-            Symbol::Want(Kind::LeftParen),
+            Symbol::Want(TokenKind::LeftParen),
             Symbol::Do(Part::List),
-            Symbol::Want(Kind::RightParen),
+            Symbol::Want(TokenKind::RightParen),
         ],
         Rule::If => &[
-            Symbol::Want(Kind::If),
+            Symbol::Want(TokenKind::If),
             Symbol::Do(Part::List),
-            Symbol::Want(Kind::Then),
+            Symbol::Want(TokenKind::Then),
             Symbol::Do(Part::List),
             Symbol::Do(Part::IfRest),
         ],
         Rule::While => &[
-            Symbol::Want(Kind::While),
+            Symbol::Want(TokenKind::While),
             Symbol::Do(Part::List),
-            Symbol::Want(Kind::Do),
+            Symbol::Want(TokenKind::Do),
             Symbol::Do(Part::List),
-            Symbol::Want(Kind::Done),
+            Symbol::Want(TokenKind::Done),
         ],
         Rule::Until => &[
-            Symbol::Want(Kind::Until),
+            Symbol::Want(TokenKind::Until),
             Symbol::Do(Part::List),
-            Symbol::Want(Kind::Do),
+            Symbol::Want(TokenKind::Do),
             Symbol::Do(Part::List),
-            Symbol::Want(Kind::Done),
+            Symbol::Want(TokenKind::Done),
         ],
         Rule::For => &[
-            Symbol::Want(Kind::For),
-            Symbol::Want(Kind::Name),
+            Symbol::Want(TokenKind::For),
+            Symbol::Want(TokenKind::Name),
             Symbol::Do(Part::ForIn),
-            Symbol::Want(Kind::Do),
+            Symbol::Want(TokenKind::Do),
             Symbol::Do(Part::List),
-            Symbol::Want(Kind::Done),
+            Symbol::Want(TokenKind::Done),
         ],
         Rule::Case => &[
-            Symbol::Want(Kind::Case),
+            Symbol::Want(TokenKind::Case),
             Symbol::Do(Part::Word),
             Symbol::Do(Part::CaseIn),
             Symbol::Do(Part::Items),
         ],
         // if_rest
-        Rule::Fi => &[Symbol::Want(Kind::Fi)],
+        Rule::Fi => &[Symbol::Want(TokenKind::Fi)],
         Rule::Else => &[
-            Symbol::Want(Kind::Else),
+            Symbol::Want(TokenKind::Else),
             Symbol::Do(Part::List),
-            Symbol::Want(Kind::Fi),
+            Symbol::Want(TokenKind::Fi),
         ],
         Rule::Elif => &[
-            Symbol::Want(Kind::Elif),
+            Symbol::Want(TokenKind::Elif),
             Symbol::Do(Part::List),
-            Symbol::Want(Kind::Then),
+            Symbol::Want(TokenKind::Then),
             Symbol::Do(Part::List),
             Symbol::Do(Part::IfRest),
         ],
         // for_in
         Rule::ForParameters => &[],
-        Rule::ForSemi => &[Symbol::Want(Kind::Semi), Symbol::Do(Part::Linebreak)],
+        Rule::ForSemi => &[Symbol::Want(TokenKind::Semi), Symbol::Do(Part::Linebreak)],
         Rule::ForLine => &[Symbol::Do(Part::Newline), Symbol::Do(Part::ForInLater)],
-        Rule::ForWords => &[Symbol::Want(Kind::In), Symbol::Do(Part::ForWords)],
+        Rule::ForWords => &[Symbol::Want(TokenKind::In), Symbol::Do(Part::ForWords)],
         // for_in_later
         Rule::LaterParameters => &[],
         Rule::LaterLine => &[Symbol::Do(Part::Newline), Symbol::Do(Part::ForInLater)],
-        Rule::LaterWords => &[Symbol::Want(Kind::In), Symbol::Do(Part::ForWords)],
+        Rule::LaterWords => &[Symbol::Want(TokenKind::In), Symbol::Do(Part::ForWords)],
         // for_words
-        Rule::WordsSemi => &[Symbol::Want(Kind::Semi), Symbol::Do(Part::Linebreak)],
+        Rule::WordsSemi => &[Symbol::Want(TokenKind::Semi), Symbol::Do(Part::Linebreak)],
         Rule::WordsLine => &[Symbol::Do(Part::Newline), Symbol::Do(Part::Linebreak)],
         Rule::WordsMore => &[Symbol::Do(Part::Word), Symbol::Do(Part::ForWords)],
         // case_in
-        Rule::CaseIn => &[Symbol::Want(Kind::CaseIn)],
+        Rule::CaseIn => &[Symbol::Want(TokenKind::CaseIn)],
         Rule::CaseLine => &[Symbol::Do(Part::Newline), Symbol::Do(Part::CaseIn)],
         // items
-        Rule::Esac => &[Symbol::Want(Kind::Esac)],
+        Rule::Esac => &[Symbol::Want(TokenKind::Esac)],
         Rule::ItemLine => &[Symbol::Do(Part::Newline), Symbol::Do(Part::Items)],
         Rule::ItemOpen => &[
-            Symbol::Want(Kind::PatternOpen),
+            Symbol::Want(TokenKind::PatternOpen),
             Symbol::Do(Part::Word),
             Symbol::Do(Part::PatternRest),
             Symbol::Do(Part::OptList),
             Symbol::Do(Part::ItemEnd),
         ],
         Rule::ItemText => &[
-            Symbol::Want(Kind::PatternText),
+            Symbol::Want(TokenKind::PatternText),
             Symbol::Do(Part::Parts),
             Symbol::Do(Part::PatternRest),
             Symbol::Do(Part::OptList),
@@ -211,31 +220,34 @@ pub fn spelling(rule: Rule) -> &'static [Symbol]
             Symbol::Do(Part::ItemEnd),
         ],
         // pattern_rest
-        Rule::PatternEnd => &[Symbol::Want(Kind::PatternClose)],
+        Rule::PatternEnd => &[Symbol::Want(TokenKind::PatternClose)],
         Rule::PatternMore => &[
-            Symbol::Want(Kind::PatternBar),
+            Symbol::Want(TokenKind::PatternBar),
             Symbol::Do(Part::Word),
             Symbol::Do(Part::PatternRest),
         ],
         // item_end
-        Rule::ItemEsac => &[Symbol::Want(Kind::Esac)],
-        Rule::ItemNext => &[Symbol::Want(Kind::DoubleSemi), Symbol::Do(Part::Items)],
+        Rule::ItemEsac => &[Symbol::Want(TokenKind::Esac)],
+        Rule::ItemNext => &[Symbol::Want(TokenKind::DoubleSemi), Symbol::Do(Part::Items)],
         // redirects
         Rule::NoRedirects => &[],
         Rule::Redirects => &[Symbol::Do(Part::Redirect), Symbol::Do(Part::Redirects)],
         // redirect
-        Rule::ToFile => &[Symbol::Want(Kind::Redirect), Symbol::Do(Part::Word)],
-        Rule::Here => &[Symbol::Want(Kind::Here), Symbol::Want(Kind::Delimiter)],
+        Rule::ToFile => &[Symbol::Want(TokenKind::Redirect), Symbol::Do(Part::Word)],
+        Rule::Here => &[
+            Symbol::Want(TokenKind::Here),
+            Symbol::Want(TokenKind::Delimiter),
+        ],
         // prefix
         Rule::NoCommand => &[],
         Rule::MoreAssigned => &[
-            Symbol::Want(Kind::Assignment),
+            Symbol::Want(TokenKind::Assignment),
             Symbol::Do(Part::Value),
             Symbol::Do(Part::Prefix),
         ],
         Rule::MoreRedirected => &[Symbol::Do(Part::Redirect), Symbol::Do(Part::Prefix)],
         Rule::CommandText => &[
-            Symbol::Want(Kind::PrefixText),
+            Symbol::Want(TokenKind::PrefixText),
             Symbol::Do(Part::Parts),
             Symbol::Do(Part::Arguments),
         ],
@@ -249,80 +261,89 @@ pub fn spelling(rule: Rule) -> &'static [Symbol]
         Rule::ArgumentRedirect => &[Symbol::Do(Part::Redirect), Symbol::Do(Part::Arguments)],
         Rule::Argument => &[Symbol::Do(Part::Word), Symbol::Do(Part::Arguments)],
         // word
-        Rule::WordText => &[Symbol::Want(Kind::WordText), Symbol::Do(Part::Parts)],
+        Rule::WordText => &[Symbol::Want(TokenKind::WordText), Symbol::Do(Part::Parts)],
         Rule::WordQuoted => &[Symbol::Do(Part::Quoted), Symbol::Do(Part::Parts)],
         // value
-        Rule::NoValue => &[Symbol::Want(Kind::WordEnd)],
-        Rule::ValueText => &[Symbol::Want(Kind::ValueText), Symbol::Do(Part::Parts)],
+        Rule::NoValue => &[Symbol::Want(TokenKind::WordEnd)],
+        Rule::ValueText => &[Symbol::Want(TokenKind::ValueText), Symbol::Do(Part::Parts)],
         Rule::ValueQuoted => &[Symbol::Do(Part::Quoted), Symbol::Do(Part::Parts)],
         // parts
-        Rule::EndOfWord => &[Symbol::Want(Kind::WordEnd)],
-        Rule::Text => &[Symbol::Want(Kind::Text), Symbol::Do(Part::Parts)],
+        Rule::EndOfWord => &[Symbol::Want(TokenKind::WordEnd)],
+        Rule::Text => &[Symbol::Want(TokenKind::Text), Symbol::Do(Part::Parts)],
         Rule::Quoted => &[Symbol::Do(Part::Quoted), Symbol::Do(Part::Parts)],
         // quoted
-        Rule::Escape => &[Symbol::Want(Kind::Escape)],
-        Rule::Single => &[Symbol::Want(Kind::Single)],
-        Rule::Double => &[Symbol::Want(Kind::QuoteOpen), Symbol::Do(Part::QuotedParts)],
-        Rule::Braces => &[Symbol::Want(Kind::Brace), Symbol::Do(Part::BraceStart)],
+        Rule::Escape => &[Symbol::Want(TokenKind::Escape)],
+        Rule::Single => &[Symbol::Want(TokenKind::Single)],
+        Rule::Double => &[
+            Symbol::Want(TokenKind::QuoteOpen),
+            Symbol::Do(Part::QuotedParts),
+        ],
+        Rule::Braces => &[Symbol::Want(TokenKind::Brace), Symbol::Do(Part::BraceStart)],
         Rule::Expands => &[Symbol::Do(Part::Expansion)],
         // expansion
-        Rule::Parameter => &[Symbol::Want(Kind::Parameter)],
-        Rule::BracedParameter => &[Symbol::Want(Kind::Braced)],
+        Rule::Parameter => &[Symbol::Want(TokenKind::Parameter)],
+        Rule::BracedParameter => &[Symbol::Want(TokenKind::Braced)],
         Rule::Substitution => &[
-            Symbol::Want(Kind::Substitution),
+            Symbol::Want(TokenKind::Substitution),
             Symbol::Do(Part::OptList),
-            Symbol::Want(Kind::RightParen),
+            Symbol::Want(TokenKind::RightParen),
         ],
-        Rule::Dollar => &[Symbol::Want(Kind::Dollar)],
+        Rule::Dollar => &[Symbol::Want(TokenKind::Dollar)],
         Rule::PatternBraces => &[
-            Symbol::Want(Kind::PatternBrace),
+            Symbol::Want(TokenKind::PatternBrace),
             Symbol::Do(Part::BraceStart),
         ],
-        Rule::Arithmetic => &[Symbol::Want(Kind::Arithmetic), Symbol::Do(Part::Arithmetic)],
+        Rule::Arithmetic => &[
+            Symbol::Want(TokenKind::Arithmetic),
+            Symbol::Do(Part::Arithmetic),
+        ],
         // quoted_parts
-        Rule::QuoteEnd => &[Symbol::Want(Kind::QuoteClose)],
+        Rule::QuoteEnd => &[Symbol::Want(TokenKind::QuoteClose)],
         Rule::QuotedText => &[
-            Symbol::Want(Kind::QuotedText),
+            Symbol::Want(TokenKind::QuotedText),
             Symbol::Do(Part::QuotedParts),
         ],
         Rule::QuotedEscape => &[
-            Symbol::Want(Kind::QuotedEscape),
+            Symbol::Want(TokenKind::QuotedEscape),
             Symbol::Do(Part::QuotedParts),
         ],
         Rule::QuotedBraces => &[
-            Symbol::Want(Kind::QuotedBrace),
+            Symbol::Want(TokenKind::QuotedBrace),
             Symbol::Do(Part::QuotedBraceParts),
             Symbol::Do(Part::QuotedParts),
         ],
         Rule::QuotedExpansion => &[Symbol::Do(Part::Expansion), Symbol::Do(Part::QuotedParts)],
         // brace_start
-        Rule::BraceEmpty => &[Symbol::Want(Kind::BraceClose)],
+        Rule::BraceEmpty => &[Symbol::Want(TokenKind::BraceClose)],
         Rule::BraceStartText => &[
-            Symbol::Want(Kind::BraceStartText),
+            Symbol::Want(TokenKind::BraceStartText),
             Symbol::Do(Part::BraceParts),
         ],
         Rule::BraceStartQuoted => &[Symbol::Do(Part::Quoted), Symbol::Do(Part::BraceParts)],
         // brace_parts
-        Rule::BraceEnd => &[Symbol::Want(Kind::BraceClose)],
-        Rule::BraceText => &[Symbol::Want(Kind::BraceText), Symbol::Do(Part::BraceParts)],
+        Rule::BraceEnd => &[Symbol::Want(TokenKind::BraceClose)],
+        Rule::BraceText => &[
+            Symbol::Want(TokenKind::BraceText),
+            Symbol::Do(Part::BraceParts),
+        ],
         Rule::BraceQuoted => &[Symbol::Do(Part::Quoted), Symbol::Do(Part::BraceParts)],
         // quoted_brace_parts
-        Rule::QuotedBraceEnd => &[Symbol::Want(Kind::BraceClose)],
+        Rule::QuotedBraceEnd => &[Symbol::Want(TokenKind::BraceClose)],
         Rule::QuotedBraceText => &[
-            Symbol::Want(Kind::QuotedBraceText),
+            Symbol::Want(TokenKind::QuotedBraceText),
             Symbol::Do(Part::QuotedBraceParts),
         ],
         Rule::QuotedBraceEscape => &[
-            Symbol::Want(Kind::QuotedBraceEscape),
+            Symbol::Want(TokenKind::QuotedBraceEscape),
             Symbol::Do(Part::QuotedBraceParts),
         ],
         Rule::InnerQuoted => &[
-            Symbol::Want(Kind::QuoteOpen),
+            Symbol::Want(TokenKind::QuoteOpen),
             Symbol::Do(Part::QuotedParts),
             Symbol::Do(Part::QuotedBraceParts),
         ],
         Rule::InnerBraces => &[
-            Symbol::Want(Kind::QuotedBrace),
+            Symbol::Want(TokenKind::QuotedBrace),
             Symbol::Do(Part::QuotedBraceParts),
             Symbol::Do(Part::QuotedBraceParts),
         ],
@@ -331,25 +352,25 @@ pub fn spelling(rule: Rule) -> &'static [Symbol]
             Symbol::Do(Part::QuotedBraceParts),
         ],
         // arithmetic
-        Rule::ArithmeticEnd => &[Symbol::Want(Kind::ArithmeticClose)],
+        Rule::ArithmeticEnd => &[Symbol::Want(TokenKind::ArithmeticClose)],
         Rule::ArithmeticText => &[
-            Symbol::Want(Kind::ArithmeticText),
+            Symbol::Want(TokenKind::ArithmeticText),
             Symbol::Do(Part::Arithmetic),
         ],
         Rule::ArithmeticEscape => &[
-            Symbol::Want(Kind::ArithmeticEscape),
+            Symbol::Want(TokenKind::ArithmeticEscape),
             Symbol::Do(Part::Arithmetic),
         ],
         Rule::ParenthesisOpen => &[
-            Symbol::Want(Kind::ParenthesisOpen),
+            Symbol::Want(TokenKind::ParenthesisOpen),
             Symbol::Do(Part::Arithmetic),
         ],
         Rule::ParenthesisClose => &[
-            Symbol::Want(Kind::ParenthesisClose),
+            Symbol::Want(TokenKind::ParenthesisClose),
             Symbol::Do(Part::Arithmetic),
         ],
         Rule::ArithmeticBraces => &[
-            Symbol::Want(Kind::QuotedBrace),
+            Symbol::Want(TokenKind::QuotedBrace),
             Symbol::Do(Part::QuotedBraceParts),
             Symbol::Do(Part::Arithmetic),
         ],

@@ -2,9 +2,9 @@
 use Rattle.std.proofs.Common.{◌≡◌, ◌≤◌, ℕ, ◌+◌, List, [], ◌∷◌, Bool, true, false, Some, None, refl, sym, ap, ◌∙◌, subst, ◌⊎◌, inl, inr, arith, drop, take, length}
 use Rattle.std.proofs.lemmas.List.{drop-drop}
 use Rattle.std.specs.Prelude.{◌==◌, if◌then◌else◌, Ok}
-use Rattle.sh_rules.specs.declared.kind.Kind.{Kind}
-use Rattle.sh_rules.specs.declared.kind.Mode.{Mode}
-use Rattle.sh_rules.specs.declared.kind.Mode.TheVariants as m
+use Rattle.sh_rules.specs.declared.token_kind.TokenKind.{TokenKind}
+use Rattle.sh_rules.specs.declared.token_kind.Mode.{Mode}
+use Rattle.sh_rules.specs.declared.token_kind.Mode.TheVariants as m
 use Rattle.sh_rules.specs.LookAhead.{number, member, all_kinds, either}
 use Rattle.sh_rules.proofs.Tables.{implies, implied, each, every}
 use Rattle.sh_token.specs.declared.front.Front.{Front}
@@ -56,7 +56,7 @@ not_true : (b : Bool) → not_so b ≡ true → b ≡ false
 not_true true h = cc
 not_true false h = refl
 
-byte_of : (m : Mode) → all_of (has_bytes m) fronts ≡ true → (p : Place) (j : Kind) (n : ℕ) → is_none (folded p.text) ≡ false → look m p ≡ Some (j, n) → 1 ≤ n
+byte_of : (m : Mode) → all_of (has_bytes m) fronts ≡ true → (p : Place) (j : TokenKind) (n : ℕ) → is_none (folded p.text) ≡ false → look m p ≡ Some (j, n) → 1 ≤ n
 unfolding look
 byte_of m h p j n some e = has_byte m p j n e (by (either_cases (is_at_end x) rest (all_at (has_bytes m) fronts (front_number x) x h (front_at x))))
   where
@@ -74,11 +74,11 @@ byte_of m h p j n some e = has_byte m p j n e (by (either_cases (is_at_end x) re
         (implied (member (number j) (kinds_by (recognizer m x))) (not_so (may_have_none j))
         (every (λ j. implies (member (number j) (kinds_by (recognizer m x))) (not_so (may_have_none j))) a j) (kind_of (recognizer m x) p j u.0 u.1))
 
-one_or : (x y : Look) (j : Kind) (n : ℕ) → or_else x y ≡ Some (j, n) → (x ≡ Some (j, n)) ⊎ (y ≡ Some (j, n))
+one_or : (x y : Look) (j : TokenKind) (n : ℕ) → or_else x y ≡ Some (j, n) → (x ≡ Some (j, n)) ⊎ (y ≡ Some (j, n))
 one_or None y j n e = inr e
 one_or (Some x) y j n e = inl e
 
-pub front_has_byte : (p : Place) (j : Kind) (n : ℕ) → is_none (folded p.text) ≡ false → front p ≡ Some (j, n) → 1 ≤ n
+pub front_has_byte : (p : Place) (j : TokenKind) (n : ℕ) → is_none (folded p.text) ≡ false → front p ≡ Some (j, n) → 1 ≤ n
 front_has_byte p j n h e = by (one_or (look m.CommandStart p) (look m.Argument p) j n e)
   where
     by : (look m.CommandStart p ≡ Some (j, n)) ⊎ (look m.Argument p ≡ Some (j, n)) → 1 ≤ n
@@ -90,7 +90,7 @@ pub left_at : (at : ℕ) (text : List ℕ) → (begin_at at text).text ≡ drop 
 left_at at text = drop-drop (blanks false (drop at text)) at text
 
 -- What is found in front is the next token: it is told, and the lexer stands behind it.
-pub token_told : (l : Tokens) (p : Place) (j : Kind) (n : ℕ) (token : Token) → p ≡ here l → is_none (folded p.text) ≡ false → Some (j, n) ≡ front p → n ≤ length p.text → p.at + length p.text ≡ length l.text → token.kind ≡ j → token.at ≡ p.at → token.text.now ≡ take n p.text → Tells l (record l { at = token.at + n }) (Ok (Some token))
+pub token_told : (l : Tokens) (p : Place) (j : TokenKind) (n : ℕ) (token : Token) → p ≡ here l → is_none (folded p.text) ≡ false → Some (j, n) ≡ front p → n ≤ length p.text → p.at + length p.text ≡ length l.text → token.kind ≡ j → token.at ≡ p.at → token.text.now ≡ take n p.text → Tells l (record l { at = token.at + n }) (Ok (Some token))
 unfolding Tells
 token_told l p j n token is some e fits whole kind at text =
     let some' : is_over l ≡ false = subst (λ p. is_none (folded p.text) ≡ false) is some in

@@ -1,8 +1,8 @@
 -- What taking a token comes to.
 use Rattle.std.specs.Prelude.{◌≡◌, ℕ, List, true, false, Result, Ok, Err}
-use Rattle.sh_rules.specs.declared.kind.Kind.{Kind}
-use Rattle.sh_lex.specs.declared.cursor.Stop.{Stop}
-use Rattle.sh_lex.specs.declared.cursor.Stop.TheVariants as stop
+use Rattle.sh_rules.specs.declared.token_kind.TokenKind.{TokenKind}
+use Rattle.sh_lex.specs.declared.cursor.TakeErr.{TakeErr}
+use Rattle.sh_lex.specs.declared.cursor.TakeErr.TheVariants as stop
 use Rattle.sh_lex.specs.declared.taken.Taken.{Taken}
 use Rattle.sh_token.specs.Effects.{effect_of}
 use Rattle.sh_token.specs.Places.{Place}
@@ -13,7 +13,7 @@ abbrev pub read_of : Taken → List ℕ
 read_of x = as_read x.raw x.tabs x.begins x.text.now
 
 -- A token of a kind and of so many bytes is taken, or opens a level too many, or memory ran out.
-unfoldable pub Takes : Kind → ℕ → Place → Place → Result Taken Stop → Type 0
+unfoldable pub Takes : TokenKind → ℕ → Place → Place → Result Taken TakeErr → Type 0
 Takes kind n p q (Ok taken) = (q ≡ after (effect_of kind) n p) × (over (token_of kind n p) p ≡ false) × (read_of taken ≡ (token_of kind n p).text)
 Takes kind n p q (Err stop.Deep) = (q ≡ p) × (over (token_of kind n p) p ≡ true)
 Takes kind n p q (Err stop.Memory) = Unit {0}

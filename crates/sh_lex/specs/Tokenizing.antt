@@ -1,6 +1,6 @@
 -- The tokens of a text, one after another, from any of its bytes on.
 use Rattle.std.specs.Prelude.{◌≡◌, ◌≤◌, ℕ, ◌+◌, List, take, drop, length, Result, Ok, Err, Option, Some, None, Bool, true, false}
-use Rattle.sh_rules.specs.declared.kind.Mode.TheVariants as m
+use Rattle.sh_rules.specs.declared.token_kind.Mode.TheVariants as m
 use Rattle.sh_lex.specs.declared.lexer.Token.{Token}
 use Rattle.sh_lex.specs.declared.lexer.LexErr.{LexErr}
 use Rattle.sh_lex.specs.declared.lexer.LexErr.TheVariants as err

@@ -5,7 +5,7 @@ ghost use Rattle.sh_token.specs.Expansions.{or_else as or_else_lem};
 ghost use Rattle.sh_token.specs.Commands as lem;
 
 use crate::operators::{numbered, redirect};
-use sh_rules::Kind;
+use sh_rules::TokenKind;
 use sh_token::brackets::text_look;
 use sh_token::bytes::{Class, is_end, is_letter};
 use sh_token::folded::{byte, run, run_on, skip};
@@ -13,7 +13,7 @@ use sh_token::place::Words;
 use sh_token::reserved::{is_word, opener};
 use sh_token::unread::Unread;
 
-type Look = Option<(Kind, usize)>;
+type Look = Option<(TokenKind, usize)>;
 
 fn or_else(first: Look, other: Look) -> Look
     ensures { result ≡ or_else_lem first other }
@@ -61,7 +61,7 @@ pub(crate) fn assignment(text: &[u8]) -> Look
     ensures { result ≡ lem.assignment (folded text.now) }
 {
     let n = run(Class::Name, text);
-    Some((Kind::Assignment, n + 1))
+    Some((TokenKind::Assignment, n + 1))
 }
 
 fn opens_parenthesis(text: &[u8]) -> bool
@@ -81,13 +81,13 @@ fn function_name(text: &[u8]) -> Look
 {
     let n = run_on(Class::Name, text);
     if is_letter(byte(text, 0)) && opens_behind(n, text) {
-        Some((Kind::FunctionName, n))
+        Some((TokenKind::FunctionName, n))
     } else {
         None
     }
 }
 
-pub(crate) fn text_of(kind: Kind, text: &Unread) -> Look
+pub(crate) fn text_of(kind: TokenKind, text: &Unread) -> Look
     ensures { result ≡ lem.text_of kind (folded text.now) }
 {
     text_look(Class::Plain, kind, text)
@@ -110,7 +110,7 @@ fn name_or_text(reserved: bool, text: &Unread) -> Look
     } else {
         or_else(
             function_name(text.bytes()),
-            text_of(Kind::CommandText, text),
+            text_of(TokenKind::CommandText, text),
         )
     }
 }
@@ -137,7 +137,7 @@ pub(crate) fn prefix_word(text: &Unread) -> Look
     if long_number(text.bytes()) {
         None
     } else {
-        text_of(Kind::PrefixText, text)
+        text_of(TokenKind::PrefixText, text)
     }
 }
 
@@ -149,9 +149,9 @@ pub(crate) fn argument_word(words: Words, text: &Unread) -> Look
     if long_number(bytes) {
         None
     } else if is_in(words, bytes) {
-        Some((Kind::In, 2))
+        Some((TokenKind::In, 2))
     } else {
-        text_of(Kind::WordText, text)
+        text_of(TokenKind::WordText, text)
     }
 }
 
@@ -159,7 +159,7 @@ pub(crate) fn case_in(text: &[u8]) -> Look
     ensures { result ≡ lem.case_in (folded text.now) }
 {
     if is_word(b"in", text) {
-        Some((Kind::CaseIn, 2))
+        Some((TokenKind::CaseIn, 2))
     } else {
         None
     }
@@ -170,7 +170,7 @@ pub(crate) fn name_look(text: &[u8]) -> Look
 {
     let n = run_on(Class::Name, text);
     if is_letter(byte(text, 0)) && is_end(byte(text, n)) {
-        Some((Kind::Name, n))
+        Some((TokenKind::Name, n))
     } else {
         None
     }

@@ -14,7 +14,7 @@ use crate::queue::Queue;
 use crate::table::tried;
 use crate::taken::Taken;
 use rk_base::NoMemory;
-use sh_rules::{Kind, Mode};
+use sh_rules::{Mode, TokenKind};
 use sh_token::blanks::past_blanks;
 use sh_token::brackets::before_symbol;
 use sh_token::effect::{Effect, effect_of, opens_level, takes_body};
@@ -27,20 +27,20 @@ use std::alloc::{AllocFailed, Global};
 
 /// Why no token is taken: memory ran out, or it opens one level too many.
 #[derive(Clone, Copy)]
-pub enum Stop {
+pub enum TakeErr {
     Memory,
     Deep,
 }
 
-impl From<NoMemory> for Stop {
-    fn from(_: NoMemory) -> Stop {
-        Stop::Memory
+impl From<NoMemory> for TakeErr {
+    fn from(_: NoMemory) -> TakeErr {
+        TakeErr::Memory
     }
 }
 
-impl<T: Drop> From<AllocFailed<T>> for Stop {
-    fn from(_: AllocFailed<T>) -> Stop {
-        Stop::Memory
+impl<T: Drop> From<AllocFailed<T>> for TakeErr {
+    fn from(_: AllocFailed<T>) -> TakeErr {
+        TakeErr::Memory
     }
 }
 
@@ -80,7 +80,7 @@ impl<'a> Cursor<'a> {
 
     /// The kind of the token that stands here in a mode, and how many bytes of the text it has.
     #[tactic(auto, unfolding(sh_token::specs::Lexemes::look))]
-    pub fn look(&self, mode: Mode) -> Option<(Kind, usize)>
+    pub fn look(&self, mode: Mode) -> Option<(TokenKind, usize)>
         ensures found { result ≡ look_lem mode self.now }
         ensures within { IfSome result (λ x. x.1 ≤ length self.now.text) }
     {
@@ -123,18 +123,18 @@ impl<'a> Cursor<'a> {
 
     /// Takes the token of a kind that stands here, of so many bytes, as `look` told them.
     #[tactic(auto, unfolding(sh_token::specs::Steps::over, crate::specs::Takes::Takes))]
-    pub fn take(&mut self, kind: Kind, length: usize) -> Result<Taken<'a>, Stop>
+    pub fn take(&mut self, kind: TokenKind, length: usize) -> Result<Taken<'a>, TakeErr>
         requires { look_lem (mode_lem kind) self.old ≡ Some (kind, length) }
         ensures { Takes kind length self.old self.new result }
     {
         let effect = effect_of(kind);
         if is_over(effect, self.levels) {
-            return Err(Stop::Deep);
+            return Err(TakeErr::Deep);
         }
         let text = self.front_bytes(length);
         let tabs = self.drops(effect);
         match self.step(effect, length) {
-            Err(_) => Err(Stop::Memory),
+            Err(_) => Err(TakeErr::Memory),
             Ok(()) => {
                 self.remember(kind, text);
                 Ok(Taken {
@@ -148,7 +148,7 @@ impl<'a> Cursor<'a> {
     }
 
     // Behind a text with `[.` or `[=`, looks for how far no `]` closes a bracket, where it wasn't yet looked for.
-    fn remember(&mut self, kind: Kind, token: &[u8])
+    fn remember(&mut self, kind: TokenKind, token: &[u8])
         ensures { self.new ≡ self.old }
     {
         if let Some(class) = text_class(kind) {

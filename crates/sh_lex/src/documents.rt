@@ -4,7 +4,7 @@ ghost use Rattle.sh_token.specs.declared.effect.Effect.TheVariants as e;
 ghost use Rattle.sh_token.specs.Folded.{folded};
 ghost use Rattle.sh_token.specs.Steps as lem;
 
-use crate::cursor::Stop;
+use crate::cursor::TakeErr;
 use crate::place::{Cursor, Outer};
 use crate::queue::Queue;
 use sh_token::body::line;
@@ -28,7 +28,7 @@ impl<'a> Cursor<'a> {
     }
 
     #[tactic(auto, unfolding(sh_token::specs::Steps::after))]
-    pub(crate) fn delimits(&mut self, n: usize) -> Result<(), Stop>
+    pub(crate) fn delimits(&mut self, n: usize) -> Result<(), TakeErr>
         requires within { n ≤ length self.old.text }
         ensures { IfOk result (λ _. self.new ≡ lem.after e.Delimits n self.old) }
     {
@@ -104,7 +104,7 @@ impl<'a> Cursor<'a> {
     }
 
     // What stands around a body is put aside: where one stands, and what is open there.
-    fn put_aside(&mut self) -> Result<(), Stop>
+    fn put_aside(&mut self) -> Result<(), TakeErr>
         ensures { IfOk result (λ _. self.new ≡ lem.put_aside self.old) }
     {
         let alloc = self.alloc;
@@ -127,7 +127,7 @@ impl<'a> Cursor<'a> {
         levels: usize,
         tabs: bool,
         n: usize,
-    ) -> Result<(), Stop>
+    ) -> Result<(), TakeErr>
         requires within { n ≤ length self.old.text }
         ensures { IfOk result (λ _. self.new ≡ lem.body_begun literal levels tabs n self.old) }
     {
@@ -146,7 +146,7 @@ impl<'a> Cursor<'a> {
     }
 
     #[tactic(auto, unfolding(sh_token::specs::Steps::after))]
-    pub(crate) fn opens_body(&mut self, n: usize) -> Result<(), Stop>
+    pub(crate) fn opens_body(&mut self, n: usize) -> Result<(), TakeErr>
         requires within { n ≤ length self.old.text }
         ensures { IfOk result (λ _. self.new ≡ lem.after e.OpensBody n self.old) }
     {

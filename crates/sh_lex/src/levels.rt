@@ -4,7 +4,7 @@ ghost use Rattle.sh_token.specs.declared.effect.Effect.TheVariants as e;
 ghost use Rattle.sh_token.specs.Places.{last_paren};
 ghost use Rattle.sh_token.specs.Steps as lem;
 
-use crate::cursor::Stop;
+use crate::cursor::TakeErr;
 use crate::place::Cursor;
 use sh_token::place::Words;
 
@@ -34,7 +34,7 @@ impl<'a> Cursor<'a> {
     }
 
     #[tactic(auto, unfolding(sh_token::specs::Steps::after))]
-    pub(crate) fn opens_paren(&mut self, n: usize) -> Result<(), Stop>
+    pub(crate) fn opens_paren(&mut self, n: usize) -> Result<(), TakeErr>
         requires within { n ≤ length self.old.text }
         requires room { self.old.levels < 64 }
         ensures { IfOk result (λ _. self.new ≡ lem.after e.OpensParen n self.old) }
@@ -93,7 +93,7 @@ impl<'a> Cursor<'a> {
     }
 
     #[tactic(auto, unfolding(sh_token::specs::Steps::after))]
-    pub(crate) fn substitutes(&mut self, n: usize) -> Result<(), Stop>
+    pub(crate) fn substitutes(&mut self, n: usize) -> Result<(), TakeErr>
         requires within { n ≤ length self.old.text }
         requires room { self.old.levels < 64 }
         ensures { IfOk result (λ _. self.new ≡ lem.after e.Substitutes n self.old) }
@@ -105,7 +105,7 @@ impl<'a> Cursor<'a> {
     }
 
     #[tactic(auto, unfolding(sh_token::specs::Steps::after))]
-    pub(crate) fn quotes(&mut self, n: usize) -> Result<(), Stop>
+    pub(crate) fn quotes(&mut self, n: usize) -> Result<(), TakeErr>
         requires within { n ≤ length self.old.text }
         ensures { IfOk result (λ _. self.new ≡ lem.after e.Quotes n self.old) }
     {
@@ -124,7 +124,7 @@ impl<'a> Cursor<'a> {
     }
 
     #[tactic(auto, unfolding(sh_token::specs::Steps::after))]
-    pub(crate) fn opens_braces(&mut self, n: usize) -> Result<(), Stop>
+    pub(crate) fn opens_braces(&mut self, n: usize) -> Result<(), TakeErr>
         requires within { n ≤ length self.old.text }
         requires room { self.old.levels < 64 }
         ensures { IfOk result (λ _. self.new ≡ lem.after e.OpensBraces n self.old) }
@@ -146,7 +146,7 @@ impl<'a> Cursor<'a> {
     }
 
     #[tactic(auto, unfolding(sh_token::specs::Steps::after))]
-    pub(crate) fn opens_arithmetic(&mut self, n: usize) -> Result<(), Stop>
+    pub(crate) fn opens_arithmetic(&mut self, n: usize) -> Result<(), TakeErr>
         requires within { n ≤ length self.old.text }
         requires room { self.old.levels < 64 }
         ensures { IfOk result (λ _. self.new ≡ lem.after e.OpensArithmetic n self.old) }
@@ -170,7 +170,7 @@ impl<'a> Cursor<'a> {
     }
 
     #[tactic(auto, unfolding(sh_token::specs::Steps::after))]
-    pub(crate) fn opens_parenthesis(&mut self, n: usize) -> Result<(), Stop>
+    pub(crate) fn opens_parenthesis(&mut self, n: usize) -> Result<(), TakeErr>
         requires within { n ≤ length self.old.text }
         ensures { IfOk result (λ _. self.new ≡ lem.after e.OpensParenthesis n self.old) }
     {

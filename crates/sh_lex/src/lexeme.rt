@@ -8,7 +8,7 @@ use crate::commands::{
 };
 use crate::operators::operator;
 use crate::queue::Queue;
-use sh_rules::Kind;
+use sh_rules::TokenKind;
 use sh_token::body::body;
 use sh_token::brackets::text_look;
 use sh_token::bytes::Class;
@@ -24,9 +24,9 @@ use sh_token::reserved::closer;
 use sh_token::unread::Unread;
 use sh_token::words::{backslash, is_quotable, is_quotable_in_body, is_quotable_in_braces};
 
-type Look = Option<(Kind, usize)>;
+type Look = Option<(TokenKind, usize)>;
 
-fn token_if(stands: bool, kind: Kind, n: usize) -> Look
+fn token_if(stands: bool, kind: TokenKind, n: usize) -> Look
     ensures { result ≡ lem.token_if stands kind n }
 {
     if stands { Some((kind, n)) } else { None }
@@ -37,7 +37,7 @@ fn delimiter_look(text: &[u8]) -> Look
 {
     let (count, ends) = walk(text);
     if ends && count > 0 {
-        Some((Kind::Delimiter, count))
+        Some((TokenKind::Delimiter, count))
     } else {
         None
     }
@@ -50,9 +50,9 @@ fn body_found(literal: bool, found: Option<usize>) -> Look
         None => None,
         Some(n) => {
             if literal {
-                Some((Kind::LiteralBody, n))
+                Some((TokenKind::LiteralBody, n))
             } else {
-                Some((Kind::BodyOpen, n))
+                Some((TokenKind::BodyOpen, n))
             }
         }
     }
@@ -68,7 +68,7 @@ fn bodies_look(awaited: &Queue, text: &[u8]) -> Look
     ensures { result ≡ lem.bodies_look awaited.now text.now }
 {
     match awaited.left() {
-        [] => Some((Kind::NoBody, 0)),
+        [] => Some((TokenKind::NoBody, 0)),
         [document, ..] => body_look(document, text),
     }
 }
@@ -82,18 +82,18 @@ fn operator_look(text: &[u8]) -> Look
 fn pattern_bar(text: &[u8]) -> Look
     ensures { result ≡ lem.pattern_bar (folded text.now) }
 {
-    token_if(byte(text, 1) != b'|', Kind::PatternBar, 1)
+    token_if(byte(text, 1) != b'|', TokenKind::PatternBar, 1)
 }
 
 fn closing(nested: bool, next: u8) -> Look
     ensures { result ≡ lem.closing nested next }
 {
     if nested {
-        Some((Kind::ParenthesisClose, 1))
+        Some((TokenKind::ParenthesisClose, 1))
     } else if next == b')' {
-        Some((Kind::ArithmeticClose, 2))
+        Some((TokenKind::ArithmeticClose, 2))
     } else {
-        Some((Kind::ArithmeticText, 1))
+        Some((TokenKind::ArithmeticText, 1))
     }
 }
 
@@ -113,65 +113,79 @@ fn recognized(
     let bytes = text.bytes();
     match recognizer {
         Recognizer::Nothing => None,
-        Recognizer::AtEnd => token_if(whole, Kind::End, 0),
-        Recognizer::Newline => Some((Kind::Newline, 1)),
+        Recognizer::AtEnd => token_if(whole, TokenKind::End, 0),
+        Recognizer::Newline => Some((TokenKind::Newline, 1)),
         Recognizer::Operator => operator_look(bytes),
         Recognizer::Redirects => redirection(bytes),
-        Recognizer::LeftParen => Some((Kind::LeftParen, 1)),
+        Recognizer::LeftParen => Some((TokenKind::LeftParen, 1)),
         Recognizer::Escape => escape(bytes),
         Recognizer::Single => single(bytes),
-        Recognizer::QuoteOpen => Some((Kind::QuoteOpen, 1)),
-        Recognizer::Expands => dollar(Kind::Brace, bytes),
-        Recognizer::ExpandsQuoted => dollar(Kind::QuotedBrace, bytes),
+        Recognizer::QuoteOpen => Some((TokenKind::QuoteOpen, 1)),
+        Recognizer::Expands => dollar(TokenKind::Brace, bytes),
+        Recognizer::ExpandsQuoted => dollar(TokenKind::QuotedBrace, bytes),
         Recognizer::Closer => closer(bytes),
-        Recognizer::Esac => Some((Kind::Esac, 4)),
+        Recognizer::Esac => Some((TokenKind::Esac, 4)),
         Recognizer::Assignment => assignment(bytes),
         Recognizer::CommandWord => command_word(words, text),
         Recognizer::PrefixWord => prefix_word(text),
         Recognizer::ArgumentWord => argument_word(words, text),
-        Recognizer::PatternOpen => Some((Kind::PatternOpen, 1)),
-        Recognizer::PatternText => text_of(Kind::PatternText, text),
+        Recognizer::PatternOpen => Some((TokenKind::PatternOpen, 1)),
+        Recognizer::PatternText => text_of(TokenKind::PatternText, text),
         Recognizer::CaseIn => case_in(bytes),
-        Recognizer::PatternClose => Some((Kind::PatternClose, 1)),
+        Recognizer::PatternClose => Some((TokenKind::PatternClose, 1)),
         Recognizer::PatternBar => pattern_bar(bytes),
         Recognizer::Bodies => bodies_look(awaited, bytes),
-        Recognizer::BodyClose => token_if(closed, Kind::BodyClose, 0),
+        Recognizer::BodyClose => token_if(closed, TokenKind::BodyClose, 0),
         Recognizer::BodyBackslash => {
             let quotes = is_quotable_in_body(raw_byte(bytes, 1));
-            backslash(quotes, Kind::BodyEscape, Kind::BodyText)
+            backslash(quotes, TokenKind::BodyEscape, TokenKind::BodyText)
         }
-        Recognizer::BodyText => Some((Kind::BodyText, run_on(Class::BodyText, bytes))),
-        Recognizer::WordEnd => Some((Kind::WordEnd, 0)),
-        Recognizer::ValueText => text_of(Kind::ValueText, text),
-        Recognizer::Text => text_of(Kind::Text, text),
-        Recognizer::QuoteClose => Some((Kind::QuoteClose, 1)),
+        Recognizer::BodyText => Some((TokenKind::BodyText, run_on(Class::BodyText, bytes))),
+        Recognizer::WordEnd => Some((TokenKind::WordEnd, 0)),
+        Recognizer::ValueText => text_of(TokenKind::ValueText, text),
+        Recognizer::Text => text_of(TokenKind::Text, text),
+        Recognizer::QuoteClose => Some((TokenKind::QuoteClose, 1)),
         Recognizer::QuotedBackslash => {
             let quotes = is_quotable(raw_byte(bytes, 1));
-            backslash(quotes, Kind::QuotedEscape, Kind::QuotedText)
+            backslash(quotes, TokenKind::QuotedEscape, TokenKind::QuotedText)
         }
-        Recognizer::QuotedText => Some((Kind::QuotedText, run_on(Class::QuotedText, bytes))),
-        Recognizer::BraceClose => Some((Kind::BraceClose, 1)),
-        Recognizer::BraceStartText => text_look(Class::BraceText, Kind::BraceStartText, text),
-        Recognizer::BraceText => text_look(Class::BraceText, Kind::BraceText, text),
+        Recognizer::QuotedText => Some((TokenKind::QuotedText, run_on(Class::QuotedText, bytes))),
+        Recognizer::BraceClose => Some((TokenKind::BraceClose, 1)),
+        Recognizer::BraceStartText => text_look(Class::BraceText, TokenKind::BraceStartText, text),
+        Recognizer::BraceText => text_look(Class::BraceText, TokenKind::BraceText, text),
         Recognizer::QuotedBraceBackslash => {
             let quotes = is_quotable_in_braces(raw_byte(bytes, 1));
-            backslash(quotes, Kind::QuotedBraceEscape, Kind::QuotedBraceText)
+            backslash(
+                quotes,
+                TokenKind::QuotedBraceEscape,
+                TokenKind::QuotedBraceText,
+            )
         }
         Recognizer::QuotedBraceText => {
-            Some((Kind::QuotedBraceText, run_on(Class::QuotedBraceText, bytes)))
+            Some((
+                TokenKind::QuotedBraceText,
+                run_on(Class::QuotedBraceText, bytes),
+            ))
         }
         Recognizer::ArithmeticBackslash => {
             let quotes = is_quotable_in_body(raw_byte(bytes, 1));
-            backslash(quotes, Kind::ArithmeticEscape, Kind::ArithmeticText)
+            backslash(
+                quotes,
+                TokenKind::ArithmeticEscape,
+                TokenKind::ArithmeticText,
+            )
         }
         Recognizer::ArithmeticText => {
-            Some((Kind::ArithmeticText, run_on(Class::ArithmeticText, bytes)))
+            Some((
+                TokenKind::ArithmeticText,
+                run_on(Class::ArithmeticText, bytes),
+            ))
         }
-        Recognizer::ParenthesisOpen => Some((Kind::ParenthesisOpen, 1)),
+        Recognizer::ParenthesisOpen => Some((TokenKind::ParenthesisOpen, 1)),
         Recognizer::ParenthesisClose => closing(nested, byte(bytes, 1)),
         Recognizer::Name => name_look(bytes),
-        Recognizer::FunctionOpen => Some((Kind::FunctionOpen, 1)),
-        Recognizer::FunctionClose => Some((Kind::FunctionClose, 1)),
+        Recognizer::FunctionOpen => Some((TokenKind::FunctionOpen, 1)),
+        Recognizer::FunctionClose => Some((TokenKind::FunctionClose, 1)),
         Recognizer::Delimiter => delimiter_look(bytes),
     }
 }

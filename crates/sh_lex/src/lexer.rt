@@ -3,7 +3,7 @@ ghost use Rattle.std.specs.Prelude.{◌≡◌, ◌≤◌, length, IfSome};
 ghost use Rattle.sh_lex.specs.Tokenizing as lem;
 
 use crate::place::Cursor;
-use sh_rules::{Kind, Mode};
+use sh_rules::{Mode, TokenKind};
 use sh_token::fault::ScriptFault;
 use std::alloc::Global;
 use std::marker::Model;
@@ -11,7 +11,7 @@ use std::marker::Model;
 /// A token of a text: what it is, at which byte it begins, and its bytes as they stand there.
 #[derive(Clone, Copy)]
 pub struct Token<'a> {
-    pub kind: Kind,
+    pub kind: TokenKind,
     pub at: usize,
     pub text: &'a [u8],
 }
@@ -44,7 +44,7 @@ impl<'a> Model for Lexer<'a> {
 }
 
 // The token in front of a place: as where a command begins, or else as among arguments.
-fn front(place: &Cursor) -> Option<(Kind, usize)>
+fn front(place: &Cursor) -> Option<(TokenKind, usize)>
     ensures found { result ≡ lem.front place.now }
     ensures within { IfSome result (λ x. x.1 ≤ length place.now.text) }
 {

@@ -15,7 +15,7 @@ mod table;
 mod taken;
 mod telling;
 
-pub use cursor::Stop;
+pub use cursor::TakeErr;
 pub use lexer::{LexErr, Lexer, Token};
 pub use place::Cursor;
 pub use sh_token::effect::Effect;

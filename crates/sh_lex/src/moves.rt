@@ -4,7 +4,7 @@ ghost use Rattle.sh_token.specs.declared.effect.Effect.TheVariants as e;
 ghost use Rattle.sh_token.specs.Places as place;
 ghost use Rattle.sh_token.specs.Steps as lem;
 
-use crate::cursor::Stop;
+use crate::cursor::TakeErr;
 use crate::place::Cursor;
 use sh_token::blanks::{blanks, joins};
 use sh_token::effect::Effect;
@@ -78,7 +78,7 @@ impl<'a> Cursor<'a> {
 
     #[tactic(auto, unfolding(sh_token::specs::Steps::after))]
     /// To the place behind a token of so many bytes.
-    pub(crate) fn step(&mut self, effect: Effect, n: usize) -> Result<(), Stop>
+    pub(crate) fn step(&mut self, effect: Effect, n: usize) -> Result<(), TakeErr>
         requires within { n ≤ length self.old.text }
         requires room { lem.opens_level effect ≡ true → self.old.levels < 64 }
         ensures { IfOk result (λ _. self.new ≡ lem.after effect n self.old) }

@@ -2,38 +2,38 @@
 ghost use Rattle.std.specs.Prelude.{◌≡◌};
 ghost use Rattle.sh_token.specs.Operators.{operator as operator_lem, redirect as redirect_lem, numbered as numbered_lem, more_by};
 
-use sh_rules::Kind;
+use sh_rules::TokenKind;
 
 /// The redirection operator that begins with these three bytes (XCU 2.7), and its length.
-pub fn redirect(c: u8, d: u8, e: u8) -> Option<(Kind, usize)>
+pub fn redirect(c: u8, d: u8, e: u8) -> Option<(TokenKind, usize)>
     ensures { result ≡ redirect_lem c d e }
 {
     if c == b'<' {
         if d == b'<' {
             if e == b'-' {
-                Some((Kind::Here, 3))
+                Some((TokenKind::Here, 3))
             } else {
-                Some((Kind::Here, 2))
+                Some((TokenKind::Here, 2))
             }
         } else if d == b'&' {
-            Some((Kind::Redirect, 2))
+            Some((TokenKind::Redirect, 2))
         } else if d == b'>' {
             None
         } else {
-            Some((Kind::Redirect, 1))
+            Some((TokenKind::Redirect, 1))
         }
     } else if c == b'>' {
         if d == b'>' || d == b'&' || d == b'|' {
-            Some((Kind::Redirect, 2))
+            Some((TokenKind::Redirect, 2))
         } else {
-            Some((Kind::Redirect, 1))
+            Some((TokenKind::Redirect, 1))
         }
     } else {
         None
     }
 }
 
-fn behind_digit(c: u8, d: u8, e: u8) -> Option<(Kind, usize)>
+fn behind_digit(c: u8, d: u8, e: u8) -> Option<(TokenKind, usize)>
     ensures { result ≡ more_by 1 (redirect_lem c d e) }
 {
     match redirect(c, d, e) {
@@ -43,40 +43,40 @@ fn behind_digit(c: u8, d: u8, e: u8) -> Option<(Kind, usize)>
 }
 
 /// The same behind one digit, the number of its descriptor; in front of `<>` that number by itself.
-pub fn numbered(c: u8, d: u8, e: u8) -> Option<(Kind, usize)>
+pub fn numbered(c: u8, d: u8, e: u8) -> Option<(TokenKind, usize)>
     ensures { result ≡ numbered_lem c d e }
 {
     if c == b'<' && d == b'>' {
-        Some((Kind::Redirect, 1))
+        Some((TokenKind::Redirect, 1))
     } else {
         behind_digit(c, d, e)
     }
 }
 
 /// The control operator that begins with these two bytes, and its length.
-pub fn operator(c: u8, d: u8) -> Option<(Kind, usize)>
+pub fn operator(c: u8, d: u8) -> Option<(TokenKind, usize)>
     ensures { result ≡ operator_lem c d }
 {
     if c == b';' {
         if d == b';' {
-            Some((Kind::DoubleSemi, 2))
+            Some((TokenKind::DoubleSemi, 2))
         } else {
-            Some((Kind::Semi, 1))
+            Some((TokenKind::Semi, 1))
         }
     } else if c == b'&' {
         if d == b'&' {
-            Some((Kind::AndIf, 2))
+            Some((TokenKind::AndIf, 2))
         } else {
             None
         }
     } else if c == b'|' {
         if d == b'|' {
-            Some((Kind::OrIf, 2))
+            Some((TokenKind::OrIf, 2))
         } else {
-            Some((Kind::Pipe, 1))
+            Some((TokenKind::Pipe, 1))
         }
     } else if c == b')' {
-        Some((Kind::RightParen, 1))
+        Some((TokenKind::RightParen, 1))
     } else {
         None
     }

@@ -3,8 +3,8 @@ use Rattle.std.specs.Prelude.{ℕ, ◌/◌, ◌%◌, ◌==◌, List, [], ◌∷�
 use Rattle.rk_base.specs.Text.{Text, same_text}
 use Rattle.rk_base.specs.Errno.{word}
 use Rattle.rk_base.specs.declared.errno.Errno.{Errno}
-use Rattle.rk_base.specs.declared.kind.Kind.{Kind}
-use Rattle.rk_base.specs.declared.kind.Kind.TheVariants.{File, Dir, Link}
+use Rattle.rk_base.specs.declared.file_type.FileType.{FileType}
+use Rattle.rk_base.specs.declared.file_type.FileType.TheVariants.{File, Dir, Link}
 use Rattle.rk_base.specs.declared.vars.Var.{Var}
 use Rattle.rk_calls.specs.Brought.{brought}
 use Rattle.rk_calls.specs.Keys.{KeyValue, shell}
@@ -62,7 +62,7 @@ script_opened again file n k (Ok bytes) e = asks (Read n) 1 (λ a. script_read a
 abbrev pub runs_script : Meaning → Text → Next → Go_on
 runs_script again file k e = asks (Open (absolute e.env.wd file) how.Read) 1 (λ a. script_opened again file e.env.next k (brought a)) e
 
-abbrev pub is_directory : Kind → Bool
+abbrev pub is_directory : FileType → Bool
 is_directory File = false
 is_directory Dir = true
 is_directory Link = false

@@ -1,8 +1,8 @@
 -- The primaries of `test` (XCU 4, `test`).
 use Rattle.std.specs.Prelude.{ℕ, List, [], ◌∷◌, codes, Bool, true, false, not, ◌&&◌, ◌||◌, Option, Some, None, if◌then◌else◌}
 use Rattle.rk_base.specs.Text.{Text, same_text}
-use Rattle.rk_base.specs.declared.kind.Kind.{Kind}
-use Rattle.rk_base.specs.declared.kind.Kind.TheVariants.{File, Dir, Link}
+use Rattle.rk_base.specs.declared.file_type.FileType.{FileType}
+use Rattle.rk_base.specs.declared.file_type.FileType.TheVariants.{File, Dir, Link}
 use Rattle.sh_operands.specs.declared.number.Number.{Number}
 use Rattle.sh_operands.specs.declared.primary.Primary.{Primary}
 use Rattle.sh_operands.specs.declared.primary.Primary.TheVariants as primary
@@ -45,23 +45,23 @@ abbrev pub follows : Primary → Bool
 follows primary.IsLink = false
 follows p = true
 
-abbrev pub is_file : Kind → Bool
+abbrev pub is_file : FileType → Bool
 is_file File = true
 is_file Dir = false
 is_file Link = false
 
-abbrev pub is_dir : Kind → Bool
+abbrev pub is_dir : FileType → Bool
 is_dir File = false
 is_dir Dir = true
 is_dir Link = false
 
-abbrev pub is_link : Kind → Bool
+abbrev pub is_link : FileType → Bool
 is_link File = false
 is_link Dir = false
 is_link Link = true
 
 -- of what stands there: its kind, its mode, and whether it is a file without bytes
-abbrev pub holds_of : Primary → Kind → ℕ → Bool → Bool
+abbrev pub holds_of : Primary → FileType → ℕ → Bool → Bool
 holds_of primary.IsFile kind mode empty = is_file kind
 holds_of primary.IsDir kind mode empty = is_dir kind
 holds_of primary.IsLink kind mode empty = is_link kind

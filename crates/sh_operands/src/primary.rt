@@ -4,7 +4,7 @@ ghost use Rattle.sh_operands.specs.Modes.{has_r, has_w, has_x};
 ghost use Rattle.sh_operands.specs.Primaries.{primary_of, operator_of, follows, is_file, is_dir, is_link, holds_of, relates};
 
 use crate::number::{Number, is_less};
-use rk_base::Kind;
+use rk_base::FileType;
 
 /// What `test` tells of one operand: a text, or what stands at a path.
 #[derive(Clone, Copy, Debug)]
@@ -133,33 +133,33 @@ pub fn follows(primary: Primary) -> bool
     }
 }
 
-fn is_file(kind: Kind) -> bool
+fn is_file(kind: FileType) -> bool
     ensures { result ≡ is_file kind }
 {
     match kind {
-        Kind::File => true,
-        Kind::Dir => false,
-        Kind::Link => false,
+        FileType::File => true,
+        FileType::Dir => false,
+        FileType::Link => false,
     }
 }
 
-fn is_dir(kind: Kind) -> bool
+fn is_dir(kind: FileType) -> bool
     ensures { result ≡ is_dir kind }
 {
     match kind {
-        Kind::File => false,
-        Kind::Dir => true,
-        Kind::Link => false,
+        FileType::File => false,
+        FileType::Dir => true,
+        FileType::Link => false,
     }
 }
 
-fn is_link(kind: Kind) -> bool
+fn is_link(kind: FileType) -> bool
     ensures { result ≡ is_link kind }
 {
     match kind {
-        Kind::File => false,
-        Kind::Dir => false,
-        Kind::Link => true,
+        FileType::File => false,
+        FileType::Dir => false,
+        FileType::Link => true,
     }
 }
 
@@ -182,7 +182,7 @@ fn has_x(mode: u16) -> bool
 }
 
 /// What it tells of what stands at a path: its kind, its mode, and whether it is a file without bytes.
-pub fn holds_of(primary: Primary, kind: Kind, mode: u16, empty: bool) -> bool
+pub fn holds_of(primary: Primary, kind: FileType, mode: u16, empty: bool) -> bool
     ensures { result ≡ holds_of primary kind mode empty }
 {
     match primary {

@@ -3,8 +3,8 @@ use Rattle.std.proofs.Common.{◌≡◌, ℕ, List, [], ◌∷◌, ◌++◌, Opt
 use Rattle.std.specs.Prelude.{Result, Ok, Err, MatchResult, MatchOption}
 use Rattle.sh_rules.specs.Grammar.{Symbol, Want, Do}
 use Rattle.sh_rules.specs.Reading.{Blocked, Over}
-use Rattle.sh_rules.specs.declared.kind.Kind.{Kind}
-use Rattle.sh_rules.specs.declared.kind.Mode.{Mode}
+use Rattle.sh_rules.specs.declared.token_kind.TokenKind.{TokenKind}
+use Rattle.sh_rules.specs.declared.token_kind.Mode.{Mode}
 use Rattle.sh_rules.specs.Parts.{Part}
 use Rattle.sh_rules.specs.Rules.{Rule, spelling}
 use Rattle.sh_rules.specs.LookAhead.{mode_of, mode, choose}
@@ -24,18 +24,18 @@ use Rattle.sh_tree.proofs.Fewer.{chosen_fewer}
 use Rattle.sh_tree.proofs.Turning.{keeps_taken, fewer_taken, halts_deep, halts_want, keeps_chosen, halts_none, halts_unwanted, whole_stuck}
 use Rattle.sh_parse.specs.Tokens.{Took}
 use Rattle.sh_parse.specs.Turns.{Halted, Turns, StopsBy}
-use Rattle.sh_parse.specs.declared.source.Stop.{Stop}
-use Rattle.sh_parse.specs.declared.source.Stop.TheVariants as stop
+use Rattle.sh_parse.specs.declared.source.ParseErr.{ParseErr}
+use Rattle.sh_parse.specs.declared.source.ParseErr.TheVariants as stop
 
-pub turn_not_taken : (kind : Kind) (n : ℕ) (p q : Place) (e : Stop) → StandsThere kind n p → Took kind n p q (Err e) → Halted (Want kind) p q e
+pub turn_not_taken : (kind : TokenKind) (n : ℕ) (p q : Place) (e : ParseErr) → StandsThere kind n p → Took kind n p q (Err e) → Halted (Want kind) p q e
 turn_not_taken kind n p q stop.Memory h k = tt
 turn_not_taken kind n p q stop.Blocked h k = absurd k
 turn_not_taken kind n p q stop.Deep h k = (k.0, (token_of kind n p, halts_deep kind n p h k.1))
 
-pub not_expanded : (s : Symbol Kind Part) (p q : Place) (e : Stop) → e ≡ stop.Memory → Halted s p q e
+pub not_expanded : (s : Symbol TokenKind Part) (p q : Place) (e : ParseErr) → e ≡ stop.Memory → Halted s p q e
 not_expanded s p q e h = subst (λ e. Halted s p q e) (sym h) tt
 
-pub turn_taken : {X : Type 0} (kind : Kind) (n : ℕ) (ss : List (Symbol Kind Part)) (marks marks' : List Mark) (p q : Place) (text : List ℕ) (r : Result X Stop) → StandsThere kind n p → Took kind n p q (Ok text) → Shrinks (may_be_empty kind) (size p) (size q) → MatchResult r (λ _. marks' ≡ marks ++ (leaf text ∷ [])) (λ e. e ≡ stop.Memory) → Turns (Want kind) ss ss marks marks' p q r
+pub turn_taken : {X : Type 0} (kind : TokenKind) (n : ℕ) (ss : List (Symbol TokenKind Part)) (marks marks' : List Mark) (p q : Place) (text : List ℕ) (r : Result X ParseErr) → StandsThere kind n p → Took kind n p q (Ok text) → Shrinks (may_be_empty kind) (size p) (size q) → MatchResult r (λ _. marks' ≡ marks ++ (leaf text ∷ [])) (λ e. e ≡ stop.Memory) → Turns (Want kind) ss ss marks marks' p q r
 turn_taken kind n ss marks marks' p q text (Ok x) h k s m =
     let is : marks' ≡ marks ++ (leaf (token_of kind n p).text ∷ []) = m ∙ ap (λ t. marks ++ (leaf t ∷ [])) k.2 in (
       subst (λ ms. Keeps (Want kind ∷ ss) marks p ss ms q) (sym is) (subst (λ q. Keeps (Want kind ∷ ss) marks p ss (marks ++ (leaf (token_of kind n p).text ∷ [])) q) (sym k.0) (keeps_taken kind n ss marks p h k.1)),
@@ -43,7 +43,7 @@ turn_taken kind n ss marks marks' p q text (Ok x) h k s m =
     )
 turn_taken kind n ss marks marks' p q text (Err e) h k s m = not_expanded (Want kind) p q e m
 
-pub turn_chosen : (n : Part) (kind : Kind) (length : ℕ) (r : Rule) (ss todo : List (Symbol Kind Part)) (marks marks' : List Mark) (p : Place) → Some (kind, length) ≡ look (mode n) p → Some r ≡ choose n kind → marks' ≡ marks ++ (node r ∷ []) → todo ≡ spelling r ++ ss → Keeps (Do n ∷ ss) marks p todo marks' p × Fewer (Do n ∷ ss) p todo p
+pub turn_chosen : (n : Part) (kind : TokenKind) (length : ℕ) (r : Rule) (ss todo : List (Symbol TokenKind Part)) (marks marks' : List Mark) (p : Place) → Some (kind, length) ≡ look (mode n) p → Some r ≡ choose n kind → marks' ≡ marks ++ (node r ∷ []) → todo ≡ spelling r ++ ss → Keeps (Do n ∷ ss) marks p todo marks' p × Fewer (Do n ∷ ss) p todo p
 turn_chosen n kind length r ss todo marks marks' p h c m t =
     let e = chosen_part n kind r c in
     let k : Keeps (Do n ∷ ss) marks p (spelling r ++ ss) (marks ++ (node r ∷ [])) p = keeps_chosen r kind length ss marks p n e (sym h) (sym c) in
@@ -53,24 +53,24 @@ turn_chosen n kind length r ss todo marks marks' p h c m t =
     )
 
 -- the whole goes on by a turn
-pub owes_on : (start : Place) (s : Symbol Kind Part) (ss todo : List (Symbol Kind Part)) (before : List (Symbol Kind Part)) (marks marks' : List Mark) (p q : Place) → before ≡ s ∷ ss → Owes text_reader start before marks p → Keeps (s ∷ ss) marks p todo marks' q → Owes text_reader start todo marks' q
+pub owes_on : (start : Place) (s : Symbol TokenKind Part) (ss todo : List (Symbol TokenKind Part)) (before : List (Symbol TokenKind Part)) (marks marks' : List Mark) (p q : Place) → before ≡ s ∷ ss → Owes text_reader start before marks p → Keeps (s ∷ ss) marks p todo marks' q → Owes text_reader start todo marks' q
 unfolding Keeps
 owes_on start s ss todo before marks marks' p q e w k = k start (subst (λ td. Owes text_reader start td marks p) e w)
 
-pub stops_there : (start : Place) (s : Symbol Kind Part) (ss before : List (Symbol Kind Part)) (marks : List Mark) (p q : Place) (e : Stop) → before ≡ s ∷ ss → Owes text_reader start before marks p → Halted s p q e → StopsBy start q e
+pub stops_there : (start : Place) (s : Symbol TokenKind Part) (ss before : List (Symbol TokenKind Part)) (marks : List Mark) (p q : Place) (e : ParseErr) → before ≡ s ∷ ss → Owes text_reader start before marks p → Halted s p q e → StopsBy start q e
 stops_there start s ss before marks p q stop.Memory b w k = tt
 stops_there start s ss before marks p q stop.Blocked b w k = whole_stuck start s ss marks p q Blocked (subst (λ td. Owes text_reader start td marks p) b w) k.0 k.1
 stops_there start s ss before marks p q stop.Deep b w k = (k.1.0, whole_stuck start s ss marks p q (Over k.1.0) (subst (λ td. Owes text_reader start td marks p) b w) k.0 k.1.1)
 
-pub looked : (kind : Kind) (p : Place) (found : Look) (m : Mode) (r : Option ℕ) → m ≡ mode_of kind → found ≡ look m p → MatchOption r (NotOf kind found) (λ n. found ≡ Some (kind, n)) → MatchOption r (HaltsAt (Want kind) p Blocked) (λ n. StandsThere kind n p)
+pub looked : (kind : TokenKind) (p : Place) (found : Look) (m : Mode) (r : Option ℕ) → m ≡ mode_of kind → found ≡ look m p → MatchOption r (NotOf kind found) (λ n. found ≡ Some (kind, n)) → MatchOption r (HaltsAt (Want kind) p Blocked) (λ n. StandsThere kind n p)
 looked kind p found m None e f h = halts_want kind p (subst (NotOf kind) (f ∙ ap (λ m. look m p) e) h)
 looked kind p found m (Some n) e f h = sym (f ∙ ap (λ m. look m p) e) ∙ h
 
 pub none_halts : (n : Part) (p : Place) → None ≡ look (mode n) p → (p ≡ p) × HaltsAt (Do n) p Blocked
 none_halts n p h = (refl, halts_none n p h)
 
-pub unwanted_halts : (n : Part) (kind : Kind) (length : ℕ) (p : Place) → Some (kind, length) ≡ look (mode n) p → None ≡ choose n kind → (p ≡ p) × HaltsAt (Do n) p Blocked
+pub unwanted_halts : (n : Part) (kind : TokenKind) (length : ℕ) (p : Place) → Some (kind, length) ≡ look (mode n) p → None ≡ choose n kind → (p ≡ p) × HaltsAt (Do n) p Blocked
 unwanted_halts n kind length p h c = (refl, halts_unwanted n kind length p h c)
 
-pub turn_failed : (symbol : ds.Symbol) (kind : Kind) (p q : Place) (e : Stop) → symbol ≡ dv.Want kind → Halted (Want kind) p q e → Halted (symbol_named symbol) p q e
+pub turn_failed : (symbol : ds.Symbol) (kind : TokenKind) (p q : Place) (e : ParseErr) → symbol ≡ dv.Want kind → Halted (Want kind) p q e → Halted (symbol_named symbol) p q e
 turn_failed symbol kind p q e is h = subst (λ s. Halted (symbol_named s) p q e) (sym is) h

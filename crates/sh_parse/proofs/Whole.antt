@@ -16,8 +16,8 @@ use Rattle.sh_tree.specs.Scripts.{longest, IsScript, IsFaulty}
 use Rattle.sh_tree.proofs.Whole.{Agrees, one_script, one_fault, not_both, script_read, fault_read}
 use Rattle.sh_parse.specs.Turns.{StopsBy}
 use Rattle.sh_parse.specs.Answering.{Tells, IsAnswer, IsOnlyScript, IsOnlyFault}
-use Rattle.sh_parse.specs.declared.source.Stop.{Stop}
-use Rattle.sh_parse.specs.declared.source.Stop.TheVariants as stop
+use Rattle.sh_parse.specs.declared.source.ParseErr.{ParseErr}
+use Rattle.sh_parse.specs.declared.source.ParseErr.TheVariants as stop
 use Rattle.sh_parse.specs.declared.script.Script.{Script}
 use Rattle.sh_parse.specs.declared.script.ReadErr.{ReadErr}
 use Rattle.sh_parse.specs.declared.script.ReadErr.TheVariants as e
@@ -41,12 +41,12 @@ told_fault agree text m h e.NoMemory l s t = tt
 pub script_answer : (text : List ℕ) (a q : Place) (marks : List Mark) (s : CommandsTree) → a ≡ begin text → length text ≤ longest → IsRead a q marks → s ≡ script_marked marks → IsScript text s
 script_answer text a q marks s b l r e = script_read modes_agree text q marks s l (subst (λ a. IsRead a q marks) b r) e
 
-pub blocked_answer : (text : List ℕ) (a m : Place) (s : Stop) (r : ReadErr) → a ≡ begin text → length text ≤ longest → StopsBy a m s → s ≡ stop.Blocked → Tells (told false m) r → IsAnswer text (Err r)
+pub blocked_answer : (text : List ℕ) (a m : Place) (s : ParseErr) (r : ReadErr) → a ≡ begin text → length text ≤ longest → StopsBy a m s → s ≡ stop.Blocked → Tells (told false m) r → IsAnswer text (Err r)
 blocked_answer text a m s r b l h e t =
     let k : IsStuck a m Blocked = subst (λ s. StopsBy a m s) e h in
     told_fault modes_agree text m Blocked r l (subst (λ a. IsStuck a m Blocked) b k) t
 
-pub deep_answer : (text : List ℕ) (a m : Place) (s : Stop) (r : ReadErr) → a ≡ begin text → length text ≤ longest → StopsBy a m s → s ≡ stop.Deep → Tells (told true m) r → IsAnswer text (Err r)
+pub deep_answer : (text : List ℕ) (a m : Place) (s : ParseErr) (r : ReadErr) → a ≡ begin text → length text ≤ longest → StopsBy a m s → s ≡ stop.Deep → Tells (told true m) r → IsAnswer text (Err r)
 deep_answer text a m s r b l h e t =
     let k : (x : Token) × IsStuck a m (Over x) = subst (λ s. StopsBy a m s) e h in
     told_fault modes_agree text m (Over k.0) r l (subst (λ a. IsStuck a m (Over k.0)) b k.1) t

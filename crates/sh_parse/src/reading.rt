@@ -3,7 +3,7 @@
 ghost use Rattle.std.specs.Prelude.{◌≡◌, ◌∷◌, ◌++◌, [], List, MatchOption, MatchResult, IfOk, IfSome, Some, map};
 ghost use Rattle.sh_rules.specs.Grammar.{Symbol as Symbol', Want, Do};
 ghost use Rattle.sh_rules.specs.Reading.{Blocked};
-ghost use Rattle.sh_rules.specs.declared.kind.Kind as kinds;
+ghost use Rattle.sh_rules.specs.declared.token_kind.TokenKind as kinds;
 ghost use Rattle.sh_rules.specs.Parts as parts;
 ghost use Rattle.sh_rules.specs.LookAhead.{mode as mode_lem};
 ghost use Rattle.sh_rules.specs.Rules.{spelling as spelling_lem};
@@ -14,16 +14,16 @@ ghost use Rattle.sh_tree.specs.TextReader.{StandsThere, NotOf, HaltsAt};
 ghost use Rattle.sh_tree.specs.Outcomes.{IsRead};
 ghost use Rattle.sh_parse.specs.Turns.{Ahead, Turns, StopsBy};
 
-use crate::source::{Source, Stop};
+use crate::source::{ParseErr, Source};
 use crate::todo::{Marks, Todo, push_all};
 use rk_base::Bytes;
 use sh_grammar::{Mark, Part, Rule, Symbol, choose, mode, same_kind, spelling};
 use sh_lex::mode_of;
-use sh_rules::Kind;
+use sh_rules::TokenKind;
 use std::alloc::Global;
 
 // How many bytes the token has that was found, where it is of a kind.
-fn of_kind(kind: Kind, found: Option<(Kind, usize)>) -> Option<usize>
+fn of_kind(kind: TokenKind, found: Option<(TokenKind, usize)>) -> Option<usize>
     ensures { MatchOption result (NotOf kind found) (λ n. found ≡ Some (kind, n)) }
 {
     match found {
@@ -40,7 +40,7 @@ fn of_kind(kind: Kind, found: Option<(Kind, usize)>) -> Option<usize>
 
 // How many bytes the token of a kind has that stands there, where one stands; `ahead` is what was found there before.
 #[tactic(auto, using(crate::proofs::Turning::looked))]
-fn length_of<S: Source>(s: &S, kind: Kind, ahead: Option<(Kind, usize)>) -> Option<usize>
+fn length_of<S: Source>(s: &S, kind: TokenKind, ahead: Option<(TokenKind, usize)>) -> Option<usize>
     requires { Ahead ahead (S.place s.now) }
     ensures { MatchOption result (HaltsAt (Want kind) (S.place s.now) Blocked) (λ n. StandsThere kind n (S.place s.now)) }
 {
@@ -51,11 +51,11 @@ fn length_of<S: Source>(s: &S, kind: Kind, ahead: Option<(Kind, usize)>) -> Opti
 }
 
 // A token's mark.
-fn put_leaf(marks: &mut Marks, text: Bytes) -> Result<(), Stop>
-    ensures { MatchResult result (λ _. marks.new ≡ marks.old ++ (leaf_mark text ∷ [])) (λ e. e ≡ Stop.Memory) }
+fn put_leaf(marks: &mut Marks, text: Bytes) -> Result<(), ParseErr>
+    ensures { MatchResult result (λ _. marks.new ≡ marks.old ++ (leaf_mark text ∷ [])) (λ e. e ≡ ParseErr.Memory) }
 {
     match marks.push(Mark::Leaf(text)) {
-        Err(_) => Err(Stop::Memory),
+        Err(_) => Err(ParseErr::Memory),
         Ok(()) => Ok(()),
     }
 }
@@ -65,15 +65,15 @@ fn put_leaf(marks: &mut Marks, text: Bytes) -> Result<(), Stop>
 fn leaf<S: Source>(
     alloc: Global,
     s: &mut S,
-    kind: Kind,
-    ahead: Option<(Kind, usize)>,
+    kind: TokenKind,
+    ahead: Option<(TokenKind, usize)>,
     marks: &mut Marks,
-) -> Result<(), Stop>
+) -> Result<(), ParseErr>
     requires { Ahead ahead (S.place s.old) }
-    ensures { (rest : List (Symbol' kinds.Kind parts.Part)) → Turns (Want kind) rest rest marks.old marks.new (S.place s.old) (S.place s.new) result }
+    ensures { (rest : List (Symbol' kinds.TokenKind parts.Part)) → Turns (Want kind) rest rest marks.old marks.new (S.place s.old) (S.place s.new) result }
 {
     match length_of(s, kind, ahead) {
-        None => Err(Stop::Blocked),
+        None => Err(ParseErr::Blocked),
         Some(length) => match s.take(alloc, kind, length) {
             Err(stop) => Err(stop),
             Ok(text) => put_leaf(marks, text),
@@ -82,20 +82,20 @@ fn leaf<S: Source>(
 }
 
 // A rule's mark, and its symbols.
-fn expand(rule: Rule, todo: &mut Todo, marks: &mut Marks) -> Result<(), Stop>
-    ensures { MatchResult result (λ _. (marks.new ≡ marks.old ++ (node_mark (rule_named rule) ∷ [])) × (todo.new ≡ spelling_lem (rule_named rule) ++ todo.old)) (λ e. e ≡ Stop.Memory) }
+fn expand(rule: Rule, todo: &mut Todo, marks: &mut Marks) -> Result<(), ParseErr>
+    ensures { MatchResult result (λ _. (marks.new ≡ marks.old ++ (node_mark (rule_named rule) ∷ [])) × (todo.new ≡ spelling_lem (rule_named rule) ++ todo.old)) (λ e. e ≡ ParseErr.Memory) }
 {
     match marks.push(Mark::Node(rule)) {
-        Err(_) => Err(Stop::Memory),
+        Err(_) => Err(ParseErr::Memory),
         Ok(()) => match push_all(todo, spelling(rule)) {
-            Err(_) => Err(Stop::Memory),
+            Err(_) => Err(ParseErr::Memory),
             Ok(()) => Ok(()),
         },
     }
 }
 
 // The token with which a part may begin there.
-fn look_for<S: Source>(s: &S, part: Part) -> Option<(Kind, usize)>
+fn look_for<S: Source>(s: &S, part: Part) -> Option<(TokenKind, usize)>
     ensures found { result ≡ look_lem (mode_lem (part_named part)) (S.place s.now) }
     ensures by_itself { IfSome result (λ x. StandsThere x.0 x.1 (S.place s.now)) }
 {
@@ -109,14 +109,14 @@ fn node<S: Source>(
     part: Part,
     todo: &mut Todo,
     marks: &mut Marks,
-) -> Result<(Kind, usize), Stop>
+) -> Result<(TokenKind, usize), ParseErr>
     ensures turns { Turns (Do (part_named part)) todo.old todo.new marks.old marks.new (S.place s.now) (S.place s.now) result }
     ensures found { IfOk result (λ x. StandsThere x.0 x.1 (S.place s.now)) }
 {
     match look_for(s, part) {
-        None => Err(Stop::Blocked),
+        None => Err(ParseErr::Blocked),
         Some((kind, length)) => match choose(part, kind) {
-            None => Err(Stop::Blocked),
+            None => Err(ParseErr::Blocked),
             Some(rule) => match expand(rule, todo, marks) {
                 Err(stop) => Err(stop),
                 Ok(()) => Ok((kind, length)),
@@ -130,10 +130,10 @@ fn turn<S: Source>(
     alloc: Global,
     s: &mut S,
     symbol: Symbol,
-    ahead: Option<(Kind, usize)>,
+    ahead: Option<(TokenKind, usize)>,
     todo: &mut Todo,
     marks: &mut Marks,
-) -> Result<Option<(Kind, usize)>, Stop>
+) -> Result<Option<(TokenKind, usize)>, ParseErr>
     requires { Ahead ahead (S.place s.old) }
     ensures turns { Turns (symbol_named symbol) todo.old todo.new marks.old marks.new (S.place s.old) (S.place s.new) result }
     ensures found { IfOk result (λ x. Ahead x (S.place s.new)) }
@@ -152,11 +152,11 @@ fn turn<S: Source>(
 
 /// Reads a script from where the source stands to the end of the text: its marks. On an error the source stands where reading stopped.
 #[tactic(auto, using(sh_tree::proofs::Owed::owed_first, crate::proofs::Turning::owes_on, crate::proofs::Turning::stops_there, sh_tree::proofs::Turning::whole_read))]
-pub fn read_marks<S: Source>(alloc: Global, s: &mut S) -> Result<Vec<Mark>, Stop>
+pub fn read_marks<S: Source>(alloc: Global, s: &mut S) -> Result<Vec<Mark>, ParseErr>
     ensures { MatchResult result (λ marks. IsRead (S.place s.old) (S.place s.new) (map mark_named marks.items)) (λ e. StopsBy (S.place s.old) (S.place s.new) e) }
 {
     let mut todo = match Todo::script(alloc) {
-        Err(_) => return Err(Stop::Memory),
+        Err(_) => return Err(ParseErr::Memory),
         Ok(todo) => todo,
     };
     let mut marks = Marks::new(alloc);

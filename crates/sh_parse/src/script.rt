@@ -7,7 +7,7 @@ ghost use Rattle.sh_tree.specs.Scripts.{IsScript, IsFaulty, longest};
 ghost use Rattle.sh_parse.specs.Answering.{IsAnswer, IsFaultTold, Tells, IsOnlyScript, IsOnlyFault};
 
 use crate::reading::read_marks;
-use crate::source::Stop;
+use crate::source::ParseErr;
 use rk_base::NoMemory;
 use sh_ast::CommandList;
 use sh_lex::{Cursor, ScriptFault, Why};
@@ -52,9 +52,9 @@ fn read(alloc: Global, text: &[u8]) -> Result<Script, ReadErr>
     let mut cursor = Cursor::new(alloc, text);
     match read_marks(alloc, &mut cursor) {
         Err(stop) => match stop {
-            Stop::Memory => Err(ReadErr::NoMemory),
-            Stop::Blocked => Err(fault(alloc, &cursor, false)),
-            Stop::Deep => Err(fault(alloc, &cursor, true)),
+            ParseErr::Memory => Err(ReadErr::NoMemory),
+            ParseErr::Blocked => Err(fault(alloc, &cursor, false)),
+            ParseErr::Deep => Err(fault(alloc, &cursor, true)),
         },
         Ok(marks) => match build(alloc, marks) {
             Err(_) => Err(ReadErr::NoMemory),

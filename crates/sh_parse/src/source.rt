@@ -7,12 +7,12 @@ ghost use Rattle.sh_tree.specs.TextReader.{StandsThere};
 ghost use Rattle.sh_parse.specs.Tokens.{Took};
 
 use rk_base::Bytes;
-use sh_rules::{Kind, Mode};
+use sh_rules::{Mode, TokenKind};
 use std::alloc::Global;
 
 /// Why reading stops: memory ran out, no script goes on with what stands there, or one level too many would be open.
 #[derive(Clone, Copy)]
-pub enum Stop {
+pub enum ParseErr {
     Memory,
     Blocked,
     Deep,
@@ -23,12 +23,12 @@ pub trait Source {
     ghost place: { Self → Place };
 
     /// The kind of the token that stands there in a mode, and how many bytes of the text it has.
-    fn look(&self, mode: Mode) -> Option<(Kind, usize)>
+    fn look(&self, mode: Mode) -> Option<(TokenKind, usize)>
         ensures found { result ≡ look_lem mode (place self.now) }
         ensures by_itself { IfSome result (λ x. StandsThere x.0 x.1 (place self.now)) };
 
     /// Takes the token of a kind that stands there: its bytes, as they are read.
-    fn take(&mut self, alloc: Global, kind: Kind, length: usize) -> Result<Bytes, Stop>
+    fn take(&mut self, alloc: Global, kind: TokenKind, length: usize) -> Result<Bytes, ParseErr>
         requires { StandsThere kind length (place self.old) }
         ensures took { Took kind length (place self.old) (place self.new) result }
         ensures shrinks { OnOk result (Shrinks (may_be_empty kind) (size (place self.old)) (size (place self.new))) };

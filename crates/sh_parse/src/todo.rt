@@ -6,7 +6,7 @@ ghost use Rattle.sh_grammar.specs.Marks.{mark_named};
 
 use rk_base::NoMemory;
 use sh_grammar::{Mark, Part, Symbol};
-use sh_rules::Kind;
+use sh_rules::TokenKind;
 use std::alloc::Global;
 use std::marker::Model;
 
@@ -19,11 +19,11 @@ pub struct Todo {
 impl Model for Todo {
     ghost use Rattle.std.specs.Prelude.{List, map, reverse};
     ghost use Rattle.sh_rules.specs.Grammar.{Symbol};
-    ghost use Rattle.sh_rules.specs.declared.kind.Kind.{Kind};
+    ghost use Rattle.sh_rules.specs.declared.token_kind.TokenKind.{TokenKind};
     ghost use Rattle.sh_rules.specs.Parts.{Part};
     ghost use Rattle.sh_grammar.specs.Named.{symbol_named};
 
-    ghost Value = { List (Symbol Kind Part) };
+    ghost Value = { List (Symbol TokenKind Part) };
 
     ghost view = { λ t. reverse (map symbol_named t.items.items) };
 }
@@ -34,7 +34,7 @@ impl Todo {
         ensures { IfOk result (λ t. t ≡ script) }
     {
         let mut items = Vec::new(alloc);
-        items.push(Symbol::Want(Kind::End))?;
+        items.push(Symbol::Want(TokenKind::End))?;
         items.push(Symbol::Do(Part::OptList))?;
         Ok(Todo { items })
     }

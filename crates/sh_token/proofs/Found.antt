@@ -2,8 +2,8 @@
 use Rattle.std.proofs.Common.{◌≡◌, ◌≤◌, ℕ, suc, ◌+◌, List, [], ◌∷◌, Bool, true, false, Option, Some, None, refl, sym, subst, arith, drop}
 use Rattle.std.specs.Prelude.{if◌then◌else◌, ◌==◌, nat_lt, slice_index, length, codes}
 use Rattle.std.proofs.lemmas.Bool.{ltb-true}
-use Rattle.sh_rules.specs.declared.kind.Kind.{Kind}
-use Rattle.sh_rules.specs.declared.kind.Kind.TheVariants as k
+use Rattle.sh_rules.specs.declared.token_kind.TokenKind.{TokenKind}
+use Rattle.sh_rules.specs.declared.token_kind.TokenKind.TheVariants as k
 use Rattle.sh_rules.specs.LookAhead.{number, member}
 use Rattle.sh_token.specs.declared.recognizer.Recognizer.{Recognizer}
 use Rattle.sh_token.specs.declared.recognizer.Recognizer.TheVariants as r
@@ -24,7 +24,7 @@ use Rattle.sh_token.specs.HereDocuments.{Awaited, walk, body}
 use Rattle.sh_token.specs.Lexemes.{recognized, token_if, body_found, bodies_look, delimiter_look, closing}
 
 -- tokens that may have no byte
-abbrev pub may_have_none : Kind → Bool
+abbrev pub may_have_none : TokenKind → Bool
 may_have_none k.NoBody = true
 may_have_none k.LiteralBody = true
 may_have_none k.BodyOpen = true
@@ -59,7 +59,7 @@ of_more ks None p = p
 of_more ks (Some x) p = (p.0, wider (may_have_none x.0) x.1 p.1)
 
 -- a kind that is found, with a byte
-abbrev pub Finds : List ℕ → Kind → Type 0
+abbrev pub Finds : List ℕ → TokenKind → Type 0
 Finds ks kind = (member (number kind) ks ≡ true) × (may_have_none kind ≡ false)
 
 abbrev rd : List ℕ
@@ -106,7 +106,7 @@ of_escape text = of_if esc (length text == 1) _ _ (refl, some_bytes _) (of_if es
 of_single : (text : List ℕ) → Of (51 ∷ []) (single text)
 of_single text = of_if (51 ∷ []) (slice_index text (run not_quote (drop 1 text) + 1) == 39) _ _ (refl, omega arith) tt
 
-of_text : (ks : List ℕ) (f : ℕ → Bool) (kind : Kind) (text : List ℕ) → Finds ks kind → Of ks (text_look f kind text)
+of_text : (ks : List ℕ) (f : ℕ → Bool) (kind : TokenKind) (text : List ℕ) → Finds ks kind → Of ks (text_look f kind text)
 of_text ks f kind text h = by (bracket f text)
   where
     by : (x : Option ℕ) → Of ks (text_from f kind x (drop 1 text))
@@ -170,13 +170,13 @@ of_argument_word words text =
     of_if (34 ∷ 46 ∷ []) (long_number text) _ _ tt (of_if (34 ∷ 46 ∷ []) (is_in words text) _ _ (refl, some_bytes _) (of_text (34 ∷ 46 ∷ []) is_plain k.WordText text (refl, refl)))
 
 -- what expands: the kind of braces that is given, and the others
-abbrev dollars : Kind → List ℕ
+abbrev dollars : TokenKind → List ℕ
 dollars brace = 54 ∷ 55 ∷ 56 ∷ 57 ∷ 58 ∷ 67 ∷ number brace ∷ []
 
-of_brace : (brace : Kind) (n : ℕ) → Finds (dollars brace) brace → 1 ≤ n → Of (dollars brace) (token brace n)
+of_brace : (brace : TokenKind) (n : ℕ) → Finds (dollars brace) brace → 1 ≤ n → Of (dollars brace) (token brace n)
 of_brace _ n h one = (h.0, subst (λ b. Wide b n) (sym h.1) one)
 
-of_operation : (brace : Kind) (n c d : ℕ) → Finds (dollars brace) brace → Of (dollars brace) (operation brace n c d)
+of_operation : (brace : TokenKind) (n c d : ℕ) → Finds (dollars brace) brace → Of (dollars brace) (operation brace n c d)
 of_operation brace n c d h =
     of_if (dollars brace) (c == 125) _ _ (refl, omega arith)
     (of_if (dollars brace) (c == 58) _ _ (of_if (dollars brace) (substitutes d) _ _ (of_brace brace (n + 2) h (omega arith)) tt)
@@ -184,21 +184,21 @@ of_operation brace n c d h =
     (of_if (dollars brace) (c == 37) _ _ (of_if (dollars brace) (d == 37) _ _ (refl, omega arith) (refl, omega arith))
     (of_if (dollars brace) (c == 35) _ _ (of_if (dollars brace) (d == 35) _ _ (refl, omega arith) (refl, omega arith)) tt))))
 
-of_operated : (brace : Kind) (n : ℕ) (text : List ℕ) → Finds (dollars brace) brace → Of (dollars brace) (operated brace n text)
+of_operated : (brace : TokenKind) (n : ℕ) (text : List ℕ) → Finds (dollars brace) brace → Of (dollars brace) (operated brace n text)
 of_operated brace n text h = of_if (dollars brace) (n == 0) _ _ tt (of_operation brace (n + 2) (slice_index text (n + 2)) (slice_index text (n + 3)) h)
 
-of_length : (brace : Kind) (n : ℕ) (text : List ℕ) → Of (dollars brace) (length_of n text)
+of_length : (brace : TokenKind) (n : ℕ) (text : List ℕ) → Of (dollars brace) (length_of n text)
 of_length brace n text = of_if (dollars brace) (n == 0) _ _ tt (of_if (dollars brace) (slice_index text (n + 3) == 125) _ _ (refl, omega arith) tt)
 
-of_length_look : (brace : Kind) (text : List ℕ) → Of (dollars brace) (length_look text)
+of_length_look : (brace : TokenKind) (text : List ℕ) → Of (dollars brace) (length_look text)
 of_length_look brace text = of_if (dollars brace) (slice_index text 2 == 35) _ _ (of_length brace (parameter (drop 3 text)) text) tt
 
-of_braced : (brace : Kind) (text : List ℕ) → Finds (dollars brace) brace → Of (dollars brace) (braced brace text)
+of_braced : (brace : TokenKind) (text : List ℕ) → Finds (dollars brace) brace → Of (dollars brace) (braced brace text)
 unfolding braced
 of_braced brace text h =
     of_or (dollars brace) (length_look text) (operated brace (parameter_in_braces text) text) (of_length_look brace text) (of_operated brace (parameter_in_braces text) text h)
 
-pub of_dollar : (brace : Kind) (text : List ℕ) → Finds (dollars brace) brace → Of (dollars brace) (dollar brace text)
+pub of_dollar : (brace : TokenKind) (text : List ℕ) → Finds (dollars brace) brace → Of (dollars brace) (dollar brace text)
 unfolding dollar
 of_dollar brace text h =
     of_if (dollars brace) (is_letter (slice_index text 1)) _ _ (refl, omega arith)
@@ -207,11 +207,11 @@ of_dollar brace text h =
     (of_if (dollars brace) (slice_index text 1 == 40) _ _ (of_if (dollars brace) (slice_index text 2 == 40) _ _ (refl, some_bytes _) (refl, some_bytes _))
     (of_if (dollars brace) (slice_index text 1 == 123) _ _ (of_braced brace text h) (refl, some_bytes _)))))
 
-of_backslash : (ks : List ℕ) (b : Bool) (quoted alone : Kind) → Finds ks quoted → Finds ks alone → Of ks (backslash b quoted alone)
+of_backslash : (ks : List ℕ) (b : Bool) (quoted alone : TokenKind) → Finds ks quoted → Finds ks alone → Of ks (backslash b quoted alone)
 of_backslash ks true quoted alone h i = (h.0, subst (λ b. Wide b 2) (sym h.1) (some_bytes _))
 of_backslash ks false quoted alone h i = (i.0, subst (λ b. Wide b 1) (sym i.1) (some_bytes _))
 
-of_token_if : (ks : List ℕ) (b : Bool) (kind : Kind) (n : ℕ) → member (number kind) ks ≡ true → Wide (may_have_none kind) n → Of ks (token_if b kind n)
+of_token_if : (ks : List ℕ) (b : Bool) (kind : TokenKind) (n : ℕ) → member (number kind) ks ≡ true → Wide (may_have_none kind) n → Of ks (token_if b kind n)
 of_token_if ks true kind n h i = (h, i)
 of_token_if ks false kind n h i = tt
 

@@ -3,10 +3,10 @@ use Rattle.std.proofs.Common.{◌≡◌, ℕ, zero, suc, ◌+◌, List, [], ◌�
 use Rattle.std.specs.Prelude.{nat_eq, if◌then◌else◌, ◌==◌, slice_index}
 use Rattle.std.proofs.lemmas.Bool.{eqb-true}
 use Rattle.sh_rules.specs.Checked.{ModesAgree}
-use Rattle.sh_rules.specs.declared.kind.Kind.{Kind}
-use Rattle.sh_rules.specs.declared.kind.Mode.{Mode}
-use Rattle.sh_rules.specs.declared.kind.Kind.TheVariants as k
-use Rattle.sh_rules.specs.declared.kind.Mode.TheVariants as m
+use Rattle.sh_rules.specs.declared.token_kind.TokenKind.{TokenKind}
+use Rattle.sh_rules.specs.declared.token_kind.Mode.{Mode}
+use Rattle.sh_rules.specs.declared.token_kind.TokenKind.TheVariants as k
+use Rattle.sh_rules.specs.declared.token_kind.Mode.TheVariants as m
 use Rattle.sh_rules.specs.Rules.{Token, shell}
 use Rattle.sh_rules.specs.LookAhead.{number, member, all_kinds, either, mode_of, sets, reader}
 use Rattle.sh_rules.proofs.Tables.{both, implies, implied, each, every}
@@ -238,15 +238,15 @@ expands x = either (nat_eq (num x) (num r.Expands)) (nat_eq (num x) (num r.Expan
 abbrev plainly : List ℕ
 plainly = 54 ∷ 55 ∷ 56 ∷ 57 ∷ 58 ∷ 67 ∷ []
 
-abbrev alike : Recognizer → Recognizer → Kind → Bool
+abbrev alike : Recognizer → Recognizer → TokenKind → Bool
 alike x y j = either (nat_eq (num x) (num y)) (both (both (expands x) (expands y)) (member (number j) plainly))
 
 -- of a token that belongs to a mode
-abbrev forth : Mode → Front → Kind → Bool
+abbrev forth : Mode → Front → TokenKind → Bool
 forth m x j = implies (both (sets.belongs m j) (member (number j) (kinds_by (recognizer (mode_of j) x)))) (alike (recognizer m x) (recognizer (mode_of j) x) j)
 
 -- and of a token that is found in a mode
-abbrev back : Mode → Front → Kind → Bool
+abbrev back : Mode → Front → TokenKind → Bool
 back m x j = implies (member (number j) (kinds_by (recognizer m x))) (alike (recognizer (mode_of j) x) (recognizer m x) j)
 
 abbrev holds : Mode → Bool
@@ -274,14 +274,14 @@ modes_hold m.FunctionOpen = refl
 modes_hold m.FunctionClose = refl
 modes_hold m.HereDelimiter = refl
 
-holds_at : (m : Mode) (x : Front) (j : Kind) → (forth m x j ≡ true) × (back m x j ≡ true)
+holds_at : (m : Mode) (x : Front) (j : TokenKind) → (forth m x j ≡ true) × (back m x j ≡ true)
 holds_at m x j =
     both_true (forth m x j) (back m x j)
     (every (λ j. both (forth m x j) (back m x j))
     (all_at (λ x. each (λ j. both (forth m x j) (back m x j)) all_kinds) fronts (front_number x) x (modes_hold m) (front_at x)) j)
 
 -- what is found, if anything is
-abbrev pub kind_or : Kind → Look → Kind
+abbrev pub kind_or : TokenKind → Look → TokenKind
 kind_or j None = j
 kind_or j (Some x) = x.0
 
@@ -291,7 +291,7 @@ count_or n (Some x) = x.1
 
 -- where one finds a token of a plain kind, so does the other
 abbrev Like : Look → Look → Type 0
-Like x y = (j : Kind) (n : ℕ) → member (number j) plainly ≡ true → x ≡ Some (j, n) → y ≡ Some (j, n)
+Like x y = (j : TokenKind) (n : ℕ) → member (number j) plainly ≡ true → x ≡ Some (j, n) → y ≡ Some (j, n)
 
 like_same : (x : Look) → Like x x
 like_same x j n h e = e
@@ -304,26 +304,26 @@ like_or : (x y z : Look) → Like y z → Like (or_else x y) (or_else x z)
 like_or None y z a = a
 like_or (Some v) y z a = like_same (Some v)
 
-like_brace : (c d : Kind) (n : ℕ) → member (number c) plainly ≡ false → Like (token c n) (token d n)
+like_brace : (c d : TokenKind) (n : ℕ) → member (number c) plainly ≡ false → Like (token c n) (token d n)
 like_brace c d n h j i m e =
     let s : c ≡ j = ap (kind_or c) e in
     let t : true ≡ false = sym m ∙ ap (λ j. member (number j) plainly) (sym s) ∙ h in
     cc
 
-like_operation : (c d : Kind) (n a b : ℕ) → member (number c) plainly ≡ false → Like (operation c n a b) (operation d n a b)
+like_operation : (c d : TokenKind) (n a b : ℕ) → member (number c) plainly ≡ false → Like (operation c n a b) (operation d n a b)
 like_operation c d n a b h =
     like_if (a == 125) _ _ _ _ (like_same _)
     (like_if (a == 58) _ _ _ _ (like_if (substitutes b) _ _ _ _ (like_brace c d (n + 2) h) (like_same _))
     (like_if (substitutes a) _ _ _ _ (like_brace c d (n + 1) h) (like_same _)))
 
-like_braced : (c d : Kind) (text : List ℕ) → member (number c) plainly ≡ false → Like (braced c text) (braced d text)
+like_braced : (c d : TokenKind) (text : List ℕ) → member (number c) plainly ≡ false → Like (braced c text) (braced d text)
 unfolding braced
 like_braced c d text h =
     let n = parameter_in_braces text in
     like_or (length_look text) (operated c n text) (operated d n text)
     (like_if (n == 0) _ _ _ _ (like_same _) (like_operation c d (n + 2) (slice_index text (n + 2)) (slice_index text (n + 3)) h))
 
-like_dollar : (c d : Kind) (text : List ℕ) → member (number c) plainly ≡ false → Like (dollar c text) (dollar d text)
+like_dollar : (c d : TokenKind) (text : List ℕ) → member (number c) plainly ≡ false → Like (dollar c text) (dollar d text)
 unfolding dollar
 like_dollar c d text h =
     like_if (is_letter (slice_index text 1)) _ _ _ _ (like_same _)
@@ -349,7 +349,7 @@ which x h = by (either_cases (nat_eq (num x) (num r.Expands)) (nat_eq (num x) (n
     by (inl a) = inl (number_is x r.Expands a)
     by (inr a) = inr (number_is x r.ExpandsQuoted a)
 
-finds : (x y : Recognizer) (p : Place) (j : Kind) (n : ℕ) → alike x y j ≡ true → found y p ≡ Some (j, n) → found x p ≡ Some (j, n)
+finds : (x y : Recognizer) (p : Place) (j : TokenKind) (n : ℕ) → alike x y j ≡ true → found y p ≡ Some (j, n) → found x p ≡ Some (j, n)
 finds x y p j n h e = by (either_cases (nat_eq (num x) (num y)) (both (both (expands x) (expands y)) (member (number j) plainly)) h)
   where
     by : (nat_eq (num x) (num y) ≡ true) ⊎ (both (both (expands x) (expands y)) (member (number j) plainly) ≡ true) → found x p ≡ Some (j, n)
@@ -359,7 +359,7 @@ finds x y p j n h e = by (either_cases (nat_eq (num x) (num y)) (both (both (exp
         let t = both_true (expands x) (expands y) s.0 in
         dollars_like x y p (which x t.0) (which y t.1) j n s.1 e
 
-pub kind_of : (x : Recognizer) (p : Place) (j : Kind) (n : ℕ) → found x p ≡ Some (j, n) → member (number j) (kinds_by x) ≡ true
+pub kind_of : (x : Recognizer) (p : Place) (j : TokenKind) (n : ℕ) → found x p ≡ Some (j, n) → member (number j) (kinds_by x) ≡ true
 kind_of x p j n e = (subst (Of (kinds_by x)) e (of_recognized x (is_whole p) (is_closed p) (is_nested p) p.words p.awaited p.text)).0
 
 from_both : (a b : Bool) → a ≡ true → b ≡ true → both a b ≡ true
@@ -369,14 +369,14 @@ abbrev pub front_at_place : Place → Front
 front_at_place p = front_of p.words (folded p.text)
 
 -- what is measured was found, with its kind
-pub unmeasured : (text : List ℕ) (x : Look) (j : Kind) (n : ℕ) → measured text x ≡ Some (j, n) → (i : ℕ) × (x ≡ Some (j, i)) × (n ≡ extent (is_raw j) i text)
+pub unmeasured : (text : List ℕ) (x : Look) (j : TokenKind) (n : ℕ) → measured text x ≡ Some (j, n) → (i : ℕ) × (x ≡ Some (j, i)) × (n ≡ extent (is_raw j) i text)
 unmeasured text None j n e = cc
 unmeasured text (Some x) j n e =
     let s : x.0 ≡ j = ap (kind_or x.0) e in
     let t : extent (is_raw x.0) x.1 text ≡ n = ap (count_or 0) e in
     (x.1, ap (λ j. Some (j, x.1)) s, sym t ∙ ap (λ j. extent (is_raw j) x.1 text) s)
 
-pub looks_forth : (m : Mode) (p : Place) (j : Kind) (n : ℕ) → sets.belongs m j ≡ true → look (mode_of j) p ≡ Some (j, n) → look m p ≡ Some (j, n)
+pub looks_forth : (m : Mode) (p : Place) (j : TokenKind) (n : ℕ) → sets.belongs m j ≡ true → look (mode_of j) p ≡ Some (j, n) → look m p ≡ Some (j, n)
 unfolding look
 looks_forth m p j n h e =
     let x = front_at_place p in
@@ -385,7 +385,7 @@ looks_forth m p j n h e =
     ap (measured p.text) (finds (recognizer m x) (recognizer (mode_of j) x) p j u.0 c u.1) ∙ ap (λ n. Some (j, n)) (sym u.2)
 
 -- A token that is found in a mode is found where it is looked for by itself.
-pub found_by_itself : (m : Mode) (p : Place) (j : Kind) (n : ℕ) → look m p ≡ Some (j, n) → look (mode_of j) p ≡ Some (j, n)
+pub found_by_itself : (m : Mode) (p : Place) (j : TokenKind) (n : ℕ) → look m p ≡ Some (j, n) → look (mode_of j) p ≡ Some (j, n)
 unfolding look
 found_by_itself m p j n e =
     let x = front_at_place p in

@@ -3,10 +3,10 @@ use Rattle.std.proofs.Common.{◌≡◌, ◌≤◌, ◌<◌, ℕ, zero, suc, ◌
 use Rattle.std.proofs.lemmas.List.{length-take-le}
 use Rattle.std.proofs.lemmas.Bool.{ltb-true, lt-ltb}
 use Rattle.std.specs.Prelude.{nat_lt, if◌then◌else◌, ◌==◌}
-use Rattle.sh_rules.specs.declared.kind.Kind.{Kind}
-use Rattle.sh_rules.specs.declared.kind.Mode.{Mode}
-use Rattle.sh_rules.specs.declared.kind.Kind.TheVariants as k
-use Rattle.sh_rules.specs.declared.kind.Mode.TheVariants as m
+use Rattle.sh_rules.specs.declared.token_kind.TokenKind.{TokenKind}
+use Rattle.sh_rules.specs.declared.token_kind.Mode.{Mode}
+use Rattle.sh_rules.specs.declared.token_kind.TokenKind.TheVariants as k
+use Rattle.sh_rules.specs.declared.token_kind.Mode.TheVariants as m
 use Rattle.sh_rules.specs.Rules.{Token}
 use Rattle.sh_rules.specs.LookAhead.{mode_of}
 use Rattle.sh_token.specs.declared.front.Front.TheVariants as f
@@ -31,7 +31,7 @@ use Rattle.sh_token.proofs.Found.{Of, Wide, may_have_none, kinds_by, of_recogniz
 use Rattle.sh_token.proofs.Modes.{found, front_at_place, unmeasured, unlexed, found_by_itself, kind_or, count_or, place_or}
 
 -- these tokens may leave as much as there was
-abbrev pub may_be_empty : Kind → Bool
+abbrev pub may_be_empty : TokenKind → Bool
 may_be_empty k.WordEnd = true
 may_be_empty k.NoBody = true
 may_be_empty k.BodyClose = true
@@ -72,18 +72,18 @@ extent_within true n text = least_within (nat_lt n (length text)) n (length text
 extent_within false n text = omega arith
 
 -- A token that is found is within the text.
-pub look_within : (m : Mode) (p : Place) (j : Kind) (n : ℕ) → look m p ≡ Some (j, n) → n ≤ length p.text
+pub look_within : (m : Mode) (p : Place) (j : TokenKind) (n : ℕ) → look m p ≡ Some (j, n) → n ≤ length p.text
 unfolding look
 look_within m p j n e =
     let u = unmeasured p.text (found (recognizer m (front_at_place p)) p) j n e in
     subst (λ n. n ≤ length p.text) (sym u.2) (extent_within (is_raw j) u.0 p.text)
 
 -- Where nothing is left only tokens of no bytes stand.
-if_so : (b : Bool) (i j : Kind) (m n : ℕ) → token_if b i m ≡ Some (j, n) → may_have_none i ≡ true → may_have_none j ≡ true
+if_so : (b : Bool) (i j : TokenKind) (m n : ℕ) → token_if b i m ≡ Some (j, n) → may_have_none i ≡ true → may_have_none j ≡ true
 if_so true i j m n e h = let s : i ≡ j = ap (kind_or i) e in subst (λ j. may_have_none j ≡ true) s h
 if_so false i j m n e h = cc
 
-no_body : (awaited : List Awaited) (j : Kind) (n : ℕ) → bodies_look awaited [] ≡ Some (j, n) → may_have_none j ≡ true
+no_body : (awaited : List Awaited) (j : TokenKind) (n : ℕ) → bodies_look awaited [] ≡ Some (j, n) → may_have_none j ≡ true
 no_body [] j n e = let s : k.NoBody ≡ j = ap (kind_or k.NoBody) e in subst (λ j. may_have_none j ≡ true) s refl
 no_body (d ∷ ds) j n e = by d.quoted e
   where
@@ -91,7 +91,7 @@ no_body (d ∷ ds) j n e = by d.quoted e
     by true e = cc
     by false e = cc
 
-at_the_end : (m : Mode) (whole closed nested : Bool) (words : Words) (awaited : List Awaited) (j : Kind) (n : ℕ) → recognized (recognizer m f.End) whole closed nested words awaited [] ≡ Some (j, n) → may_have_none j ≡ true
+at_the_end : (m : Mode) (whole closed nested : Bool) (words : Words) (awaited : List Awaited) (j : TokenKind) (n : ℕ) → recognized (recognizer m f.End) whole closed nested words awaited [] ≡ Some (j, n) → may_have_none j ≡ true
 unfolding recognized recognizer
 at_the_end m.CommandStart whole closed nested words awaited j n e = if_so whole k.End j 0 n e refl
 at_the_end m.Prefix whole closed nested words awaited j n e = if_so whole k.End j 0 n e refl
@@ -122,7 +122,7 @@ wide_is true n h w = cc
 wide_is false n h w = w
 
 -- a token of another kind has a byte
-measured_some : (m : Mode) (whole closed nested : Bool) (words : Words) (awaited : List Awaited) (text : List ℕ) (j : Kind) (i : ℕ) → recognized (recognizer m (front_of words (folded text))) whole closed nested words awaited text ≡ Some (j, i) → may_have_none j ≡ false → 1 ≤ extent (is_raw j) i text
+measured_some : (m : Mode) (whole closed nested : Bool) (words : Words) (awaited : List Awaited) (text : List ℕ) (j : TokenKind) (i : ℕ) → recognized (recognizer m (front_of words (folded text))) whole closed nested words awaited text ≡ Some (j, i) → may_have_none j ≡ false → 1 ≤ extent (is_raw j) i text
 measured_some m whole closed nested words awaited [] j i e h =
     let s : may_have_none j ≡ true = at_the_end m whole closed nested words awaited j i (subst (λ x. recognized (recognizer m x) whole closed nested words awaited [] ≡ Some (j, i)) (no_front words) e) in
     cc
@@ -131,7 +131,7 @@ measured_some m whole closed nested words awaited (c ∷ cs) j i e h =
     let w = (subst (Of (kinds_by x)) e (of_recognized x whole closed nested words awaited (c ∷ cs))).1 in
     extent_some (is_raw j) i (c ∷ cs) (wide_is (may_have_none j) i h w) (omega arith)
 
-pub has_byte : (m : Mode) (p : Place) (j : Kind) (n : ℕ) → look m p ≡ Some (j, n) → may_have_none j ≡ false → 1 ≤ n
+pub has_byte : (m : Mode) (p : Place) (j : TokenKind) (n : ℕ) → look m p ≡ Some (j, n) → may_have_none j ≡ false → 1 ≤ n
 unfolding look
 has_byte m p j n e h =
     let u = unmeasured p.text (found (recognizer m (front_at_place p)) p) j n e in
@@ -180,11 +180,11 @@ passed e.OpensBody n p h = cc
 passed e.ClosesBody n p h = cc
 passed e.Encloses n p h = omega (arith, two_drops (joins (drop n p.text)) n p.text)
 
-moves : (j : Kind) (n : ℕ) (p : Place) → passes (effect_of j) ≡ true → may_have_none j ≡ false → look (mode_of j) p ≡ Some (j, n) → size (after (effect_of j) n p) < size p
+moves : (j : TokenKind) (n : ℕ) (p : Place) → passes (effect_of j) ≡ true → may_have_none j ≡ false → look (mode_of j) p ≡ Some (j, n) → size (after (effect_of j) n p) < size p
 unfolding size
 moves j n p h i e = omega (arith, passed (effect_of j) n p h, has_byte (mode_of j) p j n e i, look_within (mode_of j) p j n e)
 
-stays : (j : Kind) (n : ℕ) (p : Place) → passes (effect_of j) ≡ true → size (after (effect_of j) n p) ≤ size p
+stays : (j : TokenKind) (n : ℕ) (p : Place) → passes (effect_of j) ≡ true → size (after (effect_of j) n p) ≤ size p
 unfolding size
 stays j n p h = omega (arith, passed (effect_of j) n p h)
 
@@ -232,7 +232,7 @@ body_within d b (c ∷ (x ∷ cs)) n e =
     counted_within (b also closes d (c ∷ (x ∷ cs))) (piece d.quoted (c ∷ (x ∷ cs))) (body d true (x ∷ cs)) (body d false (x ∷ cs)) (body d false cs) (length cs) n
     (body_within d true (x ∷ cs)) (body_within d false (x ∷ cs)) (body_within d false cs) e
 
-found_in : (q : Bool) (x : Option ℕ) (j : Kind) (i : ℕ) → body_found q x ≡ Some (j, i) → x ≡ Some i
+found_in : (q : Bool) (x : Option ℕ) (j : TokenKind) (i : ℕ) → body_found q x ≡ Some (j, i) → x ≡ Some i
 found_in true None j i e = cc
 found_in false None j i e = cc
 found_in true (Some n) j i e = let s : n ≡ i = ap (count_or n) e in ap Some s
@@ -303,7 +303,7 @@ closed_size None p h = omega (arith, popped_less p.around)
 closed_size (Some a) p h = omega (arith, but_last p.around a h)
 
 -- what stands where bodies are looked for
-at_bodies : (p : Place) (j : Kind) (n : ℕ) → look m.Bodies p ≡ Some (j, n) → (i : ℕ) × (bodies_look p.awaited p.text ≡ Some (j, i)) × (n ≡ extent (is_raw j) i p.text)
+at_bodies : (p : Place) (j : TokenKind) (n : ℕ) → look m.Bodies p ≡ Some (j, n) → (i : ℕ) × (bodies_look p.awaited p.text ≡ Some (j, i)) × (n ≡ extent (is_raw j) i p.text)
 unfolding look recognizer recognized
 at_bodies p j n e = unmeasured p.text (bodies_look p.awaited p.text) j n e
 
@@ -319,7 +319,7 @@ closes_one : (n : ℕ) (p : Place) → size (after e.ClosesBody n p) ≤ size p
 unfolding after
 closes_one n p = closed_size (last_around p.around) p refl
 
-shorter_kind : (j : Kind) (n : ℕ) (p : Place) → look (mode_of j) p ≡ Some (j, n) → Shrinks (may_be_empty j) (size p) (size (after (effect_of j) n p))
+shorter_kind : (j : TokenKind) (n : ℕ) (p : Place) → look (mode_of j) p ≡ Some (j, n) → Shrinks (may_be_empty j) (size p) (size (after (effect_of j) n p))
 shorter_kind k.Semi n p e = moves k.Semi n p refl refl e
 shorter_kind k.Newline n p e = moves k.Newline n p refl refl e
 shorter_kind k.NoBody n p e = stays k.NoBody n p refl

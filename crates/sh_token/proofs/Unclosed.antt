@@ -2,7 +2,7 @@
 use Rattle.std.proofs.Common.{◌≡◌, ℕ, zero, suc, ◌+◌, ◌-◌, ◌<◌, ◌≤◌, inl, inr, List, [], ◌∷◌, drop, length, slice_index, Bool, true, false, refl, sym, ap, subst, ◌∙◌, arith, length-drop, drop-drop}
 use Rattle.std.specs.Prelude.{◌==◌}
 use Rattle.std.proofs.lemmas.Bool.{eqb-true, cases_lt}
-use Rattle.sh_rules.specs.declared.kind.Kind.{Kind}
+use Rattle.sh_rules.specs.declared.token_kind.TokenKind.{TokenKind}
 use Rattle.sh_token.specs.declared.bytes.Class.{Class}
 use Rattle.sh_token.specs.Blanks.{joins, two_if}
 use Rattle.sh_token.specs.Bytes.{◌or◌, ◌also◌, class_is}
@@ -110,7 +110,7 @@ later : (k : Class) (xs : List ℕ) → closes_bracket (class_is k) xs ≡ false
 later k [] h b = refl
 later k (c ∷ cs) h b = rest_of (bare k (c ∷ cs)) (c == 93) (closes_bracket (class_is k) cs) b h
 
-pub look_unclosed : (k : Class) (kind : Kind) (xs : List ℕ) → closes_bracket (class_is k) xs ≡ false → bare k xs ≡ true → token kind (run_on (class_is k) xs) ≡ text_look (class_is k) kind xs
+pub look_unclosed : (k : Class) (kind : TokenKind) (xs : List ℕ) → closes_bracket (class_is k) xs ≡ false → bare k xs ≡ true → token kind (run_on (class_is k) xs) ≡ text_look (class_is k) kind xs
 look_unclosed k kind [] h b = absurd (no_bare k b)
 look_unclosed k kind (c ∷ cs) h b =
     let i = later k (c ∷ cs) h b in

@@ -3,8 +3,8 @@ use Rattle.std.proofs.Common.{◌≡◌, ◌≤◌, ℕ, ◌+◌, List, [], ◌�
 use Rattle.std.specs.Prelude.{if◌then◌else◌, ◌==◌, slice_index}
 use Rattle.sh_token.specs.declared.delimiter.Within.{Within}
 use Rattle.sh_token.specs.declared.delimiter.Within.TheVariants as w
-use Rattle.sh_token.specs.declared.delimiter.Step.{Step}
-use Rattle.sh_token.specs.declared.delimiter.Step.TheVariants as s
+use Rattle.sh_token.specs.declared.delimiter.DelimiterStep.{DelimiterStep}
+use Rattle.sh_token.specs.declared.delimiter.DelimiterStep.TheVariants as s
 use Rattle.sh_token.specs.Bytes.{◌or◌, ◌also◌, is_end}
 use Rattle.sh_token.specs.HereDocuments.{Walk, further, stopped, walked, at_end, step, step_at, nowhere, walk, one_left, two_left, left, nothing, delimiter_of}
 
@@ -16,15 +16,15 @@ pub record Walked (whole rest : List ℕ) (x : Within) (count : ℕ) : Type 0 wh
 further_more : (a b : ℕ) (x : Walk) → further a (further b x) ≡ further (a + b) x
 further_more a b x = let e : a + (b + x.count) ≡ (a + b) + x.count = omega arith in ap (λ n. record { count = n; ends = x.ends }) e
 
-no_step : (x : Within) (t : Step) → at_end x ≡ t → (t ≡ s.Ends) ⊎ (t ≡ s.Fails)
+no_step : (x : Within) (t : DelimiterStep) → at_end x ≡ t → (t ≡ s.Ends) ⊎ (t ≡ s.Fails)
 no_step w.Bare t h = inl (sym h)
 no_step w.Single t h = inr (sym h)
 no_step w.Double t h = inr (sym h)
 
-abbrev NotTwo : Step → Type 0
+abbrev NotTwo : DelimiterStep → Type 0
 NotTwo t = (y : Within) → t ≡ s.Two y → ⊥
 
-two_if : (b : Bool) (t u : Step) → NotTwo t → NotTwo u → NotTwo (if b then t else u)
+two_if : (b : Bool) (t u : DelimiterStep) → NotTwo t → NotTwo u → NotTwo (if b then t else u)
 two_if true t u f g = f
 two_if false t u f g = g
 
@@ -53,7 +53,7 @@ two_walk w.Double y [] h = cc
 two_walk x y (c ∷ []) h = absurd (last_not x c y h)
 two_walk x y (c ∷ (d ∷ cs)) h = (ap (λ t. walked t (λ y. walk y (d ∷ cs)) (λ y. walk y cs)) h, omega arith)
 
-stop_walk : (x : Within) (ts : List ℕ) (b : Bool) (t : Step) → walked t nowhere nowhere ≡ stopped b → (t ≡ s.Ends) ⊎ (t ≡ s.Fails) → step_at x ts ≡ t → walk x ts ≡ stopped b
+stop_walk : (x : Within) (ts : List ℕ) (b : Bool) (t : DelimiterStep) → walked t nowhere nowhere ≡ stopped b → (t ≡ s.Ends) ⊎ (t ≡ s.Fails) → step_at x ts ≡ t → walk x ts ≡ stopped b
 stop_walk x [] b t h i e = ap (λ t. walked t nowhere nowhere) e ∙ h
 stop_walk x (c ∷ []) b t h (inl i) e = ap (λ t. walked t (λ y. walked (at_end y) nowhere nowhere) nowhere) (e ∙ i) ∙ ap (λ t. walked t nowhere nowhere) (sym i) ∙ h
 stop_walk x (c ∷ []) b t h (inr i) e = ap (λ t. walked t (λ y. walked (at_end y) nowhere nowhere) nowhere) (e ∙ i) ∙ ap (λ t. walked t nowhere nowhere) (sym i) ∙ h

@@ -1,7 +1,7 @@
 -- What the profile leaves out of bracket expressions: collating symbols, as `[.x.]`, and equivalence classes, as `[=x=]` (XBD 9.3.5).
 use Rattle.std.specs.Prelude.{◌≡◌, ℕ, zero, suc, ◌+◌, ◌<◌, ◌==◌, nat_lt, List, [], ◌∷◌, drop, length, slice_index, Bool, false, if◌then◌else◌, Option, Some, None}
-use Rattle.sh_rules.specs.declared.kind.Kind.{Kind}
-use Rattle.sh_rules.specs.declared.kind.Kind.TheVariants as k
+use Rattle.sh_rules.specs.declared.token_kind.TokenKind.{TokenKind}
+use Rattle.sh_rules.specs.declared.token_kind.TokenKind.TheVariants as k
 use Rattle.sh_token.specs.declared.bytes.Class.{Class}
 use Rattle.sh_token.specs.declared.bytes.Class.TheVariants as cl
 use Rattle.sh_token.specs.Bytes.{◌or◌, ◌also◌, not_so, is_name}
@@ -76,11 +76,11 @@ text_run f (Some n) [] = 0
 text_run f (Some n) (c ∷ cs) = one_if (f c) (text_run f (bracket_on f n cs) cs)
 
 -- a text of a kind, of bytes of a class, the first of them in any case
-abbrev pub text_from : (ℕ → Bool) → Kind → Option ℕ → List ℕ → Look
+abbrev pub text_from : (ℕ → Bool) → TokenKind → Option ℕ → List ℕ → Look
 text_from f kind None behind = None
 text_from f kind (Some n) behind = token kind (suc (text_run f (bracket_on f n behind) behind))
 
-abbrev pub text_look : (ℕ → Bool) → Kind → List ℕ → Look
+abbrev pub text_look : (ℕ → Bool) → TokenKind → List ℕ → Look
 text_look f kind text = text_from f kind (bracket f text) (drop 1 text)
 
 -- how many bytes stand before the first one in a text
@@ -89,7 +89,7 @@ before_symbol [] = 0
 before_symbol (c ∷ cs) = if begins_symbol (c ∷ cs) then 0 else suc (before_symbol cs)
 
 -- the class of the bytes of a text that may have a bracket, by its kind
-abbrev pub text_class : Kind → Option Class
+abbrev pub text_class : TokenKind → Option Class
 text_class k.CommandText = Some cl.Plain
 text_class k.PrefixText = Some cl.Plain
 text_class k.WordText = Some cl.Plain

@@ -1,7 +1,7 @@
 -- Words among commands, in clauses and behind redirections (XCU 2.3, 2.7, 2.9, 2.10.2): a text as it is read, that begins with no blank or comment.
 use Rattle.std.specs.Prelude.{ℕ, suc, ◌==◌, nat_lt, List, drop, slice_index, codes, Bool, true, false, if◌then◌else◌, None}
-use Rattle.sh_rules.specs.declared.kind.Kind.{Kind}
-use Rattle.sh_rules.specs.declared.kind.Kind.TheVariants as k
+use Rattle.sh_rules.specs.declared.token_kind.TokenKind.{TokenKind}
+use Rattle.sh_rules.specs.declared.token_kind.TokenKind.TheVariants as k
 use Rattle.sh_token.specs.declared.place.Words.{Words}
 use Rattle.sh_token.specs.declared.place.Words.TheVariants.{All, Closers, Ordinary}
 use Rattle.sh_token.specs.Bytes.{◌or◌, ◌also◌, is_blank, is_digit, is_letter, is_name, is_end, is_plain}
@@ -46,7 +46,7 @@ function_name text =
     if (is_letter (slice_index text 0) also opens_parenthesis (drop n text)) then token k.FunctionName n else None
 
 -- the first text of a word
-abbrev pub text_of : Kind → List ℕ → Look
+abbrev pub text_of : TokenKind → List ℕ → Look
 text_of kind text = text_look is_plain kind text
 
 -- a descriptor's number of two digits or more, which the profile leaves out

@@ -1,10 +1,10 @@
 -- What a token leaves open, by its kind.
-use Rattle.sh_rules.specs.declared.kind.Kind.{Kind}
-use Rattle.sh_rules.specs.declared.kind.Kind.TheVariants as k
+use Rattle.sh_rules.specs.declared.token_kind.TokenKind.{TokenKind}
+use Rattle.sh_rules.specs.declared.token_kind.TokenKind.TheVariants as k
 use Rattle.sh_token.specs.declared.effect.Effect.{Effect}
 use Rattle.sh_token.specs.declared.effect.Effect.TheVariants as e
 
-abbrev pub effect_of : Kind → Effect
+abbrev pub effect_of : TokenKind → Effect
 effect_of k.Semi = e.Separates
 effect_of k.Newline = e.EndsLine
 effect_of k.NoBody = e.Separates

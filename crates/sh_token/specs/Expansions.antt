@@ -1,7 +1,7 @@
 -- What begins with a dollar sign (XCU 2.6): a text that begins so.
 use Rattle.std.specs.Prelude.{ℕ, ◌+◌, ◌==◌, List, drop, slice_index, Bool, if◌then◌else◌, Some, None}
-use Rattle.sh_rules.specs.declared.kind.Kind.{Kind}
-use Rattle.sh_rules.specs.declared.kind.Kind.TheVariants as k
+use Rattle.sh_rules.specs.declared.token_kind.TokenKind.{TokenKind}
+use Rattle.sh_rules.specs.declared.token_kind.TokenKind.TheVariants as k
 use Rattle.sh_token.specs.Bytes.{◌or◌, ◌also◌, not_so, is_digit, is_letter, is_name}
 use Rattle.sh_token.specs.Folded.{run}
 use Rattle.sh_token.specs.Tokens.{Look, token}
@@ -30,7 +30,7 @@ is_dollar text = slice_index text 0 == 36 also not_so (is_begun (slice_index tex
 abbrev pub substitutes : ℕ → Bool
 substitutes c = c == 45 or c == 61 or c == 63 or c == 43
 
-abbrev pub operation : Kind → ℕ → ℕ → ℕ → Look
+abbrev pub operation : TokenKind → ℕ → ℕ → ℕ → Look
 operation brace n c d =
     if c == 125 then token k.Braced (n + 1)
     else if c == 58 then (if substitutes d then token brace (n + 2) else None)
@@ -39,7 +39,7 @@ operation brace n c d =
     else if c == 35 then (if d == 35 then token k.PatternBrace (n + 2) else token k.PatternBrace (n + 1))
     else None
 
-abbrev pub operated : Kind → ℕ → List ℕ → Look
+abbrev pub operated : TokenKind → ℕ → List ℕ → Look
 operated brace n text = if n == 0 then None else operation brace (n + 2) (slice_index text (n + 2)) (slice_index text (n + 3))
 
 -- ${#P}, the length of P
@@ -57,7 +57,7 @@ abbrev pub parameter_in_braces : List ℕ → ℕ
 parameter_in_braces text = if slice_index text 2 == 35 then 1 else parameter (drop 2 text)
 
 -- ${: a length, or a parameter with or without an operator, whose word follows
-unfoldable pub braced : Kind → List ℕ → Look
+unfoldable pub braced : TokenKind → List ℕ → Look
 braced brace text = or_else (length_look text) (operated brace (parameter_in_braces text) text)
 
 -- the variable whose name stands behind the dollar sign
@@ -65,7 +65,7 @@ abbrev pub named : List ℕ → Look
 named text = token k.Parameter (run is_name (drop 1 text) + 1)
 
 -- a parameter, an arithmetic expansion, which $(( always begins, a command substitution, braces, or the dollar sign itself
-unfoldable pub dollar : Kind → List ℕ → Look
+unfoldable pub dollar : TokenKind → List ℕ → Look
 dollar brace text =
     let d = slice_index text 1 in
     if is_letter d then named text

@@ -2,8 +2,8 @@
 use Rattle.std.specs.Prelude.{ℕ, suc, ◌+◌, ◌==◌, List, [], ◌∷◌, ◌++◌, Option, Some, None, Bool, true, false, if◌then◌else◌, drop, slice_index}
 use Rattle.sh_token.specs.declared.delimiter.Within.{Within}
 use Rattle.sh_token.specs.declared.delimiter.Within.TheVariants as w
-use Rattle.sh_token.specs.declared.delimiter.Step.{Step}
-use Rattle.sh_token.specs.declared.delimiter.Step.TheVariants as s
+use Rattle.sh_token.specs.declared.delimiter.DelimiterStep.{DelimiterStep}
+use Rattle.sh_token.specs.declared.delimiter.DelimiterStep.TheVariants as s
 use Rattle.sh_token.specs.declared.body.Piece.{Piece}
 use Rattle.sh_token.specs.declared.body.Piece.TheVariants as pc
 use Rattle.sh_token.specs.Bytes.{◌or◌, ◌also◌, not_so, is_end, is_tab, is_unquoted}
@@ -13,7 +13,7 @@ use Rattle.sh_token.specs.Words.{is_quotable}
 -- A delimiter is a word without expansions: a dollar sign stands for itself in it.
 
 -- how a delimiter goes on, by its next two bytes, or the last one
-abbrev pub step : Within → ℕ → ℕ → Bool → Step
+abbrev pub step : Within → ℕ → ℕ → Bool → DelimiterStep
 step w.Bare c d more =
     if (is_end c or c == 96) then s.Ends
     else if c == 39 then s.One w.Single
@@ -38,19 +38,19 @@ further n x = record x { count = n + x.count }
 abbrev pub stopped : Bool → Walk
 stopped ends = record { count = 0; ends = ends }
 
-abbrev pub walked : Step → (Within → Walk) → (Within → Walk) → Walk
+abbrev pub walked : DelimiterStep → (Within → Walk) → (Within → Walk) → Walk
 walked s.Ends one two = stopped true
 walked s.Fails one two = stopped false
 walked (s.One x) one two = further 1 (one x)
 walked (s.Two x) one two = further 2 (two x)
 
 -- with the text it ends where all quotes are closed
-abbrev pub at_end : Within → Step
+abbrev pub at_end : Within → DelimiterStep
 at_end w.Bare = s.Ends
 at_end w.Single = s.Fails
 at_end w.Double = s.Fails
 
-abbrev pub step_at : Within → List ℕ → Step
+abbrev pub step_at : Within → List ℕ → DelimiterStep
 step_at x [] = at_end x
 step_at x (c ∷ []) = step x c 0 false
 step_at x (c ∷ (d ∷ cs)) = step x c d true
@@ -75,7 +75,7 @@ two_left w.Bare d = if d == 10 then [] else d ∷ []
 two_left w.Single d = d ∷ []
 two_left w.Double d = if d == 10 then [] else if is_quotable d then d ∷ [] else 92 ∷ (d ∷ [])
 
-abbrev pub left : Step → List ℕ → List ℕ → (Within → List ℕ) → (Within → List ℕ) → List ℕ
+abbrev pub left : DelimiterStep → List ℕ → List ℕ → (Within → List ℕ) → (Within → List ℕ) → List ℕ
 left s.Ends c d one two = []
 left s.Fails c d one two = []
 left (s.One x) c d one two = c ++ one x

@@ -1,8 +1,8 @@
 -- Which token stands at a place.
 use Rattle.std.specs.Prelude.{ℕ, ◌-◌, ◌==◌, nat_lt, List, [], ◌∷◌, Bool, true, false, if◌then◌else◌, slice_index, Option, Some, None, length}
-use Rattle.sh_rules.specs.declared.kind.Kind.{Kind}
-use Rattle.sh_rules.specs.declared.kind.Mode.{Mode}
-use Rattle.sh_rules.specs.declared.kind.Kind.TheVariants as k
+use Rattle.sh_rules.specs.declared.token_kind.TokenKind.{TokenKind}
+use Rattle.sh_rules.specs.declared.token_kind.Mode.{Mode}
+use Rattle.sh_rules.specs.declared.token_kind.TokenKind.TheVariants as k
 use Rattle.sh_token.specs.declared.recognizer.Recognizer.{Recognizer}
 use Rattle.sh_token.specs.declared.recognizer.Recognizer.TheVariants as r
 use Rattle.sh_token.specs.declared.delimiter.Within.TheVariants as w
@@ -46,7 +46,7 @@ operator_look text = operator (slice_index text 0) (slice_index text 1)
 abbrev pub pattern_bar : List ℕ → Look
 pattern_bar text = if slice_index text 1 == 124 then None else token k.PatternBar 1
 
-abbrev pub token_if : Bool → Kind → ℕ → Look
+abbrev pub token_if : Bool → TokenKind → ℕ → Look
 token_if true kind n = token kind n
 token_if false kind n = None
 
@@ -105,7 +105,7 @@ recognized r.FunctionClose whole closed nested words awaited text = token k.Func
 recognized r.Delimiter whole closed nested words awaited text = delimiter_look text
 
 -- tokens in which joined lines stay, or are looked at in another way
-abbrev pub is_raw : Kind → Bool
+abbrev pub is_raw : TokenKind → Bool
 is_raw k.Escape = true
 is_raw k.Single = true
 is_raw k.QuotedEscape = true

@@ -1,6 +1,6 @@
 -- Operators (XCU 2.10.1), by their first bytes.
 use Rattle.std.specs.Prelude.{ℕ, ◌+◌, ◌==◌, if◌then◌else◌, Some, None}
-use Rattle.sh_rules.specs.declared.kind.Kind.TheVariants as k
+use Rattle.sh_rules.specs.declared.token_kind.TokenKind.TheVariants as k
 use Rattle.sh_token.specs.Bytes.{◌or◌, ◌also◌}
 use Rattle.sh_token.specs.Tokens.{Look, token}
 

@@ -1,6 +1,6 @@
 -- What quotes one byte or all but itself (XCU 2.2.1, 2.2.2): a text as it stands.
 use Rattle.std.specs.Prelude.{ℕ, ◌+◌, ◌==◌, List, length, drop, slice_index, Bool, if◌then◌else◌, None}
-use Rattle.sh_rules.specs.declared.kind.Kind.TheVariants as k
+use Rattle.sh_rules.specs.declared.token_kind.TokenKind.TheVariants as k
 use Rattle.sh_token.specs.Bytes.{◌or◌, not_so}
 use Rattle.sh_token.specs.Folded.{run}
 use Rattle.sh_token.specs.Tokens.{Look, token}

@@ -1,6 +1,6 @@
 -- What is tried at a place, by where a token is looked for and by what the place begins with.
-use Rattle.sh_rules.specs.declared.kind.Mode.{Mode}
-use Rattle.sh_rules.specs.declared.kind.Mode.TheVariants as m
+use Rattle.sh_rules.specs.declared.token_kind.Mode.{Mode}
+use Rattle.sh_rules.specs.declared.token_kind.Mode.TheVariants as m
 use Rattle.sh_token.specs.declared.front.Front.{Front}
 use Rattle.sh_token.specs.declared.front.Front.TheVariants as f
 use Rattle.sh_token.specs.declared.front.Break as b

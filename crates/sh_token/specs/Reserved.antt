@@ -1,6 +1,6 @@
 -- Reserved words (XCU 2.4).
 use Rattle.std.specs.Prelude.{ℕ, ◌==◌, List, [], ◌∷◌, drop, slice_index, codes, Bool, if◌then◌else◌, None}
-use Rattle.sh_rules.specs.declared.kind.Kind.TheVariants as k
+use Rattle.sh_rules.specs.declared.token_kind.TokenKind.TheVariants as k
 use Rattle.sh_token.specs.Bytes.{◌also◌, is_end}
 use Rattle.sh_token.specs.Tokens.{Look, token}
 

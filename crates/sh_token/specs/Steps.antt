@@ -1,7 +1,7 @@
 -- From a place to the next one, by what a token leaves open.
 use Rattle.std.specs.Prelude.{ℕ, suc, ◌-◌, ◌==◌, nat_lt, List, [], ◌∷◌, ◌++◌, Bool, true, false, if◌then◌else◌, Option, Some, None, take, drop}
-use Rattle.sh_rules.specs.declared.kind.Kind.{Kind}
-use Rattle.sh_rules.specs.declared.kind.Mode.{Mode}
+use Rattle.sh_rules.specs.declared.token_kind.TokenKind.{TokenKind}
+use Rattle.sh_rules.specs.declared.token_kind.Mode.{Mode}
 use Rattle.sh_rules.specs.Rules.{Token}
 use Rattle.sh_token.specs.declared.place.Words.TheVariants.{All, Closers, Ordinary}
 use Rattle.sh_token.specs.declared.effect.Effect.{Effect}
@@ -168,7 +168,7 @@ next_drops (Some d) = d.2
 abbrev pub drops : Effect → Place → Bool
 drops effect p = if takes_body effect then next_drops (next p.awaited) else p.tabs
 
-abbrev pub token_of : Kind → ℕ → Place → Token
+abbrev pub token_of : TokenKind → ℕ → Place → Token
 token_of kind n p =
     record { kind = kind; text = as_read (is_raw kind) (drops (effect_of kind) p) (takes_body (effect_of kind)) (take n p.text) }
 

@@ -1,6 +1,6 @@
 -- What a backslash quotes (XCU 2.2.1, 2.2.3, 2.6.2, 2.7.4).
 use Rattle.std.specs.Prelude.{ℕ, ◌==◌, Bool, true, false}
-use Rattle.sh_rules.specs.declared.kind.Kind.{Kind}
+use Rattle.sh_rules.specs.declared.token_kind.TokenKind.{TokenKind}
 use Rattle.sh_token.specs.Bytes.{◌or◌}
 use Rattle.sh_token.specs.Tokens.{Look, token}
 
@@ -17,6 +17,6 @@ abbrev pub is_quotable_in_braces : ℕ → Bool
 is_quotable_in_braces d = is_quotable d or d == 125
 
 -- the backslash with what it quotes, or by itself
-abbrev pub backslash : Bool → Kind → Kind → Look
+abbrev pub backslash : Bool → TokenKind → TokenKind → Look
 backslash true quoted alone = token quoted 2
 backslash false quoted alone = token alone 1

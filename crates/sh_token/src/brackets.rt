@@ -9,7 +9,7 @@ use crate::bytes::{Class, is_in};
 use crate::expansions::is_dollar;
 use crate::folded::{byte, first, is_read_out, rest, run, run_on, skip};
 use crate::unread::Unread;
-use sh_rules::Kind;
+use sh_rules::TokenKind;
 
 fn begins_symbol(text: &[u8]) -> bool
     ensures { result ≡ lem.begins_symbol (folded text.now) }
@@ -179,7 +179,12 @@ fn text_run(class: Class, first_bracket: Option<usize>, text: &[u8]) -> usize
 }
 
 // The text of a kind, by the bracket that it begins with.
-fn text_from(class: Class, kind: Kind, here: Option<usize>, behind: &[u8]) -> Option<(Kind, usize)>
+fn text_from(
+    class: Class,
+    kind: TokenKind,
+    here: Option<usize>,
+    behind: &[u8],
+) -> Option<(TokenKind, usize)>
     ensures { result ≡ lem.text_from (class_is class) kind here (folded behind.now) }
 {
     match here {
@@ -192,7 +197,7 @@ fn text_from(class: Class, kind: Kind, here: Option<usize>, behind: &[u8]) -> Op
 }
 
 /// The text of a kind that stands in front, of bytes of a class, the first of them in any case.
-pub fn text_look(class: Class, kind: Kind, text: &Unread) -> Option<(Kind, usize)>
+pub fn text_look(class: Class, kind: TokenKind, text: &Unread) -> Option<(TokenKind, usize)>
     ensures { result ≡ lem.text_look (class_is class) kind (folded text.now) }
 {
     let bytes = text.bytes();

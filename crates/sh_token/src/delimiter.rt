@@ -20,64 +20,64 @@ pub enum Within {
 
 /// How a delimiter goes on: it ends, it is none, or with one or two bytes.
 #[derive(Clone, Copy)]
-pub enum Step {
+pub enum DelimiterStep {
     Ends,
     Fails,
     One(Within),
     Two(Within),
 }
 
-fn bare_step(c: u8, d: u8, more: bool) -> Step
+fn bare_step(c: u8, d: u8, more: bool) -> DelimiterStep
     ensures { result ≡ lem.step w.Bare c d more }
 {
     if is_end(c) || c == b'`' {
-        Step::Ends
+        DelimiterStep::Ends
     } else if c == b'\'' {
-        Step::One(Within::Single)
+        DelimiterStep::One(Within::Single)
     } else if c == b'"' {
-        Step::One(Within::Double)
+        DelimiterStep::One(Within::Double)
     } else if c == b'\\' && more {
         if d == 0 {
-            Step::Fails
+            DelimiterStep::Fails
         } else {
-            Step::Two(Within::Bare)
+            DelimiterStep::Two(Within::Bare)
         }
     } else {
-        Step::One(Within::Bare)
+        DelimiterStep::One(Within::Bare)
     }
 }
 
-fn single_step(c: u8, d: u8, more: bool) -> Step
+fn single_step(c: u8, d: u8, more: bool) -> DelimiterStep
     ensures { result ≡ lem.step w.Single c d more }
 {
     if c == b'\'' {
-        Step::One(Within::Bare)
+        DelimiterStep::One(Within::Bare)
     } else if c == 0 {
-        Step::Fails
+        DelimiterStep::Fails
     } else {
-        Step::One(Within::Single)
+        DelimiterStep::One(Within::Single)
     }
 }
 
-fn double_step(c: u8, d: u8, more: bool) -> Step
+fn double_step(c: u8, d: u8, more: bool) -> DelimiterStep
     ensures { result ≡ lem.step w.Double c d more }
 {
     if c == b'"' {
-        Step::One(Within::Bare)
+        DelimiterStep::One(Within::Bare)
     } else if c == 0 || c == b'`' {
-        Step::Fails
+        DelimiterStep::Fails
     } else if c == b'\\' && more {
         if d == 0 {
-            Step::Fails
+            DelimiterStep::Fails
         } else {
-            Step::Two(Within::Double)
+            DelimiterStep::Two(Within::Double)
         }
     } else {
-        Step::One(Within::Double)
+        DelimiterStep::One(Within::Double)
     }
 }
 
-fn step_by(within: Within, c: u8, d: u8, more: bool) -> Step
+fn step_by(within: Within, c: u8, d: u8, more: bool) -> DelimiterStep
     ensures { result ≡ lem.step within c d more }
 {
     match within {
@@ -87,17 +87,17 @@ fn step_by(within: Within, c: u8, d: u8, more: bool) -> Step
     }
 }
 
-fn at_end(within: Within) -> Step
+fn at_end(within: Within) -> DelimiterStep
     ensures { result ≡ lem.at_end within }
 {
     match within {
-        Within::Bare => Step::Ends,
-        Within::Single => Step::Fails,
-        Within::Double => Step::Fails,
+        Within::Bare => DelimiterStep::Ends,
+        Within::Single => DelimiterStep::Fails,
+        Within::Double => DelimiterStep::Fails,
     }
 }
 
-fn step_at(within: Within, text: &[u8]) -> Step
+fn step_at(within: Within, text: &[u8]) -> DelimiterStep
     ensures { result ≡ lem.step_at within text.now }
 {
     match text {
@@ -118,14 +118,14 @@ pub fn walk(text: &[u8]) -> (usize, bool)
     let mut count = 0;
     'steps: loop {
         match step_at(within, rest) {
-            Step::Ends => return (count, true),
-            Step::Fails => return (count, false),
-            Step::One(next) => {
+            DelimiterStep::Ends => return (count, true),
+            DelimiterStep::Fails => return (count, false),
+            DelimiterStep::One(next) => {
                 rest = rest.split_at(1).1;
                 within = next;
                 count += 1;
             }
-            Step::Two(next) => {
+            DelimiterStep::Two(next) => {
                 rest = rest.split_at(2).1;
                 within = next;
                 count += 2;
@@ -190,14 +190,14 @@ pub fn delimiter_of(alloc: Global, word: &[u8]) -> Result<Vec<u8>, NoMemory>
     let mut rest = word;
     'steps: loop {
         match step_at(within, rest) {
-            Step::Ends => return Ok(out),
-            Step::Fails => return Ok(out),
-            Step::One(next) => {
+            DelimiterStep::Ends => return Ok(out),
+            DelimiterStep::Fails => return Ok(out),
+            DelimiterStep::One(next) => {
                 push_one(&mut out, within, byte_at(rest, 0))?;
                 rest = rest.split_at(1).1;
                 within = next;
             }
-            Step::Two(next) => {
+            DelimiterStep::Two(next) => {
                 push_two(&mut out, within, byte_at(rest, 1))?;
                 rest = rest.split_at(2).1;
                 within = next;

@@ -5,7 +5,7 @@ ghost use Rattle.sh_token.specs.Expansions as lem;
 
 use crate::bytes::{Class, is_digit, is_letter};
 use crate::folded::{byte, run, skip};
-use sh_rules::Kind;
+use sh_rules::TokenKind;
 
 fn is_special(c: u8) -> bool
     ensures { result ≡ lem.is_special c }
@@ -59,12 +59,12 @@ pub fn parameter(text: &[u8]) -> usize
 }
 
 // The operator behind a parameter in braces, whose first two bytes these are; so many bytes stand in front.
-fn operation(brace: Kind, n: usize, c: u8, d: u8) -> Option<(Kind, usize)>
+fn operation(brace: TokenKind, n: usize, c: u8, d: u8) -> Option<(TokenKind, usize)>
     requires { n < 2 ^ 63 + 2 }
     ensures { result ≡ lem.operation brace n c d }
 {
     if c == b'}' {
-        Some((Kind::Braced, n + 1))
+        Some((TokenKind::Braced, n + 1))
     } else if c == b':' {
         if substitutes(d) {
             Some((brace, n + 2))
@@ -75,22 +75,22 @@ fn operation(brace: Kind, n: usize, c: u8, d: u8) -> Option<(Kind, usize)>
         Some((brace, n + 1))
     } else if c == b'%' {
         if d == b'%' {
-            Some((Kind::PatternBrace, n + 2))
+            Some((TokenKind::PatternBrace, n + 2))
         } else {
-            Some((Kind::PatternBrace, n + 1))
+            Some((TokenKind::PatternBrace, n + 1))
         }
     } else if c == b'#' {
         if d == b'#' {
-            Some((Kind::PatternBrace, n + 2))
+            Some((TokenKind::PatternBrace, n + 2))
         } else {
-            Some((Kind::PatternBrace, n + 1))
+            Some((TokenKind::PatternBrace, n + 1))
         }
     } else {
         None
     }
 }
 
-fn operated(brace: Kind, n: usize, text: &[u8]) -> Option<(Kind, usize)>
+fn operated(brace: TokenKind, n: usize, text: &[u8]) -> Option<(TokenKind, usize)>
     requires { n < 2 ^ 63 }
     ensures { result ≡ lem.operated brace n (folded text.now) }
 {
@@ -101,20 +101,20 @@ fn operated(brace: Kind, n: usize, text: &[u8]) -> Option<(Kind, usize)>
     }
 }
 
-fn length_of(n: usize, text: &[u8]) -> Option<(Kind, usize)>
+fn length_of(n: usize, text: &[u8]) -> Option<(TokenKind, usize)>
     requires { n < 2 ^ 63 }
     ensures { result ≡ lem.length_of n (folded text.now) }
 {
     if n == 0 {
         None
     } else if byte(text, n + 3) == b'}' {
-        Some((Kind::Braced, n + 4))
+        Some((TokenKind::Braced, n + 4))
     } else {
         None
     }
 }
 
-fn length_look(text: &[u8]) -> Option<(Kind, usize)>
+fn length_look(text: &[u8]) -> Option<(TokenKind, usize)>
     ensures { result ≡ lem.length_look (folded text.now) }
 {
     if byte(text, 2) == b'#' {
@@ -137,7 +137,7 @@ fn parameter_in_braces(text: &[u8]) -> usize
 
 /// What stands in front of a text that begins with `${` (XCU 2.6.2): a whole parameter or its length, or a parameter with an operator, of this kind where its word is read as the words around it are.
 #[tactic(auto, unfolding(crate::specs::Expansions::braced))]
-fn braced(brace: Kind, text: &[u8]) -> Option<(Kind, usize)>
+fn braced(brace: TokenKind, text: &[u8]) -> Option<(TokenKind, usize)>
     ensures { result ≡ lem.braced brace (folded text.now) }
 {
     match length_look(text) {
@@ -146,35 +146,35 @@ fn braced(brace: Kind, text: &[u8]) -> Option<(Kind, usize)>
     }
 }
 
-fn named(text: &[u8]) -> Option<(Kind, usize)>
+fn named(text: &[u8]) -> Option<(TokenKind, usize)>
     ensures { result ≡ lem.named (folded text.now) }
 {
     let behind = skip(text, 1);
     let name = run(Class::Name, behind);
-    Some((Kind::Parameter, name + 1))
+    Some((TokenKind::Parameter, name + 1))
 }
 
 /// What stands in front of a text that begins with `$` (XCU 2.6).
 #[tactic(auto, unfolding(crate::specs::Expansions::dollar))]
-pub fn dollar(brace: Kind, text: &[u8]) -> Option<(Kind, usize)>
+pub fn dollar(brace: TokenKind, text: &[u8]) -> Option<(TokenKind, usize)>
     ensures { result ≡ lem.dollar brace (folded text.now) }
 {
     let d = byte(text, 1);
     if is_letter(d) {
         named(text)
     } else if is_digit(d) || is_special(d) {
-        Some((Kind::Parameter, 2))
+        Some((TokenKind::Parameter, 2))
     } else if d == b'$' || d == b'!' || d == b'-' {
         None
     } else if d == b'(' {
         if byte(text, 2) == b'(' {
-            Some((Kind::Arithmetic, 3))
+            Some((TokenKind::Arithmetic, 3))
         } else {
-            Some((Kind::Substitution, 2))
+            Some((TokenKind::Substitution, 2))
         }
     } else if d == b'{' {
         braced(brace, text)
     } else {
-        Some((Kind::Dollar, 1))
+        Some((TokenKind::Dollar, 1))
     }
 }

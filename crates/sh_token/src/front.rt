@@ -7,7 +7,7 @@ use crate::bytes::{Class, is_digit, is_end, is_letter, is_quoting};
 use crate::folded::{byte, is_read_out, run};
 use crate::place::Words;
 use crate::reserved::{closer, is_word};
-use sh_rules::Kind;
+use sh_rules::TokenKind;
 
 /// What a text begins with.
 #[derive(Clone, Copy)]
@@ -79,7 +79,7 @@ fn reserves(words: Words) -> bool
     }
 }
 
-fn is_found(look: Option<(Kind, usize)>) -> bool
+fn is_found(look: Option<(TokenKind, usize)>) -> bool
     ensures { result ≡ lem.is_found look }
 {
     match look {

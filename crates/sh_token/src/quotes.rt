@@ -3,7 +3,7 @@ ghost use Rattle.std.specs.Prelude.{◌≡◌, ◌≤◌, length, slice_index};
 ghost use Rattle.sh_token.specs.Folded.{run as run_lem};
 ghost use Rattle.sh_token.specs.Quoting as lem;
 
-use sh_rules::Kind;
+use sh_rules::TokenKind;
 
 /// The byte at a place of a text as it stands; 0 past its end.
 pub fn raw_byte(text: &[u8], place: usize) -> u8
@@ -32,32 +32,32 @@ pub fn before_quote(text: &[u8]) -> usize
 }
 
 /// A backslash in front of a text, and the byte that it quotes, where one stands there (XCU 2.2.1).
-pub fn escape(text: &[u8]) -> Option<(Kind, usize)>
+pub fn escape(text: &[u8]) -> Option<(TokenKind, usize)>
     ensures { result ≡ lem.escape text.now }
 {
     if text.len() == 1 {
-        Some((Kind::Escape, 1))
+        Some((TokenKind::Escape, 1))
     } else if raw_byte(text, 1) == 0 {
         None
     } else {
-        Some((Kind::Escape, 2))
+        Some((TokenKind::Escape, 2))
     }
 }
 
-fn closed_single(text: &[u8]) -> Option<(Kind, usize)>
+fn closed_single(text: &[u8]) -> Option<(TokenKind, usize)>
     requires { 1 ≤ length text.now }
     ensures { result ≡ lem.single text.now }
 {
     let n = before_quote(text.split_at(1).1);
     if raw_byte(text, n + 1) == b'\'' {
-        Some((Kind::Single, n + 2))
+        Some((TokenKind::Single, n + 2))
     } else {
         None
     }
 }
 
 /// Single quotes in front of a text that begins with one (XCU 2.2.2).
-pub fn single(text: &[u8]) -> Option<(Kind, usize)>
+pub fn single(text: &[u8]) -> Option<(TokenKind, usize)>
     ensures { result ≡ lem.single text.now }
 {
     match text {

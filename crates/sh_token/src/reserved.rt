@@ -5,7 +5,7 @@ ghost use Rattle.sh_token.specs.Reserved.{is_word as word_lem, opener as opener_
 
 use crate::bytes::is_end;
 use crate::folded::{first, rest};
-use sh_rules::Kind;
+use sh_rules::TokenKind;
 
 /// Whether a word is what a text begins with, and ends there.
 pub fn is_word(word: &[u8], text: &[u8]) -> bool
@@ -23,23 +23,23 @@ pub fn is_word(word: &[u8], text: &[u8]) -> bool
 
 /// The reserved word that a text begins with, of those that begin a command.
 #[tactic(auto, unfolding(crate::specs::Reserved::opener))]
-pub fn opener(text: &[u8]) -> Option<(Kind, usize)>
+pub fn opener(text: &[u8]) -> Option<(TokenKind, usize)>
     ensures { result ≡ opener_lem (folded text.now) }
 {
     if is_word(b"!", text) {
-        Some((Kind::Bang, 1))
+        Some((TokenKind::Bang, 1))
     } else if is_word(b"{", text) {
-        Some((Kind::LeftBrace, 1))
+        Some((TokenKind::LeftBrace, 1))
     } else if is_word(b"if", text) {
-        Some((Kind::If, 2))
+        Some((TokenKind::If, 2))
     } else if is_word(b"for", text) {
-        Some((Kind::For, 3))
+        Some((TokenKind::For, 3))
     } else if is_word(b"case", text) {
-        Some((Kind::Case, 4))
+        Some((TokenKind::Case, 4))
     } else if is_word(b"while", text) {
-        Some((Kind::While, 5))
+        Some((TokenKind::While, 5))
     } else if is_word(b"until", text) {
-        Some((Kind::Until, 5))
+        Some((TokenKind::Until, 5))
     } else {
         None
     }
@@ -47,23 +47,23 @@ pub fn opener(text: &[u8]) -> Option<(Kind, usize)>
 
 /// The reserved word that a text begins with, of those but `esac` that close a compound command or go on with it.
 #[tactic(auto, unfolding(crate::specs::Reserved::closer))]
-pub fn closer(text: &[u8]) -> Option<(Kind, usize)>
+pub fn closer(text: &[u8]) -> Option<(TokenKind, usize)>
     ensures { result ≡ closer_lem (folded text.now) }
 {
     if is_word(b"}", text) {
-        Some((Kind::RightBrace, 1))
+        Some((TokenKind::RightBrace, 1))
     } else if is_word(b"then", text) {
-        Some((Kind::Then, 4))
+        Some((TokenKind::Then, 4))
     } else if is_word(b"else", text) {
-        Some((Kind::Else, 4))
+        Some((TokenKind::Else, 4))
     } else if is_word(b"elif", text) {
-        Some((Kind::Elif, 4))
+        Some((TokenKind::Elif, 4))
     } else if is_word(b"fi", text) {
-        Some((Kind::Fi, 2))
+        Some((TokenKind::Fi, 2))
     } else if is_word(b"do", text) {
-        Some((Kind::Do, 2))
+        Some((TokenKind::Do, 2))
     } else if is_word(b"done", text) {
-        Some((Kind::Done, 4))
+        Some((TokenKind::Done, 4))
     } else {
         None
     }

@@ -2,7 +2,7 @@
 ghost use Rattle.std.specs.Prelude.{◌≡◌};
 ghost use Rattle.sh_token.specs.Words as lem;
 
-use sh_rules::Kind;
+use sh_rules::TokenKind;
 
 /// What a backslash quotes in a here-document.
 pub fn is_quotable_in_body(d: u8) -> bool
@@ -26,7 +26,7 @@ pub fn is_quotable_in_braces(d: u8) -> bool
 }
 
 /// A backslash: of one kind where it quotes the byte behind it, and else by itself, of another.
-pub fn backslash(quotes: bool, quoted: Kind, alone: Kind) -> Option<(Kind, usize)>
+pub fn backslash(quotes: bool, quoted: TokenKind, alone: TokenKind) -> Option<(TokenKind, usize)>
     ensures { result ≡ lem.backslash quotes quoted alone }
 {
     if quotes {

@@ -1,6 +1,6 @@
 -- A rule that is chosen at a part is one of the part's.
 use Rattle.std.proofs.Common.{◌≡◌, ℕ, List, [], ◌∷◌, Option, Some, None, Bool, true, false, refl, sym, ap, ◌∙◌}
-use Rattle.sh_rules.specs.declared.kind.Kind.{Kind}
+use Rattle.sh_rules.specs.declared.token_kind.TokenKind.{TokenKind}
 use Rattle.sh_rules.specs.Parts as p
 use Rattle.sh_rules.specs.Parts.{Part}
 use Rattle.sh_rules.specs.Rules.{Rule, part_of}
@@ -103,5 +103,5 @@ among_part n m [] None r a o h = cc
 among_part n m [] (Some q) r a o h = ap part_of (sym (some_rule q r h)) ∙ o
 among_part n m (e ∷ es) other r a o h = one_of n (member m e.kinds) e.rule (among m es other) r a.0 (among_part n m es other r a.1 o) h
 
-pub chosen_part : (n : Part) (kind : Kind) (r : Rule) → Some r ≡ choose n kind → part_of r ≡ n
+pub chosen_part : (n : Part) (kind : TokenKind) (r : Rule) → Some r ≡ choose n kind → part_of r ≡ n
 chosen_part n kind r h = among_part n (number kind) (entries n) (otherwise n) r (rules_of n) (rule_of n) (sym h)

@@ -4,8 +4,8 @@ use Rattle.std.specs.Prelude.{nat_eq}
 use Rattle.std.proofs.lemmas.Bool.{eqb-true}
 use Rattle.sh_rules.specs.Grammar.{Symbol, Want, Do}
 use Rattle.sh_rules.specs.Reading.{Halt, Blocked, Over}
-use Rattle.sh_rules.specs.declared.kind.Kind.{Kind}
-use Rattle.sh_rules.specs.declared.kind.Mode.{Mode}
+use Rattle.sh_rules.specs.declared.token_kind.TokenKind.{TokenKind}
+use Rattle.sh_rules.specs.declared.token_kind.Mode.{Mode}
 use Rattle.sh_rules.specs.Parts.{Part}
 use Rattle.sh_rules.specs.Rules.{Rule, Token, script, spelling}
 use Rattle.sh_rules.specs.LookAhead.{number, mode_of, mode, choose}
@@ -32,7 +32,7 @@ Shortens = (m : Mode) (p : Place) (t : Token) (q : Place) → lex m p ≡ Some (
 unfoldable pub ComesToAnEnd : Place → Type 0
 ComesToAnEnd start = ((q : Place) × (marks : List Mark) × IsRead start q marks) ⊎ ((m : Place) × (h : Halt Token) × IsStuck start m h)
 
-same_or_not : (a b : Kind) → (a ≡ b) ⊎ (a ≡ b → ⊥)
+same_or_not : (a b : TokenKind) → (a ≡ b) ⊎ (a ≡ b → ⊥)
 same_or_not a b = by (nat_eq (number a) (number b)) refl
   where
     by : (s : Bool) → nat_eq (number a) (number b) ≡ s → (a ≡ b) ⊎ (a ≡ b → ⊥)
@@ -47,9 +47,9 @@ no_fuel n h = omega (arith, h)
 
 -- it ends from each smaller place
 Again : ℕ → Place → Type 0
-Again fuel start = (todo : List (Symbol Kind Part)) (marks : List Mark) (p : Place) → turns_left (size p) todo < fuel → Owes text_reader start todo marks p → ComesToAnEnd start
+Again fuel start = (todo : List (Symbol TokenKind Part)) (marks : List Mark) (p : Place) → turns_left (size p) todo < fuel → Owes text_reader start todo marks p → ComesToAnEnd start
 
-by_token : Shortens → (fuel : ℕ) (start : Place) (k : Kind) (ss : List (Symbol Kind Part)) (marks : List Mark) (p : Place) → Again fuel start → turns_left (size p) (Want k ∷ ss) < suc fuel → Owes text_reader start (Want k ∷ ss) marks p → ComesToAnEnd start
+by_token : Shortens → (fuel : ℕ) (start : Place) (k : TokenKind) (ss : List (Symbol TokenKind Part)) (marks : List Mark) (p : Place) → Again fuel start → turns_left (size p) (Want k ∷ ss) < suc fuel → Owes text_reader start (Want k ∷ ss) marks p → ComesToAnEnd start
 unfolding ComesToAnEnd Keeps Again
 by_token short fuel start k ss marks p again lt w = looking (look (mode_of k) p) refl
   where
@@ -65,7 +65,7 @@ by_token short fuel start k ss marks p again lt w = looking (look (mode_of k) p)
         (less_fuel (turns_left (size q) ss) (turns_left (size p) (Want k ∷ ss)) fuel (fewer_taken k ss p q s) lt)
         (keeps_taken k n ss marks p e o start w)
 
-    found : (x : Kind × ℕ) → look (mode_of k) p ≡ Some x → (x.0 ≡ k) ⊎ (x.0 ≡ k → ⊥) → ComesToAnEnd start
+    found : (x : TokenKind × ℕ) → look (mode_of k) p ≡ Some x → (x.0 ≡ k) ⊎ (x.0 ≡ k → ⊥) → ComesToAnEnd start
     found x e (inl s) = let e' : look (mode_of k) p ≡ Some (k, x.1) = e ∙ ap (λ j. Some (j, x.1)) s in take x.1 e' (over (token_of k x.1 p) p) refl
     found x e (inr s) = stuck Blocked (halts_want k p (subst (NotOf k) (sym e) s))
 
@@ -73,14 +73,14 @@ by_token short fuel start k ss marks p again lt w = looking (look (mode_of k) p)
     looking None e = stuck Blocked (halts_want k p (subst (NotOf k) (sym e) tt))
     looking (Some x) e = found x e (same_or_not x.0 k)
 
-by_part : (fuel : ℕ) (start : Place) (n : Part) (ss : List (Symbol Kind Part)) (marks : List Mark) (p : Place) → Again fuel start → turns_left (size p) (Do n ∷ ss) < suc fuel → Owes text_reader start (Do n ∷ ss) marks p → ComesToAnEnd start
+by_part : (fuel : ℕ) (start : Place) (n : Part) (ss : List (Symbol TokenKind Part)) (marks : List Mark) (p : Place) → Again fuel start → turns_left (size p) (Do n ∷ ss) < suc fuel → Owes text_reader start (Do n ∷ ss) marks p → ComesToAnEnd start
 unfolding ComesToAnEnd Keeps Again
 by_part fuel start n ss marks p again lt w = looking (look (mode n) p) refl
   where
     stuck : HaltsAt (Do n) p Blocked → ComesToAnEnd start
     stuck a = inr (p, Blocked, whole_stuck start (Do n) ss marks p p Blocked w refl a)
 
-    chosen : (x : Kind × ℕ) → look (mode n) p ≡ Some x → (o : Option Rule) → choose n x.0 ≡ o → ComesToAnEnd start
+    chosen : (x : TokenKind × ℕ) → look (mode n) p ≡ Some x → (o : Option Rule) → choose n x.0 ≡ o → ComesToAnEnd start
     chosen x e None c = stuck (halts_unwanted n x.0 x.1 p (sym e) (sym c))
     chosen x e (Some r) c =
         let is = chosen_part n x.0 r (sym c) in
@@ -93,7 +93,7 @@ by_part fuel start n ss marks p again lt w = looking (look (mode n) p) refl
     looking None e = stuck (halts_none n p (sym e))
     looking (Some x) e = chosen x e (choose n x.0) refl
 
-goes_on : Shortens → (fuel : ℕ) (start : Place) (todo : List (Symbol Kind Part)) (marks : List Mark) (p : Place) → turns_left (size p) todo < fuel → Owes text_reader start todo marks p → ComesToAnEnd start
+goes_on : Shortens → (fuel : ℕ) (start : Place) (todo : List (Symbol TokenKind Part)) (marks : List Mark) (p : Place) → turns_left (size p) todo < fuel → Owes text_reader start todo marks p → ComesToAnEnd start
 unfolding ComesToAnEnd Again
 goes_on short zero start todo marks p lt w = absurd (no_fuel (turns_left (size p) todo) lt)
 goes_on short (suc fuel) start [] marks p lt w = inl (p, marks, whole_read start marks p w)

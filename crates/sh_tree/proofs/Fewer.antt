@@ -1,7 +1,7 @@
 -- Each turn leaves fewer.
 use Rattle.std.proofs.Common.{arith, ◌≡◌, ℕ, ◌+◌, ◌*◌, ◌<◌, ◌≤◌, List, [], ◌∷◌, ◌++◌, Bool, true, false, refl}
 use Rattle.sh_rules.specs.Grammar.{Symbol, Want, Do}
-use Rattle.sh_rules.specs.declared.kind.Kind.{Kind}
+use Rattle.sh_rules.specs.declared.token_kind.TokenKind.{TokenKind}
 use Rattle.sh_rules.specs.Parts as p
 use Rattle.sh_rules.specs.Parts.{Part}
 use Rattle.sh_rules.specs.Rules as r
@@ -10,7 +10,7 @@ use Rattle.sh_token.proofs.Sizes.{may_be_empty, Shrinks}
 use Rattle.sh_tree.specs.Owing.{rank, token_rank, symbol_rank, first_rank, weights, turns_left}
 
 -- a rule's symbols, as long as it has any, weigh less than its part; a part that may be empty has the highest rank
-Lighter : Rule → List (Symbol Kind Part) → Type 0
+Lighter : Rule → List (Symbol TokenKind Part) → Type 0
 Lighter q [] = rank (part_of q) ≡ 6
 Lighter q (s ∷ ss) = (weights (s ∷ ss) + 32 * symbol_rank s) < (4 + 32 * rank (part_of q))
 
@@ -177,24 +177,24 @@ token_below : (b : Bool) → token_rank b ≤ 6
 token_below true = omega arith
 token_below false = omega arith
 
-first_below : (ss : List (Symbol Kind Part)) → first_rank ss ≤ 6
+first_below : (ss : List (Symbol TokenKind Part)) → first_rank ss ≤ 6
 first_below [] = omega arith
 first_below (Want kind ∷ ss) = token_below (may_be_empty kind)
 first_below (Do part ∷ ss) = rank_below part
 
-weights_append : (xs ys : List (Symbol Kind Part)) → weights (xs ++ ys) ≡ weights xs + weights ys
+weights_append : (xs ys : List (Symbol TokenKind Part)) → weights (xs ++ ys) ≡ weights xs + weights ys
 weights_append [] ys = omega arith
 weights_append (x ∷ xs) ys = let h = weights_append xs ys in omega (arith, h)
 
-pub chosen_fewer : (q : Rule) (ss : List (Symbol Kind Part)) (size : ℕ) → turns_left size (spelling q ++ ss) < turns_left size (Do (part_of q) ∷ ss)
+pub chosen_fewer : (q : Rule) (ss : List (Symbol TokenKind Part)) (size : ℕ) → turns_left size (spelling q ++ ss) < turns_left size (Do (part_of q) ∷ ss)
 unfolding turns_left Lighter
 chosen_fewer q ss size = by_spelling (spelling q) (lighter q)
   where
-    by_spelling : (sp : List (Symbol Kind Part)) → Lighter q sp → (256 * size + weights (sp ++ ss) + 32 * first_rank (sp ++ ss)) < (256 * size + weights (Do (part_of q) ∷ ss) + 32 * rank (part_of q))
+    by_spelling : (sp : List (Symbol TokenKind Part)) → Lighter q sp → (256 * size + weights (sp ++ ss) + 32 * first_rank (sp ++ ss)) < (256 * size + weights (Do (part_of q) ∷ ss) + 32 * rank (part_of q))
     by_spelling [] h = let f = first_below ss in omega (arith, h, f)
     by_spelling (s ∷ more) h = let w = weights_append (s ∷ more) ss in omega (arith, h, w)
 
-pub taken_fewer : (kind : Kind) (ss : List (Symbol Kind Part)) (before after : ℕ) → Shrinks (may_be_empty kind) before after → turns_left after ss < turns_left before (Want kind ∷ ss)
+pub taken_fewer : (kind : TokenKind) (ss : List (Symbol TokenKind Part)) (before after : ℕ) → Shrinks (may_be_empty kind) before after → turns_left after ss < turns_left before (Want kind ∷ ss)
 unfolding turns_left
 taken_fewer kind ss before after h = by_bytes (may_be_empty kind) h
   where

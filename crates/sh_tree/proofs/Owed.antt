@@ -2,19 +2,19 @@
 use Rattle.std.proofs.Common.{◌≡◌, List, [], ◌∷◌, ◌++◌, false, refl, sym, ap, ◌∙◌, ◌⊎◌, inl, inr, append_assoc, append-nil}
 use Rattle.sh_rules.specs.Grammar.{Symbol, Want, Do, Leaf, Node, Parses, no_parses, parse_and}
 use Rattle.sh_rules.specs.Reading.{Reader, Stands, Chooses, ReadsAll, Halt, Halts, Here, Within, Stops, In_first, After, StuckAll}
-use Rattle.sh_rules.specs.declared.kind.Kind.{Kind}
-use Rattle.sh_rules.specs.declared.kind.Mode.{Mode}
+use Rattle.sh_rules.specs.declared.token_kind.TokenKind.{TokenKind}
+use Rattle.sh_rules.specs.declared.token_kind.Mode.{Mode}
 use Rattle.sh_rules.specs.Parts.{Part}
 use Rattle.sh_rules.specs.Rules.{Rule, Token, shell, script, spelling, part_of}
 use Rattle.sh_grammar.specs.Marks.{Mark, node, leaf, flat, flat_all}
 use Rattle.sh_tree.specs.Owing.{Owes}
 
-module _ {P : Type 0} (l : Reader Kind Part Rule Token Mode P) where
+module _ {P : Type 0} (l : Reader TokenKind Part Rule Token Mode P) where
   -- some symbols and others, read one after another
-  Apart : List (Symbol Kind Part) → List (Symbol Kind Part) → Parses Rule Token → P → P → Type 0
+  Apart : List (Symbol TokenKind Part) → List (Symbol TokenKind Part) → Parses Rule Token → P → P → Type 0
   Apart ss rest xs p q = (cs : Parses Rule Token) × (bs : Parses Rule Token) × (m : P) × ReadsAll shell l cs ss p m × ReadsAll shell l bs rest m q × (flat_all xs ≡ flat_all cs ++ flat_all bs)
 
-  reads_apart : (ss rest : List (Symbol Kind Part)) (xs : Parses Rule Token) (p q : P) → ReadsAll shell l xs (ss ++ rest) p q → Apart ss rest xs p q
+  reads_apart : (ss rest : List (Symbol TokenKind Part)) (xs : Parses Rule Token) (p q : P) → ReadsAll shell l xs (ss ++ rest) p q → Apart ss rest xs p q
   unfolding Apart
   reads_apart [] rest xs p q h = (no_parses, xs, p, refl, h, refl)
   reads_apart (s ∷ ss) rest no_parses p q h = absurd h
@@ -22,10 +22,10 @@ module _ {P : Type 0} (l : Reader Kind Part Rule Token Mode P) where
       let a = reads_apart ss rest xs h.0 q h.2 in
       (parse_and x a.0, a.1, a.2, (h.0, h.1, a.3), a.4, ap (λ ms. flat x ++ ms) a.5 ∙ sym (append_assoc (flat x) (flat_all a.0) (flat_all a.1)))
 
-  StuckApart : List (Symbol Kind Part) → List (Symbol Kind Part) → P → P → Halt Token → Type 0
+  StuckApart : List (Symbol TokenKind Part) → List (Symbol TokenKind Part) → P → P → Halt Token → Type 0
   StuckApart ss rest p m h = ((y : Stops Rule Token) × StuckAll shell l y ss p m h) ⊎ ((cs : Parses Rule Token) × (c : P) × (y : Stops Rule Token) × ReadsAll shell l cs ss p c × StuckAll shell l y rest c m h)
 
-  stuck_apart : (ss rest : List (Symbol Kind Part)) (x : Stops Rule Token) (p m : P) (h : Halt Token) → StuckAll shell l x (ss ++ rest) p m h → StuckApart ss rest p m h
+  stuck_apart : (ss rest : List (Symbol TokenKind Part)) (x : Stops Rule Token) (p m : P) (h : Halt Token) → StuckAll shell l x (ss ++ rest) p m h → StuckApart ss rest p m h
   unfolding StuckApart
   stuck_apart [] rest x p m h k = inr (no_parses, p, x, refl, k)
   stuck_apart (s ∷ ss) rest (In_first x) p m h k = inl (In_first x, k)
@@ -39,7 +39,7 @@ module _ {P : Type 0} (l : Reader Kind Part Rule Token Mode P) where
   unfolding Owes
   owed_first start = ((λ xs q h. (xs, h, refl)), (λ x m h k. (x, k)))
 
-  pub owed_taken : (start : P) (k : Kind) (ss : List (Symbol Kind Part)) (marks : List Mark) (p q : P) (t : Token) → Owes l start (Want k ∷ ss) marks p → Stands shell l t p q → l.over t p ≡ false → t.kind ≡ k → Owes l start ss (marks ++ (leaf t.text ∷ [])) q
+  pub owed_taken : (start : P) (k : TokenKind) (ss : List (Symbol TokenKind Part)) (marks : List Mark) (p q : P) (t : Token) → Owes l start (Want k ∷ ss) marks p → Stands shell l t p q → l.over t p ≡ false → t.kind ≡ k → Owes l start ss (marks ++ (leaf t.text ∷ [])) q
   unfolding Owes
   owed_taken start k ss marks p q t o s u e =
       let is : Want k ≡ Want t.kind = ap Want (sym e) in (
@@ -47,7 +47,7 @@ module _ {P : Type 0} (l : Reader Kind Part Rule Token Mode P) where
         (λ x m h k. o.1 (After (Leaf t) x) m h (q, (is, s, u), k)),
       )
 
-  pub owed_chosen : (start : P) (n : Part) (r : Rule) (ss : List (Symbol Kind Part)) (marks : List Mark) (p : P) → Owes l start (Do n ∷ ss) marks p → Chooses shell l p r → part_of r ≡ n → Owes l start (spelling r ++ ss) (marks ++ (node r ∷ [])) p
+  pub owed_chosen : (start : P) (n : Part) (r : Rule) (ss : List (Symbol TokenKind Part)) (marks : List Mark) (p : P) → Owes l start (Do n ∷ ss) marks p → Chooses shell l p r → part_of r ≡ n → Owes l start (spelling r ++ ss) (marks ++ (node r ∷ [])) p
   unfolding Owes Apart StuckApart
   owed_chosen start n r ss marks p o c e =
       let is : Do n ≡ Do (part_of r) = ap Do (sym e) in (
@@ -62,7 +62,7 @@ module _ {P : Type 0} (l : Reader Kind Part Rule Token Mode P) where
       stuck {m = m} {h = h} (inl a) = o.1 (In_first (Within r a.0)) m h (ap Do (sym e), c, a.1)
       stuck {m = m} {h = h} (inr a) = o.1 (After (Node r a.0) a.2) m h (a.1, (ap Do (sym e), c, a.3), a.4)
 
-  pub owed_stops : (start : P) (s : Symbol Kind Part) (ss : List (Symbol Kind Part)) (marks : List Mark) (p : P) (h : Halt Token) → Owes l start (s ∷ ss) marks p → Halts shell l s p h → (y : Stops Rule Token) × StuckAll shell l y script start p h
+  pub owed_stops : (start : P) (s : Symbol TokenKind Part) (ss : List (Symbol TokenKind Part)) (marks : List Mark) (p : P) (h : Halt Token) → Owes l start (s ∷ ss) marks p → Halts shell l s p h → (y : Stops Rule Token) × StuckAll shell l y script start p h
   unfolding Owes
   owed_stops start s ss marks p h o k = o.1 (In_first Here) p h (refl, k)
 

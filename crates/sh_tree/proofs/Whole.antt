@@ -8,9 +8,9 @@ use Rattle.sh_rules.proofs.Keeps.{Consistent, Inv}
 use Rattle.sh_rules.proofs.Stopping.{stops_all}
 use Rattle.sh_rules.proofs.Complete.{sound_all, reads_all, once_all}
 use Rattle.sh_rules.proofs.Once.{begun, stops_once, whole_stops_not}
-use Rattle.sh_rules.specs.declared.kind.Kind.{Kind}
-use Rattle.sh_rules.specs.declared.kind.Kind.TheVariants as k
-use Rattle.sh_rules.specs.declared.kind.Mode.{Mode}
+use Rattle.sh_rules.specs.declared.token_kind.TokenKind.{TokenKind}
+use Rattle.sh_rules.specs.declared.token_kind.TokenKind.TheVariants as k
+use Rattle.sh_rules.specs.declared.token_kind.Mode.{Mode}
 use Rattle.sh_rules.specs.Parts.{Part}
 use Rattle.sh_rules.specs.Parts as p
 use Rattle.sh_rules.specs.Rules.{Rule, Token, shell, script}
@@ -36,41 +36,41 @@ use Rattle.sh_tree.proofs.Existing.{Shortens, ComesToAnEnd, each_ends}
 abbrev pub Agrees : Type 0
 Agrees = ModesAgree shell text_reader sets
 
-ok : Checked Kind Part Rule Token Mode Place shell text_reader sets
+ok : Checked TokenKind Part Rule Token Mode Place shell text_reader sets
 ok = checked Place lex over
 
-consistent : (agree : ModesAgree shell text_reader sets) → Consistent Kind Part Rule Token Mode Place shell text_reader sets ok agree script
+consistent : (agree : ModesAgree shell text_reader sets) → Consistent TokenKind Part Rule Token Mode Place shell text_reader sets ok agree script
 consistent agree = ((λ j h. by_end j h), (λ h. h.0), tt)
   where
-    by_end : (j : Kind) → FirstAll sets (Want k.End ∷ []) j → sets.follow p.opt_list j ≡ true
+    by_end : (j : TokenKind) → FirstAll sets (Want k.End ∷ []) j → sets.follow p.opt_list j ≡ true
     by_end j (inl e) = subst (λ j. sets.follow p.opt_list j ≡ true) e refl
     by_end j (inr h) = absurd h.0
 
 pub spells : Agrees → (qs : Parses Rule Token) (a b : Place) → ReadsAll shell text_reader qs script a b → Spells qs a b
 unfolding Spells
-spells agree qs a b h = sound_all Kind Part Rule Token Mode Place shell text_reader sets ok agree qs script a b h
+spells agree qs a b h = sound_all TokenKind Part Rule Token Mode Place shell text_reader sets ok agree qs script a b h
 
 pub stuck_stops : Agrees → (a m : Place) (h : Halt Token) → IsStuck a m h → StopsAt a m h
 unfolding IsStuck StopsAt
 stuck_stops agree a m h x =
-    stops_all Kind Part Rule Token Mode Place shell text_reader sets ok agree productive script a [] x.0 script [] a m h x.1
-    (subst (λ α. Inv Kind Part Rule Token Mode Place shell text_reader sets ok agree script a [] α a) (sym (append-nil script))
-    (begun Kind Part Rule Token Mode Place shell text_reader sets ok agree productive script a (consistent agree)))
+    stops_all TokenKind Part Rule Token Mode Place shell text_reader sets ok agree productive script a [] x.0 script [] a m h x.1
+    (subst (λ α. Inv TokenKind Part Rule Token Mode Place shell text_reader sets ok agree script a [] α a) (sym (append-nil script))
+    (begun TokenKind Part Rule Token Mode Place shell text_reader sets ok agree productive script a (consistent agree)))
 
 pub one_stop : Agrees → (a m n : Place) (h i : Halt Token) → StopsAt a m h → StopsAt a n i → (m ≡ n) × (h ≡ i)
 unfolding StopsAt
-one_stop agree a m n h i x y = stops_once Kind Part Rule Token Mode Place shell text_reader sets ok agree productive script a m n h i (consistent agree) x y
+one_stop agree a m n h i x y = stops_once TokenKind Part Rule Token Mode Place shell text_reader sets ok agree productive script a m n h i (consistent agree) x y
 
 pub no_both : Agrees → (qs : Parses Rule Token) (a b m : Place) (h : Halt Token) → Spells qs a b → StopsAt a m h → ⊥
 unfolding StopsAt Spells
-no_both agree qs a b m h s x = whole_stops_not Kind Part Rule Token Mode Place shell text_reader sets ok agree productive script a (leaves_all qs) b m h (consistent agree) s.1 (qs, s.0, refl) x
+no_both agree qs a b m h s x = whole_stops_not TokenKind Part Rule Token Mode Place shell text_reader sets ok agree productive script a (leaves_all qs) b m h (consistent agree) s.1 (qs, s.0, refl) x
 
 reads : Agrees → (qs : Parses Rule Token) (a b : Place) → Spells qs a b → ReadsAll shell text_reader qs script a b
 unfolding Spells
-reads agree qs a b h = reads_all Kind Part Rule Token Mode Place shell text_reader sets ok agree qs script no_parses [] a b b h.0 tt (consistent agree) h.1 refl
+reads agree qs a b h = reads_all TokenKind Part Rule Token Mode Place shell text_reader sets ok agree qs script no_parses [] a b b h.0 tt (consistent agree) h.1 refl
 
 one_tree : Agrees → (qs xs : Parses Rule Token) (a b c : Place) → Spells qs a b → Spells xs a c → qs ≡ xs
-one_tree agree qs xs a b c h k = (once_all Kind Part Rule Token Mode Place shell text_reader sets ok agree qs xs script a b c (reads agree qs a b h) (reads agree xs a c k)).0
+one_tree agree qs xs a b c h k = (once_all TokenKind Part Rule Token Mode Place shell text_reader sets ok agree qs xs script a b c (reads agree qs a b h) (reads agree xs a c k)).0
 
 not_both_lengths : (n m : ℕ) → n ≤ m → m < n → ⊥
 not_both_lengths n m a b = omega (arith, a, b)

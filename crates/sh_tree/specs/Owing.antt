@@ -2,8 +2,8 @@
 use Rattle.std.specs.Prelude.{◌≡◌, ◌<◌, ℕ, ◌+◌, ◌*◌, List, [], ◌∷◌, ◌++◌, Bool, true, false}
 use Rattle.sh_rules.specs.Grammar.{Symbol, Want, Do, Parses}
 use Rattle.sh_rules.specs.Reading.{Reader, ReadsAll, Halt, Stops, StuckAll}
-use Rattle.sh_rules.specs.declared.kind.Kind.{Kind}
-use Rattle.sh_rules.specs.declared.kind.Mode.{Mode}
+use Rattle.sh_rules.specs.declared.token_kind.TokenKind.{TokenKind}
+use Rattle.sh_rules.specs.declared.token_kind.Mode.{Mode}
 use Rattle.sh_rules.specs.Parts as p
 use Rattle.sh_rules.specs.Parts.{Part}
 use Rattle.sh_rules.specs.Rules.{Rule, Token, shell, script}
@@ -14,13 +14,13 @@ use Rattle.sh_tree.specs.TextReader.{text_reader}
 
 -- Whatever reading of the symbols from here comes to, reading of a script from its start comes to: the marks that were left,
 -- and those that are still to come, are of one tree; and where it stops, reading of the script stops.
-unfoldable pub Owes : {P : Type 0} → Reader Kind Part Rule Token Mode P → P → List (Symbol Kind Part) → List Mark → P → Type 0
+unfoldable pub Owes : {P : Type 0} → Reader TokenKind Part Rule Token Mode P → P → List (Symbol TokenKind Part) → List Mark → P → Type 0
 Owes {P = P} l start todo marks here =
     ((xs : Parses Rule Token) (q : P) → ReadsAll shell l xs todo here q → (qs : Parses Rule Token) × ReadsAll shell l qs script start q × (flat_all qs ≡ marks ++ flat_all xs)) ×
     ((x : Stops Rule Token) (m : P) (h : Halt Token) → StuckAll shell l x todo here m h → (y : Stops Rule Token) × StuckAll shell l y script start m h)
 
 -- what was owed is owed
-unfoldable pub Keeps : List (Symbol Kind Part) → List Mark → Place → List (Symbol Kind Part) → List Mark → Place → Type 0
+unfoldable pub Keeps : List (Symbol TokenKind Part) → List Mark → Place → List (Symbol TokenKind Part) → List Mark → Place → Type 0
 Keeps todo marks p todo' marks' p' = (start : Place) → Owes text_reader start todo marks p → Owes text_reader start todo' marks' p'
 
 -- How many turns are left at most. A part that may stand first in a rule has a rank, higher than those that stand first in its own;
@@ -41,24 +41,24 @@ abbrev pub token_rank : Bool → ℕ
 token_rank true = 6
 token_rank false = 0
 
-abbrev pub symbol_rank : Symbol Kind Part → ℕ
+abbrev pub symbol_rank : Symbol TokenKind Part → ℕ
 symbol_rank (Want kind) = token_rank (may_be_empty kind)
 symbol_rank (Do part) = rank part
 
-abbrev pub first_rank : List (Symbol Kind Part) → ℕ
+abbrev pub first_rank : List (Symbol TokenKind Part) → ℕ
 first_rank [] = 0
 first_rank (s ∷ ss) = symbol_rank s
 
-abbrev pub weight : Symbol Kind Part → ℕ
+abbrev pub weight : Symbol TokenKind Part → ℕ
 weight (Want _) = 2
 weight (Do _) = 4
 
-abbrev pub weights : List (Symbol Kind Part) → ℕ
+abbrev pub weights : List (Symbol TokenKind Part) → ℕ
 weights [] = 0
 weights (s ∷ ss) = weight s + weights ss
 
-unfoldable pub turns_left : ℕ → List (Symbol Kind Part) → ℕ
+unfoldable pub turns_left : ℕ → List (Symbol TokenKind Part) → ℕ
 turns_left size todo = 256 * size + weights todo + 32 * first_rank todo
 
-abbrev pub Fewer : List (Symbol Kind Part) → Place → List (Symbol Kind Part) → Place → Type 0
+abbrev pub Fewer : List (Symbol TokenKind Part) → Place → List (Symbol TokenKind Part) → Place → Type 0
 Fewer todo p todo' p' = turns_left (size p') todo' < turns_left (size p) todo

@@ -11,8 +11,8 @@ use Rattle.rk_base.specs.Canonical.{is_canonical, is_name}
 use Rattle.rk_base.specs.Names.{are_names, ascend}
 use Rattle.rk_base.specs.declared.errno.Errno.{Errno}
 use Rattle.rk_base.specs.declared.errno.Errno.TheVariants as errno
-use Rattle.rk_base.specs.declared.kind.Kind.{Kind}
-use Rattle.rk_base.specs.declared.kind.Kind.TheVariants.{File, Dir, Link}
+use Rattle.rk_base.specs.declared.file_type.FileType.{FileType}
+use Rattle.rk_base.specs.declared.file_type.FileType.TheVariants.{File, Dir, Link}
 use Rattle.rk_calls.specs.Keys.{KeyValue}
 use Rattle.rk_calls.specs.RefMaps.{is_refmap, rise_from}
 use Rattle.rk_base.specs.declared.vars.Var.{Var}
@@ -393,7 +393,7 @@ module _ (blobs : List Text) where
 
     -- ---- answers
 
-    kind_back : (k : Kind) → (kind_code k < 256) × (kind_of (kind_code k) ≡ Some k)
+    kind_back : (k : FileType) → (kind_code k < 256) × (kind_of (kind_code k) ≡ Some k)
     kind_back File = (omega arith, refl)
     kind_back Dir = (omega arith, refl)
     kind_back Link = (omega arith, refl)
@@ -413,7 +413,7 @@ module _ (blobs : List Text) where
     unfolding text_answer_at
     back_text_answer make text covered = again_last (blob_at blobs) make ((blob text).spelt blobs) text (back_blob text covered)
 
-    back_found : (k : Kind) (n : ℕ) (empty : Bool) → n ≤ 511 → Back found_at (byte (kind_code k) ⊕ mode n ⊕ byte (flag_code empty)) (answer.Stat k n empty)
+    back_found : (k : FileType) (n : ℕ) (empty : Bool) → n ≤ 511 → Back found_at (byte (kind_code k) ⊕ mode n ⊕ byte (flag_code empty)) (answer.Stat k n empty)
     unfolding found_at
     back_found k n empty le =
         let later : Again (λ bytes. mode_at bytes >>= λ n. flag_at n.1 >>= λ empty. Some (answer.Stat k n.0 empty.0, empty.1)) ((mode n ⊕ byte (flag_code empty)).spelt blobs) (answer.Stat k n empty) =

@@ -6,8 +6,8 @@ use Rattle.rk_base.specs.Canonical.{is_canonical, is_name}
 use Rattle.rk_base.specs.Names.{are_names}
 use Rattle.rk_base.specs.declared.errno.Errno.{Errno}
 use Rattle.rk_base.specs.declared.errno.Errno.TheVariants as errno
-use Rattle.rk_base.specs.declared.kind.Kind.{Kind}
-use Rattle.rk_base.specs.declared.kind.Kind.TheVariants.{File, Dir, Link}
+use Rattle.rk_base.specs.declared.file_type.FileType.{FileType}
+use Rattle.rk_base.specs.declared.file_type.FileType.TheVariants.{File, Dir, Link}
 use Rattle.rk_base.specs.Variables.{are_variables}
 use Rattle.rk_calls.specs.Keys.{KeyValue, is_key}
 use Rattle.rk_calls.specs.RefMaps.{is_refmap}
@@ -126,7 +126,7 @@ how_of code =
     if code == 1 then Some how.Make else
     if code == 2 then Some how.Append else None
 
-abbrev pub kind_of : ℕ → Option Kind
+abbrev pub kind_of : ℕ → Option FileType
 kind_of code =
     if code == 1 then Some File else
     if code == 2 then Some Dir else

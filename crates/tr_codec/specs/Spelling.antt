@@ -4,8 +4,8 @@ use Rattle.std.specs.List.{flat_map}
 use Rattle.sha2.specs.Sha256.{sha256}
 use Rattle.rk_base.specs.declared.errno.Errno.{Errno}
 use Rattle.rk_base.specs.declared.errno.Errno.TheVariants as errno
-use Rattle.rk_base.specs.declared.kind.Kind.{Kind}
-use Rattle.rk_base.specs.declared.kind.Kind.TheVariants.{File, Dir, Link}
+use Rattle.rk_base.specs.declared.file_type.FileType.{FileType}
+use Rattle.rk_base.specs.declared.file_type.FileType.TheVariants.{File, Dir, Link}
 use Rattle.rk_calls.specs.Keys.{KeyValue}
 use Rattle.rk_base.specs.declared.vars.Var.{Var}
 use Rattle.rk_calls.specs.declared.call.How.{How}
@@ -60,7 +60,7 @@ call_piece (call.Chmod path permissions) = byte 16 ⊕ blob path ⊕ mode permis
 call_piece call.Pipe = byte 17
 call_piece (call.Launch key map) = byte 18 ⊕ key_piece key ⊕ counted pair_piece map
 
-abbrev pub kind_code : Kind → ℕ
+abbrev pub kind_code : FileType → ℕ
 kind_code File = 1
 kind_code Dir = 2
 kind_code Link = 3

@@ -9,16 +9,16 @@ ghost use Rattle.tr_codec.specs.Sound.{SpeltAnswer};
 
 use crate::call_pieces::flag_code;
 use crate::writer::Writer;
-use rk_base::{Bytes, Errno, Kind, Name, NameList, NoMemory, Path};
+use rk_base::{Bytes, Errno, FileType, Name, NameList, NoMemory, Path};
 use rk_calls::Answer;
 
-fn kind_code(kind: Kind) -> u8
+fn kind_code(kind: FileType) -> u8
     ensures { result ≡ kind_code kind }
 {
     match kind {
-        Kind::File => 1,
-        Kind::Dir => 2,
-        Kind::Link => 3,
+        FileType::File => 1,
+        FileType::Dir => 2,
+        FileType::Link => 3,
     }
 }
 

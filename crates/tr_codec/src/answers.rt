@@ -9,17 +9,17 @@ ghost use Rattle.tr_codec.specs.Reads.{Gives};
 use crate::fault::PartErr;
 use crate::keys::path_of;
 use crate::parts::{blob_of, byte_of, count_of, flag_of, permissions_of};
-use rk_base::{Bytes, Errno, Kind, Name, NameList, PathFault};
+use rk_base::{Bytes, Errno, FileType, Name, NameList, PathFault};
 use rk_calls::Answer;
 use std::alloc::Global;
 
-fn kind_of(code: u8) -> Result<Kind, PartErr>
+fn kind_of(code: u8) -> Result<FileType, PartErr>
     ensures { Gives (λ kind. kind) result (kind_of code) }
 {
     match code {
-        1 => Ok(Kind::File),
-        2 => Ok(Kind::Dir),
-        3 => Ok(Kind::Link),
+        1 => Ok(FileType::File),
+        2 => Ok(FileType::Dir),
+        3 => Ok(FileType::Link),
         _ => Err(PartErr::Form),
     }
 }

@@ -4,8 +4,8 @@ use Rattle.rk_base.specs.Text.{Text}
 use Rattle.rk_base.specs.Canonical.{is_empty}
 use Rattle.rk_base.specs.declared.errno.Errno.{Errno}
 use Rattle.rk_base.specs.declared.errno.Errno.TheVariants.{IsDir, Invalid}
-use Rattle.rk_base.specs.declared.kind.Kind.{Kind}
-use Rattle.rk_base.specs.declared.kind.Kind.TheVariants.{File, Dir, Link}
+use Rattle.rk_base.specs.declared.file_type.FileType.{FileType}
+use Rattle.rk_base.specs.declared.file_type.FileType.TheVariants.{File, Dir, Link}
 use Rattle.ut_copy.specs.declared.copy_task.CopyTask.{CopyTask}
 use Rattle.ut_copy.specs.declared.copy_task.CopyTask.TheVariants.{LookTarget, Compare, OpenSource, ReadSource, OpenTarget, WriteTarget, SetMode, WalkSource, ListSource, ReadLink}
 use Rattle.ut_copy.specs.declared.pair.Pair.{Pair}
@@ -26,13 +26,13 @@ copies_dir m pair mode made alone =
     if m.recursive then (if alone then Do (WalkSource pair mode made) ∷ [] else Do (ListSource pair mode made) ∷ []) else complaint m pair.source IsDir ∷ []
 
 -- by what the source is; `made` where nothing stood at the target
-abbrev pub copies : Manner → Pair → Kind → ℕ → Bool → Bool → List (Step CopyTask)
+abbrev pub copies : Manner → Pair → FileType → ℕ → Bool → Bool → List (Step CopyTask)
 copies m pair File mode made alone = copies_file pair mode made
 copies m pair Dir mode made alone = copies_dir m pair mode made alone
 copies m pair Link mode made alone = Do (ReadLink pair) ∷ []
 
 -- the target is looked at where it isn't known whether it stands
-abbrev pub looks : Manner → Pair → Kind → ℕ → Option Bool → Bool → List (Step CopyTask)
+abbrev pub looks : Manner → Pair → FileType → ℕ → Option Bool → Bool → List (Step CopyTask)
 looks m pair kind mode None alone = Do (LookTarget pair kind mode alone) ∷ []
 looks m pair kind mode (Some stands) alone = copies m pair kind mode (not stands) alone
 
@@ -41,7 +41,7 @@ found_source m pair stands alone (Ok s) = looks m pair s.kind s.mode stands alon
 found_source m pair stands alone (Err errno) = complaint m pair.source errno ∷ []
 
 -- what can't be looked at counts as absent
-abbrev pub found_there : Manner → Pair → Kind → ℕ → Bool → Option Errno → List (Step CopyTask)
+abbrev pub found_there : Manner → Pair → FileType → ℕ → Bool → Option Errno → List (Step CopyTask)
 found_there m pair kind mode alone None = copies m pair kind mode false alone
 found_there m pair kind mode alone (Some errno) = copies m pair kind mode true alone
 

@@ -10,7 +10,7 @@ use crate::moving::found_target;
 use crate::pair::Pair;
 use crate::place::parent;
 use crate::utility::Utility;
-use rk_base::{Bytes, Kind, NameList, NoMemory, Path, WordList};
+use rk_base::{Bytes, FileType, NameList, NoMemory, Path, WordList};
 use rk_calls::{Answer, Call, How};
 use std::alloc::Global;
 use ut_files::{Manner, Step, Task, bits, refused};
@@ -25,7 +25,7 @@ pub enum CopyTask {
     /// Looks at a source whose target stands or not, where that is known; whether it is an operand.
     LookSource(Pair, Option<bool>, bool),
     /// Looks at the target of a source.
-    LookTarget(Pair, Kind, u16, bool),
+    LookTarget(Pair, FileType, u16, bool),
     /// Looks whether both are one.
     Compare(Pair, u16),
     OpenSource(Pair, u16, bool),

@@ -6,7 +6,7 @@ ghost use Rattle.ut_files.specs.Answers.{refusal, found, same_in};
 
 use crate::copy_task::CopyTask;
 use crate::pair::Pair;
-use rk_base::{Bytes, Errno, Kind, NoMemory};
+use rk_base::{Bytes, Errno, FileType, NoMemory};
 use rk_calls::{Answer, brought};
 use std::alloc::Global;
 use ut_files::{Manner, Step, alone, complain, found, refusal, same_in};
@@ -48,7 +48,7 @@ fn copies(
     alloc: Global,
     manner: &Manner,
     pair: Pair,
-    kind: Kind,
+    kind: FileType,
     mode: u16,
     made: bool,
     operand: bool,
@@ -56,9 +56,9 @@ fn copies(
     ensures { IfOk result (λ steps. steps.items ≡ copies manner.now pair kind mode made operand) }
 {
     match kind {
-        Kind::File => copies_file(alloc, pair, mode, made),
-        Kind::Dir => copies_dir(alloc, manner, pair, mode, made, operand),
-        Kind::Link => alone(alloc, Step::Do(CopyTask::ReadLink(pair))),
+        FileType::File => copies_file(alloc, pair, mode, made),
+        FileType::Dir => copies_dir(alloc, manner, pair, mode, made, operand),
+        FileType::Link => alone(alloc, Step::Do(CopyTask::ReadLink(pair))),
     }
 }
 
@@ -66,7 +66,7 @@ fn looks(
     alloc: Global,
     manner: &Manner,
     pair: Pair,
-    kind: Kind,
+    kind: FileType,
     mode: u16,
     stands: Option<bool>,
     operand: bool,
@@ -104,7 +104,7 @@ pub(crate) fn found_there(
     alloc: Global,
     manner: &Manner,
     pair: Pair,
-    kind: Kind,
+    kind: FileType,
     mode: u16,
     operand: bool,
     answer: &Answer,

@@ -3,7 +3,7 @@ use Rattle.std.specs.Prelude.{List, [], Bool, true, false, Option, Some, None, R
 use Rattle.rk_base.specs.Text.{Text, root}
 use Rattle.rk_base.specs.declared.errno.Errno.{Errno}
 use Rattle.rk_base.specs.declared.errno.Errno.TheVariants.{NoEntry, Exists}
-use Rattle.rk_base.specs.declared.kind.Kind.TheVariants.{File}
+use Rattle.rk_base.specs.declared.file_type.FileType.TheVariants.{File}
 use Rattle.rk_calls.specs.declared.answer.Answer.{Answer}
 use Rattle.rk_calls.specs.declared.answer.Answer.TheVariants.{Stat, Names, Text as Told, Place, Same, No}
 use Rattle.ut_files.specs.declared.answers.Stood.{Stood}

@@ -3,8 +3,8 @@ use Rattle.std.specs.Prelude.{List, [], ◌∷◌, Bool, ◌&&◌, Option, Some,
 use Rattle.rk_base.specs.Text.{Text}
 use Rattle.rk_base.specs.declared.errno.Errno.{Errno}
 use Rattle.rk_base.specs.declared.errno.Errno.TheVariants.{IsDir, Invalid}
-use Rattle.rk_base.specs.declared.kind.Kind.{Kind}
-use Rattle.rk_base.specs.declared.kind.Kind.TheVariants.{File, Dir, Link}
+use Rattle.rk_base.specs.declared.file_type.FileType.{FileType}
+use Rattle.rk_base.specs.declared.file_type.FileType.TheVariants.{File, Dir, Link}
 use Rattle.ut_files.specs.declared.answers.Stood.{Stood}
 use Rattle.ut_files.specs.declared.file_task.FileTask.{FileTask}
 use Rattle.ut_files.specs.declared.file_task.FileTask.TheVariants.{RemoveDir, LookInto, ListDir, UnlinkName}
@@ -32,7 +32,7 @@ removed m operand None = []
 removed m operand (Some errno) = removal_refused m operand errno
 
 -- a directory is listed first, with `-r`; a link is removed itself
-abbrev pub by_kind : Manner → Text → Kind → List (Step FileTask)
+abbrev pub by_kind : Manner → Text → FileType → List (Step FileTask)
 by_kind m operand Dir = if m.recursive then Do (ListDir operand) ∷ [] else complaint m operand IsDir ∷ []
 by_kind m operand File = Do (UnlinkName operand) ∷ []
 by_kind m operand Link = Do (UnlinkName operand) ∷ []

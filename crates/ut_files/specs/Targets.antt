@@ -3,8 +3,8 @@ use Rattle.std.specs.Prelude.{◌-◌, List, [], ◌∷◌, take, drop, length, 
 use Rattle.rk_base.specs.Text.{Text}
 use Rattle.rk_base.specs.declared.errno.Errno.{Errno}
 use Rattle.rk_base.specs.declared.errno.Errno.TheVariants.{NotDir}
-use Rattle.rk_base.specs.declared.kind.Kind.{Kind}
-use Rattle.rk_base.specs.declared.kind.Kind.TheVariants.{File, Dir, Link}
+use Rattle.rk_base.specs.declared.file_type.FileType.{FileType}
+use Rattle.rk_base.specs.declared.file_type.FileType.TheVariants.{File, Dir, Link}
 use Rattle.ut_files.specs.declared.answers.Stood.{Stood}
 use Rattle.ut_files.specs.declared.manner.Manner.{Manner}
 use Rattle.ut_files.specs.declared.step.Step.{Step}
@@ -19,7 +19,7 @@ onto [] stands errno = Nowhere errno
 onto (source ∷ []) stands errno = Itself stands
 onto (source ∷ other ∷ more) stands errno = Nowhere errno
 
-abbrev pub by_kind : List Text → Kind → Aim
+abbrev pub by_kind : List Text → FileType → Aim
 by_kind sources Dir = Inside
 by_kind sources File = onto sources true NotDir
 by_kind sources Link = onto sources true NotDir

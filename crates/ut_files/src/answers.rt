@@ -2,14 +2,14 @@
 ghost use Rattle.std.specs.Prelude.{◌≡◌, [], IfOk};
 ghost use Rattle.ut_files.specs.Answers.{refusal, found, names_in, text_in, place_in, same_in, is_no_entry, is_exists};
 
-use rk_base::{Bytes, Errno, Kind, NameList, NoMemory, Path};
+use rk_base::{Bytes, Errno, FileType, NameList, NoMemory, Path};
 use rk_calls::Answer;
 use std::alloc::Global;
 
 /// What stands at a path, and its mode.
 #[derive(Clone, Copy, Debug)]
 pub struct Stood {
-    pub kind: Kind,
+    pub kind: FileType,
     pub mode: u16,
 }
 
@@ -39,23 +39,23 @@ pub fn found(answer: &Answer) -> Result<Stood, Errno>
 {
     match answer {
         Answer::Go => Ok(Stood {
-            kind: Kind::File,
+            kind: FileType::File,
             mode: 0,
         }),
         Answer::Done => Ok(Stood {
-            kind: Kind::File,
+            kind: FileType::File,
             mode: 0,
         }),
         Answer::Opened => Ok(Stood {
-            kind: Kind::File,
+            kind: FileType::File,
             mode: 0,
         }),
         Answer::Piped => Ok(Stood {
-            kind: Kind::File,
+            kind: FileType::File,
             mode: 0,
         }),
         Answer::Content(_) => Ok(Stood {
-            kind: Kind::File,
+            kind: FileType::File,
             mode: 0,
         }),
         Answer::Stat { kind, mode, .. } => Ok(Stood {
@@ -63,23 +63,23 @@ pub fn found(answer: &Answer) -> Result<Stood, Errno>
             mode: *mode,
         }),
         Answer::Names(_) => Ok(Stood {
-            kind: Kind::File,
+            kind: FileType::File,
             mode: 0,
         }),
         Answer::Text(_) => Ok(Stood {
-            kind: Kind::File,
+            kind: FileType::File,
             mode: 0,
         }),
         Answer::Place(_) => Ok(Stood {
-            kind: Kind::File,
+            kind: FileType::File,
             mode: 0,
         }),
         Answer::Same(_) => Ok(Stood {
-            kind: Kind::File,
+            kind: FileType::File,
             mode: 0,
         }),
         Answer::Joined(_) => Ok(Stood {
-            kind: Kind::File,
+            kind: FileType::File,
             mode: 0,
         }),
         Answer::No(errno) => Err(*errno),

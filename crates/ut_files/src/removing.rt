@@ -9,7 +9,7 @@ use crate::file_task::FileTask;
 use crate::manner::Manner;
 use crate::operands::{below, is_fixed};
 use crate::step::Step;
-use rk_base::{Bytes, Errno, Kind, Name, NoMemory};
+use rk_base::{Bytes, Errno, FileType, Name, NoMemory};
 use rk_calls::Answer;
 use std::alloc::Global;
 
@@ -67,7 +67,7 @@ fn remove_dir(
     manner: &Manner,
     operand: Bytes,
 ) -> Result<Vec<Step<FileTask>>, NoMemory>
-    ensures { IfOk result (λ steps. steps.items ≡ by_kind manner.now operand Kind.Dir) }
+    ensures { IfOk result (λ steps. steps.items ≡ by_kind manner.now operand FileType.Dir) }
 {
     if manner.recursive {
         return alone(alloc, Step::Do(FileTask::ListDir(operand)));
@@ -79,14 +79,14 @@ fn by_kind(
     alloc: Global,
     manner: &Manner,
     operand: Bytes,
-    kind: Kind,
+    kind: FileType,
 ) -> Result<Vec<Step<FileTask>>, NoMemory>
     ensures { IfOk result (λ steps. steps.items ≡ by_kind manner.now operand kind) }
 {
     match kind {
-        Kind::Dir => remove_dir(alloc, manner, operand),
-        Kind::File => alone(alloc, Step::Do(FileTask::UnlinkName(operand))),
-        Kind::Link => alone(alloc, Step::Do(FileTask::UnlinkName(operand))),
+        FileType::Dir => remove_dir(alloc, manner, operand),
+        FileType::File => alone(alloc, Step::Do(FileTask::UnlinkName(operand))),
+        FileType::Link => alone(alloc, Step::Do(FileTask::UnlinkName(operand))),
     }
 }
 

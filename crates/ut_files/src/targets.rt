@@ -4,7 +4,7 @@ ghost use Rattle.ut_files.specs.Targets.{onto, by_kind, aim_at, goal, sources_of
 
 use crate::answers::Stood;
 use crate::operands::{basename, below};
-use rk_base::{Bytes, Errno, Kind, NoMemory, WordList};
+use rk_base::{Bytes, Errno, FileType, NoMemory, WordList};
 use std::alloc::Global;
 
 /// Where sources go.
@@ -28,13 +28,13 @@ fn onto(sources: &[Bytes], stands: bool, errno: Errno) -> Aim
     }
 }
 
-fn by_kind(sources: &[Bytes], kind: Kind) -> Aim
+fn by_kind(sources: &[Bytes], kind: FileType) -> Aim
     ensures { result ≡ by_kind sources.now kind }
 {
     match kind {
-        Kind::Dir => Aim::Inside,
-        Kind::File => onto(sources, true, Errno::NotDir),
-        Kind::Link => onto(sources, true, Errno::NotDir),
+        FileType::Dir => Aim::Inside,
+        FileType::File => onto(sources, true, Errno::NotDir),
+        FileType::Link => onto(sources, true, Errno::NotDir),
     }
 }
 

@@ -4,8 +4,8 @@ use Rattle.std.proofs.Common.{arith}
 use Rattle.rk_base.specs.Text.{Text, is_slash}
 use Rattle.rk_base.specs.Errno.{word}
 use Rattle.rk_base.specs.declared.errno.Errno.{Errno}
-use Rattle.rk_base.specs.declared.kind.Kind.{Kind}
-use Rattle.rk_base.specs.declared.kind.Kind.TheVariants.{File, Dir, Link}
+use Rattle.rk_base.specs.declared.file_type.FileType.{FileType}
+use Rattle.rk_base.specs.declared.file_type.FileType.TheVariants.{File, Dir, Link}
 use Rattle.rk_calls.specs.declared.call.Call.TheVariants.{Stat, List as ListOf}
 use Rattle.rk_calls.specs.Fix.{fix, Pays_first, AlikeBelow, fix-is, talk-fix}
 use Rattle.rk_calls.specs.Lines.{error_line}
@@ -37,11 +37,11 @@ pub record Work : Type 0 where
   pub left : List Visit
 
 -- where all tests hold, the path and a newline
-abbrev pub shown : List Test → Text → Kind → Text
+abbrev pub shown : List Test → Text → FileType → Text
 shown tests path kind = if meets_all kind path tests then path ++ 10 ∷ [] else []
 
 -- a directory is entered, and no link is followed
-abbrev pub inside : Text → Kind → List Visit
+abbrev pub inside : Text → FileType → List Visit
 inside path File = []
 inside path Dir = Enter path ∷ []
 inside path Link = []

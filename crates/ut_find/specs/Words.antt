@@ -2,8 +2,8 @@
 use Rattle.std.specs.Prelude.{◌≡◌, List, [], ◌∷◌, ◌++◌, take, drop, codes, Option, Some, None, Result, Ok, Err, Bool, false, ◌==◌, if◌then◌else◌}
 use Rattle.std.specs.List.{position_or_len}
 use Rattle.rk_base.specs.Text.{Text, same_text}
-use Rattle.rk_base.specs.declared.kind.Kind.{Kind}
-use Rattle.rk_base.specs.declared.kind.Kind.TheVariants.{File, Dir, Link}
+use Rattle.rk_base.specs.declared.file_type.FileType.{FileType}
+use Rattle.rk_base.specs.declared.file_type.FileType.TheVariants.{File, Dir, Link}
 use Rattle.ut_find.specs.declared.test.Test.{Test}
 use Rattle.ut_find.specs.declared.test.Test.TheVariants.{Named, OfKind}
 use Rattle.ut_find.specs.declared.tests.Wants.{Wants}
@@ -23,7 +23,7 @@ abbrev pub tests_in : List Text → List Text
 tests_in words = drop (position_or_len is_dashed words) words
 
 -- `f`, `d` or `l`
-abbrev pub kind_of : Text → Option Kind
+abbrev pub kind_of : Text → Option FileType
 kind_of word =
     if same_text word (codes "f") then Some File else
     (if same_text word (codes "d") then Some Dir else
@@ -42,7 +42,7 @@ on_judged (Goes wants) word on = on wants
 on_judged BadTest word on = Err word
 on_judged BadType word on = Err (codes "-type")
 
-abbrev pub on_kind : Option Kind → (Kind → Result (List Test) Text) → Result (List Test) Text
+abbrev pub on_kind : Option FileType → (FileType → Result (List Test) Text) → Result (List Test) Text
 on_kind None on = Err (codes "-type")
 on_kind (Some kind) on = on kind
 

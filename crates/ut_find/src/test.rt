@@ -3,7 +3,7 @@ ghost use Rattle.std.specs.Prelude.{◌≡◌, ◌++◌, ◌∷◌, [], OnOk};
 ghost use Rattle.std.specs.List.{list_all};
 ghost use Rattle.ut_find.specs.Tests.{same_kind, meets, meets_all};
 
-use rk_base::{Bytes, Kind, NoMemory};
+use rk_base::{Bytes, FileType, NoMemory};
 use sh_pattern::matches;
 use std::alloc::Global;
 use std::marker::Model;
@@ -15,22 +15,22 @@ pub enum Test {
     /// Whether a pattern matches its last component.
     Named(Bytes),
     /// Whether this stands there.
-    OfKind(Kind),
+    OfKind(FileType),
 }
 
-fn same_kind(a: Kind, b: Kind) -> bool
+fn same_kind(a: FileType, b: FileType) -> bool
     ensures { result ≡ same_kind a b }
 {
     match a {
-        Kind::File => matches!(b, Kind::File),
-        Kind::Dir => matches!(b, Kind::Dir),
-        Kind::Link => matches!(b, Kind::Link),
+        FileType::File => matches!(b, FileType::File),
+        FileType::Dir => matches!(b, FileType::Dir),
+        FileType::Link => matches!(b, FileType::Link),
     }
 }
 
 impl Test {
     // Whether a path holds, where this stands there.
-    fn meets(&self, kind: Kind, path: &[u8]) -> bool
+    fn meets(&self, kind: FileType, path: &[u8]) -> bool
         ensures { result ≡ meets kind path.now self.now }
     {
         match self {
@@ -74,7 +74,7 @@ impl TestList {
     }
 
     /// Whether a path meets each of them, where this stands there.
-    pub fn meets(&self, kind: Kind, path: &[u8]) -> bool
+    pub fn meets(&self, kind: FileType, path: &[u8]) -> bool
         ensures { result ≡ meets_all kind path.now self.now }
     {
         'tests: for test in self.tests.as_slice() {

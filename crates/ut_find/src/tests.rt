@@ -4,7 +4,7 @@ ghost use Rattle.std.specs.List.{position_or_len};
 ghost use Rattle.ut_find.specs.Words.{is_dashed, kind_of, judged, tests_of, JudgesTo};
 
 use crate::test::{Test, TestList};
-use rk_base::{Bytes, Kind, NoMemory};
+use rk_base::{Bytes, FileType, NoMemory};
 use std::alloc::Global;
 
 /// What the next word is.
@@ -50,17 +50,17 @@ pub(crate) fn paths(words: &[Bytes]) -> usize
     words.len()
 }
 
-fn kind_of(word: &[u8]) -> Option<Kind>
+fn kind_of(word: &[u8]) -> Option<FileType>
     ensures { result ≡ kind_of word.now }
 {
     if word == b"f".as_slice() {
-        return Some(Kind::File);
+        return Some(FileType::File);
     }
     if word == b"d".as_slice() {
-        return Some(Kind::Dir);
+        return Some(FileType::Dir);
     }
     if word == b"l".as_slice() {
-        return Some(Kind::Link);
+        return Some(FileType::Link);
     }
     None
 }

@@ -8,7 +8,7 @@ ghost use Rattle.ut_find.specs.Walking.{work_of, settled, walk_talk, Stays, IsNe
 
 use crate::find::{Find, Visit};
 use crate::path::joined;
-use rk_base::{Bytes, Errno, Kind, Name, NoMemory};
+use rk_base::{Bytes, Errno, FileType, Name, NoMemory};
 use rk_calls::{Answer, Call, Turn, absolute, error_line};
 use std::alloc::Global;
 use std::collections::VecDeque;
@@ -61,22 +61,22 @@ fn entries(alloc: Global, path: &Bytes, names: &[Name]) -> Result<Vec<Visit>, No
 }
 
 // A directory is entered.
-fn put_inside(path: Bytes, kind: Kind, left: &mut VecDeque<Visit>) -> Result<(), NoMemory>
+fn put_inside(path: Bytes, kind: FileType, left: &mut VecDeque<Visit>) -> Result<(), NoMemory>
     ensures { OnOk result (left.new.items ≡ inside path kind ++ left.old.items) }
 {
     match kind {
-        Kind::File => Ok(()),
-        Kind::Dir => {
+        FileType::File => Ok(()),
+        FileType::Dir => {
             left.push_front(Visit::Enter(path))?;
             Ok(())
         }
-        Kind::Link => Ok(()),
+        FileType::Link => Ok(()),
     }
 }
 
 impl Find {
     // The path where all tests hold.
-    fn show(&self, path: &[u8], kind: Kind, output: &mut Vec<u8>) -> Result<(), NoMemory>
+    fn show(&self, path: &[u8], kind: FileType, output: &mut Vec<u8>) -> Result<(), NoMemory>
         ensures { OnOk result (output.new.items ≡ output.old.items ++ shown self.now.tests path.now kind) }
     {
         if self.tests.meets(kind, path) {

@@ -9,7 +9,7 @@ ghost use Rattle.rk_kernel.specs.Questions as questions;
 ghost use Rattle.rk_kernel.specs.Spot.{met};
 
 use crate::World;
-use rk_base::{Bytes, Errno, Kind, NoMemory};
+use rk_base::{Bytes, Errno, FileType, NoMemory};
 use rk_calls::{Answer, Refs};
 use rk_tree::{NodeId, has_r, has_x};
 use rk_walk::{Place, resolve};
@@ -20,18 +20,18 @@ impl World {
         ensures { result ≡ questions.stat_of (hierarchy.node self.now.tree n) }
     {
         match self.tree.kind(n) {
-            Kind::File => Answer::Stat {
-                kind: Kind::File,
+            FileType::File => Answer::Stat {
+                kind: FileType::File,
                 mode: self.tree.mode(n) % 512,
                 empty: self.tree.bytes(n).is_empty(),
             },
-            Kind::Dir => Answer::Stat {
-                kind: Kind::Dir,
+            FileType::Dir => Answer::Stat {
+                kind: FileType::Dir,
                 mode: self.tree.mode(n) % 512,
                 empty: false,
             },
-            Kind::Link => Answer::Stat {
-                kind: Kind::Link,
+            FileType::Link => Answer::Stat {
+                kind: FileType::Link,
                 mode: 0o777,
                 empty: false,
             },
@@ -43,9 +43,9 @@ impl World {
         ensures { IfOk result (λ a. record { answer = a; refs = refs.now; world = self.now } ≡ questions.read_link_at self.now refs.now (Found (record { node = n; up = None; slash = false }))) }
     {
         match self.tree.kind(n) {
-            Kind::File => Ok(Answer::No(Errno::Invalid)),
-            Kind::Dir => Ok(Answer::No(Errno::Invalid)),
-            Kind::Link => {
+            FileType::File => Ok(Answer::No(Errno::Invalid)),
+            FileType::Dir => Ok(Answer::No(Errno::Invalid)),
+            FileType::Link => {
                 let text = self.tree.copy_link_text(n)?;
                 Ok(Answer::Text(text))
             }

@@ -1,5 +1,5 @@
 use Rattle.std.proofs.Common.{sym, ap, ◌∙◌}
-use Rattle.sh_rules.specs.declared.kind.Kind.TheVariants as k
+use Rattle.sh_rules.specs.declared.token_kind.TokenKind.TheVariants as k
 use Rattle.sh_token.specs.Bytes.{is_body_text, is_quoted_text, is_quoted_brace_text, is_arithmetic_text}
 use Rattle.sh_token.specs.Folded.{folded, run_on}
 use Rattle.sh_token.specs.Lexemes.{recognized}

@@ -2,7 +2,7 @@
 
 /// What stands at a path: a file, a directory or a symbolic link.
 #[derive(Clone, Copy, Debug)]
-pub enum Kind {
+pub enum FileType {
     File,
     Dir,
     Link,
