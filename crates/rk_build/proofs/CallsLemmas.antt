@@ -10,11 +10,12 @@ use Rattle.rk_folder.proofs.CallsLemmas.{makes-first, makes-none, makes-same, ma
 use Rattle.rk_request.specs.Asked.{is_fresh}
 use Rattle.rk_request.specs.declared.requests.Request.{Request}
 use Rattle.rk_build.specs.Calls.{AsksAll, AsksSo}
-use Rattle.rk_build.specs.Changes.{CallsInOrder, StopsAt, asked_all, asked_by, calls_of}
+use Rattle.rk_build.specs.Changes.{CallsInOrder, FailedCall, StopsAt, asked_all, asked_by, calls_of}
 use Rattle.rk_build.specs.Outcomes.{outcome_of_stop}
 use Rattle.rk_build.specs.Stages.{InstallsSo, IsPrepared, PreparesSo}
 use Rattle.rk_build.specs.Telling.{PutsOutput, SinkState}
 use Rattle.rk_build.specs.declared.installation.InstallErr.{InstallErr}
+use Rattle.rk_build.specs.declared.installation.InstallErr.TheVariants.{WriteFault, NoMemory}
 use Rattle.rk_build.specs.declared.ops.Op.{Op}
 use Rattle.rk_build.specs.declared.outcome.Outcome.TheVariants as out
 use Rattle.rk_build.specs.declared.prepare.Prepared.{Prepared}
@@ -33,17 +34,21 @@ all-asked (op ∷ ops) (Some schedule) =
     let on : Schedule = after_call (asked_by op, true) schedule in
     makes-then (asked_by op ∷ []) (calls_of ops) (Some schedule) (Some on) (Some (asked_all ops on)) (one-asked (asked_by op) true (Some schedule) (Some on) refl) (all-asked ops (Some on))
 
-some-asked : (ops : List Op) (before now : Option Schedule) → StopsAt ops before now → MakesCalls (calls_of ops) before now
-some-asked [] before now stops = absurd stops
-some-asked (op ∷ ops) before now (inl last) = makes-first (asked_by op ∷ []) (calls_of ops) before now (one-asked (asked_by op) true before now last)
-some-asked (op ∷ ops) before now (inr (inl last)) = makes-first (asked_by op ∷ []) (calls_of ops) before now (one-asked (asked_by op) false before now last)
-some-asked (op ∷ ops) before now (inr (inr more)) =
+failed-asked : (e : InstallErr) (op : Op) (before now : Option Schedule) → FailedCall e op before now → MakesCalls (asked_by op ∷ []) before now
+failed-asked WriteFault op before now last = one-asked (asked_by op) true before now last
+failed-asked NoMemory op before now (inl last) = one-asked (asked_by op) true before now last
+failed-asked NoMemory op before now (inr last) = one-asked (asked_by op) false before now last
+
+some-asked : (e : InstallErr) (ops : List Op) (before now : Option Schedule) → StopsAt e ops before now → MakesCalls (calls_of ops) before now
+some-asked e [] before now stops = absurd stops
+some-asked e (op ∷ ops) before now (inl last) = makes-first (asked_by op ∷ []) (calls_of ops) before now (failed-asked e op before now last)
+some-asked e (op ∷ ops) before now (inr more) =
     let on : Option Schedule = option_map (after_call (asked_by op, true)) before in
-    makes-then (asked_by op ∷ []) (calls_of ops) before on now (one-asked (asked_by op) true before on refl) (some-asked ops on now more)
+    makes-then (asked_by op ∷ []) (calls_of ops) before on now (one-asked (asked_by op) true before on refl) (some-asked e ops on now more)
 
 pub installs-in-order : {T : Type 0} (ops : List Op) (before now : Option Schedule) (result : Result T InstallErr) → CallsInOrder ops before now result → MakesCalls (calls_of ops) before now
 installs-in-order ops before now (Ok it) made = subst (λ (n : Option Schedule). MakesCalls (calls_of ops) before n) (sym made) (all-asked ops before)
-installs-in-order ops before now (Err e) made = some-asked ops before now made
+installs-in-order ops before now (Err e) made = some-asked e ops before now made
 
 -- It was looked at, and then asked for some of the planned calls.
 pub asks-all : (first : KeyValue → Says) (request : Request) (reach : ℕ) (told : Option Held) (live late : ℕ) (p : Prepared) (before on now : Option Schedule) → IfSome told (λ held. IsPrepared first request held live late p) → LooksInOrder told (looks (is_fresh request) reach) before on → MakesCalls (calls_of p.plan) on now → AsksAll first request reach told before now

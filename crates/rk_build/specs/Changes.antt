@@ -83,26 +83,30 @@ asked_by (Write path bytes) = asks.Write path
 abbrev pub calls_of : List Op → List FolderCall
 calls_of ops = map asked_by ops
 
--- a call was made, and is kept unless it had no memory
+-- a call failed so, and is kept unless it had no memory
+abbrev pub FailedCall : InstallErr → Op → Option Schedule → Option Schedule → Type 0
+FailedCall WriteFault op before now = now ≡ option_map (after_call (asked_by op, true)) before
+FailedCall NoMemory op before now = (now ≡ option_map (after_call (asked_by op, true)) before) ⊎ (now ≡ option_map (after_call (asked_by op, false)) before)
+
+-- a call was made
 abbrev pub IsAsked : {T : Type 0} → Op → Option Schedule → Option Schedule → Result T InstallErr → Type 0
 IsAsked op before now (Ok it) = now ≡ option_map (after_call (asked_by op, true)) before
-IsAsked op before now (Err WriteFault) = now ≡ option_map (after_call (asked_by op, true)) before
-IsAsked op before now (Err NoMemory) = (now ≡ option_map (after_call (asked_by op, true)) before) ⊎ (now ≡ option_map (after_call (asked_by op, false)) before)
+IsAsked op before now (Err e) = FailedCall e op before now
 
 -- once each was made
 abbrev pub asked_all : List Op → Schedule → Schedule
 asked_all [] schedule = schedule
 asked_all (op ∷ ops) schedule = asked_all ops (after_call (asked_by op, true) schedule)
 
--- once those up to one of them were made, of which the last is kept unless it had no memory
-abbrev pub StopsAt : List Op → Option Schedule → Option Schedule → Type 0
-StopsAt [] before now = ⊥
-StopsAt (op ∷ ops) before now = (now ≡ option_map (after_call (asked_by op, true)) before) ⊎ (now ≡ option_map (after_call (asked_by op, false)) before) ⊎ StopsAt ops (option_map (after_call (asked_by op, true)) before) now
+-- once those up to one of them were made, of which the last failed so
+abbrev pub StopsAt : InstallErr → List Op → Option Schedule → Option Schedule → Type 0
+StopsAt e [] before now = ⊥
+StopsAt e (op ∷ ops) before now = FailedCall e op before now ⊎ StopsAt e ops (option_map (after_call (asked_by op, true)) before) now
 
 -- each call was made once, in their order; at an error up to the one that failed
 abbrev pub CallsInOrder : {T : Type 0} → List Op → Option Schedule → Option Schedule → Result T InstallErr → Type 0
 CallsInOrder ops before now (Ok it) = now ≡ option_map (asked_all ops) before
-CallsInOrder ops before now (Err e) = StopsAt ops before now
+CallsInOrder ops before now (Err e) = StopsAt e ops before now
 
 abbrev pub IsNoFault : {T : Type 0} → Result T InstallErr → Type 0
 IsNoFault (Ok it) = Unit {0}

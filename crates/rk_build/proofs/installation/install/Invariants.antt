@@ -13,7 +13,7 @@ invariant-loop-op g l =
       rest : option_map (after_all (drop l.op-index l.ops)) (told l.folder) ≡ option_map (after_all l.ops) (told l.fn.folder);
       part : (new : Option Held) (err : InstallErr) → Partly (drop l.op-index l.ops) (told l.folder) new err → Partly l.ops (told l.fn.folder) new err;
       asked : option_map (asked_all (drop l.op-index l.ops)) (g.F.Folder.schedule l.folder) ≡ option_map (asked_all l.ops) (g.F.Folder.schedule l.fn.folder);
-      stops : (now : Option Schedule) → StopsAt (drop l.op-index l.ops) (g.F.Folder.schedule l.folder) now → StopsAt l.ops (g.F.Folder.schedule l.fn.folder) now;
+      stops : (err : InstallErr) (now : Option Schedule) → StopsAt err (drop l.op-index l.ops) (g.F.Folder.schedule l.folder) now → StopsAt err l.ops (g.F.Folder.schedule l.fn.folder) now;
       memory : g.F.Folder.memory_failures l.folder ≡ g.F.Folder.memory_failures l.fn.folder;
       writes : g.F.Folder.write_faults l.folder ≡ g.F.Folder.write_faults l.fn.folder;
       steady : g.F.Folder.steady l.folder ≡ g.F.Folder.steady l.fn.folder;
