@@ -2,7 +2,6 @@
 use Rattle.std.proofs.Common.{◌≡◌, ℕ, ◌+◌, Bool, true, false, List, [], drop, Some, None, refl, sym, ap, subst, ◌∙◌}
 use Rattle.std.specs.declared.rc.Rc.{Rc}
 use Rattle.std.specs.declared.alloc.Global.{Global}
-use Rattle.std.specs.Global.{Box}
 use Rattle.rk_base.specs.Text.{Text}
 use Rattle.rk_calls.specs.Talk.{Says, pay}
 use Rattle.rk_calls.specs.declared.answer.Answer.TheVariants.{Go}
@@ -44,7 +43,7 @@ simple_entered c r ws fields pl k e p hr hw hf =
     ∙ ap (λ (w : Words). pay 1 (expand_words (words_from w 0) [] false pl (then_means (then.Simple r) pl k) k e) p) (ap (λ (c : SimpleCommand). (out-SimpleCommand c).words.value) hr ∙ sym hw)
     ∙ ap (λ (fs : List Text). pay 1 (expand_words (words_from ws.value 0) fs false pl (then_means (then.Simple r) pl k) k e) p) (sym hf)
 
-pub compound_entered : (rs0 : Redirects) (b0 : a_compound.Compound) (rs : Rc Redirects Global) (b : Rc a_compound.Compound Global) (before : Box DescriptorTable) (pl : Place) (k : Next) (e : Shell) (p : ℕ) → rs.value ≡ rs0 → b.value ≡ b0 → before.value ≡ e.descriptors → compound_means (redirects_in run (tree.redirects rs0)) (compound_in run (tree.compound b0)) pl e k p ≡ pay 1 (resumed (control.SimpleStep (simple_step.Make pl (record { redirects = rs; at = 0; before = before; ran = false; made = made.Compound b }))) k Go e) p
+pub compound_entered : (rs0 : Redirects) (b0 : a_compound.Compound) (rs : Rc Redirects Global) (b : Rc a_compound.Compound Global) (before : Rc DescriptorTable Global) (pl : Place) (k : Next) (e : Shell) (p : ℕ) → rs.value ≡ rs0 → b.value ≡ b0 → before.value ≡ e.descriptors → compound_means (redirects_in run (tree.redirects rs0)) (compound_in run (tree.compound b0)) pl e k p ≡ pay 1 (resumed (control.SimpleStep (simple_step.Make pl (record { redirects = rs; at = 0; before = before; ran = false; made = made.Compound b }))) k Go e) p
 compound_entered rs0 b0 rs b before pl k e p hr hb hd =
     ap (λ (R : Redirects). compound_means (redirects_from R 0) (compound_in run (tree.compound b0)) pl e k p) (sym hr)
     ∙ ap (λ (B : a_compound.Compound). compound_means (redirects_from rs.value 0) (compound_in run (tree.compound B)) pl e k p) (sym hb)

@@ -48,7 +48,6 @@ fn act_simple(alloc: Global, place: Place, command: &Rc<SimpleCommand>) -> Resul
 
 /// A compound command begins with its redirections.
 pub fn act_redirected(
-    alloc: Global,
     place: Place,
     body: &Rc<Compound>,
     redirects: &Rc<Redirects>,
@@ -59,7 +58,7 @@ pub fn act_redirected(
 {
     let redirects = redirects.clone()?;
     let body = body.clone()?;
-    let before = Box::new(alloc, state.descriptors)?;
+    let before = state.descriptors.clone()?;
     Ok(paid(Control::SimpleStep(SimpleStep::Make(
         place,
         PendingRedirects {
@@ -174,7 +173,7 @@ fn act_command(
             Ok(acted)
         }
         Command::Compound(body, redirects) => {
-            let acted = act_redirected(alloc, place, body, redirects, state)?;
+            let acted = act_redirected(place, body, redirects, state)?;
             Ok(acted)
         }
         Command::Function(name, body, redirects) => {

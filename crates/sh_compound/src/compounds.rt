@@ -346,7 +346,7 @@ pub fn act_stages(
                 None => {
                     let saved = state.save(alloc)?;
                     put_undo(stack, Undo::Subshell(saved))?;
-                    read_from(input, state);
+                    read_from(input, state)?;
                     Ok(free(Control::One(place, list, at)))
                 }
             }
@@ -355,12 +355,12 @@ pub fn act_stages(
 }
 
 // A stage reads from this number.
-fn read_from(input: Option<u64>, state: &mut State)
-    ensures { shell_of state.new ≡ with_input input (shell_of state.old) }
+fn read_from(input: Option<u64>, state: &mut State) -> Result<(), NoMemory>
+    ensures { OnOk result (shell_of state.new ≡ with_input input (shell_of state.old)) }
 {
     match input {
-        None => {}
-        Some(n) => state.descriptors.set(0, Some(n)),
+        None => Ok(()),
+        Some(n) => state.set_descriptor(0, Some(n)),
     }
 }
 
@@ -386,8 +386,8 @@ pub fn act_stage(
         stack,
         Continuation::Stage(place, rest, next, read_end, status, saved),
     )?;
-    read_from(input, state);
-    state.descriptors.set(1, Some(write_end));
+    read_from(input, state)?;
+    state.set_descriptor(1, Some(write_end))?;
     Ok(Control::One(place, list, at))
 }
 

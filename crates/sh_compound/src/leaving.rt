@@ -342,7 +342,7 @@ pub fn leave_undo(frame: Undo, flow: Flow, state: &mut State) -> Result<Control,
 {
     match frame {
         Undo::Redirected(redirects, before) => {
-            put_back(&redirects, &before, &mut state.descriptors);
+            put_back(&redirects, &before, &mut state.descriptors)?;
             Ok(Control::Leave(flow))
         }
         Undo::Assigned(assignments, before) => {

@@ -9,14 +9,28 @@ use rk_base::NoMemory;
 use sh_ast::{Assignments, Redirects};
 use sh_redirect::DescriptorTable;
 use sh_vars::{Saved, Vars};
+use std::rc::Rc;
 
-/// The descriptors that redirections name are as they were before.
-pub fn put_back(redirects: &Redirects, before: &DescriptorTable, now: &mut DescriptorTable)
+// The descriptors that redirections name are as they were before.
+fn put_slots_back(redirects: &Redirects, before: &DescriptorTable, now: &mut DescriptorTable)
     ensures { now.new ≡ put_back (named (redirects_from redirects.now 0)) before.now now.old }
 {
     'redirects: for r in &redirects.items {
         now.set(r.descriptor, before.at(r.descriptor));
     }
+}
+
+/// The descriptors that redirections name are as they were before. A map that other states share is copied first.
+pub fn put_back(
+    redirects: &Redirects,
+    before: &DescriptorTable,
+    now: &mut Rc<DescriptorTable>,
+) -> Result<(), NoMemory>
+    ensures { OnOk result (now.new.value ≡ put_back (named (redirects_from redirects.now 0)) before.now now.old.value) }
+{
+    let own = Rc::make_mut(now)?;
+    put_slots_back(redirects, before, own);
+    Ok(())
 }
 
 /// The variables that assignments name are as they were before.

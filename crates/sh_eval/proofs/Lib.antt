@@ -1,3 +1,4 @@
 pub mod Turning
 pub mod Found
 pub mod Writable
+pub mod Beginning

@@ -53,13 +53,9 @@ fn act_compound_step(
             let control = act_compound(alloc, place, &body, stack, state)?;
             Ok(free(control))
         }
-        CompoundStep::Called(place, callee) => act_redirected(
-            alloc,
-            place,
-            &callee.body,
-            &callee.redirects,
-            state,
-        ),
+        CompoundStep::Called(place, callee) => {
+            act_redirected(place, &callee.body, &callee.redirects, state)
+        }
         CompoundStep::If(place, branches, at, otherwise) => {
             let control = act_if(place, branches, at, otherwise, stack)?;
             Ok(free(control))

@@ -21,6 +21,7 @@ use sh_redirect::DescriptorTable;
 use sh_special::{Start, copies, misused, read_options};
 use sh_vars::{Env, VarErr, Vars};
 use std::alloc::Global;
+use std::rc::Rc;
 
 /// The shell of a key (XCU 2): `sh [-c] [--] FILE [ARGUMENT..]`, `sh -c TEXT [NAME [ARGUMENT..]]`, or a first word with a
 /// slash, which names a script.
@@ -87,6 +88,8 @@ fn first_state(
     let mut vars = first_variables(alloc, vars, wd)?;
     vars.set_positional(words);
     let wd = wd.copy()?;
+    let functions = Rc::new(alloc, Vec::new(alloc))?;
+    let descriptors = Rc::new(alloc, DescriptorTable::own())?;
     Ok(State {
         env: Env {
             vars,
@@ -98,8 +101,8 @@ fn first_state(
             next: 10,
         },
         errexit: false,
-        functions: Vec::new(alloc),
-        descriptors: DescriptorTable::own(),
+        functions,
+        descriptors,
     })
 }
 

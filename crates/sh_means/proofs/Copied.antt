@@ -1,8 +1,10 @@
 -- Copies of the state.
-use Rattle.std.proofs.Common.{◌≡◌, ℕ, ◌+◌, ◌-◌, ◌<◌, ◌≤◌, Bool, List, [], ◌∷◌, ◌++◌, length, get_or, take, Some, if◌then◌else◌, append_assoc, append-nil, refl, sym, ap, ◌∙◌, arith}
+use Rattle.std.proofs.Common.{◌≡◌, ◌⊎◌, inl, inr, ℕ, ◌+◌, ◌-◌, ◌<◌, ◌≤◌, Bool, List, [], ◌∷◌, ◌++◌, length, get_or, take, Some, if◌then◌else◌, refl, sym, ap, ◌∙◌, arith, Vec, Global, vec_len}
 use Rattle.std.proofs.lemmas.List.{take_more}
+use Rattle.std.specs.List.{AllZip}
 use Rattle.rk_base.specs.Text.{Text, same_text}
 use Rattle.sh_vars.specs.Held.{Held}
+use Rattle.sh_redirect.specs.declared.descriptors.DescriptorTable.{DescriptorTable}
 use Rattle.sh_means.specs.declared.state.Function.{Function}
 use Rattle.sh_means.specs.declared.state.State.{State}
 use Rattle.sh_means.specs.State.{FunctionTree, Shell, back, function_named}
@@ -16,15 +18,24 @@ rows_append (f ∷ fs) g = ap (λ vs. vs ++ row_of f ∷ []) (rows_append fs g)
 pub rows_pushed : (fs fs' : List Function) (g : Function) → fs' ≡ fs ++ g ∷ [] → rows_of fs' ≡ row_of g ∷ rows_of fs
 rows_pushed fs fs' g is = ap rows_of is ∙ rows_append fs g
 
-pub copy_pushed : (fs fs' : List Function) (f g : Function) → fs' ≡ fs ++ g ∷ [] → g.name ≡ f.name → function_of g.callee ≡ function_of f.callee → rows_of fs' ≡ row_of f ∷ rows_of fs
-copy_pushed fs fs' f g is hn hc =
-    rows_pushed fs fs' g is
-    ∙ ap (λ (n : Text). (n, function_of g.callee) ∷ rows_of fs) hn
-    ∙ ap (λ (t : FunctionTree). (f.name, t) ∷ rows_of fs) hc
+-- A copy of functions has their rows, and shares the bodies.
 
--- one more of those that are copied, of which these are left
-pub copy_more : (f : Function) (left : List Function) (copies copies' all : List (Text × FunctionTree)) → copies' ≡ row_of f ∷ copies → rows_of (f ∷ left) ++ copies ≡ all → rows_of left ++ copies' ≡ all
-copy_more f left copies copies' all is so = ap (λ (rows : List (Text × FunctionTree)). rows_of left ++ rows) is ∙ sym (append_assoc (rows_of left) (row_of f ∷ []) copies) ∙ so
+rows_copied : (fs gs : List Function) → AllZip (λ (f g : Function). row_of g ≡ row_of f) fs gs → rows_of gs ≡ rows_of fs
+rows_copied [] [] h = refl
+rows_copied [] (g ∷ gs) h = absurd h
+rows_copied (f ∷ fs) [] h = absurd h
+rows_copied (f ∷ fs) (g ∷ gs) h = ap (λ (rows : List (Text × FunctionTree)). rows ++ row_of g ∷ []) (rows_copied fs gs h.1) ∙ ap (λ (row : Text × FunctionTree). rows_of fs ++ row ∷ []) h.0
+
+-- the functions themselves, or a copy of them
+own_rows : (v w : Vec Function Global) → (w ≡ v) ⊎ (AllZip (λ (f g : Function). row_of g ≡ row_of f) v.items w.items × (vec_len w ≡ vec_len v)) → rows_of w.items ≡ rows_of v.items
+own_rows v w h = elim h [
+  | inl same ↦ ap (λ (v : Vec Function Global). rows_of v.items) same
+  | inr copied ↦ rows_copied v.items w.items copied.0
+]
+
+-- a function is put into them
+pub own_pushed : (v w u : Vec Function Global) (g : Function) → (w ≡ v) ⊎ (AllZip (λ (f g : Function). row_of g ≡ row_of f) v.items w.items × (vec_len w ≡ vec_len v)) → u.items ≡ w.items ++ g ∷ [] → rows_of u.items ≡ row_of g ∷ rows_of v.items
+own_pushed v w u g h is = rows_pushed w.items u.items g is ∙ ap (λ (rows : List (Text × FunctionTree)). row_of g ∷ rows) (own_rows v w h)
 
 -- the function of a name, among these and one behind them
 named_last : (fs : List Function) (g : Function) (name : Text) → function_named name (rows_of (fs ++ g ∷ [])) ≡ (if same_text g.name name then Some (function_of g.callee) else function_named name (rows_of fs))
@@ -41,17 +52,18 @@ named_at fs left f name text b some within is ht hb =
     ∙ ap (λ (b : Bool). if b then Some (function_of f.callee) else function_named name (rows_of rest)) (sym hb)
 
 -- a state with these parts, as it comes back
-abbrev pub shell_with : State → Held → Text → Text → List (Text × FunctionTree) → Shell → Shell
-shell_with st vars zero wd rows e = record {
+abbrev pub shell_with : State → Held → Text → Text → List Function → DescriptorTable → Shell → Shell
+shell_with st vars zero wd functions ds e = record {
   env = record { vars = vars; zero = zero; wd = wd; status = e.env.status; nounset = st.env.nounset; noglob = st.env.noglob; next = e.env.next };
   errexit = st.errexit;
-  functions = rows;
-  descriptors = st.descriptors;
+  functions = rows_of functions;
+  descriptors = ds;
 }
 
-pub saved_is : (st : State) (vars : Held) (zero wd : Text) (new old slice : List Function) (e : Shell) → vars ≡ st.env.vars → zero ≡ st.env.zero → wd ≡ st.env.wd → rows_of new ≡ rows_of slice ++ rows_of old → old ≡ [] → slice ≡ st.functions.items → shell_with st vars zero wd (rows_of new) e ≡ back (shell_of st) e
-saved_is st vars zero wd new old slice e hv hz hw hn ho hs =
-    ap (λ (v : Held). shell_with st v zero wd (rows_of new) e) hv
-    ∙ ap (λ (z : Text). shell_with st st.env.vars z wd (rows_of new) e) hz
-    ∙ ap (λ (w : Text). shell_with st st.env.vars st.env.zero w (rows_of new) e) hw
-    ∙ ap (λ (r : List (Text × FunctionTree)). shell_with st st.env.vars st.env.zero st.env.wd r e) (hn ∙ ap (λ (fs : List Function). rows_of slice ++ rows_of fs) ho ∙ append-nil (rows_of slice) ∙ ap rows_of hs)
+pub saved_is : (st : State) (vars : Held) (zero wd : Text) (functions : Vec Function Global) (ds : DescriptorTable) (e : Shell) → vars ≡ st.env.vars → zero ≡ st.env.zero → wd ≡ st.env.wd → functions ≡ st.functions.value → ds ≡ st.descriptors.value → shell_with st vars zero wd functions.items ds e ≡ back (shell_of st) e
+saved_is st vars zero wd functions ds e hv hz hw hf hd =
+    ap (λ (v : Held). shell_with st v zero wd functions.items ds e) hv
+    ∙ ap (λ (z : Text). shell_with st st.env.vars z wd functions.items ds e) hz
+    ∙ ap (λ (w : Text). shell_with st st.env.vars st.env.zero w functions.items ds e) hw
+    ∙ ap (λ (fs : Vec Function Global). shell_with st st.env.vars st.env.zero st.env.wd fs.items ds e) hf
+    ∙ ap (λ (m : DescriptorTable). shell_with st st.env.vars st.env.zero st.env.wd st.functions.value.items m e) hd

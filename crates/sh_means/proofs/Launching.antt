@@ -17,7 +17,7 @@ use Rattle.sh_means.specs.declared.control.CommandKind as code
 use Rattle.sh_means.specs.declared.control.CommandKind.TheVariants as kinds
 use Rattle.sh_means.specs.declared.doing.Doing.{Doing}
 use Rattle.sh_means.specs.Launchable.{has_name, names_command, is_launchable}
-use Rattle.sh_means.specs.Simple.{CommandKind, Special, Builtin, Launches, called_kind, special_kind, kind_of}
+use Rattle.sh_means.specs.Simple.{Special, Builtin, Launches, called_kind, special_kind, kind_of}
 use Rattle.sh_means.specs.Stack.{kind_of_code}
 use Rattle.sh_means.specs.State.{FunctionTree, function_named}
 

@@ -31,7 +31,7 @@ use Rattle.sh_means.specs.Views.{back_to}
 use Rattle.sh_means.specs.Words.{AssignMeant, RedirectMeant, named, names, unredirected}
 use Rattle.sh_means.proofs.Places.{assigns_none, redirects_none}
 
-pub descriptors_back : (rs : Rc Redirects Global) (d : Redirects) (before : Box DescriptorTable) (ds : DescriptorTable) (k : Next) (f : Flow) (e : Shell) (p : ℕ) → d ≡ rs.value → ds ≡ put_back (named (redirects_from d 0)) before.value e.descriptors → undone (undo.Redirected rs before) k f e p ≡ k f (record e { descriptors = ds }) p
+pub descriptors_back : (rs : Rc Redirects Global) (d : Redirects) (before : Rc DescriptorTable Global) (ds : DescriptorTable) (k : Next) (f : Flow) (e : Shell) (p : ℕ) → d ≡ rs.value → ds ≡ put_back (named (redirects_from d 0)) before.value e.descriptors → undone (undo.Redirected rs before) k f e p ≡ k f (record e { descriptors = ds }) p
 descriptors_back rs d before ds k f e p hd h =
     ap (λ (r : Redirects). k f (record e { descriptors = put_back (named (redirects_from r 0)) before.value e.descriptors }) p) (sym hd)
     ∙ ap (λ (ds : DescriptorTable). k f (record e { descriptors = ds }) p) (sym h)

@@ -20,13 +20,13 @@ rows_of [] = []
 rows_of (f ∷ fs) = rows_of fs ++ row_of f ∷ []
 
 abbrev pub shell_of : State → Shell
-shell_of s = record { env = s.env; errexit = s.errexit; functions = rows_of s.functions.items; descriptors = s.descriptors }
+shell_of s = record { env = s.env; errexit = s.errexit; functions = rows_of s.functions.value.items; descriptors = s.descriptors.value }
 
 -- what was saved, with the status and the next local number of now
 abbrev pub back_to : SavedState → Shell → Shell
 back_to s e = record {
   env = record { vars = s.vars; zero = s.zero; wd = s.wd; status = e.env.status; nounset = s.nounset; noglob = s.noglob; next = e.env.next };
   errexit = s.errexit;
-  functions = rows_of s.functions.items;
-  descriptors = s.descriptors;
+  functions = rows_of s.functions.value.items;
+  descriptors = s.descriptors.value;
 }

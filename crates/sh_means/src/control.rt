@@ -112,7 +112,7 @@ pub enum Made {
 pub struct PendingRedirects {
     pub redirects: Rc<Redirects>,
     pub at: usize,
-    pub before: Box<DescriptorTable>,
+    pub before: Rc<DescriptorTable>,
     pub ran: bool,
     pub made: Made,
 }
@@ -280,7 +280,7 @@ pub enum Continuation {
 /// What is undone after a command.
 #[derive(Drop)]
 pub enum Undo {
-    Redirected(Rc<Redirects>, Box<DescriptorTable>),
+    Redirected(Rc<Redirects>, Rc<DescriptorTable>),
     Assigned(Rc<Assignments>, Saved),
     Function(WordList),
     Script,
@@ -294,6 +294,9 @@ pub enum Frame {
     Continuation(Continuation),
     Undo(Undo),
 }
+
+// A call of a function puts three of them on the stack, and so does a subshell.
+const _: () = prove!(size_of::<Frame>() <= 80);
 
 /// A turn, which may cost nothing, and what comes after it.
 #[derive(Drop)]

@@ -1,13 +1,14 @@
 // The state of a shell, and copies of it for subshells.
-ghost use Rattle.std.specs.Prelude.{◌≡◌, ◌++◌, ◌∷◌, IfOk, OnOk, option_map};
-ghost use Rattle.sh_means.specs.State.{Shell, back, define, function_named};
+ghost use Rattle.std.specs.Prelude.{◌≡◌, ◌∷◌, IfOk, OnOk, option_map};
+ghost use Rattle.sh_redirect.specs.DescriptorTable.{set_slot};
+ghost use Rattle.sh_means.specs.State.{Shell, back, define, function_named, with_slot};
 ghost use Rattle.sh_means.specs.Views.{shell_of, back_to, row_of, rows_of, function_of};
 
 use rk_base::{Bytes, NoMemory, Path};
 use sh_ast::{Compound, Redirects};
 use sh_redirect::DescriptorTable;
 use sh_vars::{Env, Saved};
-use std::alloc::Global;
+use std::alloc::{AllocError, Global};
 use std::rc::Rc;
 
 /// What a function does: its body, and the redirections that are made at each call.
@@ -17,6 +18,16 @@ pub struct Callee {
     pub redirects: Rc<Redirects>,
 }
 
+impl Clone for Callee {
+    ghost is_clone = { λ callee copy. function_of copy ≡ function_of callee };
+
+    fn clone(&self) -> Result<Callee, AllocError> {
+        let body = self.body.clone()?;
+        let redirects = self.redirects.clone()?;
+        Ok(Callee { body, redirects })
+    }
+}
+
 /// A function (XCU 2.9.5).
 #[derive(Drop)]
 pub struct Function {
@@ -24,15 +35,26 @@ pub struct Function {
     pub callee: Callee,
 }
 
-/// The state of a shell (XCU 2.12).
+impl Clone for Function {
+    ghost is_clone = { λ function copy. row_of copy ≡ row_of function };
+
+    fn clone(&self) -> Result<Function, AllocError> {
+        let name = self.name.clone()?;
+        let callee = self.callee.clone()?;
+        Ok(Function { name, callee })
+    }
+}
+
+/// The state of a shell (XCU 2.12). Copies of it share the functions and the map of descriptors, each until one of them
+/// changes it.
 #[derive(Drop)]
 pub struct State {
     pub env: Env,
     /// Whether `set -e` is on.
     pub errexit: bool,
     /// Of one name the newest stands last.
-    pub functions: Vec<Function>,
-    pub descriptors: DescriptorTable,
+    pub functions: Rc<Vec<Function>>,
+    pub descriptors: Rc<DescriptorTable>,
 }
 
 /// What a shell was before a subshell.
@@ -44,47 +66,40 @@ pub struct SavedState {
     nounset: bool,
     noglob: bool,
     errexit: bool,
-    functions: Vec<Function>,
-    descriptors: DescriptorTable,
+    functions: Rc<Vec<Function>>,
+    descriptors: Rc<DescriptorTable>,
 }
 
-/// A copy that shares the body.
-pub fn copy_callee(callee: &Callee) -> Result<Callee, NoMemory>
-    ensures { IfOk result (λ c. function_of c ≡ function_of callee.now) }
-{
-    let body = callee.body.clone()?;
-    let redirects = callee.redirects.clone()?;
-    Ok(Callee { body, redirects })
-}
+const _: () = prove!(size_of::<SavedState>() <= 88);
 
-fn push_copy(copies: &mut Vec<Function>, f: &Function) -> Result<(), NoMemory>
-    ensures { OnOk result (rows_of copies.new.items ≡ row_of f.now ∷ rows_of copies.old.items) }
+// Functions that other states share are copied first.
+fn put_function(functions: &mut Rc<Vec<Function>>, function: Function) -> Result<(), NoMemory>
+    ensures { OnOk result (rows_of functions.new.value.items ≡ row_of function ∷ rows_of functions.old.value.items) }
 {
-    let name = f.name.copy()?;
-    let callee = copy_callee(&f.callee)?;
-    copies.push(Function { name, callee })?;
+    let own = Rc::make_mut(functions)?;
+    own.push(function)?;
     Ok(())
 }
 
-fn push_copies(copies: &mut Vec<Function>, functions: &[Function]) -> Result<(), NoMemory>
-    ensures { OnOk result (rows_of copies.new.items ≡ rows_of functions.now ++ rows_of copies.old.items) }
+// A map that other states share is copied first.
+fn set_slot(map: &mut Rc<DescriptorTable>, d: u8, n: Option<u64>) -> Result<(), NoMemory>
+    ensures { OnOk result (map.new.value ≡ set_slot d n map.old.value) }
 {
-    'functions: for f in functions {
-        push_copy(copies, f)?;
-    }
+    let own = Rc::make_mut(map)?;
+    own.set(d, n);
     Ok(())
 }
 
 impl State {
-    /// A copy for the time of a subshell. Bodies of functions are shared.
+    /// A copy for the time of a subshell.
     pub fn save(&self, alloc: Global) -> Result<Box<SavedState>, NoMemory>
         ensures { IfOk result (λ s. (e : Shell) → back_to s.value e ≡ back (shell_of self.now) e) }
     {
         let vars = self.env.vars.save()?;
         let zero = self.env.zero.copy()?;
         let wd = self.env.wd.copy()?;
-        let mut functions = Vec::new(alloc);
-        push_copies(&mut functions, self.functions.as_slice())?;
+        let functions = self.functions.clone()?;
+        let descriptors = self.descriptors.clone()?;
         let saved = SavedState {
             vars,
             zero,
@@ -93,7 +108,7 @@ impl State {
             noglob: self.env.noglob,
             errexit: self.errexit,
             functions,
-            descriptors: self.descriptors,
+            descriptors,
         };
         let boxed = Box::new(alloc, saved)?;
         Ok(boxed)
@@ -127,7 +142,15 @@ impl State {
     pub fn define(&mut self, function: Function) -> Result<(), NoMemory>
         ensures { OnOk result (shell_of self.new ≡ define function.name (function_of function.callee) (shell_of self.old)) }
     {
-        self.functions.push(function)?;
+        put_function(&mut self.functions, function)?;
+        Ok(())
+    }
+
+    /// A descriptor stands for this from now on. Above 9 nothing changes.
+    pub fn set_descriptor(&mut self, d: u8, n: Option<u64>) -> Result<(), NoMemory>
+        ensures { OnOk result (shell_of self.new ≡ with_slot d n (shell_of self.old)) }
+    {
+        set_slot(&mut self.descriptors, d, n)?;
         Ok(())
     }
 }

@@ -56,7 +56,7 @@ fn enter_body(
     let place = w.place;
     put_undo(stack, Undo::Substitution(w, saved))?;
     let write_end = state.env.next.saturating_sub(1);
-    state.descriptors.set(1, Some(write_end));
+    state.set_descriptor(1, Some(write_end))?;
     Ok(Control::Whole(place, body))
 }
 

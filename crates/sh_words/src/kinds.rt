@@ -8,7 +8,7 @@ ghost use Rattle.sh_means.specs.Views.{rows_of};
 use rk_base::{NoMemory, WordList};
 use sh_builtin::is_builtin;
 use sh_means::control::CommandKind;
-use sh_means::state::{Function, copy_callee, function_named};
+use sh_means::state::{Function, function_named};
 use sh_special::order_of;
 use std::alloc::Global;
 
@@ -17,7 +17,7 @@ fn called_kind(name: &[u8], functions: &[Function]) -> Result<CommandKind, NoMem
 {
     match function_named(functions, name) {
         Some(callee) => {
-            let callee = copy_callee(callee)?;
+            let callee = callee.clone()?;
             Ok(CommandKind::Calls(callee))
         }
         None => {

@@ -1,5 +1,7 @@
 // Redirections, one after another, and what they are made for.
-ghost use Rattle.std.specs.Prelude.{◌≡◌, IfOk, OnOk, true};
+ghost use Rattle.std.specs.Prelude.{◌≡◌, ℕ, IfOk, OnOk, true};
+ghost use Rattle.sh_redirect.specs.Redirects.{After};
+ghost use Rattle.sh_redirect.specs.Stages.{IsAsking, after, redirecting_does};
 ghost use Rattle.sh_means.specs.Flows.{Next};
 ghost use Rattle.sh_words.specs.Making.{made_flow};
 ghost use Rattle.sh_means.specs.Simple.{unless_kept, for_its_time};
@@ -23,14 +25,14 @@ use sh_means::stack::{put_continuation, put_undo};
 use sh_means::state::State;
 use sh_means::steps::{end, free};
 use sh_redirect::{DescriptorTable, Redirect, Redirecting};
-use sh_vars::Vars;
+use sh_vars::{Env, Vars};
 use std::alloc::Global;
 use std::rc::Rc;
 
 // The map is put back, where there are redirections.
 fn put_map_back_later(
     redirects: Rc<Redirects>,
-    before: Box<DescriptorTable>,
+    before: Rc<DescriptorTable>,
     stack: &mut Vec<Frame>,
 ) -> Result<(), NoMemory>
     ensures { OnOk result (context stack.new.items ≡ unredirected (named (redirects_from redirects.value 0)) before.value (context stack.old.items)) }
@@ -45,7 +47,7 @@ fn put_map_back_later(
 fn unless_kept(
     keeps: bool,
     redirects: Rc<Redirects>,
-    before: Box<DescriptorTable>,
+    before: Rc<DescriptorTable>,
     stack: &mut Vec<Frame>,
 ) -> Result<(), NoMemory>
     ensures { OnOk result (context stack.new.items ≡ unless_kept keeps (named (redirects_from redirects.value 0)) before.value (context stack.old.items)) }
@@ -96,7 +98,7 @@ fn for_its_time(
 fn made_simple(
     place: Place,
     redirects: Rc<Redirects>,
-    before: Box<DescriptorTable>,
+    before: Rc<DescriptorTable>,
     ran: bool,
     assignments: Rc<Assignments>,
     doing: Box<Doing>,
@@ -231,6 +233,21 @@ fn refused(
     Ok(end(flow, 1, state))
 }
 
+// A redirection's next turn. A map that other states share is copied first.
+fn next_turn(
+    r: &mut Redirecting,
+    map: &mut Rc<DescriptorTable>,
+    env: &Env,
+    answer: Answer,
+) -> Result<sh_redirect::Turn, NoMemory>
+    ensures costly { IfOk result IsAsking }
+    ensures does { IfOk result (λ t. (k : After) (p : ℕ) → redirecting_does r.old answer k map.old.value env.now p ≡ after t (redirecting_does r.new) k map.new.value env.now p) }
+{
+    let own = Rc::make_mut(map)?;
+    let turn = r.resume(own, env, answer)?;
+    Ok(turn)
+}
+
 /// A redirection goes on with the answer that was heard.
 pub fn resume_redirection(
     place: Place,
@@ -244,7 +261,7 @@ pub fn resume_redirection(
     ensures costly { IfOk result (λ t. IsStep t.turn) }
 {
     let mut r = r;
-    let turn = r.resume(&mut state.descriptors, &state.env, answer)?;
+    let turn = next_turn(&mut r, &mut state.descriptors, &state.env, answer)?;
     match turn {
         sh_redirect::Turn::Ask(call, cost) => Ok(Acted {
             turn: Turn::Ask(call, cost),

@@ -45,7 +45,7 @@ fn then(
             let kind = kind_of(alloc, &fields, state.functions.as_slice())?;
             let redirects = command.redirects.clone()?;
             let assignments = command.assignments.clone()?;
-            let before = Box::new(alloc, state.descriptors)?;
+            let before = state.descriptors.clone()?;
             let doing = Doing { kind, fields };
             let boxed = Box::new(alloc, doing)?;
             Ok(Control::SimpleStep(SimpleStep::Make(

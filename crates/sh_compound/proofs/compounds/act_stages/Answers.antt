@@ -19,10 +19,10 @@ returns-in-Some-get-clause-talk c =
     let l = c.args.list.value in
     λ p. stage_more c.args.list _ _ c.args.at c.args.input c.args.place (context c.args.stack.now.items) (shell_of c.args.state.now) p (found l c.deref.result.now _ c.args.at c.args.at c.deref.ensures refl c.in-Some.ensures) (found l c.deref-in-Some.result.now _ (c.args.at + 1) (c.args.at + 1) c.deref-in-Some.ensures refl c.in-Some-get.ensures)
 
-pub returns-in_ok-put_undo-in-None-get-clause-talk : goal.returns-in_ok-put_undo-in-None-get-clause-talk
-returns-in_ok-put_undo-in-None-get-clause-talk c =
+pub returns-in_ok-read_from-in-None-get-clause-talk : goal.returns-in_ok-read_from-in-None-get-clause-talk
+returns-in_ok-read_from-in-None-get-clause-talk c =
     let l = c.args.list.value in
     let k' = context c.put_undo.new.stack.items in
     let e' = shell_of c.read_from.new.state in
-    λ p. stage_last c.args.list _ c.args.at c.in_ok-saved-in-None-get.saved c.args.input c.args.place (context c.args.stack.now.items) k' (shell_of c.args.state.now) e' p (found l c.deref.result.now _ c.args.at c.args.at c.deref.ensures refl c.in-Some.ensures) (found l c.deref-in-Some.result.now _ (c.args.at + 1) (c.args.at + 1) c.deref-in-Some.ensures refl c.in-None-get.ensures) c.in_ok-saved-in-None-get.ensures c.in_ok-put_undo-in-None-get.ensures c.read_from.ensures
+    λ p. stage_last c.args.list _ c.args.at c.in_ok-saved-in-None-get.saved c.args.input c.args.place (context c.args.stack.now.items) k' (shell_of c.args.state.now) e' p (found l c.deref.result.now _ c.args.at c.args.at c.deref.ensures refl c.in-Some.ensures) (found l c.deref-in-Some.result.now _ (c.args.at + 1) (c.args.at + 1) c.deref-in-Some.ensures refl c.in-None-get.ensures) c.in_ok-saved-in-None-get.ensures c.in_ok-put_undo-in-None-get.ensures c.in_ok-read_from-in-None-get.ensures
     ∙ c.free-in-None-get.ensures.talk k' e' p

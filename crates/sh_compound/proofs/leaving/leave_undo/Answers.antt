@@ -8,11 +8,11 @@ use Rattle.sh_means.specs.Views.{shell_of}
 use Rattle.sh_means.proofs.Undone.{descriptors_back, variables_back, positional_back, shell_back, word_back}
 use Rattle.sh_compound.proofs.leaving.leave_undo.Goals as goal
 
-pub returns-in-Redirected : goal.returns-in-Redirected
-returns-in-Redirected c =
+pub returns-in_ok-put_back-in-Redirected : goal.returns-in_ok-put_back-in-Redirected
+returns-in_ok-put_back-in-Redirected c =
     let e = shell_of c.args.state.now in
     λ k p. ap (λ (u : Undo). undone u k c.args.flow e p) c.in-Redirected.is
-    ∙ descriptors_back c.in-Redirected.redirects c.deref.result.now c.in-Redirected.before c.put_back.new.now k c.args.flow e p c.deref.ensures (c.put_back.ensures ∙ ap (λ (b : DescriptorTable). put_back (named (redirects_from c.deref.result.now 0)) b e.descriptors) c.deref-in-Redirected.ensures)
+    ∙ descriptors_back c.in-Redirected.redirects c.deref.result.now c.in-Redirected.before c.put_back.new.now.value k c.args.flow e p c.deref.ensures (c.in_ok-put_back-in-Redirected.ensures ∙ ap (λ (b : DescriptorTable). put_back (named (redirects_from c.deref.result.now 0)) b e.descriptors) c.deref-in-Redirected.ensures)
 
 pub returns-in_ok-put_back_variables-in-Assigned : goal.returns-in_ok-put_back_variables-in-Assigned
 returns-in_ok-put_back_variables-in-Assigned c =

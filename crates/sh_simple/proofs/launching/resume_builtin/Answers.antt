@@ -1,15 +1,16 @@
-use Rattle.std.proofs.Common.{◌∙◌}
+use Rattle.std.proofs.Common.{ap, ◌∙◌}
 use Rattle.sh_means.specs.Views.{shell_of}
+use Rattle.sh_simple.specs.Launching.{through}
 use Rattle.sh_simple.proofs.Built.{builtin_asks, builtin_lacks, builtin_pays, builtin_ends}
 use Rattle.sh_simple.proofs.launching.resume_builtin.Goals as goal
 
 pub returns-in-Some-clause-talk : goal.returns-in-Some-clause-talk
 returns-in-Some-clause-talk c =
-    λ k p. builtin_asks k c.args.builtin.value c.deref_mut.result.now c.resume.new.self c.args.answer (shell_of c.args.state.now) c.resume.new.env c.in_ok-turn.turn c.deref_mut.ensures.value c.in_ok-turn.ensures.does c.in-Ask.call c.in-Some.call c.in-Ask.cost c.through.result p c.in-Ask.is c.through.ensures c.in-Some.is
+    λ k p. builtin_asks k c.args.builtin.value c.deref_mut.result.now c.resume.new.self c.args.answer (shell_of c.args.state.now) c.resume.new.env c.in_ok-turn.turn c.deref_mut.ensures.value c.in_ok-turn.ensures.does c.in-Ask.call c.in-Some.call c.in-Ask.cost c.through.result p c.in-Ask.is (c.through.ensures ∙ ap (through c.in-Ask.call) c.deref.ensures) c.in-Some.is
 
 pub returns-in-None-clause-talk : goal.returns-in-None-clause-talk
 returns-in-None-clause-talk c =
-    λ k p. builtin_lacks k c.args.builtin.value c.deref_mut.result.now c.resume.new.self c.args.answer (shell_of c.args.state.now) c.resume.new.env c.in_ok-turn.turn c.deref_mut.ensures.value c.in_ok-turn.ensures.does c.in-Ask.call c.in-Ask.cost c.through.result p c.in-Ask.is c.through.ensures c.in-None.is
+    λ k p. builtin_lacks k c.args.builtin.value c.deref_mut.result.now c.resume.new.self c.args.answer (shell_of c.args.state.now) c.resume.new.env c.in_ok-turn.turn c.deref_mut.ensures.value c.in_ok-turn.ensures.does c.in-Ask.call c.in-Ask.cost c.through.result p c.in-Ask.is (c.through.ensures ∙ ap (through c.in-Ask.call) c.deref.ensures) c.in-None.is
     ∙ c.free.ensures.talk k _ p
 
 pub returns-in-More-clause-talk : goal.returns-in-More-clause-talk

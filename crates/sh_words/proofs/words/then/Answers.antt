@@ -1,4 +1,4 @@
-use Rattle.std.proofs.Common.{◌≡◌, ℕ, Bool, List, sym, ap, ◌∙◌}
+use Rattle.std.proofs.Common.{◌≡◌, ℕ, Bool, List, Vec, sym, ap, ◌∙◌}
 use Rattle.std.specs.declared.rc.Rc.{Rc}
 use Rattle.std.specs.declared.alloc.Global.{Global}
 use Rattle.std.specs.Global.{Box}
@@ -33,7 +33,7 @@ with_doing : Rc Redirects Global → Rc Assignments Global → Bool → Place �
 with_doing rs as' ran pl k e ds d =
     redirect_all (redirects_from rs.value 0) ran pl (made_simple run (kind_of_code d.kind) (assigns_from as'.value 0) (named (redirects_from rs.value 0)) ds d.fields pl k) (refused_simple (kind_of_code d.kind) (named (redirects_from rs.value 0)) ds pl k) k e
 
-simple_then : (x : SimpleCommand) (rs : Rc Redirects Global) (as' : Rc Assignments Global) (d : Doing) (before : Box DescriptorTable) (doing : Box Doing) (ran : Bool) (pl : Place) (k : Next) (e : Shell) (p : ℕ) → rs.value ≡ (out-SimpleCommand x).redirects.value → as'.value ≡ (out-SimpleCommand x).assignments.value → kind_of_code d.kind ≡ kind_of d.fields e.functions → before.value ≡ e.descriptors → doing.value ≡ d → with_kind d.fields ran pl k e (out-SimpleCommand x).redirects.value (out-SimpleCommand x).assignments.value (kind_of d.fields e.functions) p ≡ making (record { redirects = rs; at = 0; before = before; ran = ran; made = made.Simple as' doing }) ran pl k e p
+simple_then : (x : SimpleCommand) (rs : Rc Redirects Global) (as' : Rc Assignments Global) (d : Doing) (before : Rc DescriptorTable Global) (doing : Box Doing) (ran : Bool) (pl : Place) (k : Next) (e : Shell) (p : ℕ) → rs.value ≡ (out-SimpleCommand x).redirects.value → as'.value ≡ (out-SimpleCommand x).assignments.value → kind_of_code d.kind ≡ kind_of d.fields e.functions → before.value ≡ e.descriptors → doing.value ≡ d → with_kind d.fields ran pl k e (out-SimpleCommand x).redirects.value (out-SimpleCommand x).assignments.value (kind_of d.fields e.functions) p ≡ making (record { redirects = rs; at = 0; before = before; ran = ran; made = made.Simple as' doing }) ran pl k e p
 unfolding with_kind with_doing
 simple_then x rs as' d before doing ran pl k e p hr ha hk hb hd =
     ap (λ (R : Redirects). with_kind d.fields ran pl k e R (out-SimpleCommand x).assignments.value (kind_of d.fields e.functions) p) (sym hr)
@@ -51,7 +51,7 @@ returns-in_ok-boxed-in-Simple c =
     let e = shell_of c.args.state.now in
     λ k p. ap (λ (t : Then). then_means t c.args.place k c.args.fields c.args.ran e p) c.in-Simple.is
     ∙ simple_then c.in-Simple.command.value c.in_ok-redirects-in-Simple.redirects c.in_ok-assignments-in-Simple.assignments _ c.in_ok-before-in-Simple.before c.in_ok-boxed-in-Simple.boxed c.args.ran c.args.place k e p
-    (c.in_ok-redirects-in-Simple.ensures.cases ∙ ap (λ (x : SimpleCommand). (out-SimpleCommand x).redirects.value) c.deref.ensures)
-    (c.in_ok-assignments-in-Simple.ensures.cases ∙ ap (λ (x : SimpleCommand). (out-SimpleCommand x).assignments.value) c.deref-in-Simple.ensures)
-    (c.in_ok-kind-in-Simple.ensures ∙ ap (λ (fs : List Function). kind_of c.args.fields (rows_of fs)) c.as_slice.ensures.value)
-    c.in_ok-before-in-Simple.ensures.ok c.in_ok-boxed-in-Simple.ensures.ok
+    (c.in_ok-redirects-in-Simple.ensures.cases ∙ ap (λ (x : SimpleCommand). (out-SimpleCommand x).redirects.value) c.deref-in-Simple.ensures)
+    (c.in_ok-assignments-in-Simple.ensures.cases ∙ ap (λ (x : SimpleCommand). (out-SimpleCommand x).assignments.value) c.deref-in-Simple-2.ensures)
+    (c.in_ok-kind-in-Simple.ensures ∙ ap (λ (fs : List Function). kind_of c.args.fields (rows_of fs)) (c.as_slice.ensures.value ∙ ap (λ (v : Vec Function Global). v.items) c.deref.ensures))
+    c.in_ok-before-in-Simple.ensures.cases c.in_ok-boxed-in-Simple.ensures.ok

@@ -7,4 +7,4 @@ use Rattle.sh_means.proofs.state.State.save.Goals as goal
 pub returns : goal.returns
 returns c =
     λ e. ap (λ (s : SavedState). back_to s e) c.in_ok-boxed.ensures.ok
-    ∙ saved_is c.args.self.now c.in_ok-vars.vars c.in_ok-zero.zero c.in_ok-wd.wd c.push_copies.new.copies.items c.new-functions.result.items c.as_slice.result.now e c.in_ok-vars.ensures c.in_ok-zero.ensures c.in_ok-wd.ensures.copy c.in_ok-push_copies.ensures c.new-functions.ensures.items c.as_slice.ensures.value
+    ∙ saved_is c.args.self.now c.in_ok-vars.vars c.in_ok-zero.zero c.in_ok-wd.wd c.in_ok-functions.functions.value c.in_ok-descriptors.descriptors.value e c.in_ok-vars.ensures c.in_ok-zero.ensures c.in_ok-wd.ensures.copy c.in_ok-functions.ensures.cases c.in_ok-descriptors.ensures.cases
