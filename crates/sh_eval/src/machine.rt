@@ -81,16 +81,10 @@ fn act_simple_step(
     ensures costly { IfOk result (λ t. IsStep t.turn) }
 {
     match step {
-        SimpleStep::Words(place, left) => {
-            let control = next_word(alloc, place, left, state)?;
-            Ok(free(control))
-        }
+        SimpleStep::Words(place, left) => next_word(alloc, place, left, stack, state),
         SimpleStep::Expand(wording) => act_expand(alloc, wording, answer, stack, state),
-        SimpleStep::Deliver(wording, expanded) => deliver(alloc, wording, expanded, state),
-        SimpleStep::Make(place, left) => {
-            let control = next_redirect(alloc, place, left, stack, state)?;
-            Ok(free(control))
-        }
+        SimpleStep::Deliver(wording, expanded) => deliver(alloc, wording, expanded, stack, state),
+        SimpleStep::Make(place, left) => next_redirect(alloc, place, left, stack, state),
         SimpleStep::Assign(place, left) => next_assign(alloc, place, left, stack, state),
         SimpleStep::Text(place, name, text) => act_text(alloc, place, &name, &text, state),
     }

@@ -42,12 +42,10 @@ use Rattle.sh_means.proofs.Places.{words_some, words_none, assigns_some, assigns
 abbrev pub Begins : Mode → Word → Place → Aim → Control → Type 0
 Begins m w pl u ctl = (k : Next) (e : Shell) → Goes (expand_word m (word_in run (tree.word w)) pl (aimed u pl k) k e) k e ctl
 
-pub word_begun : (f : PendingFields) (pl : Place) (k : Next) (e : Shell) (ws : Words) (w : Word) (w' : Rc Word Global) (ctl : Control) (p : ℕ) → ws ≡ f.words.value → w'.value ≡ w → Some (tree.word w) ≡ word_at (tree.words ws) f.at → Begins mode.Fields w'.value pl (aim.Fields (record f { at = f.at + 1 }) e.env.next) ctl → fielding f pl k e p ≡ resumed ctl k Go e p
-word_begun f pl k e ws w w' ctl p hs hw is b =
+pub word_next : (f : PendingFields) (pl : Place) (k : Next) (e : Shell) (ws : Words) (w : Word) (p : ℕ) → ws ≡ f.words.value → Some (tree.word w) ≡ word_at (tree.words ws) f.at → fielding f pl k e p ≡ expand_word mode.Fields (word_in run (tree.word w)) pl (aimed (aim.Fields (record f { at = f.at + 1 }) e.env.next) pl k) k e p
+word_next f pl k e ws w p hs is =
     let is' = subst (λ (ws : Words). Some (tree.word w) ≡ word_at (tree.words ws) f.at) hs is in
     ap (λ (ms : List WordMeant). expand_words ms f.fields f.ran pl (then_means f.then pl k) k e p) (words_some (tree.words f.words.value) f.at (tree.word w) is')
-    ∙ ap (λ (v : Word). expand_word mode.Fields (word_in run (tree.word v)) pl (aimed (aim.Fields (record f { at = f.at + 1 }) e.env.next) pl k) k e p) (sym hw)
-    ∙ b k e p
 
 pub words_over : (f : PendingFields) (pl : Place) (k : Next) (e : Shell) (ws : Words) (p : ℕ) → ws ≡ f.words.value → None ≡ word_at (tree.words ws) f.at → fielding f pl k e p ≡ then_means f.then pl k f.fields f.ran e p
 words_over f pl k e ws p hs is =
@@ -68,15 +66,13 @@ pub assigns_over : (a : PendingAssignments) (pl : Place) (k : Next) (e : Shell) 
 assigns_over a pl k e as' p hs is =
     ap (λ (ms : List AssignMeant). assign_all ms a.exported a.ran pl (λ ran. works run (kind_of_code a.doing.value.kind) a.doing.value.fields ran pl k) k e p) (assigns_none (tree.assignments a.assignments.value) a.at (subst (λ (as' : Assignments). None ≡ assignment_at (tree.assignments as') a.at) hs is))
 
-pub redirect_begun : (m : PendingRedirects) (pl : Place) (k : Next) (e : Shell) (rs : Redirects) (x : Redirect) (r : kind.Redirect) (w : Rc Word Global) (ctl : Control) (p : ℕ) → rs ≡ m.redirects.value → w.value ≡ (out-Redirect x).operand.value → r ≡ redirect_kind (out-Redirect x).operator → Some (tree.redirect x) ≡ redirect_at (tree.redirects rs) m.at → Begins mode.Value w.value pl (aim.Operand (record m { at = m.at + 1 }) (out-Redirect x).descriptor r e.env.next) ctl → making m m.ran pl k e p ≡ resumed ctl k Go e p
-redirect_begun m pl k e rs x r w ctl p hs hw hr is b =
+pub redirect_next : (m : PendingRedirects) (pl : Place) (k : Next) (e : Shell) (rs : Redirects) (x : Redirect) (r : kind.Redirect) (p : ℕ) → rs ≡ m.redirects.value → r ≡ redirect_kind (out-Redirect x).operator → Some (tree.redirect x) ≡ redirect_at (tree.redirects rs) m.at → making m m.ran pl k e p ≡ expand_word mode.Value (word_in run (tree.word (out-Redirect x).operand.value)) pl (aimed (aim.Operand (record m { at = m.at + 1 }) (out-Redirect x).descriptor r e.env.next) pl k) k e p
+redirect_next m pl k e rs x r p hs hr is =
     let is' = subst (λ (rs : Redirects). Some (tree.redirect x) ≡ redirect_at (tree.redirects rs) m.at) hs is in
     let rest = redirects_from m.redirects.value (m.at + 1) in
     ap (λ (ms : List RedirectMeant). redirect_all ms m.ran pl (when_made m pl k) (when_refused m pl k) k e p) (redirects_some (tree.redirects m.redirects.value) m.at (tree.redirect x) is')
     ∙ ap (λ (s : tree.RedirectTree). redirect_all (redirect_meant s ∷ rest) m.ran pl (when_made m pl k) (when_refused m pl k) k e p) (redirect_is x)
-    ∙ ap (λ (v : Word). redirect_all (record { descriptor = (out-Redirect x).descriptor; kind = redirect_kind (out-Redirect x).operator; operand = word_in run (tree.word v) } ∷ rest) m.ran pl (when_made m pl k) (when_refused m pl k) k e p) (sym hw)
-    ∙ ap (λ (t : kind.Redirect). redirect_all (record { descriptor = (out-Redirect x).descriptor; kind = t; operand = word_in run (tree.word w.value) } ∷ rest) m.ran pl (when_made m pl k) (when_refused m pl k) k e p) (sym hr)
-    ∙ b k e p
+    ∙ ap (λ (t : kind.Redirect). redirect_all (record { descriptor = (out-Redirect x).descriptor; kind = t; operand = word_in run (tree.word (out-Redirect x).operand.value) } ∷ rest) m.ran pl (when_made m pl k) (when_refused m pl k) k e p) (sym hr)
 
 pub redirects_over : (m : PendingRedirects) (pl : Place) (k : Next) (e : Shell) (rs : Redirects) (p : ℕ) → rs ≡ m.redirects.value → None ≡ redirect_at (tree.redirects rs) m.at → making m m.ran pl k e p ≡ when_made m pl k m.ran e p
 redirects_over m pl k e rs p hs is =

@@ -264,6 +264,10 @@ Steps x k e t = (p : ℕ) → x p ≡ stepped t.turn t.control k e p
 abbrev pub Goes : Says → Next → Shell → Control → Type 0
 Goes x k e ctl = (p : ℕ) → x p ≡ resumed ctl k answer.Go e p
 
+-- it goes on with a word whose expansion begins
+abbrev pub Expands : Says → Next → Shell → PendingWord → Type 0
+Expands x k e w = (p : ℕ) → x p ≡ wording w k answer.Go e p
+
 -- a call costs something
 abbrev pub IsStep : Turn → Type 0
 IsStep (turn.Ask call c) = 1 ≤ c

@@ -5,7 +5,7 @@ ghost use Rattle.sh_means.specs.Compound.{for_fields};
 ghost use Rattle.sh_means.specs.Eval.{word_in};
 ghost use Rattle.sh_means.specs.Flows.{Next};
 ghost use Rattle.sh_means.specs.Run.{run};
-ghost use Rattle.sh_means.specs.Stack.{Goes, aimed, whole};
+ghost use Rattle.sh_means.specs.Stack.{Expands, Goes, aimed, whole};
 ghost use Rattle.sh_means.specs.State.{Shell};
 ghost use Rattle.sh_means.specs.Views.{shell_of};
 ghost use Rattle.sh_means.specs.Words.{expand_word};
@@ -19,15 +19,15 @@ use sh_expand::{Expander, Mode};
 use std::alloc::Global;
 use std::rc::Rc;
 
-/// Expansion of a word begins.
-pub fn begin(
+/// A word whose expansion begins.
+pub fn pending(
     alloc: Global,
     word: Rc<Word>,
     mode: Mode,
     place: Place,
     aim: Aim,
-) -> Result<Control, NoMemory>
-    ensures { IfOk result (λ c. (k : Next) (e : Shell) → Goes (expand_word mode (word_in run (tree.word word.value)) place (aimed aim place k) k e) k e c) }
+) -> Result<Box<PendingWord>, NoMemory>
+    ensures { IfOk result (λ w. (k : Next) (e : Shell) → Expands (expand_word mode (word_in run (tree.word word.value)) place (aimed aim place k) k e) k e w.value) }
 {
     let expander = Expander::start(alloc, &word, mode)?;
     let wording = Box::new(
@@ -39,6 +39,20 @@ pub fn begin(
             aim,
         },
     )?;
+    Ok(wording)
+}
+
+/// Expansion of a word begins.
+pub fn begin(
+    alloc: Global,
+    word: Rc<Word>,
+    mode: Mode,
+    place: Place,
+    aim: Aim,
+) -> Result<Control, NoMemory>
+    ensures { IfOk result (λ c. (k : Next) (e : Shell) → Goes (expand_word mode (word_in run (tree.word word.value)) place (aimed aim place k) k e) k e c) }
+{
+    let wording = pending(alloc, word, mode, place, aim)?;
     Ok(Control::SimpleStep(SimpleStep::Expand(wording)))
 }
 

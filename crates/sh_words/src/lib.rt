@@ -3,5 +3,6 @@
 
 pub mod expanding;
 mod kinds;
+mod literal;
 pub mod making;
 pub mod words;

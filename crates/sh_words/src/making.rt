@@ -1,17 +1,24 @@
 // Redirections, one after another, and what they are made for.
-ghost use Rattle.std.specs.Prelude.{◌≡◌, ℕ, IfOk, OnOk, true};
+ghost use Rattle.std.specs.Prelude.{◌≡◌, ℕ, ◌||◌, IfOk, OnOk, true};
+ghost use Rattle.rk_calls.specs.Talk.{pay};
+ghost use Rattle.rk_calls.specs.Turns.{turns};
+ghost use Rattle.sh_expand.specs.declared.mode.Expanded.TheVariants.{Value};
+ghost use Rattle.sh_means.specs.declared.control.Aim.TheVariants as aims;
+ghost use Rattle.sh_means.specs.State.{took};
 ghost use Rattle.sh_redirect.specs.Redirects.{After};
 ghost use Rattle.sh_redirect.specs.Stages.{IsAsking, after, redirecting_does};
 ghost use Rattle.sh_means.specs.Flows.{Next};
 ghost use Rattle.sh_words.specs.Making.{made_flow};
 ghost use Rattle.sh_means.specs.Simple.{unless_kept, for_its_time};
-ghost use Rattle.sh_means.specs.Stack.{Steps, Goes, IsStep, context, making, made_go, when_made, when_refused, redirecting, redirects_from, assigns_from};
+ghost use Rattle.sh_means.specs.Stack.{Steps, Goes, IsStep, aimed, context, making, made_go, when_made, when_refused, redirecting, redirects_from, assigns_from};
 ghost use Rattle.sh_means.specs.declared.control.Made.TheVariants as mades;
 ghost use Rattle.sh_means.specs.Views.{shell_of};
 ghost use Rattle.sh_means.specs.Words.{named, names, redirect_kind, unredirected};
 
-use rk_base::NoMemory;
-use rk_calls::{Answer, Turn};
+use crate::expanding::act_expand;
+use crate::literal::value;
+use rk_base::{Bytes, NoMemory};
+use rk_calls::{Answer, Turn, turns};
 use sh_ast::{Assignments, RedirectOperator, Redirects};
 use sh_expand::Mode;
 use sh_means::control::{
@@ -19,7 +26,7 @@ use sh_means::control::{
     PendingRedirects, SimpleStep, Undo, Wait,
 };
 use sh_means::doing::Doing;
-use sh_means::expansion::begin;
+use sh_means::expansion::pending;
 use sh_means::flow::{Flow, Place};
 use sh_means::stack::{put_continuation, put_undo};
 use sh_means::state::State;
@@ -174,29 +181,85 @@ fn kind_of(operator: RedirectOperator) -> Redirect
     }
 }
 
-/// The next of the redirections, or what they were made for.
+/// Whether a substitution took place so far, or in the word before which the next local number was this.
+pub(crate) fn ran_since(ran: bool, next: u64, state: &State) -> bool
+    ensures { result ≡ (ran || took next (shell_of state.now)) }
+{
+    ran || state.env.next != next
+}
+
+/// The operand of a redirection was expanded.
+pub(crate) fn redirect(
+    alloc: Global,
+    place: Place,
+    left: PendingRedirects,
+    descriptor: u8,
+    kind: Redirect,
+    next: u64,
+    operand: Bytes,
+    state: &State,
+) -> Result<Control, NoMemory>
+    ensures { IfOk result (λ c. (k : Next) → Goes (aimed (aims.Operand left descriptor kind next) place k (Value operand) (shell_of state.now)) k (shell_of state.now) c) }
+{
+    let mut left = left;
+    left.ran = ran_since(left.ran, next, state);
+    let started = Redirecting::start(alloc, kind, descriptor, operand);
+    let redirecting = Box::new(alloc, started)?;
+    Ok(Control::Waits(Wait::Redirects(place, left, redirecting)))
+}
+
+// A redirection whose operand is this text, whatever the state is.
+fn redirect_literal(
+    alloc: Global,
+    place: Place,
+    left: PendingRedirects,
+    descriptor: u8,
+    kind: Redirect,
+    operand: &Bytes,
+    state: &State,
+) -> Result<Acted, NoMemory>
+    ensures talk { IfOk result (λ t. (k : Next) → Steps (pay (turns operand.now) (aimed (aims.Operand left descriptor kind (shell_of state.now).env.next) place k (Value operand.now) (shell_of state.now))) k (shell_of state.now) t) }
+    ensures costly { IfOk result (λ t. IsStep t.turn) }
+{
+    let cost = turns(operand.as_slice());
+    let operand = operand.copy()?;
+    let next = state.env.next;
+    let control = redirect(alloc, place, left, descriptor, kind, next, operand, state)?;
+    Ok(Acted {
+        turn: Turn::More(cost),
+        control,
+    })
+}
+
+/// The next of the redirections, or what they were made for. Where its operand is one text whatever the state is, no
+/// expansion begins.
 pub fn next_redirect(
     alloc: Global,
     place: Place,
     left: PendingRedirects,
     stack: &mut Vec<Frame>,
-    state: &State,
-) -> Result<Control, NoMemory>
-    ensures { IfOk result (Goes (making left left.ran place (context stack.old.items) (shell_of state.now)) (context stack.new.items) (shell_of state.now)) }
+    state: &mut State,
+) -> Result<Acted, NoMemory>
+    ensures talk { IfOk result (Steps (making left left.ran place (context stack.old.items) (shell_of state.old)) (context stack.new.items) (shell_of state.new)) }
+    ensures costly { IfOk result (λ t. IsStep t.turn) }
 {
     let redirects = left.redirects.clone()?;
     match redirects.get(left.at) {
         Some(r) => {
-            let word = r.operand.clone()?;
             let mut left = left;
             left.at += 1;
-            let aim = Aim::Operand(left, r.descriptor, kind_of(r.operator), state.env.next);
-            let control = begin(alloc, word, Mode::Value, place, aim)?;
-            Ok(control)
+            let kind = kind_of(r.operator);
+            if let Some(text) = value(&r.operand) {
+                return redirect_literal(alloc, place, left, r.descriptor, kind, text, state);
+            }
+            let word = r.operand.clone()?;
+            let aim = Aim::Operand(left, r.descriptor, kind, state.env.next);
+            let wording = pending(alloc, word, Mode::Value, place, aim)?;
+            act_expand(alloc, wording, Answer::Go, stack, state)
         }
         None => {
             let control = all_made(place, left, stack, state)?;
-            Ok(control)
+            Ok(free(control))
         }
     }
 }

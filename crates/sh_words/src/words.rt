@@ -1,33 +1,65 @@
 // Expansion of words, and what it is for.
-ghost use Rattle.std.specs.Prelude.{◌≡◌, ◌++◌, ◌||◌, IfOk, OnOk, not};
+ghost use Rattle.std.specs.Prelude.{◌≡◌, ℕ, ◌++◌, ◌∷◌, [], IfOk, OnOk, not};
+ghost use Rattle.rk_calls.specs.Talk.{pay};
+ghost use Rattle.rk_calls.specs.Turns.{turns};
 ghost use Rattle.sh_vars.specs.Held.{is_readonly};
 ghost use Rattle.sh_expand.specs.declared.mode.Expanded.TheVariants.{Value};
 ghost use Rattle.sh_means.specs.declared.control.Aim.TheVariants as aims;
+ghost use Rattle.sh_means.specs.declared.control.Then.TheVariants as thens;
 ghost use Rattle.sh_means.specs.Flows.{Next};
-ghost use Rattle.sh_means.specs.Stack.{Steps, Goes, IsStep, aimed, fielding, then_means};
+ghost use Rattle.sh_means.specs.Stack.{Steps, Goes, IsStep, aimed, context, fielding, making, then_means};
+ghost use Rattle.sh_means.specs.declared.flow.Place.{Place as Places};
 ghost use Rattle.sh_means.specs.State.{Shell, took};
 ghost use Rattle.sh_means.specs.Trees.{set_if};
 ghost use Rattle.sh_means.specs.Views.{shell_of};
 ghost use Rattle.sh_means.specs.Words.{fields_of, value_of};
 
+use crate::expanding::act_expand;
 use crate::kinds::kind_of;
+use crate::literal::field;
+use crate::making::{next_redirect, ran_since, redirect};
 use rk_base::{Bytes, NoMemory, WordList};
-use sh_ast::CaseItems;
+use rk_calls::{Answer, Turn, turns};
+use sh_ast::{CaseItems, SimpleCommand};
 use sh_expand::{Expanded, Mode};
 use sh_means::control::{
-    Acted, Aim, CompoundStep, Control, Made, PendingAssignments, PendingCase, PendingFields,
+    Acted, Aim, CompoundStep, Control, Frame, Made, PendingAssignments, PendingCase, PendingFields,
     PendingRedirects, PendingWord, SimpleStep, Then, Wait,
 };
 use sh_means::doing::Doing;
-use sh_means::expansion::{begin, over_fields};
+use sh_means::expansion::{over_fields, pending};
 use sh_means::flow::{Flow, Place};
 use sh_means::state::State;
 use sh_means::steps::{free, refuse};
 use sh_pattern::matches;
-use sh_redirect::{Redirect, Redirecting};
 use sh_vars::{VarErr, Vars};
 use std::alloc::Global;
 use std::rc::Rc;
+
+// The redirections of a simple command, whose words gave these fields, are made first.
+fn made_first(
+    alloc: Global,
+    command: Rc<SimpleCommand>,
+    fields: WordList,
+    ran: bool,
+    state: &State,
+) -> Result<PendingRedirects, NoMemory>
+    ensures { IfOk result (λ m. (place : Places) (k : Next) (p : ℕ) → then_means (thens.Simple command) place k fields ran (shell_of state.now) p ≡ making m m.ran place k (shell_of state.now) p) }
+{
+    let kind = kind_of(alloc, &fields, state.functions.as_slice())?;
+    let redirects = command.redirects.clone()?;
+    let assignments = command.assignments.clone()?;
+    let before = state.descriptors.clone()?;
+    let doing = Doing { kind, fields };
+    let boxed = Box::new(alloc, doing)?;
+    Ok(PendingRedirects {
+        redirects,
+        at: 0,
+        before,
+        ran,
+        made: Made::Simple(assignments, boxed),
+    })
+}
 
 // What is done once words have given their fields.
 fn then(
@@ -36,51 +68,58 @@ fn then(
     then: Then,
     fields: WordList,
     ran: bool,
+    stack: &mut Vec<Frame>,
     state: &mut State,
-) -> Result<Control, NoMemory>
-    ensures { IfOk result (λ c. (k : Next) → Goes (then_means then place k fields ran (shell_of state.old)) k (shell_of state.new) c) }
+) -> Result<Acted, NoMemory>
+    ensures talk { IfOk result (Steps (then_means then place (context stack.old.items) fields ran (shell_of state.old)) (context stack.new.items) (shell_of state.new)) }
+    ensures costly { IfOk result (λ t. IsStep t.turn) }
 {
     match then {
         Then::Simple(command) => {
-            let kind = kind_of(alloc, &fields, state.functions.as_slice())?;
-            let redirects = command.redirects.clone()?;
-            let assignments = command.assignments.clone()?;
-            let before = state.descriptors.clone()?;
-            let doing = Doing { kind, fields };
-            let boxed = Box::new(alloc, doing)?;
-            Ok(Control::SimpleStep(SimpleStep::Make(
-                place,
-                PendingRedirects {
-                    redirects,
-                    at: 0,
-                    before,
-                    ran,
-                    made: Made::Simple(assignments, boxed),
-                },
-            )))
+            let left = made_first(alloc, command, fields, ran, state)?;
+            next_redirect(alloc, place, left, stack, state)
         }
-        Then::For(name, body) => Ok(over_fields(place, name, fields, body, state)),
+        Then::For(name, body) => Ok(free(over_fields(place, name, fields, body, state))),
     }
 }
 
-/// The next of the words.
+// A word that is one field of this text is one field more.
+fn push_field(place: Place, left: PendingFields, text: &Bytes) -> Result<Acted, NoMemory>
+    ensures talk { IfOk result (λ t. (k : Next) (e : Shell) → Steps (pay (turns text.now) (fielding (record left { fields = left.fields ++ text.now ∷ [] }) place k e)) k e t) }
+    ensures costly { IfOk result (λ t. IsStep t.turn) }
+{
+    let mut left = left;
+    let cost = turns(text.as_slice());
+    left.fields.push(text.copy()?)?;
+    Ok(Acted {
+        turn: Turn::More(cost),
+        control: Control::SimpleStep(SimpleStep::Words(place, left)),
+    })
+}
+
+/// The next of the words. Where it is one field whatever the state is, no expansion begins.
 pub fn next_word(
     alloc: Global,
     place: Place,
     left: PendingFields,
+    stack: &mut Vec<Frame>,
     state: &mut State,
-) -> Result<Control, NoMemory>
-    ensures { IfOk result (λ c. (k : Next) → Goes (fielding left place k (shell_of state.old)) k (shell_of state.new) c) }
+) -> Result<Acted, NoMemory>
+    ensures talk { IfOk result (Steps (fielding left place (context stack.old.items) (shell_of state.old)) (context stack.new.items) (shell_of state.new)) }
+    ensures costly { IfOk result (λ t. IsStep t.turn) }
 {
     let words = left.words.clone()?;
     match words.get(left.at) {
         Some(word) => {
-            let word = word.clone()?;
             let mut left = left;
             left.at += 1;
+            if let Some(text) = field(word) {
+                return push_field(place, left, text);
+            }
+            let word = word.clone()?;
             let aim = Aim::Fields(left, state.env.next);
-            let control = begin(alloc, word, Mode::Fields, place, aim)?;
-            Ok(control)
+            let wording = pending(alloc, word, Mode::Fields, place, aim)?;
+            act_expand(alloc, wording, Answer::Go, stack, state)
         }
         None => {
             let PendingFields {
@@ -90,8 +129,7 @@ pub fn next_word(
                 ran,
                 then: aim,
             } = left;
-            let control = then(alloc, place, aim, fields, ran, state)?;
-            Ok(control)
+            then(alloc, place, aim, fields, ran, stack, state)
         }
     }
 }
@@ -131,23 +169,15 @@ fn push_all(fields: &mut WordList, more: &[Bytes]) -> Result<(), NoMemory>
     Ok(())
 }
 
-// Whether a substitution took place so far, or in the word before which the next local number was this.
-fn ran_since(ran: bool, next: u64, state: &State) -> bool
-    ensures { result ≡ (ran || took next (shell_of state.now)) }
-{
-    ran || state.env.next != next
-}
-
 // One of several words gave these fields.
 fn take_fields(
     alloc: Global,
-    place: Place,
     left: PendingFields,
     next: u64,
     expanded: Expanded,
     state: &State,
-) -> Result<Control, NoMemory>
-    ensures { IfOk result (λ c. (k : Next) → Goes (aimed (aims.Fields left next) place k expanded (shell_of state.now)) k (shell_of state.now) c) }
+) -> Result<PendingFields, NoMemory>
+    ensures { IfOk result (λ more. (place : Places) (k : Next) (p : ℕ) → aimed (aims.Fields left next) place k expanded (shell_of state.now) p ≡ fielding more place k (shell_of state.now) p) }
 {
     let more = fields_of(alloc, expanded)?;
     let PendingFields {
@@ -160,36 +190,13 @@ fn take_fields(
     let ran = ran_since(ran, next, state);
     let mut fields = fields;
     push_all(&mut fields, more.as_slice())?;
-    Ok(Control::SimpleStep(SimpleStep::Words(
-        place,
-        PendingFields {
-            words,
-            at,
-            fields,
-            ran,
-            then,
-        },
-    )))
-}
-
-// The operand of a redirection was expanded.
-fn redirect(
-    alloc: Global,
-    place: Place,
-    left: PendingRedirects,
-    descriptor: u8,
-    kind: Redirect,
-    next: u64,
-    operand: Bytes,
-    state: &State,
-) -> Result<Control, NoMemory>
-    ensures { IfOk result (λ c. (k : Next) → Goes (aimed (aims.Operand left descriptor kind next) place k (Value operand) (shell_of state.now)) k (shell_of state.now) c) }
-{
-    let mut left = left;
-    left.ran = ran_since(left.ran, next, state);
-    let started = Redirecting::start(alloc, kind, descriptor, operand);
-    let redirecting = Box::new(alloc, started)?;
-    Ok(Control::Waits(Wait::Redirects(place, left, redirecting)))
+    Ok(PendingFields {
+        words,
+        at,
+        fields,
+        ran,
+        then,
+    })
 }
 
 fn set(vars: &mut Vars, exported: bool, name: &[u8], value: &[u8]) -> Result<bool, NoMemory>
@@ -273,15 +280,16 @@ fn deliver_to(
     place: Place,
     aim: Aim,
     expanded: Expanded,
+    stack: &mut Vec<Frame>,
     state: &mut State,
 ) -> Result<Acted, NoMemory>
-    ensures talk { IfOk result (λ t. (k : Next) → Steps (aimed aim place k expanded (shell_of state.old)) k (shell_of state.new) t) }
+    ensures talk { IfOk result (Steps (aimed aim place (context stack.old.items) expanded (shell_of state.old)) (context stack.new.items) (shell_of state.new)) }
     ensures costly { IfOk result (λ t. IsStep t.turn) }
 {
     match aim {
         Aim::Fields(left, next) => {
-            let control = take_fields(alloc, place, left, next, expanded, state)?;
-            Ok(free(control))
+            let left = take_fields(alloc, left, next, expanded, state)?;
+            next_word(alloc, place, left, stack, state)
         }
         Aim::Operand(left, descriptor, kind, next) => {
             let operand = value_of(alloc, expanded)?;
@@ -310,9 +318,10 @@ pub fn deliver(
     alloc: Global,
     wording: Box<PendingWord>,
     expanded: Expanded,
+    stack: &mut Vec<Frame>,
     state: &mut State,
 ) -> Result<Acted, NoMemory>
-    ensures talk { IfOk result (λ t. (k : Next) → Steps (aimed wording.value.aim wording.value.place k expanded (shell_of state.old)) k (shell_of state.new) t) }
+    ensures talk { IfOk result (Steps (aimed wording.value.aim wording.value.place (context stack.old.items) expanded (shell_of state.old)) (context stack.new.items) (shell_of state.new)) }
     ensures costly { IfOk result (λ t. IsStep t.turn) }
 {
     let expanded_word = Box::into_inner(wording);
@@ -322,6 +331,6 @@ pub fn deliver(
         place,
         aim,
     } = expanded_word;
-    let acted = deliver_to(alloc, place, aim, expanded, state)?;
+    let acted = deliver_to(alloc, place, aim, expanded, stack, state)?;
     Ok(acted)
 }

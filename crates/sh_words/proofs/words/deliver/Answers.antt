@@ -1,9 +1,9 @@
 use Rattle.std.proofs.Common.{sym, ap, ◌∙◌}
 use Rattle.sh_means.specs.declared.control.PendingWord.{PendingWord}
-use Rattle.sh_means.specs.Stack.{aimed}
+use Rattle.sh_means.specs.Stack.{aimed, context}
 use Rattle.sh_means.specs.Views.{shell_of}
 use Rattle.sh_words.proofs.words.deliver.Goals as goal
 
 pub returns-clause-talk : goal.returns-clause-talk
 returns-clause-talk c =
-    λ k p. ap (λ (w : PendingWord). aimed w.aim w.place k c.args.expanded (shell_of c.args.state.now) p) (sym c.into_inner-expanded_word.ensures) ∙ c.in_ok-acted.ensures.talk k p
+    λ p. ap (λ (w : PendingWord). aimed w.aim w.place (context c.args.stack.now.items) c.args.expanded (shell_of c.args.state.now) p) (sym c.into_inner-expanded_word.ensures) ∙ c.in_ok-acted.ensures.talk p

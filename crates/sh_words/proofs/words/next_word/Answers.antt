@@ -1,16 +1,41 @@
-use Rattle.std.proofs.Common.{◌<◌, ◌∙◌, arith}
+use Rattle.std.proofs.Common.{◌<◌, ◌∙◌, arith, subst}
+use Rattle.std.proofs.lemmas.Result.{IfOk-weaker}
+use Rattle.sh_ast.specs.Commands as tree
+use Rattle.sh_ast.specs.declared.command.Word.{Word}
+use Rattle.sh_expand.specs.Means.{parts_of}
+use Rattle.sh_means.specs.Stack.{context}
 use Rattle.sh_means.specs.Views.{shell_of}
-use Rattle.sh_means.proofs.Begun.{word_begun, words_over}
+use Rattle.sh_means.proofs.Begun.{words_over}
 use Rattle.sh_means.proofs.Bounds.{word_small}
+use Rattle.sh_words.specs.Literal.{IsField}
+use Rattle.sh_words.proofs.LiteralLemmas.{field_taken, word_expanded}
 use Rattle.sh_words.proofs.words.next_word.Goals as goal
 
 pub overflow_add-left : goal.overflow_add-left
 overflow_add-left c = let small : c.args.left.at < 9223372036854775808 = word_small c.deref.result.now c.args.left.at _ c.in-Some.ensures in omega arith
 
-pub returns-in_ok-control-in-Some : goal.returns-in_ok-control-in-Some
-returns-in_ok-control-in-Some c =
-    λ k p. word_begun c.args.left c.args.place k (shell_of c.args.state.now) c.deref.result.now c.in-Some.word.now.value c.in_ok-word-in-Some.word c.in_ok-control-in-Some.control p (c.deref.ensures ∙ c.in_ok-words.ensures.cases) c.in_ok-word-in-Some.ensures.cases c.in-Some.ensures c.in_ok-control-in-Some.ensures
+pub returns-in-Some-field-clause-talk : goal.returns-in-Some-field-clause-talk
+returns-in-Some-field-clause-talk c =
+    let k = context c.args.stack.now.items in
+    let e = shell_of c.args.state.now in
+    IfOk-weaker c.push_field.result _ _
+    (λ t told p. field_taken c.args.left c.args.place k e c.deref.result.now c.in-Some.word.now.value c.in-Some-field.text.now p (c.deref.ensures ∙ c.in_ok-words.ensures.cases) c.in-Some.ensures
+    (subst (λ (w : Word). IsField c.in-Some-field.text.now (parts_of (tree.word w))) c.deref-in-Some.ensures c.in-Some-field.ensures)
+    ∙ told k e p)
+    c.push_field.ensures.talk
 
-pub returns-in_ok-control-in-None : goal.returns-in_ok-control-in-None
-returns-in_ok-control-in-None c =
-    λ k p. words_over c.args.left c.args.place k (shell_of c.args.state.now) c.deref.result.now p (c.deref.ensures ∙ c.in_ok-words.ensures.cases) c.in-None.ensures ∙ c.in_ok-control-in-None.ensures k p
+pub returns-in_ok-wording-in-Some-clause-talk : goal.returns-in_ok-wording-in-Some-clause-talk
+returns-in_ok-wording-in-Some-clause-talk c =
+    let k = context c.args.stack.now.items in
+    let e = shell_of c.args.state.now in
+    IfOk-weaker c.act_expand.result _ _
+    (λ t told p. word_expanded c.args.left c.args.place k e c.deref.result.now c.in-Some.word.now.value c.in_ok-word-in-Some.word p (c.deref.ensures ∙ c.in_ok-words.ensures.cases) c.in_ok-word-in-Some.ensures.cases c.in-Some.ensures
+    ∙ c.in_ok-wording-in-Some.ensures k e p ∙ told p)
+    c.act_expand.ensures.talk
+
+pub returns-in-None-clause-talk : goal.returns-in-None-clause-talk
+returns-in-None-clause-talk c =
+    let k = context c.args.stack.now.items in
+    IfOk-weaker c.then.result _ _
+    (λ t told p. words_over c.args.left c.args.place k (shell_of c.args.state.now) c.deref.result.now p (c.deref.ensures ∙ c.in_ok-words.ensures.cases) c.in-None.ensures ∙ told p)
+    c.then.ensures.talk

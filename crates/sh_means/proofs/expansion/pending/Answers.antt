@@ -3,7 +3,7 @@ use Rattle.rk_calls.specs.declared.answer.Answer.TheVariants.{Go}
 use Rattle.sh_means.specs.declared.control.PendingWord.{PendingWord}
 use Rattle.sh_means.specs.Stack.{wording}
 use Rattle.sh_means.proofs.Delivered.{word_started}
-use Rattle.sh_means.proofs.expansion.begin.Goals as goal
+use Rattle.sh_means.proofs.expansion.pending.Goals as goal
 
 pub returns : goal.returns
 returns c =

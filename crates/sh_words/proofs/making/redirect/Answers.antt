@@ -1,6 +1,6 @@
 use Rattle.sh_means.specs.Views.{shell_of}
 use Rattle.sh_words.proofs.Redirected.{redirect_begun}
-use Rattle.sh_words.proofs.words.redirect.Goals as goal
+use Rattle.sh_words.proofs.making.redirect.Goals as goal
 
 pub returns : goal.returns
 returns c =

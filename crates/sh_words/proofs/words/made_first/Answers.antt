@@ -1,0 +1,55 @@
+use Rattle.std.proofs.Common.{◌≡◌, ℕ, Bool, List, Vec, sym, ap, ◌∙◌}
+use Rattle.std.specs.declared.rc.Rc.{Rc}
+use Rattle.std.specs.declared.alloc.Global.{Global}
+use Rattle.std.specs.Global.{Box}
+use Rattle.rk_base.specs.Text.{Text}
+use Rattle.rk_calls.specs.Talk.{Says}
+use Rattle.sh_ast.specs.declared.command.Assignments.{Assignments}
+use Rattle.sh_ast.specs.declared.command.Redirects.{Redirects}
+use Rattle.sh_ast.specs.declared.command.SimpleCommand.{SimpleCommand, out-SimpleCommand}
+use Rattle.sh_redirect.specs.declared.descriptors.DescriptorTable.{DescriptorTable}
+use Rattle.sh_means.specs.declared.doing.Doing.{Doing}
+use Rattle.sh_means.specs.declared.control.Made.TheVariants as made
+use Rattle.sh_means.specs.declared.flow.Place.{Place}
+use Rattle.sh_means.specs.declared.state.Function.{Function}
+use Rattle.sh_means.specs.Flows.{Next}
+use Rattle.sh_means.specs.Run.{run}
+use Rattle.sh_means.specs.Simple.{CommandKind, kind_of, made_simple, refused_simple}
+use Rattle.sh_means.specs.Stack.{making, redirects_from, assigns_from, kind_of_code}
+use Rattle.sh_means.specs.State.{Shell}
+use Rattle.sh_means.specs.Views.{shell_of, rows_of}
+use Rattle.sh_means.specs.Words.{redirect_all, named}
+use Rattle.sh_means.proofs.Launching.{launchable}
+use Rattle.sh_words.proofs.words.made_first.Goals as goal
+
+-- the redirections of a simple command with these fields, as a kind
+with_kind : List Text → Bool → Place → Next → Shell → Redirects → Assignments → CommandKind → Says
+with_kind fields ran pl k e R A kd =
+    redirect_all (redirects_from R 0) ran pl (made_simple run kd (assigns_from A 0) (named (redirects_from R 0)) e.descriptors fields pl k) (refused_simple kd (named (redirects_from R 0)) e.descriptors pl k) k e
+
+-- the same with the map and what the command is, where they lie behind pointers
+with_doing : Rc Redirects Global → Rc Assignments Global → Bool → Place → Next → Shell → DescriptorTable → Doing → Says
+with_doing rs as' ran pl k e ds d =
+    redirect_all (redirects_from rs.value 0) ran pl (made_simple run (kind_of_code d.kind) (assigns_from as'.value 0) (named (redirects_from rs.value 0)) ds d.fields pl k) (refused_simple (kind_of_code d.kind) (named (redirects_from rs.value 0)) ds pl k) k e
+
+simple_then : (x : SimpleCommand) (rs : Rc Redirects Global) (as' : Rc Assignments Global) (d : Doing) (before : Rc DescriptorTable Global) (doing : Box Doing) (ran : Bool) (pl : Place) (k : Next) (e : Shell) (p : ℕ) → rs.value ≡ (out-SimpleCommand x).redirects.value → as'.value ≡ (out-SimpleCommand x).assignments.value → kind_of_code d.kind ≡ kind_of d.fields e.functions → before.value ≡ e.descriptors → doing.value ≡ d → with_kind d.fields ran pl k e (out-SimpleCommand x).redirects.value (out-SimpleCommand x).assignments.value (kind_of d.fields e.functions) p ≡ making (record { redirects = rs; at = 0; before = before; ran = ran; made = made.Simple as' doing }) ran pl k e p
+unfolding with_kind with_doing
+simple_then x rs as' d before doing ran pl k e p hr ha hk hb hd =
+    ap (λ (R : Redirects). with_kind d.fields ran pl k e R (out-SimpleCommand x).assignments.value (kind_of d.fields e.functions) p) (sym hr)
+    ∙ ap (λ (A : Assignments). with_kind d.fields ran pl k e rs.value A (kind_of d.fields e.functions) p) (sym ha)
+    ∙ ap (λ (kd : CommandKind). with_kind d.fields ran pl k e rs.value as'.value kd p) (sym hk)
+    ∙ ap (λ (d : Doing). with_doing rs as' ran pl k e e.descriptors d p) (sym hd)
+    ∙ ap (λ (ds : DescriptorTable). with_doing rs as' ran pl k e ds doing.value p) (sym hb)
+
+pub invariant_of-doing : goal.invariant_of-doing
+invariant_of-doing c = record { launchable = launchable c.in_ok-kind.kind c.args.fields _ c.in_ok-kind.ensures }
+
+pub returns : goal.returns
+unfolding with_kind
+returns c =
+    let e = shell_of c.args.state.now in
+    λ place k p. simple_then c.args.command.value c.in_ok-redirects.redirects c.in_ok-assignments.assignments _ c.in_ok-before.before c.in_ok-boxed.boxed c.args.ran place k e p
+    (c.in_ok-redirects.ensures.cases ∙ ap (λ (x : SimpleCommand). (out-SimpleCommand x).redirects.value) c.deref-2.ensures)
+    (c.in_ok-assignments.ensures.cases ∙ ap (λ (x : SimpleCommand). (out-SimpleCommand x).assignments.value) c.deref-3.ensures)
+    (c.in_ok-kind.ensures ∙ ap (λ (fs : List Function). kind_of c.args.fields (rows_of fs)) (c.as_slice.ensures.value ∙ ap (λ (v : Vec Function Global). v.items) c.deref.ensures))
+    c.in_ok-before.ensures.cases c.in_ok-boxed.ensures.ok
