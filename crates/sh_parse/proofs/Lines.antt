@@ -23,3 +23,13 @@ pub lines_done : (n : ℕ) (text : Text) (i : ℕ) → length text ≤ i → n +
 lines_done n text i le inv =
     let all : n + 0 ≡ newlines text = rw (drop_all i text) at inv in
     omega (arith, all)
+
+-- there are no more of them than bytes
+more_by_one : (here : Bool) (n : ℕ) → (if here then n + 1 else n) ≤ n + 1
+more_by_one true n = omega arith
+more_by_one false n = omega arith
+
+pub counted_within : (n more b i : ℕ) → more ≡ (if b == 10 then n + 1 else n) → n ≤ i → more ≤ i + 1
+counted_within n more b i is le =
+    let one : (if b == 10 then n + 1 else n) ≤ n + 1 = more_by_one (b == 10) n in
+    omega (arith, is, one)

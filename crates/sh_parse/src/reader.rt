@@ -1,5 +1,5 @@
 // Texts as scripts, and their faults in words (XCU 2.10).
-ghost use Rattle.std.specs.Prelude.{◌≡◌, ◌++◌, ◌+◌, ◌==◌, if◌then◌else◌, take, IfOk, OnOk};
+ghost use Rattle.std.specs.Prelude.{◌≡◌, ◌++◌, ◌+◌, ◌^◌, ◌<◌, ◌≤◌, ◌==◌, if◌then◌else◌, length, take, IfOk, OnOk};
 ghost use Rattle.sh_tree.specs.Reads.{newlines, line_of, why_words, fault_words};
 ghost use Rattle.sh_tree.proofs.ReadAs.{reads};
 ghost use Rattle.sh_parse.specs.Readings.{reading_of};
@@ -18,32 +18,24 @@ pub enum Read {
     Fault(Bytes),
 }
 
-// The number behind this one. No memory holds more than there are numbers.
-fn behind(at: usize) -> Result<usize, NoMemory>
-    ensures { IfOk result (λ next. next ≡ at + 1) }
-{
-    match at.checked_add(1) {
-        Some(next) => Ok(next),
-        None => Err(NoMemory),
-    }
-}
-
 // One byte more was seen.
-fn counted(n: usize, b: u8) -> Result<usize, NoMemory>
-    ensures { IfOk result (λ more. more ≡ (if b == 10 then n + 1 else n)) }
+fn counted(n: usize, b: u8) -> usize
+    requires { n < 2 ^ 63 }
+    ensures { result ≡ (if b == 10 then n + 1 else n) }
 {
-    if b == b'\n' { behind(n) } else { Ok(n) }
+    if b == b'\n' { n + 1 } else { n }
 }
 
-// How many newlines there are.
-fn newlines(text: &[u8]) -> Result<usize, NoMemory>
-    ensures { IfOk result (λ n. n ≡ newlines text.now) }
+// How many newlines there are: no more than bytes.
+fn newlines(text: &[u8]) -> usize
+    ensures counted { result ≡ newlines text.now }
+    ensures within { result ≤ length text.now }
 {
     let mut n: usize = 0;
     'text: for b in text {
-        n = counted(n, *b)?;
+        n = counted(n, *b);
     }
-    Ok(n)
+    n
 }
 
 // The bytes before a place.
@@ -58,11 +50,10 @@ fn before(text: &[u8], at: usize) -> &[u8]
 }
 
 // The line that a place is in, from 1.
-fn line_of(text: &[u8], at: usize) -> Result<usize, NoMemory>
-    ensures { IfOk result (λ n. n ≡ line_of text.now at) }
+fn line_of(text: &[u8], at: usize) -> usize
+    ensures { result ≡ line_of text.now at }
 {
-    let n = newlines(before(text, at))?;
-    behind(n)
+    newlines(before(text, at)) + 1
 }
 
 fn push_why(words: &mut Vec<u8>, why: &Why) -> Result<(), NoMemory>
@@ -85,7 +76,7 @@ fn push_why(words: &mut Vec<u8>, why: &Why) -> Result<(), NoMemory>
 fn words_of(alloc: Global, text: &[u8], fault: &ScriptFault) -> Result<Bytes, NoMemory>
     ensures { IfOk result (λ words. words ≡ fault_words text.now fault.now) }
 {
-    let line = line_of(text, fault.at)?;
+    let line = line_of(text, fault.at);
     let digits = format!(in alloc; "{line}")?;
     let mut words = Vec::from_slice(alloc, b"line ")?;
     words.extend_from_slice(digits.as_bytes())?;
