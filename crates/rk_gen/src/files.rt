@@ -1,7 +1,8 @@
 // Files of a made folder.
-ghost use Rattle.std.specs.Prelude.{◌≡◌, IfOk};
+ghost use Rattle.std.specs.Prelude.{◌≡◌, IfOk, true};
+ghost use Rattle.rk_base.specs.Canonical.{is_canonical};
 
-use rk_base::{Bytes, NoMemory, Path};
+use rk_base::{Bytes, NoMemory, Path, PathFault};
 use std::alloc::Global;
 
 /// A file: where it stands, and its bytes.
@@ -11,12 +12,14 @@ pub struct File {
     pub bytes: Bytes,
 }
 
-/// The path of this text, which is made of letters, digits and a dot after one slash.
+/// The path of a canonical text.
 pub(crate) fn path_of(alloc: Global, text: &str) -> Result<Path, NoMemory>
+    requires { is_canonical text.now ≡ true }
     ensures { IfOk result (λ p. p ≡ text.now) }
 {
     match Path::parse(alloc, text.as_bytes()) {
         Ok(path) => Ok(path),
-        Err(_) => Err(NoMemory),
+        Err(PathFault::NoMemory) => Err(NoMemory),
+        Err(PathFault::Invalid) => unreachable!(),
     }
 }

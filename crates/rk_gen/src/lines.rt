@@ -73,7 +73,7 @@ pub(crate) fn source(alloc: Global, draws: &mut Draws) -> Result<Vec<Bytes>, NoM
 }
 
 /// Where the source of this number stands: `sK` in the root.
-#[tactic(auto, unfolding(crate::specs::Lines::source_path))]
+#[tactic(auto, using(crate::proofs::CanonicalLemmas::source_canonical), unfolding(crate::specs::Lines::source_path))]
 pub(crate) fn source_path(alloc: Global, k: u64) -> Result<Path, NoMemory>
     ensures { IfOk result (λ p. p ≡ source_path k) }
 {

@@ -146,7 +146,7 @@ pub(crate) fn make_script(
     })
 }
 
-#[tactic(auto, unfolding(crate::specs::Scripts::script_path))]
+#[tactic(auto, using(crate::proofs::CanonicalLemmas::script_canonical), unfolding(crate::specs::Scripts::script_path))]
 fn script_path(alloc: Global, j: u64) -> Result<Path, NoMemory>
     ensures { IfOk result (λ p. p ≡ script_path j) }
 {
@@ -193,7 +193,7 @@ fn rikerfile_bytes(alloc: Global, scripts: &[Script]) -> Result<Bytes, NoMemory>
 }
 
 /// `Rikerfile`, which runs each script, and then puts all sources in one file.
-#[tactic(auto, unfolding(crate::specs::Scripts::rikerfile))]
+#[tactic(auto, using(crate::proofs::CanonicalLemmas::rikerfile_canonical), unfolding(crate::specs::Scripts::rikerfile))]
 pub(crate) fn rikerfile(alloc: Global, scripts: &[Script]) -> Result<File, NoMemory>
     ensures { IfOk result (λ f. f ≡ rikerfile scripts.now) }
 {
