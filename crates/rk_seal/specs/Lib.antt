@@ -1,0 +1,4 @@
+pub mod Laws
+pub mod Ops
+pub mod Reading
+pub mod Spelling
