@@ -9,11 +9,11 @@ use Rattle.ut_bre.specs.declared.group.Span.{Span}
 use Rattle.ut_bre.specs.declared.group.Found.{Found}
 use Rattle.ut_bre.specs.Trees.{ItemTree, one, group, ItemsTree, no_items, item_and, times_of, Expression}
 use Rattle.ut_bre.specs.Times.{once, less_one}
-use Rattle.ut_bre.specs.Matching.{Repeated, MatchesItem, MatchesItems, IsNoWorse, Finds}
-use Rattle.ut_bre.specs.Picking.{Turn, RestTree, rest_items, rest_turns, ReachesEnd, IsLatest, IsGreatest, IsDone, PicksTurns, PicksItems, PicksItem, put_turns, FindsGroups}
+use Rattle.ut_bre.specs.Matching.{Repeated, MatchesItem, MatchesItems, Matches, IsNoWorse, Finds}
+use Rattle.ut_bre.specs.Picking.{Turn, RestTree, rest_items, rest_turns, ReachesEnd, IsLatest, IsGreatest, IsDone, PicksTurns, PicksItems, PicksItem, put_turns, PutsItems, FindsGroups}
 use Rattle.ut_bre.specs.Walking.{Mark, flow, Step, step, flow_turn, flow_times, flow_items, step_turn, step_times, step_items}
 use Rattle.ut_bre.specs.Running.{seed, accept}
-use Rattle.ut_bre.specs.Found.{scan, span_found, latest_from, latest, turn_of, pick_turns, pick_items, pick_item, found_at, found}
+use Rattle.ut_bre.specs.Found.{scan, span_found, latest_from, latest, turn_of, pick_turns, pick_items, pick_item, groups_at, found_at, found}
 use Rattle.ut_bre.specs.Resting.{flow_rest, step_rest, distance, first_seed}
 use Rattle.ut_bre.proofs.Standing.{Rel}
 use Rattle.ut_bre.proofs.Laws.{sound_items}
@@ -212,3 +212,11 @@ is-span_found e line from r f = finds-one e line from r (span_found e line from)
 
 pub is-found : (e : Expression) (line : Text) (from : ℕ) (r : Option Found) → FindsGroups e line from r → r ≡ found e line from
 is-found e line from r f = found-one e line from r (found e line from) f (found-finds e line from)
+
+pub is-groups : (e : Expression) (line : Text) (span : Span) (groups : List (Option Span)) → Matches e line span.start span.end → PutsItems line e.items span.start span.end (replicate e.groups None) groups → groups ≡ groups_at e line span
+is-groups e line span groups m (all, picks, is) =
+    is ∙ ap (λ (t : List Turn). put_turns t (replicate e.groups None)) (picks_items-one line e.items span.start span.end all (pick_items line e.items span.start span.end) picks (items-picked line e.items span.start span.end m.within m.items))
+
+pub found-at : (e : Expression) (line : Text) (from : ℕ) → found e line from ≡ found_at e line (span_found e line from)
+unfolding found
+found-at e line from = refl

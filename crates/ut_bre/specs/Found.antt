@@ -55,9 +55,17 @@ abbrev mutual
   pick_item line (one times what) i j = []
   pick_item line (group times number body) i j = pick_turns (pick_items line body) line (group times number body) number (suc (times.least + (j - i))) times i j
 
+-- what the groups of a match took
+abbrev pub groups_at : Expression → Text → Span → List (Option Span)
+groups_at e line span = put_turns (pick_items line e.items span.start span.end) (replicate e.groups None)
+
+-- a match with its groups
+abbrev pub with_groups : Expression → Text → Span → Found
+with_groups e line span = record { start = span.start; end = span.end; groups = groups_at e line span }
+
 abbrev pub found_at : Expression → Text → Option Span → Option Found
 found_at e line None = None
-found_at e line (Some span) = Some (record { start = span.start; end = span.end; groups = put_turns (pick_items line e.items span.start span.end) (replicate e.groups None) })
+found_at e line (Some span) = Some (with_groups e line span)
 
 -- the same match, with what its groups took
 unfoldable pub found : Expression → Text → ℕ → Option Found

@@ -1,12 +1,12 @@
 // What an expression finds in a line.
-ghost use Rattle.std.specs.Prelude.{◌≡◌, IfOk};
+ghost use Rattle.std.specs.Prelude.{◌≡◌, IfOk, None, replicate};
 ghost use Rattle.ut_bre.specs.Expressions.{expression};
-ghost use Rattle.ut_bre.specs.Found.{span_found, found};
-ghost use Rattle.ut_bre.specs.Matching.{Finds};
-ghost use Rattle.ut_bre.specs.Picking.{FindsGroups};
+ghost use Rattle.ut_bre.specs.Found.{span_found, groups_at, found};
+ghost use Rattle.ut_bre.specs.Matching.{Matches, Finds};
+ghost use Rattle.ut_bre.specs.Picking.{PutsItems, FindsGroups};
 
 use crate::bre::Bre;
-use crate::group::{Found, Span};
+use crate::group::{Found, GroupList, Span};
 use crate::mark::Marks;
 use rk_base::NoMemory;
 
@@ -68,20 +68,22 @@ impl Bre {
         ensures value { IfOk result (λ r. r ≡ found (expression self.now) line.now from) }
     {
         let mut marks = Marks::new(self.allocator());
-        self.find_in(line, from, &mut marks)
+        let found = self.find_groups(line, from, &mut marks)?;
+        Ok(found)
     }
 
-    /// The same match with its groups, with memory that was taken before.
-    pub fn find_in(
+    /// What the groups of a match took, with memory that was taken before. `span_in` finds the match alone, with less work.
+    pub fn groups_in(
         &self,
         line: &[u8],
-        from: usize,
+        span: Span,
         marks: &mut Marks,
-    ) -> Result<Option<Found>, NoMemory>
-        ensures finds { IfOk result (λ r. FindsGroups (expression self.now) line.now from r) }
-        ensures value { IfOk result (λ r. r ≡ found (expression self.now) line.now from) }
+    ) -> Result<GroupList, NoMemory>
+        requires { Matches (expression self.now) line.now span.start span.end }
+        ensures puts { IfOk result (λ g. PutsItems line.now (expression self.now).items span.start span.end (replicate (expression self.now).groups None) g) }
+        ensures value { IfOk result (λ g. g ≡ groups_at (expression self.now) line.now span) }
     {
-        let found = self.find_groups(line, from, marks)?;
-        Ok(found)
+        let groups = self.picked(line, span, marks)?;
+        Ok(groups)
     }
 }

@@ -1,5 +1,6 @@
 -- What `s` makes of a line (XCU sed, "Editing Commands in sed").
-use Rattle.std.specs.Prelude.{ℕ, zero, suc, ◌+◌, ◌-◌, ◌==◌, ◌&&◌, ◌||◌, not, length, take, drop, List, [], ◌∷◌, ◌++◌, Bool, false, Option, Some, None, if◌then◌else◌}
+use Rattle.std.specs.Prelude.{ℕ, zero, suc, ◌+◌, ◌-◌, ◌==◌, ◌&&◌, ◌||◌, not, length, take, drop, List, [], ◌∷◌, ◌++◌, Bool, true, false, Option, Some, None, if◌then◌else◌}
+use Rattle.std.specs.List.{list_any}
 use Rattle.rk_base.specs.Text.{Text}
 use Rattle.ut_bre.specs.declared.group.Found.{Found}
 use Rattle.ut_bre.specs.declared.group.Span.{Span}
@@ -28,6 +29,15 @@ part_text text f (Group n) = group_text text (group_at f.groups n)
 abbrev pub parts_text : Text → Found → List Part → Text
 parts_text text f [] = []
 parts_text text f (part ∷ parts) = part_text text f part ++ parts_text text f parts
+
+abbrev pub names_group : Part → Bool
+names_group (Byte b) = false
+names_group Whole = false
+names_group (Group n) = true
+
+-- whether a part asks for what a group took
+abbrev pub name_groups : List Part → Bool
+name_groups parts = list_any names_group parts
 
 -- The match behind one that ends at a place: an empty match at that place isn't taken.
 

@@ -1,4 +1,7 @@
 // Commands of a script.
+ghost use Rattle.std.specs.Prelude.{◌≡◌};
+ghost use Rattle.ut_sed.specs.Substituting.{names_group};
+
 use crate::address::Address;
 use crate::change::Change;
 use ut_bre::Bre;
@@ -11,6 +14,19 @@ pub enum Part {
     Whole,
     /// What the group of this number took; the first has the number 1.
     Group(usize),
+}
+
+impl Part {
+    /// Whether it asks for what a group took.
+    pub(crate) fn names_group(self) -> bool
+        ensures { result ≡ names_group self }
+    {
+        match self {
+            Part::Byte(_) => false,
+            Part::Whole => false,
+            Part::Group(_) => true,
+        }
+    }
 }
 
 /// What `s` does.

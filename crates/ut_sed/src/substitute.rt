@@ -1,13 +1,15 @@
 // What `s` makes of a line.
-ghost use Rattle.std.specs.Prelude.{◌≡◌, ◌++◌, ◌||◌, IfOk, OnOk};
+ghost use Rattle.std.specs.Prelude.{◌≡◌, ◌++◌, ◌||◌, IfOk, IfSome, OnOk};
 ghost use Rattle.ut_bre.specs.Expressions.{expression};
+ghost use Rattle.ut_bre.specs.Found.{with_groups, found_at};
+ghost use Rattle.ut_bre.specs.Matching.{Matches};
 ghost use Rattle.ut_sed.specs.Commands.{substitution_of};
-ghost use Rattle.ut_sed.specs.Substituting.{group_text, part_text, parts_text, not_empty_at, next_found, match_text, is_final, substituted, is_substituted};
+ghost use Rattle.ut_sed.specs.Substituting.{group_text, part_text, parts_text, name_groups, next_found, match_text, is_final, substituted, is_substituted};
 
 use crate::command::{Part, Substitution};
 use crate::pieces::{behind, piece};
 use rk_base::NoMemory;
-use ut_bre::{Bre, Found, Marks, Span};
+use ut_bre::{Bre, Found, GroupList, Marks, Span};
 
 fn group_text(text: &[u8], span: Option<Span>) -> &[u8]
     ensures { result.now ≡ group_text text.now span }
@@ -40,38 +42,29 @@ fn put_parts(text: &[u8], found: &Found, parts: &[Part], made: &mut Vec<u8>) -> 
     Ok(())
 }
 
-// The match behind one that ends at a place, or the next one where this one is empty.
-fn not_empty_at(
-    bre: &Bre,
-    text: &[u8],
-    at: usize,
-    found: Option<Found>,
-    marks: &mut Marks,
-) -> Result<Option<Found>, NoMemory>
-    ensures { IfOk result (λ f. f ≡ not_empty_at (expression bre.now) text.now at found) }
+fn name_groups(parts: &[Part]) -> bool
+    ensures { result ≡ name_groups parts.now }
 {
-    match found {
-        None => Ok(None),
-        Some(found) => {
-            if found.end != at {
-                return Ok(Some(found));
-            }
-            let from = at.checked_add(1).ok_or(NoMemory)?;
-            bre.find_in(text, from, marks)
-        }
-    }
+    parts.iter().any(|part| part.names_group())
 }
 
-fn next_found(
-    bre: &Bre,
-    text: &[u8],
-    at: usize,
-    marks: &mut Marks,
-) -> Result<Option<Found>, NoMemory>
-    ensures { IfOk result (λ f. f ≡ next_found (expression bre.now) text.now at) }
+// The match behind one that ends at a place: an empty one right there isn't taken.
+fn next_span(bre: &Bre, text: &[u8], at: usize, marks: &mut Marks) -> Result<Option<Span>, NoMemory>
+    ensures next { IfOk result (λ s. found_at (expression bre.now) text.now s ≡ next_found (expression bre.now) text.now at) }
+    ensures matches { IfOk result (λ s. IfSome s (λ m. Matches (expression bre.now) text.now m.start m.end)) }
 {
-    let found = bre.find_in(text, at, marks)?;
-    not_empty_at(bre, text, at, found, marks)
+    let here = bre.span_in(text, at, marks)?;
+    match here {
+        None => Ok(None),
+        Some(span) => {
+            if span.end != at {
+                return Ok(Some(span));
+            }
+            let from = at.checked_add(1).ok_or(NoMemory)?;
+            let next = bre.span_in(text, from, marks)?;
+            Ok(next)
+        }
+    }
 }
 
 fn either(a: bool, b: bool) -> bool
@@ -87,22 +80,42 @@ impl Substitution {
         passed == 0 && !self.global
     }
 
+    // What the groups of a match took, where a part asks for that.
+    fn groups(&self, text: &[u8], span: Span, marks: &mut Marks) -> Result<GroupList, NoMemory>
+        requires { Matches (expression self.now.expression) text.now span.start span.end }
+        ensures { IfOk result (λ g. parts_text text.now (record { start = span.start; end = span.end; groups = g }) self.now.parts.items ≡ parts_text text.now (with_groups (expression self.now.expression) text.now span) self.now.parts.items) }
+    {
+        if !name_groups(self.parts.as_slice()) {
+            return Ok(GroupList::new(*self.parts.allocator()));
+        }
+        let groups = self.expression.groups_in(text, span, marks)?;
+        Ok(groups)
+    }
+
     // What stands before a match, and the match, which is replaced where none is to be passed over.
     fn put_match(
         &self,
         text: &[u8],
         at: usize,
         passed: u64,
-        found: &Found,
+        span: Span,
+        marks: &mut Marks,
         made: &mut Vec<u8>,
     ) -> Result<(), NoMemory>
-        ensures { OnOk result (made.new.items ≡ made.old.items ++ match_text (substitution_of self.now) text.now at passed found.now) }
+        requires { Matches (expression self.now.expression) text.now span.start span.end }
+        ensures { OnOk result (made.new.items ≡ made.old.items ++ match_text (substitution_of self.now) text.now at passed (with_groups (expression self.now.expression) text.now span)) }
     {
         if passed == 0 {
-            made.extend_from_slice(piece(text, at, found.start))?;
-            put_parts(text, found, self.parts.as_slice(), made)
+            made.extend_from_slice(piece(text, at, span.start))?;
+            let groups = self.groups(text, span, marks)?;
+            let found = Found {
+                start: span.start,
+                end: span.end,
+                groups,
+            };
+            put_parts(text, &found, self.parts.as_slice(), made)
         } else {
-            made.extend_from_slice(piece(text, at, found.end))?;
+            made.extend_from_slice(piece(text, at, span.end))?;
             Ok(())
         }
     }
@@ -117,7 +130,7 @@ impl Substitution {
         ensures made { OnOk result (made.new.items ≡ made.old.items ++ substituted (substitution_of self.now) text.now) }
         ensures replaced { IfOk result (λ b. b ≡ is_substituted (substitution_of self.now) text.now) }
     {
-        let mut next = self.expression.find_in(text, 0, marks)?;
+        let mut next = self.expression.span_in(text, 0, marks)?;
         let mut at = 0;
         let mut passed = self.first.saturating_sub(1);
         let mut replaced = false;
@@ -129,16 +142,16 @@ impl Substitution {
                     made.extend_from_slice(behind(text, at))?;
                     return Ok(replaced);
                 }
-                Some(found) => {
-                    self.put_match(text, at, passed, &found, made)?;
-                    at = found.end;
+                Some(span) => {
+                    self.put_match(text, at, passed, span, marks, made)?;
+                    at = span.end;
                     if self.is_final(passed) {
                         made.extend_from_slice(behind(text, at))?;
                         return Ok(true);
                     }
                     replaced = either(replaced, passed == 0);
                     passed = passed.saturating_sub(1);
-                    next = next_found(&self.expression, text, at, marks)?;
+                    next = next_span(&self.expression, text, at, marks)?;
                 }
             }
         }

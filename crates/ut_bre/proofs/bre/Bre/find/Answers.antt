@@ -1,6 +1,6 @@
 use Rattle.ut_bre.specs.Expressions.{expression}
 use Rattle.ut_bre.proofs.Existing.{is-found}
-use Rattle.ut_bre.proofs.bre.Bre.find_in.Goals as goal
+use Rattle.ut_bre.proofs.bre.Bre.find.Goals as goal
 
 pub returns : goal.returns
 returns c = record {
