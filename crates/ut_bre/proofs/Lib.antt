@@ -18,3 +18,5 @@ pub mod BackLemmas
 pub mod Mirrored
 pub mod Ended
 pub mod GroupLemmas
+pub mod Rowed
+pub mod RowLemmas

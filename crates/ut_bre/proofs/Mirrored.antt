@@ -7,6 +7,7 @@ use Rattle.ut_bre.specs.declared.set.One.{One}
 use Rattle.ut_bre.specs.declared.tree.Times.{Times}
 use Rattle.ut_bre.specs.Trees.{ItemTree, one, group, ItemsTree, no_items, item_and}
 use Rattle.ut_bre.specs.Matching.{MatchesOne, Turns, Beyond, Repeated, MatchesItem, MatchesItems}
+use Rattle.ut_bre.specs.Picking.{MatchesTurn}
 use Rattle.ut_bre.specs.Mirroring.{put_last, mirror_item, mirror}
 use Rattle.ut_bre.proofs.Standing.{Rel, After}
 use Rattle.ut_bre.proofs.Turning.{first-turn}
@@ -124,3 +125,8 @@ mutual
   mirrored_items line end (item_and x xs) h =
       let back : Text = backward line end in
       mirrored-as end (MatchesItems line (item_and x xs)) (After (MatchesItems back (mirror xs)) (MatchesItem back (mirror_item x))) (MatchesItems back (mirror (item_and x xs))) (mirrored-after end (MatchesItem line x) (MatchesItem back (mirror_item x)) (MatchesItems line xs) (MatchesItems back (mirror xs)) (mirrored_item line end x h) (mirrored_items line end xs h)) (last-to back (mirror xs) (mirror_item x)) (last-from back (mirror xs) (mirror_item x))
+
+-- one turn of an item
+pub mirrored-turn : (line : Text) (end : ℕ) (x : ItemTree) → end ≤ length line → Mirrored end (MatchesTurn line x) (MatchesTurn (backward line end) (mirror_item x))
+mirrored-turn line end (one times what) h = mirrored-one line end what h
+mirrored-turn line end (group times number body) h = mirrored_items line end body h

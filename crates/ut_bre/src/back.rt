@@ -19,8 +19,14 @@ fn flow_turn_back<'a>(item: &Item, marks: &'a [Mark], mark: Mark) -> Flow<'a>
     }
 }
 
+/// What comes out of so many turns of an item that is gone through backward, where this mark goes in.
 #[cycle(flow_back)]
-fn flow_times_back<'a>(item: &Item, times: Times, marks: &'a [Mark], mark: Mark) -> Flow<'a>
+pub(crate) fn flow_times_back<'a>(
+    item: &Item,
+    times: Times,
+    marks: &'a [Mark],
+    mark: Mark,
+) -> Flow<'a>
     ensures { flow result.out result.rest.now ≡ flow_times (flow_turn (mirror_item (tree_of item.now))) times (flow mark marks.now) }
 {
     let mut here = Flow {
@@ -87,8 +93,9 @@ fn step_turn_back<'a>(
     }
 }
 
+/// The same, and the marks before the byte b.
 #[cycle(step_back)]
-fn step_times_back<'a>(
+pub(crate) fn step_times_back<'a>(
     item: &Item,
     times: Times,
     marks: &'a [Mark],

@@ -17,12 +17,15 @@ mod law;
 mod mark;
 mod needed;
 mod pick;
+mod place_rows;
 mod reader;
+mod rows;
 mod run;
 mod set;
 mod starts;
 mod table;
 mod tree;
+mod turn_rows;
 
 pub use bre::Bre;
 pub use error::BreErr;
