@@ -1,7 +1,10 @@
 // Laws of the spelling.
-ghost use Rattle.std.specs.Prelude.{◌≡◌, IfOk};
+ghost use Rattle.std.specs.Prelude.{◌≡◌, List, IfOk, true};
+ghost use Rattle.tr_codec.specs.Reads.{Finds, Tells};
+ghost use Rattle.rk_seal.specs.declared.ops.Op.{Op as Call};
 ghost use Rattle.rk_seal.specs.Laws.{OneList};
-ghost use Rattle.tr_codec.specs.Reads.{Finds};
+ghost use Rattle.rk_seal.specs.Ops.{are_calls};
+ghost use Rattle.rk_seal.specs.Spelling.{install_spelling};
 
 use crate::ops::InstallList;
 use crate::reading::decode;
@@ -25,13 +28,17 @@ pub fn read_back(alloc: Global, list: &InstallList) -> Result<InstallList, Codec
     }
 }
 
-/// What is read is spelt back by the same bytes.
+/// What is read is spelt back by the same bytes; else what is damaged, as `decode` tells it.
 pub fn spell_back(alloc: Global, bytes: &[u8]) -> Result<Bytes, CodecErr>
-    ensures { IfOk result (λ again. again ≡ bytes.now) }
+    ensures same { IfOk result (λ again. again ≡ bytes.now) }
+    ensures only { (calls : List Call) → are_calls calls ≡ true → bytes.now ≡ install_spelling calls → Finds result bytes.now }
+    ensures damage { Tells 44 bytes.now result }
 {
-    let list = decode(alloc, bytes)?;
-    match encode(alloc, &list) {
-        Ok(again) => Ok(again),
-        Err(_) => Err(CodecErr::NoMemory),
+    match decode(alloc, bytes) {
+        Ok(list) => match encode(alloc, &list) {
+            Ok(again) => Ok(again),
+            Err(_) => Err(CodecErr::NoMemory),
+        },
+        Err(fault) => Err(fault),
     }
 }
