@@ -18,13 +18,13 @@ use sh_compound::compounds::{
 };
 use sh_compound::leaving::{leave_continuation, leave_undo};
 use sh_means::control::{Acted, CompoundStep, Control, Frame, SimpleStep, Wait};
+use sh_means::expanding::act_expand;
 use sh_means::flow::Flow;
 use sh_means::stack::pop;
 use sh_means::state::State;
 use sh_means::steps::{end, free, refuse};
 use sh_simple::assigning::next_assign;
 use sh_simple::launching::{resume_builtin, resume_builtin_refused};
-use sh_words::expanding::act_expand;
 use sh_words::making::{next_redirect, resume_redirection};
 use sh_words::words::{deliver, next_word};
 use std::alloc::Global;

@@ -51,8 +51,8 @@ pub words_over : (f : PendingFields) (pl : Place) (k : Next) (e : Shell) (ws : W
 words_over f pl k e ws p hs is =
     ap (λ (ms : List WordMeant). expand_words ms f.fields f.ran pl (then_means f.then pl k) k e p) (words_none (tree.words f.words.value) f.at (subst (λ (ws : Words). None ≡ word_at (tree.words ws) f.at) hs is))
 
-pub assign_begun : (a : PendingAssignments) (pl : Place) (k : Next) (e : Shell) (as' : Assignments) (x : Assignment) (name : Text) (w : Rc Word Global) (ctl : Control) (p : ℕ) → as' ≡ a.assignments.value → w.value ≡ (out-Assignment x).value.value → name ≡ (out-Assignment x).name → Some (tree.assignment x) ≡ assignment_at (tree.assignments as') a.at → Begins mode.Value w.value pl (aim.Value (record a { at = a.at + 1 }) name e.env.next) ctl → assigning a a.ran pl k e p ≡ resumed ctl k Go e p
-assign_begun a pl k e as' x name w ctl p hs hw hn is b =
+pub assign_next : (a : PendingAssignments) (pl : Place) (k : Next) (e : Shell) (as' : Assignments) (x : Assignment) (name : Text) (w : Rc Word Global) (p : ℕ) → as' ≡ a.assignments.value → w.value ≡ (out-Assignment x).value.value → name ≡ (out-Assignment x).name → Some (tree.assignment x) ≡ assignment_at (tree.assignments as') a.at → assigning a a.ran pl k e p ≡ expand_word mode.Value (word_in run (tree.word w.value)) pl (aimed (aim.Value (record a { at = a.at + 1 }) name e.env.next) pl k) k e p
+assign_next a pl k e as' x name w p hs hw hn is =
     let is' = subst (λ (as' : Assignments). Some (tree.assignment x) ≡ assignment_at (tree.assignments as') a.at) hs is in
     let W : Bool → Go_on = λ ran. works run (kind_of_code a.doing.value.kind) a.doing.value.fields ran pl k in
     let rest = assigns_from a.assignments.value (a.at + 1) in
@@ -60,7 +60,6 @@ assign_begun a pl k e as' x name w ctl p hs hw hn is b =
     ∙ ap (λ (s : tree.AssignmentTree). assign_all (assign_meant s ∷ rest) a.exported a.ran pl W k e p) (assignment_is x)
     ∙ ap (λ (n : Text). assign_all (record { name = n; value = word_in run (tree.word (out-Assignment x).value.value) } ∷ rest) a.exported a.ran pl W k e p) (sym hn)
     ∙ ap (λ (v : Word). assign_all (record { name = name; value = word_in run (tree.word v) } ∷ rest) a.exported a.ran pl W k e p) (sym hw)
-    ∙ b k e p
 
 pub assigns_over : (a : PendingAssignments) (pl : Place) (k : Next) (e : Shell) (as' : Assignments) (p : ℕ) → as' ≡ a.assignments.value → None ≡ assignment_at (tree.assignments as') a.at → assigning a a.ran pl k e p ≡ works run (kind_of_code a.doing.value.kind) a.doing.value.fields a.ran pl k e p
 assigns_over a pl k e as' p hs is =

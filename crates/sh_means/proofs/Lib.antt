@@ -1,4 +1,5 @@
 pub mod Stacks
+pub mod Substituted
 pub mod Places
 pub mod Folding
 pub mod Begun

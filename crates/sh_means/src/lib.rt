@@ -4,6 +4,7 @@
 
 pub mod control;
 pub mod doing;
+pub mod expanding;
 pub mod expansion;
 pub mod flow;
 pub mod items;

@@ -5,12 +5,13 @@ ghost use Rattle.sh_means.specs.Views.{shell_of};
 
 use crate::launching::work;
 use rk_base::NoMemory;
+use rk_calls::Answer;
 use sh_expand::Mode;
 use sh_means::control::{Acted, Aim, Frame, PendingAssignments};
-use sh_means::expansion::begin;
+use sh_means::expanding::act_expand;
+use sh_means::expansion::pending;
 use sh_means::flow::Place;
 use sh_means::state::State;
-use sh_means::steps::free;
 use std::alloc::Global;
 
 /// The next of the assignments, or what the command does.
@@ -32,8 +33,8 @@ pub fn next_assign(
             let mut left = left;
             left.at += 1;
             let aim = Aim::Value(left, name, state.env.next);
-            let control = begin(alloc, value, Mode::Value, place, aim)?;
-            Ok(free(control))
+            let wording = pending(alloc, value, Mode::Value, place, aim)?;
+            act_expand(alloc, wording, Answer::Go, stack, state)
         }
         None => {
             let PendingAssignments {

@@ -15,7 +15,6 @@ ghost use Rattle.sh_means.specs.declared.control.Made.TheVariants as mades;
 ghost use Rattle.sh_means.specs.Views.{shell_of};
 ghost use Rattle.sh_means.specs.Words.{named, names, redirect_kind, unredirected};
 
-use crate::expanding::act_expand;
 use crate::literal::value;
 use rk_base::{Bytes, NoMemory};
 use rk_calls::{Answer, Turn, turns};
@@ -26,6 +25,7 @@ use sh_means::control::{
     PendingRedirects, SimpleStep, Undo, Wait,
 };
 use sh_means::doing::Doing;
+use sh_means::expanding::act_expand;
 use sh_means::expansion::pending;
 use sh_means::flow::{Flow, Place};
 use sh_means::stack::{put_continuation, put_undo};

@@ -14,7 +14,6 @@ ghost use Rattle.sh_means.specs.Trees.{set_if};
 ghost use Rattle.sh_means.specs.Views.{shell_of};
 ghost use Rattle.sh_means.specs.Words.{fields_of, value_of};
 
-use crate::expanding::act_expand;
 use crate::kinds::kind_of;
 use crate::literal::field;
 use crate::making::{next_redirect, ran_since, redirect};
@@ -27,6 +26,7 @@ use sh_means::control::{
     PendingRedirects, PendingWord, SimpleStep, Then, Wait,
 };
 use sh_means::doing::Doing;
+use sh_means::expanding::act_expand;
 use sh_means::expansion::{over_fields, pending};
 use sh_means::flow::{Flow, Place};
 use sh_means::state::State;

@@ -1,18 +1,22 @@
 use Rattle.std.proofs.Common.{◌<◌, ◌∙◌, arith}
+use Rattle.std.proofs.lemmas.Result.{IfOk-weaker}
 use Rattle.sh_means.specs.Stack.{context}
 use Rattle.sh_means.specs.Views.{shell_of}
-use Rattle.sh_means.proofs.Begun.{assign_begun, assigns_over}
+use Rattle.sh_means.proofs.Begun.{assign_next, assigns_over}
 use Rattle.sh_means.proofs.Bounds.{assignment_small}
 use Rattle.sh_simple.proofs.assigning.next_assign.Goals as goal
 
 pub overflow_add-left : goal.overflow_add-left
 overflow_add-left c = let small : c.args.left.at < 9223372036854775808 = assignment_small c.deref.result.now c.args.left.at _ c.in-Some.ensures in omega arith
 
-pub returns-in_ok-control-in-Some-clause-talk : goal.returns-in_ok-control-in-Some-clause-talk
-returns-in_ok-control-in-Some-clause-talk c =
+pub returns-in_ok-wording-in-Some-clause-talk : goal.returns-in_ok-wording-in-Some-clause-talk
+returns-in_ok-wording-in-Some-clause-talk c =
     let k = context c.args.stack.now.items in
-    λ p. assign_begun c.args.left c.args.place k (shell_of c.args.state.now) c.deref.result.now c.in-Some.assignment.now c.in_ok-name-in-Some.name c.in_ok-value-in-Some.value c.in_ok-control-in-Some.control p (c.deref.ensures ∙ c.in_ok-assignments.ensures.cases) c.in_ok-value-in-Some.ensures.cases c.in_ok-name-in-Some.ensures c.in-Some.ensures c.in_ok-control-in-Some.ensures
-    ∙ c.free.ensures.talk k (shell_of c.args.state.now) p
+    let e = shell_of c.args.state.now in
+    IfOk-weaker c.act_expand.result _ _
+    (λ t told p. assign_next c.args.left c.args.place k e c.deref.result.now c.in-Some.assignment.now c.in_ok-name-in-Some.name c.in_ok-value-in-Some.value p (c.deref.ensures ∙ c.in_ok-assignments.ensures.cases) c.in_ok-value-in-Some.ensures.cases c.in_ok-name-in-Some.ensures c.in-Some.ensures
+    ∙ c.in_ok-wording-in-Some.ensures k e p ∙ told p)
+    c.act_expand.ensures.talk
 
 pub returns-in_ok-acted-in-None-clause-talk : goal.returns-in_ok-acted-in-None-clause-talk
 returns-in_ok-acted-in-None-clause-talk c =

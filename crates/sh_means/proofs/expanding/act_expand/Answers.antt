@@ -2,8 +2,8 @@ use Rattle.std.proofs.Common.{sym, ap, ◌∙◌}
 use Rattle.sh_means.specs.declared.control.PendingWord.{PendingWord}
 use Rattle.sh_means.specs.Stack.{context, wording}
 use Rattle.sh_means.specs.Views.{shell_of}
-use Rattle.sh_words.proofs.Substituted.{body_stepped, word_stepped}
-use Rattle.sh_words.proofs.expanding.act_expand.Goals as goal
+use Rattle.sh_means.proofs.Substituted.{body_stepped, word_stepped}
+use Rattle.sh_means.proofs.expanding.act_expand.Goals as goal
 
 pub returns-in-Ask-clause-talk : goal.returns-in-Ask-clause-talk
 returns-in-Ask-clause-talk c =

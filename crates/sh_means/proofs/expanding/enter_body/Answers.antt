@@ -10,8 +10,8 @@ use Rattle.sh_means.specs.Stack.{context, resumed}
 use Rattle.sh_means.specs.State.{Shell, with_slot}
 use Rattle.sh_means.specs.Words.{body_at}
 use Rattle.sh_means.specs.Views.{shell_of}
-use Rattle.sh_words.proofs.Substituted.{sub_entered}
-use Rattle.sh_words.proofs.expanding.enter_body.Goals as goal
+use Rattle.sh_means.proofs.Substituted.{sub_entered}
+use Rattle.sh_means.proofs.expanding.enter_body.Goals as goal
 
 pub returns : goal.returns
 returns c =

@@ -11,14 +11,14 @@ ghost use Rattle.sh_means.specs.Views.{shell_of};
 ghost use Rattle.sh_means.specs.Words.{body_at, in_subshell};
 ghost use Rattle.rk_calls.specs.declared.answer.Answer.TheVariants as answers;
 
+use crate::control::{Acted, Control, Frame, PendingWord, SimpleStep, Undo, Wait};
+use crate::stack::put_undo;
+use crate::state::State;
+use crate::steps::free;
 use rk_base::NoMemory;
 use rk_calls::{Answer, Turn};
 use sh_ast::{CommandList, Word};
 use sh_expand::{ExpandFault, Expanding};
-use sh_means::control::{Acted, Control, Frame, PendingWord, SimpleStep, Undo, Wait};
-use sh_means::stack::put_undo;
-use sh_means::state::State;
-use sh_means::steps::free;
 use std::alloc::Global;
 use std::rc::Rc;
 
