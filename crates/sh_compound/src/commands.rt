@@ -21,7 +21,7 @@ use sh_means::control::{
 };
 use sh_means::flow::{Flow, Place};
 use sh_means::stack::put_continuation;
-use sh_means::state::{Callee, Function, State};
+use sh_means::state::{Callee, State};
 use sh_means::steps::{free, paid};
 use std::alloc::Global;
 use std::rc::Rc;
@@ -81,13 +81,9 @@ fn act_function(
     ensures talk { IfOk result (λ t. (place : Places) (k : Next) → Steps (define_means name.now (function_tree (tree.compound body.now.value) (tree.redirects redirects.now.value)) place (shell_of state.old) k) k (shell_of state.new) t) }
     ensures costly { IfOk result (λ t. IsStep t.turn) }
 {
-    let name = name.copy()?;
     let body = body.clone()?;
     let redirects = redirects.clone()?;
-    state.define(Function {
-        name,
-        callee: Callee { body, redirects },
-    })?;
+    state.define(name.as_slice(), Callee { body, redirects })?;
     state.env.status = 0;
     Ok(paid(Control::Leave(Flow::Normal)))
 }

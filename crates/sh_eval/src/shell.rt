@@ -16,6 +16,7 @@ use crate::machine::Evaluator;
 use rk_base::{Bytes, NoMemory, Path, Var, WordList};
 use rk_calls::{Answer, Key, Machine, Turn};
 use sh_means::control::{Begin, Control, SimpleStep};
+use sh_means::functions::Functions;
 use sh_means::state::State;
 use sh_redirect::DescriptorTable;
 use sh_special::{Start, copies, misused, read_options};
@@ -88,7 +89,7 @@ fn first_state(
     let mut vars = first_variables(alloc, vars, wd)?;
     vars.set_positional(words);
     let wd = wd.copy()?;
-    let functions = Rc::new(alloc, Vec::new(alloc))?;
+    let functions = Rc::new(alloc, Functions::new(alloc))?;
     let descriptors = Rc::new(alloc, DescriptorTable::own())?;
     Ok(State {
         env: Env {

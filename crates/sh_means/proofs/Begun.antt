@@ -5,7 +5,6 @@ use Rattle.std.specs.declared.alloc.Global.{Global}
 use Rattle.std.specs.Global.{Box}
 use Rattle.rk_base.specs.Text.{Text}
 use Rattle.rk_calls.specs.Talk.{Says}
-use Rattle.rk_calls.specs.declared.answer.Answer.TheVariants.{Go}
 use Rattle.sh_ast.specs.Commands as tree
 use Rattle.sh_ast.specs.Lists.{word_at, assignment_at, redirect_at}
 use Rattle.sh_ast.specs.declared.command.Assignment.{Assignment, out-Assignment}
@@ -32,7 +31,7 @@ use Rattle.sh_means.specs.Eval.{word_in}
 use Rattle.sh_means.specs.Flows.{Next, Go_on}
 use Rattle.sh_means.specs.Run.{run}
 use Rattle.sh_means.specs.Simple.{works, is_plain, exports, keeps, unless_kept, for_its_time}
-use Rattle.sh_means.specs.Stack.{Goes, aimed, fielding, then_means, making, redirects_from, when_made, when_refused, made_go, assigning, assigns_from, kind_of_code, continued, resumed}
+use Rattle.sh_means.specs.Stack.{Goes, aimed, fielding, then_means, making, redirects_from, when_made, when_refused, made_go, assigning, assigns_from, kind_of_code, continued}
 use Rattle.sh_means.specs.State.{Shell}
 use Rattle.sh_means.specs.Words.{WordMeant, RedirectMeant, AssignMeant, expand_word, expand_words, redirect_all, assign_all, names, redirect_kind}
 use Rattle.sh_means.proofs.Folding.{assignment_is, redirect_is}

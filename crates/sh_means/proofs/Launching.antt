@@ -1,5 +1,6 @@
 -- What is launched has a name.
 use Rattle.std.proofs.Common.{◌≡◌, ◌<◌, ℕ, List, [], ◌∷◌, length, Option, Some, None, Result, Ok, Err, Bool, true, false, codes, map, if◌then◌else◌, refl, sym, ap, ◌∙◌, arith}
+use Rattle.std.specs.FinMap.{get}
 use Rattle.rk_base.specs.Text.{Text}
 use Rattle.sh_builtin.specs.Names.{is_builtin}
 use Rattle.sh_operands.specs.Counts.{count}
@@ -19,7 +20,7 @@ use Rattle.sh_means.specs.declared.doing.Doing.{Doing}
 use Rattle.sh_means.specs.Launchable.{has_name, names_command, is_launchable}
 use Rattle.sh_means.specs.Simple.{Special, Builtin, Launches, called_kind, special_kind, kind_of}
 use Rattle.sh_means.specs.Stack.{kind_of_code}
-use Rattle.sh_means.specs.State.{FunctionTree, function_named}
+use Rattle.sh_means.specs.State.{FunctionTree, Functions}
 
 numbered : (n word : Text) (ws : List Text) (f : ℕ → Order) (v : Option ℕ) → ((v : ℕ) → names_command (f v) ≡ true) → names_command (by_number n word ws f v) ≡ true
 numbered n word ws f None h = refl
@@ -81,12 +82,12 @@ no_call : (name : Text) (f : Option FunctionTree) (o : Order) → Special o ≡ 
 no_call name None o h = no_builtin (is_builtin name) o h
 no_call name (Some f) o h = cc
 
-by_order : (name : Text) (functions : List (Text × FunctionTree)) (found : Option Order) (o : Order) → Special o ≡ special_kind name functions found → found ≡ Some o
-by_order name functions None o h = absurd (no_call name (function_named name functions) o h)
+by_order : (name : Text) (functions : Functions) (found : Option Order) (o : Order) → Special o ≡ special_kind name functions found → found ≡ Some o
+by_order name functions None o h = absurd (no_call name (get functions name) o h)
 by_order name functions (Some x) o h = let e : x ≡ o = cc in ap (λ (o : Order). Some o) e
 
 -- a command whose kind is that of its fields
-pub launchable : (kd : code.CommandKind) (fields : List Text) (functions : List (Text × FunctionTree)) → kind_of_code kd ≡ kind_of fields functions → is_launchable kd fields ≡ true
+pub launchable : (kd : code.CommandKind) (fields : List Text) (functions : Functions) → kind_of_code kd ≡ kind_of fields functions → is_launchable kd fields ≡ true
 launchable kinds.Bare fields functions h = refl
 launchable (kinds.Special o) [] functions h = absurd (cc)
 launchable (kinds.Special o) (name ∷ ws) functions h = named_so (name_of name) ws o (by_order name functions (order_of (name ∷ ws)) o h)

@@ -1,5 +1,6 @@
 -- Simple commands (XCU 2.9.1), and the special builtins (XCU 2.14).
 use Rattle.std.specs.Prelude.{ℕ, List, [], ◌∷◌, Option, Some, None, Bool, true, false, Result, Ok, Err, codes, if◌then◌else◌}
+use Rattle.std.specs.FinMap.{get}
 use Rattle.rk_base.specs.Text.{Text}
 use Rattle.rk_base.specs.Errno.{word}
 use Rattle.rk_base.specs.declared.errno.Errno.{Errno}
@@ -24,7 +25,7 @@ use Rattle.sh_special.specs.Orders.{order_of, keeps_order, exports_order}
 use Rattle.sh_means.specs.declared.flow.Flow.{Flow}
 use Rattle.sh_means.specs.declared.flow.Flow.TheVariants.{Normal, Exits}
 use Rattle.sh_means.specs.declared.flow.Place.{Place}
-use Rattle.sh_means.specs.State.{FunctionTree, Shell, with_env, with_held, with_positional, function_named}
+use Rattle.sh_means.specs.State.{FunctionTree, Functions, Shell, with_env, with_held, with_positional}
 use Rattle.sh_means.specs.Flows.{Next, Go_on, Means, asks, tells, sh, ends, break_of, continue_of, returned, return_flow, watched, in_function, in_script}
 use Rattle.sh_means.specs.Words.{WordMeant, RedirectMeant, AssignMeant, expand_words, named, redirect_all, unredirected, names, assign_all, unassigned}
 
@@ -53,11 +54,11 @@ called_kind name (Some f) = Calls f
 called_kind name None = if is_builtin name then Builtin else Launches
 
 -- a special builtin stands before a function
-abbrev pub special_kind : Text → List (Text × FunctionTree) → Option Order → CommandKind
+abbrev pub special_kind : Text → Functions → Option Order → CommandKind
 special_kind name functions (Some o) = Special o
-special_kind name functions None = called_kind name (function_named name functions)
+special_kind name functions None = called_kind name (get functions name)
 
-abbrev pub kind_of : List Text → List (Text × FunctionTree) → CommandKind
+abbrev pub kind_of : List Text → Functions → CommandKind
 kind_of [] functions = Bare
 kind_of (name ∷ words) functions = special_kind name functions (order_of (name ∷ words))
 

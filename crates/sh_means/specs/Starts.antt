@@ -1,5 +1,6 @@
 -- How the shell of a key begins (XCU `sh`): by the words of `sh`, or by a first word with a slash, which names a script.
 use Rattle.std.specs.Prelude.{ℕ, ◌/◌, ◌%◌, ◌==◌, List, [], ◌∷◌, Bool, true, false, Result, Ok, Err, codes, if◌then◌else◌}
+use Rattle.std.specs.FinMap.{empty}
 use Rattle.rk_base.specs.Text.{Text, same_text}
 use Rattle.rk_base.specs.Errno.{word}
 use Rattle.rk_base.specs.declared.errno.Errno.{Errno}
@@ -40,7 +41,7 @@ abbrev pub first_shell : Text → List Text → List Var → Text → Shell
 first_shell zero words vars wd = record {
   env = record { vars = record (first_variables vars wd) { positional = words }; zero = zero; wd = wd; status = 0; nounset = false; noglob = false; next = 10 };
   errexit = false;
-  functions = [];
+  functions = empty;
   descriptors = own;
 }
 

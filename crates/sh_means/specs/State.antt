@@ -1,6 +1,7 @@
 -- The state of a shell that evaluates commands (XCU 2.12), without where it lies in memory.
-use Rattle.std.specs.Prelude.{ℕ, ◌==◌, not, Bool, List, [], ◌∷◌, Option, Some, None, if◌then◌else◌}
-use Rattle.rk_base.specs.Text.{Text, same_text}
+use Rattle.std.specs.Prelude.{ℕ, ◌==◌, not, Bool, List, [], ◌∷◌, Option, if◌then◌else◌}
+use Rattle.std.specs.FinMap.{FinMap, insert}
+use Rattle.rk_base.specs.Text.{Text, text_cmp}
 use Rattle.rk_calls.specs.declared.answer.Answer.{Answer}
 use Rattle.sh_ast.specs.Commands.{CompoundTree, RedirectsTree}
 use Rattle.sh_vars.specs.declared.env.Env.{Env}
@@ -17,11 +18,15 @@ pub record FunctionTree : Type 0 where
 abbrev pub function_tree : CompoundTree → RedirectsTree → FunctionTree
 function_tree b rs = record { body = b; redirects = rs }
 
--- what expansion and builtins are lent; whether `set -e` is on; functions by name, the newest first; and the map of descriptors
+-- functions by name
+abbrev pub Functions : Type 0
+Functions = FinMap text_cmp FunctionTree
+
+-- what expansion and builtins are lent; whether `set -e` is on; the functions; and the map of descriptors
 pub record Shell : Type 0 where
   pub env : Env
   pub errexit : Bool
-  pub functions : List (Text × FunctionTree)
+  pub functions : Functions
   pub descriptors : DescriptorTable
 
 abbrev pub with_env : Env → Shell → Shell
@@ -59,15 +64,9 @@ past_stage e e' = with_status e.env.status (back e e')
 abbrev pub took : ℕ → Shell → Bool
 took n e = not (e.env.next == n)
 
--- Functions.
-
+-- a name has this function from now on
 abbrev pub define : Text → FunctionTree → Shell → Shell
-define name f e = record e { functions = (name, f) ∷ e.functions }
-
--- the newest of a name
-abbrev pub function_named : Text → List (Text × FunctionTree) → Option FunctionTree
-function_named name [] = None
-function_named name (row ∷ rows) = if same_text row.0 name then Some row.1 else function_named name rows
+define name f e = record e { functions = insert e.functions name f }
 
 -- Variables.
 

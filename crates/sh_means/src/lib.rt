@@ -7,6 +7,7 @@ pub mod doing;
 pub mod expanding;
 pub mod expansion;
 pub mod flow;
+pub mod functions;
 pub mod items;
 mod laws;
 pub mod stack;

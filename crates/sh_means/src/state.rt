@@ -1,9 +1,11 @@
 // The state of a shell, and copies of it for subshells.
-ghost use Rattle.std.specs.Prelude.{◌≡◌, ◌∷◌, IfOk, OnOk, option_map};
+ghost use Rattle.std.specs.Prelude.{◌≡◌, IfOk, OnOk};
+ghost use Rattle.std.specs.FinMap.{insert};
 ghost use Rattle.sh_redirect.specs.DescriptorTable.{set_slot};
-ghost use Rattle.sh_means.specs.State.{Shell, back, define, function_named, with_slot};
-ghost use Rattle.sh_means.specs.Views.{shell_of, back_to, row_of, rows_of, function_of};
+ghost use Rattle.sh_means.specs.State.{Shell, back, define, with_slot};
+ghost use Rattle.sh_means.specs.Views.{shell_of, back_to, function_of, functions_of};
 
+use crate::functions::Functions;
 use rk_base::{Bytes, NoMemory, Path};
 use sh_ast::{Compound, Redirects};
 use sh_redirect::DescriptorTable;
@@ -28,23 +30,6 @@ impl Clone for Callee {
     }
 }
 
-/// A function (XCU 2.9.5).
-#[derive(Drop)]
-pub struct Function {
-    pub name: Bytes,
-    pub callee: Callee,
-}
-
-impl Clone for Function {
-    ghost is_clone = { λ function copy. row_of copy ≡ row_of function };
-
-    fn clone(&self) -> Result<Function, AllocError> {
-        let name = self.name.clone()?;
-        let callee = self.callee.clone()?;
-        Ok(Function { name, callee })
-    }
-}
-
 /// The state of a shell (XCU 2.12). Copies of it share the functions and the map of descriptors, each until one of them
 /// changes it.
 #[derive(Drop)]
@@ -52,8 +37,7 @@ pub struct State {
     pub env: Env,
     /// Whether `set -e` is on.
     pub errexit: bool,
-    /// Of one name the newest stands last.
-    pub functions: Rc<Vec<Function>>,
+    pub functions: Rc<Functions>,
     pub descriptors: Rc<DescriptorTable>,
 }
 
@@ -66,18 +50,18 @@ pub struct SavedState {
     nounset: bool,
     noglob: bool,
     errexit: bool,
-    functions: Rc<Vec<Function>>,
+    functions: Rc<Functions>,
     descriptors: Rc<DescriptorTable>,
 }
 
 const _: () = prove!(size_of::<SavedState>() <= 88);
 
 // Functions that other states share are copied first.
-fn put_function(functions: &mut Rc<Vec<Function>>, function: Function) -> Result<(), NoMemory>
-    ensures { OnOk result (rows_of functions.new.value.items ≡ row_of function ∷ rows_of functions.old.value.items) }
+fn put_function(functions: &mut Rc<Functions>, name: &[u8], callee: Callee) -> Result<(), NoMemory>
+    ensures { OnOk result (functions_of functions.new.value ≡ insert (functions_of functions.old.value) name.now (function_of callee)) }
 {
     let own = Rc::make_mut(functions)?;
-    own.push(function)?;
+    own.put(name, callee)?;
     Ok(())
 }
 
@@ -138,11 +122,11 @@ impl State {
         self.descriptors = descriptors;
     }
 
-    /// A function is defined.
-    pub fn define(&mut self, function: Function) -> Result<(), NoMemory>
-        ensures { OnOk result (shell_of self.new ≡ define function.name (function_of function.callee) (shell_of self.old)) }
+    /// A name has this function from now on.
+    pub fn define(&mut self, name: &[u8], callee: Callee) -> Result<(), NoMemory>
+        ensures { OnOk result (shell_of self.new ≡ define name.now (function_of callee) (shell_of self.old)) }
     {
-        put_function(&mut self.functions, function)?;
+        put_function(&mut self.functions, name, callee)?;
         Ok(())
     }
 
@@ -153,19 +137,4 @@ impl State {
         set_slot(&mut self.descriptors, d, n)?;
         Ok(())
     }
-}
-
-/// The newest function of a name.
-pub fn function_named<'a>(functions: &'a [Function], name: &[u8]) -> Option<&'a Callee>
-    ensures { option_map (λ c. function_of c.now) result ≡ function_named name.now (rows_of functions.now) }
-{
-    let mut left = functions.len();
-    'functions: while left > 0 {
-        left -= 1;
-        let f = &functions[left];
-        if f.name.as_slice() == name {
-            return Some(&f.callee);
-        }
-    }
-    None
 }

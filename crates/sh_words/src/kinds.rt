@@ -1,21 +1,21 @@
 // What a simple command is, by its fields.
 ghost use Rattle.std.specs.Prelude.{◌≡◌, IfOk};
+ghost use Rattle.std.specs.FinMap.{get};
 ghost use Rattle.sh_means.specs.Simple.{kind_of, called_kind};
 ghost use Rattle.sh_means.specs.Stack.{kind_of_code};
-ghost use Rattle.sh_means.specs.State.{function_named};
-ghost use Rattle.sh_means.specs.Views.{rows_of};
+ghost use Rattle.sh_means.specs.Views.{functions_of};
 
 use rk_base::{NoMemory, WordList};
 use sh_builtin::is_builtin;
 use sh_means::control::CommandKind;
-use sh_means::state::{Function, function_named};
+use sh_means::functions::Functions;
 use sh_special::order_of;
 use std::alloc::Global;
 
-fn called_kind(name: &[u8], functions: &[Function]) -> Result<CommandKind, NoMemory>
-    ensures { IfOk result (λ k. kind_of_code k ≡ called_kind name.now (function_named name.now (rows_of functions.now))) }
+fn called_kind(name: &[u8], functions: &Functions) -> Result<CommandKind, NoMemory>
+    ensures { IfOk result (λ k. kind_of_code k ≡ called_kind name.now (get (functions_of functions.now) name.now)) }
 {
-    match function_named(functions, name) {
+    match functions.get(name) {
         Some(callee) => {
             let callee = callee.clone()?;
             Ok(CommandKind::Calls(callee))
@@ -34,9 +34,9 @@ fn called_kind(name: &[u8], functions: &[Function]) -> Result<CommandKind, NoMem
 pub(crate) fn kind_of(
     alloc: Global,
     fields: &WordList,
-    functions: &[Function],
+    functions: &Functions,
 ) -> Result<CommandKind, NoMemory>
-    ensures { IfOk result (λ k. kind_of_code k ≡ kind_of fields.now (rows_of functions.now)) }
+    ensures { IfOk result (λ k. kind_of_code k ≡ kind_of fields.now (functions_of functions.now)) }
 {
     match fields.as_slice() {
         [] => Ok(CommandKind::Bare),

@@ -46,7 +46,7 @@ fn made_first(
 ) -> Result<PendingRedirects, NoMemory>
     ensures { IfOk result (λ m. (place : Places) (k : Next) (p : ℕ) → then_means (thens.Simple command) place k fields ran (shell_of state.now) p ≡ making m m.ran place k (shell_of state.now) p) }
 {
-    let kind = kind_of(alloc, &fields, state.functions.as_slice())?;
+    let kind = kind_of(alloc, &fields, &state.functions)?;
     let redirects = command.redirects.clone()?;
     let assignments = command.assignments.clone()?;
     let before = state.descriptors.clone()?;

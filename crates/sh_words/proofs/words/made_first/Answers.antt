@@ -1,4 +1,4 @@
-use Rattle.std.proofs.Common.{◌≡◌, ℕ, Bool, List, Vec, sym, ap, ◌∙◌}
+use Rattle.std.proofs.Common.{◌≡◌, ℕ, Bool, List, sym, ap, ◌∙◌}
 use Rattle.std.specs.declared.rc.Rc.{Rc}
 use Rattle.std.specs.declared.alloc.Global.{Global}
 use Rattle.std.specs.Global.{Box}
@@ -11,13 +11,13 @@ use Rattle.sh_redirect.specs.declared.descriptors.DescriptorTable.{DescriptorTab
 use Rattle.sh_means.specs.declared.doing.Doing.{Doing}
 use Rattle.sh_means.specs.declared.control.Made.TheVariants as made
 use Rattle.sh_means.specs.declared.flow.Place.{Place}
-use Rattle.sh_means.specs.declared.state.Function.{Function}
+use Rattle.sh_means.specs.declared.functions.Functions as code
 use Rattle.sh_means.specs.Flows.{Next}
 use Rattle.sh_means.specs.Run.{run}
 use Rattle.sh_means.specs.Simple.{CommandKind, kind_of, made_simple, refused_simple}
 use Rattle.sh_means.specs.Stack.{making, redirects_from, assigns_from, kind_of_code}
 use Rattle.sh_means.specs.State.{Shell}
-use Rattle.sh_means.specs.Views.{shell_of, rows_of}
+use Rattle.sh_means.specs.Views.{shell_of, functions_of}
 use Rattle.sh_means.specs.Words.{redirect_all, named}
 use Rattle.sh_means.proofs.Launching.{launchable}
 use Rattle.sh_words.proofs.words.made_first.Goals as goal
@@ -51,5 +51,5 @@ returns c =
     λ place k p. simple_then c.args.command.value c.in_ok-redirects.redirects c.in_ok-assignments.assignments _ c.in_ok-before.before c.in_ok-boxed.boxed c.args.ran place k e p
     (c.in_ok-redirects.ensures.cases ∙ ap (λ (x : SimpleCommand). (out-SimpleCommand x).redirects.value) c.deref-2.ensures)
     (c.in_ok-assignments.ensures.cases ∙ ap (λ (x : SimpleCommand). (out-SimpleCommand x).assignments.value) c.deref-3.ensures)
-    (c.in_ok-kind.ensures ∙ ap (λ (fs : List Function). kind_of c.args.fields (rows_of fs)) (c.as_slice.ensures.value ∙ ap (λ (v : Vec Function Global). v.items) c.deref.ensures))
+    (c.in_ok-kind.ensures ∙ ap (λ (fs : code.Functions). kind_of c.args.fields (functions_of fs)) c.deref.ensures)
     c.in_ok-before.ensures.cases c.in_ok-boxed.ensures.ok
