@@ -19,4 +19,5 @@ pub mod Mirrored
 pub mod Ended
 pub mod GroupLemmas
 pub mod Rowed
+pub mod Reached
 pub mod RowLemmas

@@ -19,6 +19,7 @@ mod needed;
 mod pick;
 mod place_rows;
 mod reader;
+mod row;
 mod rows;
 mod run;
 mod set;

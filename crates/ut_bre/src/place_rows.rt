@@ -1,12 +1,13 @@
 // The rows of items, one before another.
-ghost use Rattle.std.specs.Prelude.{◌≡◌, ◌+◌, ◌-◌, ◌≤◌, ◌∷◌, [], IfSome, OnOk, drop, length, if◌then◌else◌};
-ghost use Rattle.ut_bre.specs.Rows.{ArePlaceRows, IsTold, TellsWhere, top_of};
+ghost use Rattle.std.specs.Prelude.{◌≡◌, ◌≤◌, ◌∷◌, [], OnOk, length, if◌then◌else◌};
+ghost use Rattle.ut_bre.specs.Rows.{ArePlaceRows, TellsWhere, top_of};
 ghost use Rattle.ut_bre.specs.Trees.{trees_of};
 
 use crate::group::Span;
 use crate::groups::has_groups;
 use crate::mark::Marks;
-use crate::rows::{Row, find_row};
+use crate::row::Row;
+use crate::rows::find_row;
 use crate::tree::Item;
 use rk_base::NoMemory;
 use std::alloc::Global;
@@ -22,18 +23,6 @@ pub(crate) fn top<'a>(rows: &'a VecDeque<Row>, bottom: &'a Row) -> &'a Row
     }
 }
 
-/// Where the part of the first row ends that begins here, if that is told; the row isn't needed any more.
-pub(crate) fn told_place(rows: &mut VecDeque<Row>, span: Span) -> Option<usize>
-    requires { span.start ≤ span.end }
-    ensures told { IfSome result (λ m. IsTold rows.old.items (span.end - span.start) m) }
-    ensures rest { rows.new.items ≡ drop 1 rows.old.items }
-{
-    match rows.pop_front() {
-        None => None,
-        Some(row) => row.at(span.end - span.start),
-    }
-}
-
 // A row before the others, or instead of them.
 fn put_row(rows: &mut VecDeque<Row>, row: Row, keeps: bool) -> Result<(), NoMemory>
     ensures { OnOk result (rows.new.items ≡ row ∷ (if keeps then rows.old.items else [])) }
@@ -45,6 +34,7 @@ fn put_row(rows: &mut VecDeque<Row>, row: Row, keeps: bool) -> Result<(), NoMemo
     Ok(())
 }
 
+// No row is asked for behind the last group but that of all items there.
 fn push_places(
     items: &[Item],
     line: &[u8],
@@ -56,21 +46,20 @@ fn push_places(
     requires within { span.end ≤ length line.now }
     requires order { span.start ≤ span.end }
     requires none { rows.old.items ≡ [] }
-    requires count { length bottom.now ≡ span.end - span.start + 1 }
-    requires tells { TellsWhere (λ i. i ≡ span.end) span.end bottom.now }
-    ensures { OnOk result (ArePlaceRows line.now span.end (trees_of items.now) rows.new.items) }
+    requires tells { TellsWhere (λ i. i ≡ span.end) span.start span.end bottom.now }
+    ensures { OnOk result (ArePlaceRows line.now span.start span.end (trees_of items.now) rows.new.items) }
 {
     let mut at = items.len();
     'items: while at > 0 {
         at -= 1;
         let item = &items[at];
         let row = find_row(item, item.times(), line, span, marks, top(rows, bottom))?;
-        put_row(rows, row, has_groups(items.split_at(at + 1).1))?;
+        put_row(rows, row, has_groups(items.split_at(at).1))?;
     }
     Ok(())
 }
 
-/// The rows of items up to the last group, before the end of them all: one pass each.
+/// The rows of items and of those without the first ones up to the last group, before the end of them all: one pass each.
 pub(crate) fn find_place_rows(
     alloc: Global,
     items: &[Item],
@@ -81,7 +70,7 @@ pub(crate) fn find_place_rows(
 ) -> Result<(), NoMemory>
     requires within { span.end ≤ length line.now }
     requires order { span.start ≤ span.end }
-    ensures { OnOk result (ArePlaceRows line.now span.end (trees_of items.now) rows.new.items) }
+    ensures { OnOk result (ArePlaceRows line.now span.start span.end (trees_of items.now) rows.new.items) }
 {
     rows.clear();
     let bottom = Row::of_end(alloc, span)?;

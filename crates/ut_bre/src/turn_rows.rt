@@ -1,5 +1,5 @@
 // The rows of a group's turns that are counted, one before another.
-ghost use Rattle.std.specs.Prelude.{◌≡◌, ◌+◌, ◌-◌, ◌≤◌, [], None, Some, IfOk, OnOk, length};
+ghost use Rattle.std.specs.Prelude.{◌≡◌, ◌≤◌, None, Some, IfOk, OnOk, length};
 ghost use Rattle.ut_bre.specs.Matching.{Repeated};
 ghost use Rattle.ut_bre.specs.Picking.{MatchesTurn};
 ghost use Rattle.ut_bre.specs.Rows.{AreTurnRows, AreFound, TellsWhere, behind_counted};
@@ -8,7 +8,8 @@ ghost use Rattle.ut_bre.specs.Trees.{tree_of};
 use crate::group::Span;
 use crate::mark::Marks;
 use crate::place_rows::top;
-use crate::rows::{Row, find_row};
+use crate::row::Row;
+use crate::rows::find_row;
 use crate::tree::{Item, Times};
 use rk_base::NoMemory;
 use std::alloc::Global;
@@ -25,8 +26,7 @@ fn bottom_row(
 ) -> Result<Row, NoMemory>
     requires within { span.end ≤ length line.now }
     requires order { span.start ≤ span.end }
-    ensures count { IfOk result (λ r. length r ≡ span.end - span.start + 1) }
-    ensures tells { IfOk result (λ r. TellsWhere (λ i. Repeated (MatchesTurn line.now (tree_of item.now)) (behind_counted beyond) i span.end) span.end r) }
+    ensures { IfOk result (λ r. TellsWhere (λ i. Repeated (MatchesTurn line.now (tree_of item.now)) (behind_counted beyond) i span.end) span.start span.end r) }
 {
     let none = Row::of_end(alloc, span)?;
     match beyond {
@@ -50,8 +50,8 @@ fn push_maybe(
 ) -> Result<(), NoMemory>
     requires within { span.end ≤ length line.now }
     requires order { span.start ≤ span.end }
-    requires found { AreFound (MatchesTurn line.now (tree_of item.now)) span.end (span.end - span.start + 1) (record { least = 0; beyond = Some 0 }) bottom.now rows.old.items }
-    ensures { OnOk result (AreFound (MatchesTurn line.now (tree_of item.now)) span.end (span.end - span.start + 1) (record { least = 0; beyond = Some more }) bottom.now rows.new.items) }
+    requires found { AreFound (MatchesTurn line.now (tree_of item.now)) span.start span.end (record { least = 0; beyond = Some 0 }) bottom.now rows.old.items }
+    ensures { OnOk result (AreFound (MatchesTurn line.now (tree_of item.now)) span.start span.end (record { least = 0; beyond = Some more }) bottom.now rows.new.items) }
 {
     'turns: for _ in 0..more {
         let row = find_row(
@@ -79,8 +79,8 @@ fn push_beyond(
 ) -> Result<(), NoMemory>
     requires within { span.end ≤ length line.now }
     requires order { span.start ≤ span.end }
-    requires found { AreFound (MatchesTurn line.now (tree_of item.now)) span.end (span.end - span.start + 1) (behind_counted beyond) bottom.now rows.old.items }
-    ensures { OnOk result (AreFound (MatchesTurn line.now (tree_of item.now)) span.end (span.end - span.start + 1) (record { least = 0; beyond = beyond }) bottom.now rows.new.items) }
+    requires found { AreFound (MatchesTurn line.now (tree_of item.now)) span.start span.end (behind_counted beyond) bottom.now rows.old.items }
+    ensures { OnOk result (AreFound (MatchesTurn line.now (tree_of item.now)) span.start span.end (record { least = 0; beyond = beyond }) bottom.now rows.new.items) }
 {
     match beyond {
         None => Ok(()),
@@ -100,8 +100,8 @@ fn push_needed(
 ) -> Result<(), NoMemory>
     requires within { span.end ≤ length line.now }
     requires order { span.start ≤ span.end }
-    requires found { AreFound (MatchesTurn line.now (tree_of item.now)) span.end (span.end - span.start + 1) (record { least = 0; beyond = times.beyond }) bottom.now rows.old.items }
-    ensures { OnOk result (AreFound (MatchesTurn line.now (tree_of item.now)) span.end (span.end - span.start + 1) times bottom.now rows.new.items) }
+    requires found { AreFound (MatchesTurn line.now (tree_of item.now)) span.start span.end (record { least = 0; beyond = times.beyond }) bottom.now rows.old.items }
+    ensures { OnOk result (AreFound (MatchesTurn line.now (tree_of item.now)) span.start span.end times bottom.now rows.new.items) }
 {
     'turns: for _ in 0..times.least {
         let row = find_row(item, Times::once(), line, span, marks, top(rows, bottom))?;
@@ -122,7 +122,7 @@ pub(crate) fn find_turn_rows(
 ) -> Result<(), NoMemory>
     requires within { span.end ≤ length line.now }
     requires order { span.start ≤ span.end }
-    ensures { OnOk result (AreTurnRows (MatchesTurn line.now (tree_of item.now)) span.end times rows.new.items) }
+    ensures { OnOk result (AreTurnRows (MatchesTurn line.now (tree_of item.now)) span.start span.end times rows.new.items) }
 {
     rows.clear();
     let bottom = bottom_row(alloc, item, times.beyond, line, span, marks)?;

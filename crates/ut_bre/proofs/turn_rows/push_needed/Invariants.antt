@@ -1,4 +1,3 @@
-use Rattle.std.proofs.Common.{◌+◌, ◌-◌}
 use Rattle.ut_bre.specs.Picking.{MatchesTurn}
 use Rattle.ut_bre.specs.Rows.{AreFound}
 use Rattle.ut_bre.specs.Trees.{tree_of}
@@ -6,4 +5,4 @@ use Rattle.ut_bre.proofs.RowLemmas.{turns_left}
 use Rattle.ut_bre.proofs.turn_rows.push_needed.Given as goal
 
 abbrev pub invariant-turns : goal.invariant-turns
-invariant-turns l = AreFound (MatchesTurn l.line (tree_of l.item)) l.span.end (l.span.end - l.span.start + 1) (turns_left l.counter l.fn.times.beyond) l.bottom l.rows.items
+invariant-turns l = AreFound (MatchesTurn l.line (tree_of l.item)) l.span.start l.span.end (turns_left l.counter l.fn.times.beyond) l.bottom l.rows.items
