@@ -18,6 +18,7 @@ pub mod BackLemmas
 pub mod Mirrored
 pub mod Ended
 pub mod GroupLemmas
+pub mod BitLemmas
 pub mod Rowed
 pub mod Reached
 pub mod RowLemmas
