@@ -1,9 +1,8 @@
 -- A builtin as a command by itself.
-use Rattle.std.proofs.Common.{◌≡◌, ℕ, Some, ◌-◌, refl, sym, ap, add-zero, arith, inl, inr}
+use Rattle.std.proofs.Common.{◌≡◌, ℕ, Some, ◌-◌, refl, add-zero, arith, inl, inr}
 use Rattle.std.proofs.lemmas.Bool.{le-leb}
 use Rattle.std.proofs.lemmas.Bool.Decides.{leb_tells}
 use Rattle.rk_calls.specs.declared.answer.Answer.{Answer}
-use Rattle.rk_calls.specs.declared.answer.Answer.TheVariants.{Go}
 use Rattle.rk_calls.specs.declared.call.Call.{Call}
 use Rattle.rk_calls.specs.declared.call.Call.TheVariants as call
 use Rattle.rk_calls.specs.declared.turn.Turn.{Turn}
@@ -12,9 +11,6 @@ use Rattle.rk_calls.specs.Talk.{Says, pay, ask, exits, after as said}
 use Rattle.sh_vars.specs.declared.env.Env.{Env}
 use Rattle.sh_builtin.specs.Commands.{alone}
 use Rattle.sh_builtin.specs.Doing.{Doing, heard, through, after}
-
-pub heard_go : (env : Env) → heard Go env ≡ env
-heard_go env = ap (λ n. record env { next = n }) (add-zero env.next)
 
 -- each call is asked of the descriptor that it names
 through_own : (c : Call) (cost : ℕ) (next : Answer → Env → Says) (env : Env) (p : ℕ) → through (λ d. Some d) c cost next env p ≡ ask c cost (λ a. next a (heard a env)) p
@@ -46,5 +42,5 @@ exits_paid status c p =
 
 pub alone_after : (t : Turn) (next : Answer → Doing) (env : Env) (p : ℕ) → after (λ d. Some d) t (λ a. next a (λ d. Some d) (λ status env. exits status 0)) (λ status env. exits status 0) env p ≡ said t (λ a. alone (next a) (heard a env)) p
 alone_after (Ask c cost) next env p = through_own c cost (λ a. next a (λ d. Some d) (λ status env. exits status 0)) env p
-alone_after (More c) next env p = ap (λ e. pay c (alone (next Go) e) p) (sym (heard_go env))
+alone_after (More c) next env p = refl
 alone_after (Exit status c) next env p = exits_paid status c p

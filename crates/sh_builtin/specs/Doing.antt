@@ -1,5 +1,5 @@
 -- What a builtin does where a shell evaluates it.
-use Rattle.std.specs.Prelude.{ℕ, ◌+◌, Option, Some, None}
+use Rattle.std.specs.Prelude.{ℕ, Option, Some, None}
 use Rattle.rk_base.specs.declared.errno.Errno.TheVariants.{BadRef}
 use Rattle.rk_calls.specs.declared.call.Call.{Call}
 use Rattle.rk_calls.specs.declared.call.Call.TheVariants.{Write, ReadLine}
@@ -9,6 +9,7 @@ use Rattle.rk_calls.specs.declared.turn.Turn.{Turn}
 use Rattle.rk_calls.specs.declared.turn.Turn.TheVariants.{Ask, More, Exit}
 use Rattle.rk_calls.specs.Talk.{Says, pay, ask}
 use Rattle.sh_vars.specs.declared.env.Env.{Env}
+use Rattle.sh_vars.specs.Numbers.{number_after}
 
 -- the local number that each descriptor of the shell's map stands for
 abbrev pub Slots : Type 0
@@ -22,15 +23,15 @@ Ended = ℕ → Env → Says
 abbrev pub Doing : Type 0
 Doing = Slots → Ended → Env → Says
 
--- how many local numbers an answer gives
-abbrev pub gives : Answer → ℕ
-gives answer.Opened = 1
-gives answer.Piped = 2
-gives a = 0
+-- the next local number after an answer: each descriptor that was opened takes one
+abbrev pub numbered : Answer → ℕ → ℕ
+numbered answer.Opened n = number_after n
+numbered answer.Piped n = number_after (number_after n)
+numbered a n = n
 
 -- once an answer was heard
 abbrev pub heard : Answer → Env → Env
-heard a env = record env { next = env.next + gives a }
+heard a env = record env { next = numbered a env.next }
 
 -- A call on a descriptor that the map lacks isn't asked and pays nothing, and counts as refused.
 abbrev pub at_slot : Option ℕ → (ℕ → Call) → ℕ → (Answer → Env → Says) → Env → Says

@@ -1,13 +1,13 @@
 // A builtin as a command by itself.
-ghost use Rattle.std.specs.Prelude.{◌≡◌, ◌+◌, IfOk, OnOk, option_map};
+ghost use Rattle.std.specs.Prelude.{◌≡◌, IfOk, option_map};
 ghost use Rattle.sh_builtin.specs.Commands.{says, command_talk, own_env, named_command, builtin_command};
-ghost use Rattle.sh_builtin.specs.Doing.{gives};
+ghost use Rattle.sh_builtin.specs.Doing.{numbered};
 
 use crate::Builtin;
 use crate::name::is_builtin;
 use rk_base::{Bytes, NoMemory, Path, WordList};
 use rk_calls::{Answer, Machine, Turn};
-use sh_vars::{Env, Vars};
+use sh_vars::{Env, Vars, number_after};
 use std::alloc::Global;
 
 /// A builtin that was launched by its name, with an environment of its own.
@@ -17,36 +17,31 @@ pub struct BuiltinCommand {
     env: Env,
 }
 
-fn gives(answer: &Answer) -> u64
-    ensures { result ≡ gives answer.now }
+// The next local number after an answer.
+fn numbered(answer: &Answer, n: u64) -> u64
+    ensures { result ≡ numbered answer.now n }
 {
     match answer {
-        Answer::Opened => 1,
-        Answer::Piped => 2,
-        Answer::Go => 0,
-        Answer::Done => 0,
-        Answer::Content(_) => 0,
-        Answer::Stat { .. } => 0,
-        Answer::Names(_) => 0,
-        Answer::Text(_) => 0,
-        Answer::Place(_) => 0,
-        Answer::Same(_) => 0,
-        Answer::Joined(_) => 0,
-        Answer::No(_) => 0,
+        Answer::Opened => number_after(n),
+        Answer::Piped => number_after(number_after(n)),
+        Answer::Go => n,
+        Answer::Done => n,
+        Answer::Content(_) => n,
+        Answer::Stat { .. } => n,
+        Answer::Names(_) => n,
+        Answer::Text(_) => n,
+        Answer::Place(_) => n,
+        Answer::Same(_) => n,
+        Answer::Joined(_) => n,
+        Answer::No(_) => n,
     }
 }
 
-// Counts the local numbers that an answer gives. No memory holds more than there are numbers.
-fn hear(answer: &Answer, next: &mut u64) -> Result<(), NoMemory>
-    ensures { OnOk result (next.new ≡ next.old + gives answer.now) }
+// Counts the local numbers that an answer gives.
+fn hear(answer: &Answer, next: &mut u64)
+    ensures { next.new ≡ numbered answer.now next.old }
 {
-    match next.checked_add(gives(answer)) {
-        Some(sum) => {
-            *next = sum;
-            Ok(())
-        }
-        None => Err(NoMemory),
-    }
+    *next = numbered(answer, *next);
 }
 
 // The environment of a command that is no shell: no variable is set.
@@ -113,7 +108,7 @@ impl Machine for BuiltinCommand {
     ghost talk = { command_talk };
 
     fn resume(&mut self, answer: Answer) -> Result<Turn, NoMemory> {
-        hear(&answer, &mut self.env.next)?;
+        hear(&answer, &mut self.env.next);
         let turn = self.builtin.resume(&mut self.env, answer)?;
         Ok(turn)
     }

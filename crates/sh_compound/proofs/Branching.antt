@@ -14,6 +14,7 @@ use Rattle.sh_ast.specs.declared.command.Branches.{Branches}
 use Rattle.sh_ast.specs.declared.command.CommandList.{CommandList}
 use Rattle.sh_ast.specs.declared.command.Connector.{Connector}
 use Rattle.sh_ast.specs.declared.command.Connectors.{Connectors}
+use Rattle.sh_vars.specs.Numbers.{number_after}
 use Rattle.sh_means.specs.declared.control.Continuation.TheVariants as continuation
 use Rattle.sh_means.specs.declared.control.Control.TheVariants as control
 use Rattle.sh_means.specs.declared.control.Undo.TheVariants as undo
@@ -56,7 +57,7 @@ stages_over l d at input pl k e p hd is =
     ap (λ (L : List Means). stages_mean input L pl k e p) (commands_none (tree.commands l) at (subst (λ (d : CommandList). None ≡ command_at (tree.commands d) at) hd is))
 
 waits_on : List Means → List Means → Place → Option ℕ → ℕ → Next → Go_on
-waits_on L R pl input n k e = first_of L pl (with_slot 1 (Some (n + 1)) (with_input input e)) (λ f e'. stages_mean (Some n) R pl k (past_stage e e'))
+waits_on L R pl input n k e = first_of L pl (with_slot 1 (Some (number_after n)) (with_input input e)) (λ f e'. stages_mean (Some n) R pl k (past_stage e e'))
 
 pub stage_more : (l : Rc CommandList Global) (t u : tree.CommandTree) (at : ℕ) (input : Option ℕ) (pl : Place) (k : Next) (e : Shell) (p : ℕ) → Some t ≡ command_at (tree.commands l.value) at → Some u ≡ command_at (tree.commands l.value) (at + 1) → stages_mean input (commands_from l.value at) pl k e p ≡ asks Pipe 1 (λ a. waiting (wait.Stage pl l at (at + 1) input e.env.next) k a) e p
 unfolding waits_on
@@ -80,10 +81,10 @@ stage_last l t at saved input pl k k' e e' p ht hn hs hk he =
     ∙ ap (λ (L : List Means). first_of L pl e' k' p) (sym h1)
 
 -- a stage begins, above a frame for those behind it
-pub stage_begun : (l rest : Rc CommandList Global) (at j : ℕ) (saved : Box SavedState) (input : Option ℕ) (n w : ℕ) (pl : Place) (k k' : Next) (e e1 e' : Shell) (p : ℕ) → rest.value ≡ l.value → ((x : Shell) → back_to saved.value x ≡ back e x) → w ≡ n + 1 → k' ≡ continued (continuation.Stage pl rest j n e.env.status saved) k → e1 ≡ with_input input e → e' ≡ with_slot 1 (Some w) e1 → first_of (commands_from l.value at) pl (with_slot 1 (Some (n + 1)) (with_input input e)) (λ f x. stages_mean (Some n) (commands_from l.value j) pl k (past_stage e x)) p ≡ first_of (commands_from l.value at) pl e' k' p
+pub stage_begun : (l rest : Rc CommandList Global) (at j : ℕ) (saved : Box SavedState) (input : Option ℕ) (n w : ℕ) (pl : Place) (k k' : Next) (e e1 e' : Shell) (p : ℕ) → rest.value ≡ l.value → ((x : Shell) → back_to saved.value x ≡ back e x) → w ≡ number_after n → k' ≡ continued (continuation.Stage pl rest j n e.env.status saved) k → e1 ≡ with_input input e → e' ≡ with_slot 1 (Some w) e1 → first_of (commands_from l.value at) pl (with_slot 1 (Some (number_after n)) (with_input input e)) (λ f x. stages_mean (Some n) (commands_from l.value j) pl k (past_stage e x)) p ≡ first_of (commands_from l.value at) pl e' k' p
 stage_begun l rest at j saved input n w pl k k' e e1 e' p hr hs hw hk h1 he =
     let ms = commands_from l.value at in
-    let e0 = with_slot 1 (Some (n + 1)) (with_input input e) in
+    let e0 = with_slot 1 (Some (number_after n)) (with_input input e) in
     ap (λ (r : CommandList). first_of ms pl e0 (λ f x. stages_mean (Some n) (commands_from r j) pl k (past_stage e x)) p) (sym hr)
     ∙ ap (λ (g : Shell → Shell). first_of ms pl e0 (λ f x. stages_mean (Some n) (commands_from rest.value j) pl k (with_status e.env.status (g x))) p) (λ i x. sym (hs x) i)
     ∙ ap (λ (k : Next). first_of ms pl e0 k p) (sym hk)

@@ -3,6 +3,7 @@ ghost use Rattle.std.specs.Prelude.{◌≡◌, ◌+◌, ℕ, IfOk, OnOk, drop, n
 ghost use Rattle.rk_base.specs.Text.{Text};
 ghost use Rattle.sh_ast.specs.Commands as tree;
 ghost use Rattle.sh_vars.specs.Held.{assigned, is_readonly};
+ghost use Rattle.sh_vars.specs.Numbers.{number_after};
 ghost use Rattle.sh_means.specs.Flows.{Next, deeper};
 ghost use Rattle.sh_means.specs.Compound.{for_each, for_fields, for_means, if_means, case_means, subshell_means, stages_mean, with_input};
 ghost use Rattle.sh_means.specs.Eval.{compound_in, for_in, items_in, word_in, is_until};
@@ -27,7 +28,7 @@ use sh_means::items::item_at;
 use sh_means::stack::{put_continuation, put_undo};
 use sh_means::state::State;
 use sh_means::steps::{end, free, paid, refuse};
-use sh_vars::VarErr;
+use sh_vars::{VarErr, number_after};
 use std::alloc::Global;
 use std::rc::Rc;
 
@@ -187,13 +188,13 @@ pub fn act_if(
     }
 }
 
-/// A place inside one loop more. No memory holds more loops than there are numbers.
-pub fn deeper(place: Place) -> Result<Place, NoMemory>
-    ensures { IfOk result (λ pl. pl ≡ deeper place) }
+/// A place inside one loop more. They are counted as far as `break` and `continue` count.
+pub fn deeper(place: Place) -> Place
+    ensures { result ≡ deeper place }
 {
-    match place.loops.checked_add(1) {
-        Some(loops) => Ok(Place { loops, ..place }),
-        None => Err(NoMemory),
+    Place {
+        loops: place.loops.saturating_add(1),
+        ..place
     }
 }
 
@@ -208,7 +209,7 @@ pub fn act_round(
     ensures costly { IfOk result (λ t. IsStep t.turn) }
 {
     let condition = left.condition.clone()?;
-    let below = deeper(place)?;
+    let below = deeper(place);
     put_continuation(stack, Continuation::Condition(place, last, left))?;
     let inside = Place {
         ignores: true,
@@ -252,7 +253,7 @@ fn enter_body(
     ensures { IfOk result (λ c. (e : Shell) → Goes (each_body each place (context stack.old.items) e) (context stack.new.items) e c) }
 {
     let body = each.body.clone()?;
-    let below = deeper(place)?;
+    let below = deeper(place);
     let mut each = each;
     each.at = next;
     put_continuation(stack, Continuation::Each(place, each))?;
@@ -376,11 +377,11 @@ pub fn act_stage(
     stack: &mut Vec<Frame>,
     state: &mut State,
 ) -> Result<Control, NoMemory>
-    ensures { IfOk result (Goes (first_of (commands_from list.value at) place (with_slot 1 (Some (read_end + 1)) (with_input input (shell_of state.old))) (λ f e. stages_mean (Some read_end) (commands_from list.value next) place (context stack.old.items) (past_stage (shell_of state.old) e))) (context stack.new.items) (shell_of state.new)) }
+    ensures { IfOk result (Goes (first_of (commands_from list.value at) place (with_slot 1 (Some (number_after read_end)) (with_input input (shell_of state.old))) (λ f e. stages_mean (Some read_end) (commands_from list.value next) place (context stack.old.items) (past_stage (shell_of state.old) e))) (context stack.new.items) (shell_of state.new)) }
 {
     let saved = state.save(alloc)?;
     let rest = list.clone()?;
-    let write_end = next_number(read_end)?;
+    let write_end = number_after(read_end);
     let status = state.env.status;
     put_continuation(
         stack,
@@ -389,14 +390,4 @@ pub fn act_stage(
     read_from(input, state)?;
     state.set_descriptor(1, Some(write_end))?;
     Ok(Control::One(place, list, at))
-}
-
-// No memory holds more than there are numbers.
-fn next_number(n: u64) -> Result<u64, NoMemory>
-    ensures { IfOk result (λ m. m ≡ n + 1) }
-{
-    match n.checked_add(1) {
-        Some(n) => Ok(n),
-        None => Err(NoMemory),
-    }
 }

@@ -217,7 +217,7 @@ fn enter_body(
 {
     if goes_on(left.kind, state.env.status) {
         let body = left.body.clone()?;
-        let below = deeper(place)?;
+        let below = deeper(place);
         put_continuation(stack, Continuation::Body(place, left))?;
         return Ok(Control::Whole(below, body));
     }

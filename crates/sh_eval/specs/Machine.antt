@@ -1,7 +1,6 @@
 -- What the machine says.
-use Rattle.std.specs.Prelude.{◌≡◌, ℕ}
+use Rattle.std.specs.Prelude.{◌≡◌}
 use Rattle.rk_calls.specs.declared.answer.Answer.{Answer}
-use Rattle.rk_calls.specs.declared.answer.Answer.TheVariants as answer
 use Rattle.rk_calls.specs.declared.turn.Turn.{Turn}
 use Rattle.rk_calls.specs.declared.turn.Turn.TheVariants as turn
 use Rattle.rk_calls.specs.Talk.{Says}
@@ -9,12 +8,6 @@ use Rattle.sh_eval.specs.declared.machine.Evaluator.{Evaluator}
 use Rattle.sh_means.specs.Stack.{context, resumed}
 use Rattle.sh_means.specs.State.{heard}
 use Rattle.sh_means.specs.Views.{shell_of}
-
--- how many local numbers an answer gives
-abbrev pub gives : Answer → ℕ
-gives answer.Opened = 1
-gives answer.Piped = 2
-gives a = 0
 
 -- it costs nothing, and goes on
 abbrev pub IsFree : Turn → Type 0

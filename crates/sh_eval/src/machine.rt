@@ -1,7 +1,8 @@
 // The machine that evaluates commands.
-ghost use Rattle.std.specs.Prelude.{◌≡◌, ◌↔◌, ℕ, IsTrue, IfOk, OnOk};
+ghost use Rattle.std.specs.Prelude.{◌≡◌, ◌↔◌, ℕ, IsTrue, IfOk};
+ghost use Rattle.sh_expand.specs.Told.{numbered};
 ghost use Rattle.sh_means.specs.Eval.{over};
-ghost use Rattle.sh_eval.specs.Machine.{IsFree, gives, steps_on, evaluator_says};
+ghost use Rattle.sh_eval.specs.Machine.{IsFree, steps_on, evaluator_says};
 ghost use Rattle.sh_means.specs.Stack.{Steps, IsStep, context, resumed_compound, resumed_simple, waiting, resumed};
 ghost use Rattle.sh_means.specs.State.{heard};
 ghost use Rattle.sh_means.specs.Views.{shell_of};
@@ -25,6 +26,7 @@ use sh_means::state::State;
 use sh_means::steps::{end, free, refuse};
 use sh_simple::assigning::next_assign;
 use sh_simple::launching::{resume_builtin, resume_builtin_refused};
+use sh_vars::number_after;
 use sh_words::making::{next_redirect, resume_redirection};
 use sh_words::words::{deliver, next_word};
 use std::alloc::Global;
@@ -174,36 +176,31 @@ fn act(
     }
 }
 
-fn gives(answer: &Answer) -> u64
-    ensures { result ≡ gives answer.now }
+// The next local number after an answer.
+fn numbered(answer: &Answer, n: u64) -> u64
+    ensures { result ≡ numbered answer.now n }
 {
     match answer {
-        Answer::Opened => 1,
-        Answer::Piped => 2,
-        Answer::Go => 0,
-        Answer::Done => 0,
-        Answer::Content(_) => 0,
-        Answer::Stat { .. } => 0,
-        Answer::Names(_) => 0,
-        Answer::Text(_) => 0,
-        Answer::Place(_) => 0,
-        Answer::Same(_) => 0,
-        Answer::Joined(_) => 0,
-        Answer::No(_) => 0,
+        Answer::Opened => number_after(n),
+        Answer::Piped => number_after(number_after(n)),
+        Answer::Go => n,
+        Answer::Done => n,
+        Answer::Content(_) => n,
+        Answer::Stat { .. } => n,
+        Answer::Names(_) => n,
+        Answer::Text(_) => n,
+        Answer::Place(_) => n,
+        Answer::Same(_) => n,
+        Answer::Joined(_) => n,
+        Answer::No(_) => n,
     }
 }
 
-// Counts the local numbers that an answer gives. No memory holds more than there are numbers.
-fn hear(answer: &Answer, state: &mut State) -> Result<(), NoMemory>
-    ensures { OnOk result (shell_of state.new ≡ heard answer.now (shell_of state.old)) }
+// Counts the local numbers that an answer gives.
+fn hear(answer: &Answer, state: &mut State)
+    ensures { shell_of state.new ≡ heard answer.now (shell_of state.old) }
 {
-    match state.env.next.checked_add(gives(answer)) {
-        Some(next) => {
-            state.env.next = next;
-            Ok(())
-        }
-        None => Err(NoMemory),
-    }
+    state.env.next = numbered(answer, state.env.next);
 }
 
 fn is_free(turn: &Turn) -> bool
@@ -263,7 +260,7 @@ impl Evaluator {
         ensures costly { IfOk result IsCostly }
         ensures talk { IfOk result (λ t. (p : ℕ) → evaluator_says self.old answer p ≡ after t (evaluator_says self.new) p) }
     {
-        hear(&answer, &mut self.state)?;
+        hear(&answer, &mut self.state);
         let mut turn = self.step(answer)?;
         let mut left: u64 = u64::MAX;
         'free: while is_free(&turn) {

@@ -11,3 +11,4 @@ pub mod Copied
 pub mod Undone
 pub mod Bounds
 pub mod Launching
+pub mod Loops

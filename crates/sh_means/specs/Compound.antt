@@ -1,5 +1,5 @@
 -- Compound commands (XCU 2.9.4), pipelines and lists (XCU 2.9.2 and 2.9.3), and definitions of functions (XCU 2.9.5).
-use Rattle.std.specs.Prelude.{ℕ, ◌+◌, ◌==◌, not, List, [], ◌∷◌, Option, Some, None, Bool, true, false, if◌then◌else◌}
+use Rattle.std.specs.Prelude.{ℕ, ◌==◌, not, List, [], ◌∷◌, Option, Some, None, Bool, true, false, if◌then◌else◌}
 use Rattle.rk_base.specs.Text.{Text}
 use Rattle.rk_calls.specs.Talk.{Says, pay}
 use Rattle.rk_calls.specs.declared.call.Call.TheVariants.{Pipe}
@@ -7,6 +7,7 @@ use Rattle.sh_ast.specs.Commands.{CommandsTree}
 use Rattle.sh_ast.specs.declared.command.Connector.{Connector}
 use Rattle.sh_ast.specs.declared.command.Connector.TheVariants.{And, Or}
 use Rattle.sh_pattern.specs.Decided.{is_matched}
+use Rattle.sh_vars.specs.Numbers.{number_after}
 use Rattle.sh_expand.specs.declared.mode.Mode.TheVariants as mode
 use Rattle.sh_redirect.specs.declared.descriptors.DescriptorTable.{DescriptorTable}
 use Rattle.sh_means.specs.declared.flow.Flow.TheVariants.{Normal}
@@ -59,7 +60,7 @@ abbrev pub stages_mean : Option ℕ → List Means → Place → Next → Go_on
 stages_mean input [] pl k e = k Normal e
 stages_mean input (m ∷ []) pl k e = m pl (with_input input e) (λ f e'. k Normal (back e e'))
 stages_mean input (m ∷ n ∷ ms) pl k e =
-    asks Pipe 1 (λ a e'. m pl (with_slot 1 (Some (e.env.next + 1)) (with_input input e')) (λ f e''. stages_mean (Some e.env.next) (n ∷ ms) pl k (past_stage e' e''))) e
+    asks Pipe 1 (λ a e'. m pl (with_slot 1 (Some (number_after e.env.next)) (with_input input e')) (λ f e''. stages_mean (Some e.env.next) (n ∷ ms) pl k (past_stage e' e''))) e
 
 -- one command behind `!` is no subshell
 abbrev pub piped_means : List Means → Place → Next → Go_on

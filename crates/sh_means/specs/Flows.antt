@@ -1,5 +1,5 @@
 -- What comes after a command, by how it has ended (XCU 2.8.2 and 2.14).
-use Rattle.std.specs.Prelude.{ℕ, zero, suc, ◌+◌, ◌-◌, ◌==◌, min, not, ◌&&◌, Option, Some, None, Bool, true, false, codes, if◌then◌else◌}
+use Rattle.std.specs.Prelude.{ℕ, zero, suc, ◌+◌, ◌-◌, ◌^◌, ◌==◌, min, not, ◌&&◌, Option, Some, None, Bool, true, false, codes, if◌then◌else◌}
 use Rattle.rk_base.specs.Text.{Text}
 use Rattle.rk_calls.specs.Talk.{Says, ask}
 use Rattle.rk_calls.specs.Turns.{turns}
@@ -124,8 +124,9 @@ inverted k Exits e = k Exits e
 abbrev pub ignoring : Place → Place
 ignoring pl = record pl { ignores = true }
 
+-- In a loop more. More loops than the largest number of 64 bits are as good as that: `break` and `continue` count no further.
 abbrev pub deeper : Place → Place
-deeper pl = record pl { loops = pl.loops + 1 }
+deeper pl = record pl { loops = min (pl.loops + 1) (2 ^ 64 - 1) }
 
 -- loops around the call aren't seen in the function
 abbrev pub in_function : Place → Place

@@ -1,5 +1,6 @@
 pub mod State
 pub mod Flows
+pub mod Loops
 pub mod Words
 pub mod Simple
 pub mod Compound

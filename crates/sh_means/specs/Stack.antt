@@ -17,6 +17,7 @@ use Rattle.sh_ast.specs.declared.command.CommandList.{CommandList}
 use Rattle.sh_ast.specs.declared.command.Redirects.{Redirects}
 use Rattle.sh_ast.specs.declared.command.Words.{Words}
 use Rattle.sh_pattern.specs.Decided.{is_matched}
+use Rattle.sh_vars.specs.Numbers.{number_after}
 use Rattle.sh_expand.specs.declared.mode.Expanded.{Expanded}
 use Rattle.sh_expand.specs.Turns.{expander_says}
 use Rattle.sh_redirect.specs.declared.descriptors.DescriptorTable.{DescriptorTable}
@@ -165,7 +166,7 @@ building b k a e = builtin_does b a (slot e.descriptors) (λ status env. ends No
 abbrev pub waiting : Wait → Next → Answer → Go_on
 waiting (wait.Told f n) k a e = ends f n k e
 waiting (wait.Launched f) k a e = ends f (joined a) k e
-waiting (wait.Stage pl l i j input n) k a e = first_of (commands_from l.value i) pl (with_slot 1 (Some (n + 1)) (with_input input e)) (λ f e'. stages_mean (Some n) (commands_from l.value j) pl k (past_stage e e'))
+waiting (wait.Stage pl l i j input n) k a e = first_of (commands_from l.value i) pl (with_slot 1 (Some (number_after n)) (with_input input e)) (λ f e'. stages_mean (Some n) (commands_from l.value j) pl k (past_stage e e'))
 waiting (wait.Opened pl file n) k a e = dot_opened run file n pl k (brought a) e
 waiting (wait.Read pl file) k a e = dot_read run file pl k (brought a) e
 waiting (wait.Redirects pl m r) k a e = redirecting m pl k r.value a e

@@ -1,5 +1,6 @@
 // Laws over the definitions alone.
 ghost use Rattle.sh_means.specs.Laws.{EachIsCommandTalk, EachMeansItsJob};
+ghost use Rattle.sh_means.specs.Loops.{EachCounts, EachLeaves};
 ghost use Rattle.sh_means.specs.StartLaws.{EachShellIsACommand};
 
 /// Fewer turns only cut what a script says, and a mode in a call that it asks is at most 0777: from any state, at any place,
@@ -17,4 +18,10 @@ pub fn what_is_evaluated_again_means_its_job()
 /// The same of the shell of a key: the script that it is given, or that its words name.
 pub fn shells_say_what_commands_may()
     ensures { EachShellIsACommand }
+{}
+
+/// The loops around a command are counted as far as 64 bits go, and no `break` or `continue` tells more of them apart.
+pub fn loops_are_counted_far_enough()
+    ensures counts { EachCounts }
+    ensures leaves { EachLeaves }
 {}

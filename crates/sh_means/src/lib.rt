@@ -16,6 +16,6 @@ pub mod steps;
 
 pub use flow::{Flow, Place};
 pub use laws::{
-    scripts_say_what_commands_may, shells_say_what_commands_may,
+    loops_are_counted_far_enough, scripts_say_what_commands_may, shells_say_what_commands_may,
     what_is_evaluated_again_means_its_job,
 };

@@ -15,6 +15,7 @@ use Rattle.rk_calls.specs.Proper.{IsProper}
 use Rattle.rk_calls.specs.Turns.{turns}
 use Rattle.rk_calls.specs.Views.{View, Alike, alike-ask}
 use Rattle.sh_vars.specs.declared.env.Env.{Env}
+use Rattle.sh_vars.specs.Numbers.{number_after}
 use Rattle.sh_redirect.specs.declared.descriptors.DescriptorTable.{DescriptorTable}
 use Rattle.sh_redirect.specs.declared.kind.Redirect.{Redirect}
 use Rattle.sh_redirect.specs.declared.kind.Redirect.TheVariants as kind
@@ -79,8 +80,8 @@ alike-copies d operand =
 
 alike-filled : (d : ℕ) (body : Text) (n : ℕ) → IsAlike (filled d body n)
 alike-filled d body n =
-    alike-choice (is_empty body) (makes d (Some n)) (asks (Write (n + 1) body) (1 + turns body) (λ a. makes d (Some n))) (alike-makes d (Some n))
-    (alike-asks (Write (n + 1) body) (1 + turns body) (λ a. makes d (Some n)) tt (λ a. alike-makes d (Some n)))
+    alike-choice (is_empty body) (makes d (Some n)) (asks (Write (number_after n) body) (1 + turns body) (λ a. makes d (Some n))) (alike-makes d (Some n))
+    (alike-asks (Write (number_after n) body) (1 + turns body) (λ a. makes d (Some n)) tt (λ a. alike-makes d (Some n)))
 
 alike-here : (d : ℕ) (body : Text) → IsAlike (here d body)
 alike-here d body v p k k' ds env hk = alike-asks Pipe 1 (λ a. filled d body env.next) tt (λ a. alike-filled d body env.next) v p k k' ds env hk

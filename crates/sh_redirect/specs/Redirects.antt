@@ -14,6 +14,7 @@ use Rattle.rk_calls.specs.Places.{absolute}
 use Rattle.rk_calls.specs.Talk.{Says, ask}
 use Rattle.rk_calls.specs.Turns.{turns}
 use Rattle.sh_vars.specs.declared.env.Env.{Env}
+use Rattle.sh_vars.specs.Numbers.{number_after}
 use Rattle.sh_redirect.specs.declared.descriptors.DescriptorTable.{DescriptorTable}
 use Rattle.sh_redirect.specs.declared.kind.Redirect.{Redirect}
 use Rattle.sh_redirect.specs.declared.kind.Redirect.TheVariants as kind
@@ -74,9 +75,10 @@ copies_digit d operand (Some from) k ds env = copied d operand (slot ds from) k 
 abbrev pub copies : ℕ → Text → Doing
 copies d operand = if same_text operand (codes "-") then makes d None else copies_digit d operand (digit operand)
 
--- a here-document's body goes into its pipe, whose read end is n; a refusal of that is passed over
+-- A here-document's body goes into its pipe, whose read end is n and whose write end is the number after that; a refusal of the
+-- Write is passed over.
 abbrev pub filled : ℕ → Text → ℕ → Doing
-filled d body n = if is_empty body then makes d (Some n) else asks (Write (n + 1) body) (1 + turns body) (λ a. makes d (Some n))
+filled d body n = if is_empty body then makes d (Some n) else asks (Write (number_after n) body) (1 + turns body) (λ a. makes d (Some n))
 
 abbrev pub here : ℕ → Text → Doing
 here d body k ds env = asks Pipe 1 (λ a. filled d body env.next) k ds env

@@ -12,7 +12,7 @@ use crate::descriptors::digit;
 use crate::{DescriptorTable, Redirect};
 use rk_base::{Bytes, Errno, NoMemory};
 use rk_calls::{Answer, Call, How, absolute, error_line, turns};
-use sh_vars::Env;
+use sh_vars::{Env, number_after};
 use std::alloc::Global;
 use std::mem;
 
@@ -221,23 +221,19 @@ fn copy(
     copy_digit(alloc, d, operand, digit(operand.as_slice()), descriptors)
 }
 
-// Once the pipe of a here-document was made. No memory holds more than there are numbers.
-fn fill(d: u8, body: Bytes, n: u64, descriptors: &mut DescriptorTable) -> Result<Move, NoMemory>
-    ensures does { IfOk result (λ move. (env : Environment) → IsDoneBy (filled d body n) descriptors.old env move descriptors.new) }
-    ensures costly { IfOk result (λ move. IsAsking move.turn) }
+// Once the pipe of a here-document was made.
+fn fill(d: u8, body: Bytes, n: u64, descriptors: &mut DescriptorTable) -> Move
+    ensures does { (env : Environment) → IsDoneBy (filled d body n) descriptors.old env result descriptors.new }
+    ensures costly { IsAsking result.turn }
 {
     if body.is_empty() {
-        return Ok(made(d, Some(n), descriptors));
+        return made(d, Some(n), descriptors);
     }
-    match n.checked_add(1) {
-        None => Err(NoMemory),
-        Some(write_end) => {
-            let cost = 1 + turns(body.as_slice());
-            Ok(Move {
-                turn: Turn::Ask(Call::Write(write_end, body), cost),
-                stage: Stage::Filling(d, n),
-            })
-        }
+    let write_end = number_after(n);
+    let cost = 1 + turns(body.as_slice());
+    Move {
+        turn: Turn::Ask(Call::Write(write_end, body), cost),
+        stage: Stage::Filling(d, n),
     }
 }
 
@@ -296,7 +292,7 @@ fn resume_stage(
         Stage::Opening(d, operand, n) => {
             file_opened(alloc, d, &operand, n, refusal(answer), descriptors)
         }
-        Stage::Piping(d, body, n) => fill(d, body, n, descriptors),
+        Stage::Piping(d, body, n) => Ok(fill(d, body, n, descriptors)),
         Stage::Filling(d, n) => Ok(made(d, Some(n), descriptors)),
         Stage::Telling => Ok(is_over()),
     }

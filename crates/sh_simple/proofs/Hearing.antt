@@ -1,5 +1,5 @@
 -- Local numbers are counted in one way.
-use Rattle.std.proofs.Common.{◌≡◌, ℕ, ◌+◌, Option, Some, None, option_map, refl, sym, ap, arith}
+use Rattle.std.proofs.Common.{◌≡◌, ℕ, Option, Some, None, option_map, refl, sym, ap}
 use Rattle.rk_base.specs.declared.errno.Errno.TheVariants.{BadRef}
 use Rattle.rk_calls.specs.Talk.{Says, ask}
 use Rattle.rk_calls.specs.declared.answer.Answer.{Answer}
@@ -14,19 +14,19 @@ use Rattle.sh_redirect.specs.DescriptorTable.{slot}
 use Rattle.sh_builtin.specs.Doing as builtin
 use Rattle.sh_simple.specs.Launching.{through}
 
-numbered_builtin : (a : Answer) (n : ℕ) → numbered a n ≡ n + builtin.gives a
-numbered_builtin answer.Go n = omega arith
-numbered_builtin answer.Done n = omega arith
+numbered_builtin : (a : Answer) (n : ℕ) → numbered a n ≡ builtin.numbered a n
+numbered_builtin answer.Go n = refl
+numbered_builtin answer.Done n = refl
 numbered_builtin answer.Opened n = refl
 numbered_builtin answer.Piped n = refl
-numbered_builtin (answer.Content bytes) n = omega arith
-numbered_builtin (answer.Stat kind mode empty) n = omega arith
-numbered_builtin (answer.Names names) n = omega arith
-numbered_builtin (answer.Text text) n = omega arith
-numbered_builtin (answer.Place path) n = omega arith
-numbered_builtin (answer.Same same) n = omega arith
-numbered_builtin (answer.Joined status) n = omega arith
-numbered_builtin (answer.No errno) n = omega arith
+numbered_builtin (answer.Content bytes) n = refl
+numbered_builtin (answer.Stat kind mode empty) n = refl
+numbered_builtin (answer.Names names) n = refl
+numbered_builtin (answer.Text text) n = refl
+numbered_builtin (answer.Place path) n = refl
+numbered_builtin (answer.Same same) n = refl
+numbered_builtin (answer.Joined status) n = refl
+numbered_builtin (answer.No errno) n = refl
 
 pub builtin_heard : (a : Answer) (env : Env) → builtin.heard a env ≡ counted a env
 builtin_heard a env = ap (λ (n : ℕ). record env { next = n }) (sym (numbered_builtin a env.next))

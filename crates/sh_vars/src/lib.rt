@@ -3,11 +3,13 @@
 #![tactic(auto)]
 
 mod env;
+mod numbers;
 mod positional;
 mod rows;
 mod variable;
 mod vars;
 
 pub use env::Env;
+pub use numbers::number_after;
 pub use variable::Variable;
 pub use vars::{Saved, VarErr, Vars};

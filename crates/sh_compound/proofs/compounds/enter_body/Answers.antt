@@ -6,4 +6,4 @@ use Rattle.sh_compound.proofs.compounds.enter_body.Goals as goal
 
 pub returns : goal.returns
 returns c =
-    λ e p. each_entered c.args.each c.in_ok-below.below c.in_ok-body.body c.args.place (context c.args.stack.now.items) (context c.put_continuation.new.stack.items) e p c.in_ok-body.ensures.cases c.in_ok-below.ensures (c.in_ok-put_continuation.ensures ∙ ap (λ n. continued (continuation.Each c.args.place (record c.args.each { at = n })) (context c.args.stack.now.items)) c.requires)
+    λ e p. each_entered c.args.each c.deeper-below.result c.in_ok-body.body c.args.place (context c.args.stack.now.items) (context c.put_continuation.new.stack.items) e p c.in_ok-body.ensures.cases c.deeper-below.ensures (c.in_ok-put_continuation.ensures ∙ ap (λ n. continued (continuation.Each c.args.place (record c.args.each { at = n })) (context c.args.stack.now.items)) c.requires)

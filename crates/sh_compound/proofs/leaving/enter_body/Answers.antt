@@ -5,7 +5,7 @@ use Rattle.sh_compound.proofs.leaving.enter_body.Goals as goal
 
 pub returns-then-goes_on : goal.returns-then-goes_on
 returns-then-goes_on c =
-    λ p. loop_entered c.args.left c.args.last c.goes_on.result c.in_ok-below.below c.in_ok-body.body c.args.place (context c.args.stack.now.items) (context c.put_continuation.new.stack.items) (shell_of c.args.state.now) p c.goes_on.ensures c.if-goes_on.true c.in_ok-body.ensures.cases c.in_ok-below.ensures c.in_ok-put_continuation.ensures
+    λ p. loop_entered c.args.left c.args.last c.goes_on.result c.deeper-below.result c.in_ok-body.body c.args.place (context c.args.stack.now.items) (context c.put_continuation.new.stack.items) (shell_of c.args.state.now) p c.goes_on.ensures c.if-goes_on.true c.in_ok-body.ensures.cases c.deeper-below.ensures c.in_ok-put_continuation.ensures
 
 pub returns : goal.returns
 returns c =
