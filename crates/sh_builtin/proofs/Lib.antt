@@ -2,3 +2,4 @@ pub mod Alone
 pub mod Assigning
 pub mod Ending
 pub mod Paying
+pub mod Refusing

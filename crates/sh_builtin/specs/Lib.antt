@@ -14,3 +14,4 @@ pub mod Reads
 pub mod Stages
 pub mod Telling
 pub mod Tests
+pub mod Refused

@@ -4,8 +4,10 @@ use Rattle.rk_calls.specs.declared.answer.Answer.{Answer}
 use Rattle.rk_calls.specs.Brought.{brought}
 use Rattle.sh_vars.specs.declared.env.Env.{Env}
 use Rattle.sh_builtin.specs.declared.stage.Stage.{Stage}
-use Rattle.sh_builtin.specs.declared.stage.Stage.TheVariants.{Begins, Writing, Walking, Reading, Printing, Paid, Judging, Over}
+use Rattle.sh_builtin.specs.declared.stage.Stage.TheVariants.{Writing, Walking, Reading, Printing, Paid, Judging, Over}
 use Rattle.sh_builtin.specs.declared.stage.Move.{Move}
+use Rattle.sh_builtin.specs.declared.stage.Progress.{Progress}
+use Rattle.sh_builtin.specs.declared.stage.Progress.TheVariants.{Begins, Stands}
 use Rattle.sh_builtin.specs.declared.builtin.Builtin.{Builtin}
 use Rattle.sh_builtin.specs.Builtins.{does}
 use Rattle.sh_builtin.specs.Cds.{walked}
@@ -18,7 +20,6 @@ use Rattle.sh_builtin.specs.Tests.{holds, status_of, inverted_if}
 
 -- by the answer
 abbrev pub stage_does : Stage → Answer → Doing
-stage_does (Begins words) a = does words
 stage_does (Writing name status) a = written name status (brought a)
 stage_does (Walking operand) a = walked operand a
 stage_does (Reading raw names marks) a = line_read reads_on raw names marks (brought a)
@@ -32,5 +33,9 @@ abbrev pub IsDoneBy : Doing → Env → Move → Env → Type 0
 IsDoneBy x env move env' =
     (slots : Slots) (k : Ended) (p : ℕ) → x slots k env p ≡ after slots move.turn (λ a. stage_does move.stage a slots k) k env' p
 
+abbrev pub progress_does : Progress → Answer → Doing
+progress_does (Begins words) a = does words
+progress_does (Stands stage) a = stage_does stage a
+
 abbrev pub builtin_does : Builtin → Answer → Doing
-builtin_does b a = stage_does b.stage a
+builtin_does b a = progress_does b.progress a

@@ -4,14 +4,17 @@ ghost use Rattle.rk_calls.specs.Costly.{IsCostly};
 ghost use Rattle.sh_vars.specs.declared.env.Env.{Env};
 ghost use Rattle.sh_builtin.specs.Builtins.{is_unknown, named_does, does};
 ghost use Rattle.sh_builtin.specs.Doing.{Slots, Ended, after};
-ghost use Rattle.sh_builtin.specs.Stages.{stage_does, IsDoneBy, builtin_does};
+ghost use Rattle.rk_calls.specs.declared.answer.Answer.TheVariants as answers;
+ghost use Rattle.rk_base.specs.declared.errno.Errno.TheVariants.{BadRef};
+ghost use Rattle.sh_builtin.specs.Refused.{HasBegun, HasBegunAt, IsFewer, refusals, refusals_at, refusals_of};
+ghost use Rattle.sh_builtin.specs.Stages.{stage_does, progress_does, IsDoneBy, builtin_does};
 
 use crate::cd::{cd, walked};
 use crate::echo::{echo, pwd};
 use crate::name::{Name, name_of};
 use crate::printf::{printf, tell_bad, write_made};
 use crate::read::{line_read, read};
-use crate::stage::{Move, Stage};
+use crate::stage::{Move, Progress, Stage};
 use crate::telling::{complain, over, written};
 use crate::test::{bracket, judged, test};
 use rk_base::{Bytes, NoMemory, WordList};
@@ -25,7 +28,7 @@ use std::mem;
 #[derive(Drop)]
 pub struct Builtin {
     alloc: Global,
-    stage: Stage,
+    progress: Progress,
 }
 
 // A word that names no builtin.
@@ -81,9 +84,9 @@ fn begin(alloc: Global, words: &[Bytes], env: &mut Env) -> Result<Move, NoMemory
 fn go_on(alloc: Global, stage: Stage, env: &mut Env, answer: Answer) -> Result<Move, NoMemory>
     ensures does { IfOk result (λ move. IsDoneBy (stage_does stage answer) env.old move env.new) }
     ensures costly { IfOk result (λ move. IsCostly move.turn) }
+    ensures refused { IfOk result (λ move. answer ≡ answers.No BadRef → IsFewer (refusals stage) move.turn (refusals move.stage)) }
 {
     match stage {
-        Stage::Begins(words) => begin(alloc, words.as_slice(), env),
         Stage::Writing(name, status) => written(alloc, name, status, answer),
         Stage::Walking(operand) => walked(alloc, operand, answer, env),
         Stage::Reading(raw, names, marks) => line_read(alloc, raw, names, marks, answer, env),
@@ -96,6 +99,22 @@ fn go_on(alloc: Global, stage: Stage, env: &mut Env, answer: Answer) -> Result<M
     }
 }
 
+fn next_move(
+    alloc: Global,
+    progress: Progress,
+    env: &mut Env,
+    answer: Answer,
+) -> Result<Move, NoMemory>
+    ensures does { IfOk result (λ move. IsDoneBy (progress_does progress answer) env.old move env.new) }
+    ensures costly { IfOk result (λ move. IsCostly move.turn) }
+    ensures refused { IfOk result (λ move. answer ≡ answers.No BadRef → HasBegunAt progress → IsFewer (refusals_at progress) move.turn (refusals move.stage)) }
+{
+    match progress {
+        Progress::Begins(words) => begin(alloc, words.as_slice(), env),
+        Progress::Stands(stage) => go_on(alloc, stage, env, answer),
+    }
+}
+
 impl Builtin {
     /// The builtin with these words, its name first, before its first turn. A word that names no builtin is told as
     /// unknown.
@@ -105,20 +124,22 @@ impl Builtin {
         let words = words.copy()?;
         Ok(Builtin {
             alloc,
-            stage: Stage::Begins(words),
+            progress: Progress::Begins(words),
         })
     }
 
     /// Its next turn. A call names a descriptor as the shell does: its owner asks it of the local number that the map has
-    /// for that, and where the map has none it asks and pays nothing and answers `BadRef`. The owner counts the local
-    /// numbers that an answer gives before it hands it on.
+    /// for that, and where the map has none it asks and pays nothing and answers `BadRef`, which leaves fewer such calls to
+    /// come. The owner counts the local numbers that an answer gives before it hands it on.
     pub fn resume(&mut self, env: &mut Env, answer: Answer) -> Result<Turn, NoMemory>
         ensures costly { IfOk result IsCostly }
+        ensures begun { IfOk result (λ t. HasBegun self.new) }
+        ensures refused { IfOk result (λ t. answer ≡ answers.No BadRef → HasBegun self.old → IsFewer (refusals_of self.old) t (refusals_of self.new)) }
         ensures does { IfOk result (λ t. (slots : Slots) (k : Ended) (p : ℕ) → builtin_does self.old answer slots k env.old p ≡ after slots t (λ a. builtin_does self.new a slots k) k env.new p) }
     {
-        let stage = mem::replace(&mut self.stage, Stage::Over(0));
-        let Move { turn, stage } = go_on(self.alloc, stage, env, answer)?;
-        self.stage = stage;
+        let progress = mem::replace(&mut self.progress, Progress::Stands(Stage::Over(0)));
+        let Move { turn, stage } = next_move(self.alloc, progress, env, answer)?;
+        self.progress = Progress::Stands(stage);
         Ok(turn)
     }
 }

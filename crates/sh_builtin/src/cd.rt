@@ -6,6 +6,7 @@ ghost use Rattle.sh_vars.specs.declared.env.Env.{Env};
 ghost use Rattle.sh_vars.specs.Held.{assigned, is_readonly};
 ghost use Rattle.sh_builtin.specs.Cds.{moves, walked, walks, cds};
 ghost use Rattle.sh_builtin.specs.declared.name.Name.TheVariants.{Cd};
+ghost use Rattle.sh_builtin.specs.Refused.{IsLast};
 ghost use Rattle.sh_builtin.specs.Stages.{IsDoneBy};
 ghost use Rattle.sh_builtin.specs.Telling.{complains};
 
@@ -33,6 +34,7 @@ pub(crate) fn assign(vars: &mut Vars, x: &[u8], value: &[u8]) -> Result<(), NoMe
 pub(crate) fn tell_readonly(alloc: Global, name: Name, x: &[u8]) -> Result<Move, NoMemory>
     ensures does { IfOk result (λ move. (env : Env) → IsDoneBy (complains name x.now (codes "readonly") 1) env move env) }
     ensures costly { IfOk result (λ move. IsCostly move.turn) }
+    ensures last { IfOk result IsLast }
 {
     complain(alloc, name, x, b"readonly", 1)
 }
@@ -40,6 +42,7 @@ pub(crate) fn tell_readonly(alloc: Global, name: Name, x: &[u8]) -> Result<Move,
 fn go_to(alloc: Global, place: Path, env: &mut Env) -> Result<Move, NoMemory>
     ensures does { IfOk result (λ move. IsDoneBy (moves place) env.old move env.new) }
     ensures costly { IfOk result (λ move. IsCostly move.turn) }
+    ensures last { IfOk result IsLast }
 {
     if env.vars.is_readonly(b"PWD") {
         return tell_readonly(alloc, Name::Cd, b"PWD");
@@ -52,6 +55,7 @@ fn go_to(alloc: Global, place: Path, env: &mut Env) -> Result<Move, NoMemory>
 fn refused(alloc: Global, operand: &[u8], errno: Errno) -> Result<Move, NoMemory>
     ensures does { IfOk result (λ move. (env : Env) → IsDoneBy (complains Cd operand.now (word errno) 1) env move env) }
     ensures costly { IfOk result (λ move. IsCostly move.turn) }
+    ensures last { IfOk result IsLast }
 {
     complain(alloc, Name::Cd, operand, errno.word().as_bytes(), 1)
 }
@@ -65,6 +69,7 @@ pub(crate) fn walked(
 ) -> Result<Move, NoMemory>
     ensures does { IfOk result (λ move. IsDoneBy (walked operand answer) env.old move env.new) }
     ensures costly { IfOk result (λ move. IsCostly move.turn) }
+    ensures last { IfOk result IsLast }
 {
     match answer {
         Answer::Place(place) => go_to(alloc, place, env),

@@ -1,10 +1,11 @@
 // `printf`.
-ghost use Rattle.std.specs.Prelude.{◌≡◌, IfOk, codes, drop};
+ghost use Rattle.std.specs.Prelude.{◌≡◌, ℕ, ◌-◌, IfOk, codes, drop, length};
 ghost use Rattle.rk_calls.specs.Costly.{IsCostly};
 ghost use Rattle.sh_vars.specs.declared.env.Env.{Env};
 ghost use Rattle.sh_builtin.specs.declared.name.Name.TheVariants.{Printf};
 ghost use Rattle.sh_operands.specs.Printed.{prints_of};
 ghost use Rattle.sh_builtin.specs.Prints.{bad_line, writes_made, puts_made, tells_bad, status_of, prints_pieces, prints};
+ghost use Rattle.sh_builtin.specs.Refused.{IsFewer, refusals};
 ghost use Rattle.sh_builtin.specs.Stages.{IsDoneBy};
 ghost use Rattle.sh_builtin.specs.Telling.{complains};
 
@@ -26,6 +27,7 @@ fn bad_line(alloc: Global, word: &[u8]) -> Result<Bytes, NoMemory>
 fn pay_made(alloc: Global, pieces: Format, operands: WordList, status: u8) -> Result<Move, NoMemory>
     ensures does { IfOk result (λ move. (env : Env) → IsDoneBy (puts_made (prints_of pieces operands).output status) env move env) }
     ensures costly { IfOk result (λ move. IsCostly move.turn) }
+    ensures no_call { IfOk result (λ move. (n m : ℕ) → IsFewer n move.turn m) }
 {
     let (bytes, _) = measured(alloc, pieces.as_slice(), operands.as_slice())?;
     if bytes == 0 {
@@ -46,6 +48,7 @@ pub(crate) fn write_made(
 ) -> Result<Move, NoMemory>
     ensures does { IfOk result (λ move. (env : Env) → IsDoneBy (writes_made (prints_of pieces operands).output status) env move env) }
     ensures costly { IfOk result (λ move. IsCostly move.turn) }
+    ensures fewer { IfOk result (λ move. IsFewer 2 move.turn (refusals move.stage)) }
 {
     let made = printed(alloc, pieces.as_slice(), operands.as_slice())?;
     let (output, _) = made.into_parts();
@@ -67,6 +70,7 @@ pub(crate) fn tell_bad(
 ) -> Result<Move, NoMemory>
     ensures does { IfOk result (λ move. (env : Env) → IsDoneBy (tells_bad (drop at bad) (prints_of pieces operands).output status) env move env) }
     ensures costly { IfOk result (λ move. IsCostly move.turn) }
+    ensures fewer { IfOk result (λ move. IsFewer (length bad - at) move.turn (refusals move.stage)) }
 {
     if at >= bad.len() {
         return pay_made(alloc, pieces, operands, status);

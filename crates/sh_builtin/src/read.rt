@@ -9,6 +9,9 @@ ghost use Rattle.sh_operands.specs.Words.{first_that, is_misnamed};
 ghost use Rattle.sh_builtin.specs.declared.name.Name.TheVariants.{Read as TheRead};
 ghost use Rattle.sh_builtin.specs.Lines.{line_of};
 ghost use Rattle.sh_builtin.specs.Reads.{first_value, assigns, ifs_of, takes, by_end, line_read, reads_on, reads_lines, unless_misnamed, reads_named, reads_into, reads};
+ghost use Rattle.rk_base.specs.declared.errno.Errno.TheVariants.{BadRef};
+ghost use Rattle.rk_calls.specs.declared.answer.Answer.TheVariants as answers;
+ghost use Rattle.sh_builtin.specs.Refused.{IsLast};
 ghost use Rattle.sh_builtin.specs.Stages.{IsDoneBy};
 ghost use Rattle.sh_builtin.specs.Telling.{complains};
 
@@ -111,6 +114,7 @@ fn by_end(
 fn refused(alloc: Global, errno: Errno) -> Result<Move, NoMemory>
     ensures does { IfOk result (λ move. (env : Env) → IsDoneBy (complains TheRead (codes "input") (word errno) 1) env move env) }
     ensures costly { IfOk result (λ move. IsCostly move.turn) }
+    ensures last { IfOk result IsLast }
 {
     complain(alloc, Name::Read, b"input", errno.word().as_bytes(), 1)
 }
@@ -142,8 +146,10 @@ pub(crate) fn line_read(
 ) -> Result<Move, NoMemory>
     ensures does { IfOk result (λ move. IsDoneBy (line_read reads_on raw names marks (brought answer)) env.old move env.new) }
     ensures costly { IfOk result (λ move. IsCostly move.turn) }
+    ensures refused { IfOk result (λ move. answer ≡ answers.No BadRef → IsLast move) }
 {
-    match brought(alloc, answer)? {
+    let it = brought(alloc, answer)?;
+    match it {
         Ok(text) => line_came(alloc, raw, names, marks, &text, env),
         Err(errno) => refused(alloc, errno),
     }

@@ -8,8 +8,6 @@ use sh_operands::{Format, Primary};
 /// What a builtin waits for, or does next.
 #[derive(Drop)]
 pub enum Stage {
-    /// It begins, with these words, its name first.
-    Begins(WordList),
     /// Its output is being written; it has this status then.
     Writing(Name, u8),
     /// This directory is looked up.
@@ -32,4 +30,11 @@ pub enum Stage {
 pub struct Move {
     pub turn: Turn,
     pub stage: Stage,
+}
+
+/// Where a builtin stands: before its first turn, with its words, its name first, or behind one.
+#[derive(Drop)]
+pub enum Progress {
+    Begins(WordList),
+    Stands(Stage),
 }

@@ -1,9 +1,10 @@
 // Lines of error text, output, and the end of a builtin.
-ghost use Rattle.std.specs.Prelude.{◌≡◌, IfOk};
+ghost use Rattle.std.specs.Prelude.{◌≡◌, ℕ, IfOk};
 ghost use Rattle.rk_calls.specs.Brought.{brought};
 ghost use Rattle.rk_calls.specs.Costly.{IsCostly};
 ghost use Rattle.sh_vars.specs.declared.env.Env.{Env};
 ghost use Rattle.sh_builtin.specs.Doing.{ends};
+ghost use Rattle.sh_builtin.specs.Refused.{IsFewer, IsLast};
 ghost use Rattle.sh_builtin.specs.Stages.{IsDoneBy};
 ghost use Rattle.sh_builtin.specs.Telling.{usage_line, tells, complains, written, puts};
 
@@ -18,6 +19,8 @@ use std::alloc::Global;
 pub(crate) fn over(status: u8) -> Move
     ensures does { (env : Env) → IsDoneBy (ends status) env result env }
     ensures costly { IsCostly result.turn }
+    ensures exits { (n m : ℕ) → IsFewer n result.turn m }
+    ensures last { IsLast result }
 {
     Move {
         turn: Turn::Exit(status, 0),
@@ -29,6 +32,7 @@ pub(crate) fn over(status: u8) -> Move
 pub(crate) fn tell(line: Bytes, status: u8) -> Move
     ensures does { (env : Env) → IsDoneBy (tells line status) env result env }
     ensures costly { IsCostly result.turn }
+    ensures last { IsLast result }
 {
     let cost = 1 + turns(line.as_slice());
     Move {
@@ -47,6 +51,7 @@ pub(crate) fn complain(
 ) -> Result<Move, NoMemory>
     ensures does { IfOk result (λ move. (env : Env) → IsDoneBy (complains name operand.now what.now status) env move env) }
     ensures costly { IfOk result (λ move. IsCostly move.turn) }
+    ensures last { IfOk result IsLast }
 {
     let line = error_line(alloc, name.text().as_bytes(), operand, what)?;
     Ok(tell(line, status))
@@ -80,6 +85,7 @@ pub(crate) fn written(
 ) -> Result<Move, NoMemory>
     ensures does { IfOk result (λ move. (env : Env) → IsDoneBy (written name status (brought answer)) env move env) }
     ensures costly { IfOk result (λ move. IsCostly move.turn) }
+    ensures last { IfOk result IsLast }
 {
     match brought(alloc, answer)? {
         Ok(_) => Ok(over(status)),

@@ -4,6 +4,7 @@ ghost use Rattle.rk_calls.specs.Costly.{IsCostly};
 ghost use Rattle.sh_vars.specs.declared.env.Env.{Env};
 ghost use Rattle.sh_builtin.specs.declared.name.Name.TheVariants.{Test as TestName};
 ghost use Rattle.sh_builtin.specs.Doing.{ends};
+ghost use Rattle.sh_builtin.specs.Refused.{IsLast};
 ghost use Rattle.sh_builtin.specs.Stages.{IsDoneBy};
 ghost use Rattle.sh_builtin.specs.Telling.{complains};
 ghost use Rattle.sh_builtin.specs.Tests.{holds, status_of, inverted_if, judges, tests, is_closing, brackets};
@@ -52,6 +53,7 @@ fn holds(primary: Primary, answer: Answer) -> bool
 pub(crate) fn judged(primary: Primary, negated: bool, answer: Answer) -> Move
     ensures does { (env : Env) → IsDoneBy (ends (status_of (inverted_if negated (holds primary answer)))) env result env }
     ensures costly { IsCostly result.turn }
+    ensures last { IsLast result }
 {
     let holds = inverted_if(negated, holds(primary, answer));
     over(status_of(holds))

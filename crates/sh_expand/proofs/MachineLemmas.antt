@@ -88,7 +88,7 @@ part_goes old mid new part acted e r l i b s does less h =
 
     smaller : (r : Option Wants) → IsSmaller r (size_of mid + acted_size acted + 1) new → IsSmaller r (size_of old) new
     smaller None h = let t = total in omega arith
-    smaller (Some t) h = tt
+    smaller (Some t) h = h
 
 -- past the last part
 pub word_ends : (old new : Machine) (before_e e : Env) (r : Option Wants) → left_of old.level ≡ no_parts → EndsAs old before_e new e r → Advances old before_e new e r
@@ -100,4 +100,4 @@ word_ends old new before_e e r l h =
   where
     smaller : (r : Option Wants) → IsSmaller r (stack_size old.stack.items) new → IsSmaller r (size_of old) new
     smaller None h = omega arith
-    smaller (Some t) h = tt
+    smaller (Some t) h = h

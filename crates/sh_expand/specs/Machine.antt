@@ -81,9 +81,17 @@ abbrev pub turned : (ℕ → Body) → Option Wants → Machine → Ended → Fa
 turned body None x k fail e p = goes_on body x k fail e p
 turned body (Some t) x k fail e p = after_wants t x body k fail e p
 
+-- no body is to be evaluated
+abbrev pub IsNoBody : Wants → Type 0
+IsNoBody wants.Pipe = Unit {0}
+IsNoBody (wants.Read from) = Unit {0}
+IsNoBody (wants.Evaluate n) = ⊥
+IsNoBody (wants.Done marks) = Unit {0}
+IsNoBody (wants.Fault parameter message) = Unit {0}
+
 abbrev pub IsSmaller : Option Wants → ℕ → Machine → Type 0
 IsSmaller None n x = size_of x < n
-IsSmaller (Some t) n x = Unit {0}
+IsSmaller (Some t) n x = IsNoBody t
 
 -- after a part has acted
 pub record ActedOn (old : Machine) (acted : Acted) (e : Env) (new : Machine) (r : Option Wants) : Type 0 where
@@ -103,3 +111,18 @@ pub record Advances (old : Machine) (before_e : Env) (new : Machine) (e : Env) (
 -- from before a part on to what is wanted
 abbrev pub Runs : Machine → Env → Machine → Env → Wants → Type 0
 Runs old before_e new e t = (body : ℕ → Body) (k : Ended) (fail : Failed) (p : ℕ) → goes_on body old k fail before_e p ≡ after_wants t new body k fail e p
+
+-- how many bodies are to be evaluated before anything else is wanted: that of a substitution whose pipe was asked
+abbrev pub bodies_at : Stage → ℕ
+bodies_at Before = 0
+bodies_at (Piped n quoted from) = 1
+bodies_at (Evaluates quoted from) = 0
+bodies_at (Reads quoted) = 0
+
+-- a body is wanted where there is one, and then there is one less
+abbrev pub IsDue : ℕ → Wants → ℕ → Type 0
+IsDue n wants.Pipe m = Unit {0}
+IsDue n (wants.Read from) m = Unit {0}
+IsDue n (wants.Evaluate i) m = m < n
+IsDue n (wants.Done marks) m = Unit {0}
+IsDue n (wants.Fault parameter message) m = Unit {0}

@@ -21,7 +21,7 @@ use Rattle.sh_expand.specs.declared.expander.Expanding.TheVariants.{Ask, More, B
 use Rattle.sh_expand.specs.Expands.{Go_on, Body, Failed, counted}
 use Rattle.sh_expand.specs.Fields.{With_fields, all_names, or_as_was}
 use Rattle.sh_expand.specs.Means.{With_expanded, finished, pay_fields}
-use Rattle.sh_expand.specs.Machine.{says}
+use Rattle.sh_expand.specs.Machine.{says, bodies_at}
 
 -- the fields whose pathnames are still to be looked for
 abbrev pub fields_left : Names → List Marks
@@ -66,10 +66,27 @@ expander_says x a body k fail e p = at_step x.step x.mode a body k fail e p
 abbrev pub after_turn : Expanding → Expander → (ℕ → Body) → With_expanded → Failed → Go_on
 after_turn t x body k fail e p = after_step t x.step x.mode body k fail e p
 
--- each call costs a turn or more
+-- each call and each payment costs a turn or more, and no body is to be evaluated
 abbrev pub IsCostly : Expanding → Type 0
 IsCostly (Ask call c) = 1 ≤ c
-IsCostly (More c) = Unit {0}
-IsCostly (Evaluate n) = Unit {0}
+IsCostly (More c) = 1 ≤ c
+IsCostly (Evaluate n) = ⊥
 IsCostly (Done expanded c) = Unit {0}
 IsCostly (Fault fault c) = Unit {0}
+
+-- how many bodies are to be evaluated before anything else is wanted
+abbrev pub bodies_behind : Phase → ℕ
+bodies_behind (step.Parts machine) = bodies_at machine.stage
+bodies_behind (step.Looks glob text names) = 0
+bodies_behind step.Over = 0
+
+abbrev pub bodies_due : Expander → ℕ
+bodies_due x = bodies_behind x.step
+
+-- each call and each payment costs a turn or more, and where a body is to be evaluated, one less is due than before
+abbrev pub Paces : ℕ → Expanding → ℕ → Type 0
+Paces n (Ask call c) m = 1 ≤ c
+Paces n (More c) m = 1 ≤ c
+Paces n (Evaluate i) m = m < n
+Paces n (Done expanded c) m = Unit {0}
+Paces n (Fault fault c) m = Unit {0}

@@ -9,7 +9,8 @@ ghost use Rattle.sh_expand.specs.declared.mode.Mode.{Mode};
 ghost use Rattle.sh_expand.specs.Expands.{Body, Failed};
 ghost use Rattle.sh_expand.specs.Fields.{With_fields, ifs};
 ghost use Rattle.sh_expand.specs.Means.{With_expanded, all_bytes, splits, finished, pay_fields, expand_in, parts_of};
-ghost use Rattle.sh_expand.specs.Turns.{fields_left, all_left, looks, named_talk, at_step, after_step, expander_says, after_turn, IsCostly};
+ghost use Rattle.sh_expand.specs.Machine.{bodies_at};
+ghost use Rattle.sh_expand.specs.Turns.{fields_left, all_left, looks, named_talk, at_step, after_step, expander_says, after_turn, IsCostly, Paces, bodies_behind, bodies_due};
 
 use crate::glob::Glob;
 use crate::machine::{Machine, Wants};
@@ -189,7 +190,7 @@ fn on_parts(
     answer: Answer,
 ) -> Result<(Phase, Expanding), NoMemory>
     ensures talk { IfOk result (λ r. (body : ℕ → Body) (k : With_expanded) (fail : Failed) (p : ℕ) → at_step (Phase.Parts machine) mode answer body k fail env.old p ≡ after_step r.1 r.0 mode body k fail env.new p) }
-    ensures costly { IfOk result (λ r. IsCostly r.1) }
+    ensures costly { IfOk result (λ r. Paces (bodies_at machine.stage) r.1 (bodies_behind r.0)) }
 {
     let mut machine = machine;
     match machine.resume(env, answer)? {
@@ -216,7 +217,7 @@ fn go_on(
     answer: Answer,
 ) -> Result<(Phase, Expanding), NoMemory>
     ensures talk { IfOk result (λ r. (body : ℕ → Body) (k : With_expanded) (fail : Failed) (p : ℕ) → at_step step mode answer body k fail env.old p ≡ after_step r.1 r.0 mode body k fail env.new p) }
-    ensures costly { IfOk result (λ r. IsCostly r.1) }
+    ensures costly { IfOk result (λ r. Paces (bodies_behind step) r.1 (bodies_behind r.0)) }
 {
     match step {
         Phase::Parts(machine) => {
@@ -253,7 +254,7 @@ impl Expander {
     /// has counted `next` on by it; after `More` with `Go`; after `Body` with `Go`, once that body was evaluated; and after
     /// `Done` and `Fault` not again. A readonly variable or a parameter that is unset is told by `Fault`.
     pub fn resume(&mut self, env: &mut Env, answer: Answer) -> Result<Expanding, NoMemory>
-        ensures costly { IfOk result IsCostly }
+        ensures costly { IfOk result (λ t. Paces (bodies_due self.old) t (bodies_due self.new)) }
         ensures talk { IfOk result (λ t. (body : ℕ → Body) (k : With_expanded) (fail : Failed) (p : ℕ) → expander_says self.old answer body k fail env.old p ≡ after_turn t self.new body k fail env.new p) }
     {
         let step = mem::replace(&mut self.step, Phase::Over);

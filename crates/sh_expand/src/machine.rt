@@ -3,7 +3,7 @@ ghost use Rattle.std.specs.Prelude.{◌≡◌, ◌++◌, ◌∷◌, [], ℕ, IfO
 ghost use Rattle.sh_ast.specs.Words.{parts};
 ghost use Rattle.sh_vars.specs.declared.env.Env.{Env};
 ghost use Rattle.sh_expand.specs.Expands.{Body, Ended, Failed, expand};
-ghost use Rattle.sh_expand.specs.Machine.{says, after_wants, ActedOn, EndsAs, Advances, Runs};
+ghost use Rattle.sh_expand.specs.Machine.{says, after_wants, ActedOn, EndsAs, Advances, Runs, IsNoBody, IsDue, bodies_at};
 
 use crate::acts::{Acted, Then, leave};
 use crate::answers::put_captured;
@@ -156,7 +156,8 @@ fn advance(x: &mut Machine, env: &mut Env) -> Result<Option<Wants>, NoMemory>
 
 // Goes on to the next call, body or end.
 fn run(x: &mut Machine, env: &mut Env) -> Result<Wants, NoMemory>
-    ensures { IfOk result (λ t. Runs x.old env.old x.new env.new t) }
+    ensures talk { IfOk result (λ t. Runs x.old env.old x.new env.new t) }
+    ensures no_body { IfOk result IsNoBody }
 {
     'parts: loop {
         match advance(x, env)? {
@@ -188,7 +189,8 @@ impl Machine {
     /// What it wants next, in this state. It is resumed first with `Go`, after `Ask` with the call's answer, after
     /// `Evaluate` with `Go` once that body was evaluated, and after `Done` and `Fault` not again.
     pub(crate) fn resume(&mut self, env: &mut Env, answer: Answer) -> Result<Wants, NoMemory>
-        ensures { IfOk result (λ t. (body : ℕ → Body) (k : Ended) (fail : Failed) (p : ℕ) → says self.old answer body k fail env.old p ≡ after_wants t self.new body k fail env.new p) }
+        ensures talk { IfOk result (λ t. (body : ℕ → Body) (k : Ended) (fail : Failed) (p : ℕ) → says self.old answer body k fail env.old p ≡ after_wants t self.new body k fail env.new p) }
+        ensures due { IfOk result (λ t. IsDue (bodies_at self.old.stage) t (bodies_at self.new.stage)) }
     {
         let stage = mem::replace(&mut self.stage, Stage::Before);
         match stage {
