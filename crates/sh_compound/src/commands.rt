@@ -7,10 +7,11 @@ ghost use Rattle.sh_means.specs.Eval.{command_in, commands_in, compound_in, redi
 ghost use Rattle.sh_means.specs.Compound.{define_means, pipeline_means, piped_means, and_or_means, compound_means, seq_all};
 ghost use Rattle.sh_means.specs.Trees.{is_one, cleared};
 ghost use Rattle.sh_means.specs.Run.{run};
-ghost use Rattle.sh_means.specs.Stack.{Steps, Goes, IsStep, context, commands_from, first_of, whole};
+ghost use Rattle.sh_means.specs.Stack.{Steps, Goes, context, commands_from, first_of, whole};
 ghost use Rattle.sh_means.specs.State.{Shell, function_tree};
 ghost use Rattle.sh_means.specs.declared.flow.Place.{Place as Places};
 ghost use Rattle.sh_means.specs.Views.{shell_of};
+ghost use Rattle.sh_means.specs.Weights.{Lowers, Pays};
 
 use rk_base::{Bytes, NoMemory, WordList};
 use rk_calls::Answer;
@@ -29,7 +30,7 @@ use std::rc::Rc;
 // A simple command begins with its words.
 fn act_simple(alloc: Global, place: Place, command: &Rc<SimpleCommand>) -> Result<Acted, NoMemory>
     ensures talk { IfOk result (λ t. (k : Next) (e : Shell) → Steps (simple_in run (tree.simple_command command.now.value) place e k) k e t) }
-    ensures costly { IfOk result (λ t. IsStep t.turn) }
+    ensures costly { IfOk result Pays }
 {
     let command = command.clone()?;
     let words = command.words.clone()?;
@@ -54,7 +55,7 @@ pub fn act_redirected(
     state: &State,
 ) -> Result<Acted, NoMemory>
     ensures talk { IfOk result (λ t. (k : Next) → Steps (compound_means (redirects_in run (tree.redirects redirects.now.value)) (compound_in run (tree.compound body.now.value)) place (shell_of state.now) k) k (shell_of state.now) t) }
-    ensures costly { IfOk result (λ t. IsStep t.turn) }
+    ensures costly { IfOk result Pays }
 {
     let redirects = redirects.clone()?;
     let body = body.clone()?;
@@ -79,7 +80,7 @@ fn act_function(
     state: &mut State,
 ) -> Result<Acted, NoMemory>
     ensures talk { IfOk result (λ t. (place : Places) (k : Next) → Steps (define_means name.now (function_tree (tree.compound body.now.value) (tree.redirects redirects.now.value)) place (shell_of state.old) k) k (shell_of state.new) t) }
-    ensures costly { IfOk result (λ t. IsStep t.turn) }
+    ensures costly { IfOk result Pays }
 {
     let body = body.clone()?;
     let redirects = redirects.clone()?;
@@ -113,7 +114,7 @@ fn act_pipeline(
     stack: &mut Vec<Frame>,
 ) -> Result<Acted, NoMemory>
     ensures talk { IfOk result (λ t. (e : Shell) → Steps (pipeline_means negated (commands_in run (tree.commands commands.now.value)) place e (context stack.old.items)) (context stack.new.items) e t) }
-    ensures costly { IfOk result (λ t. IsStep t.turn) }
+    ensures costly { IfOk result Pays }
 {
     let commands = commands.clone()?;
     if negated {
@@ -136,7 +137,7 @@ fn act_and_or(
     stack: &mut Vec<Frame>,
 ) -> Result<Acted, NoMemory>
     ensures talk { IfOk result (λ t. (e : Shell) → Steps (and_or_means (commands_in run (tree.commands pipelines.now.value)) connectors.now.value.items.items place e (context stack.old.items)) (context stack.new.items) e t) }
-    ensures costly { IfOk result (λ t. IsStep t.turn) }
+    ensures costly { IfOk result Pays }
 {
     let list = pipelines.clone()?;
     let rest = pipelines.clone()?;
@@ -161,7 +162,7 @@ fn act_command(
     state: &mut State,
 ) -> Result<Acted, NoMemory>
     ensures talk { IfOk result (Steps (command_in run (tree.command command.now) place (shell_of state.old) (context stack.old.items)) (context stack.new.items) (shell_of state.new)) }
-    ensures costly { IfOk result (λ t. IsStep t.turn) }
+    ensures costly { IfOk result Pays }
 {
     match command {
         Command::Simple(command) => {
@@ -197,7 +198,7 @@ pub fn act_one(
     state: &mut State,
 ) -> Result<Acted, NoMemory>
     ensures talk { IfOk result (Steps (first_of (commands_from list.now at) place (shell_of state.old) (context stack.old.items)) (context stack.new.items) (shell_of state.new)) }
-    ensures costly { IfOk result (λ t. IsStep t.turn) }
+    ensures costly { IfOk result (Lowers 1 stack.old.items stack.new.items) }
 {
     match list.get(at) {
         Some(command) => {
@@ -218,7 +219,7 @@ pub fn act_run(
     state: &mut State,
 ) -> Result<Acted, NoMemory>
     ensures talk { IfOk result (Steps (seq_all (commands_from list.value at) place (shell_of state.old) (context stack.old.items)) (context stack.new.items) (shell_of state.new)) }
-    ensures costly { IfOk result (λ t. IsStep t.turn) }
+    ensures costly { IfOk result (Lowers 1 stack.old.items stack.new.items) }
 {
     let rest = list.clone()?;
     match list.get(at) {
@@ -251,7 +252,7 @@ pub fn act_whole(
     state: &mut State,
 ) -> Result<Acted, NoMemory>
     ensures talk { IfOk result (Steps (whole list.value place (shell_of state.old) (context stack.old.items)) (context stack.new.items) (shell_of state.new)) }
-    ensures costly { IfOk result (λ t. IsStep t.turn) }
+    ensures costly { IfOk result (Lowers 1 stack.old.items stack.new.items) }
 {
     clear_if_empty(&list, state);
     let acted = act_run(alloc, place, list, 0, stack, state)?;

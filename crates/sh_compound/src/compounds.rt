@@ -1,5 +1,5 @@
 // Compound commands, once their redirections were made.
-ghost use Rattle.std.specs.Prelude.{◌≡◌, ◌+◌, ℕ, IfOk, OnOk, drop, not, Some};
+ghost use Rattle.std.specs.Prelude.{◌≡◌, ◌≤◌, ◌<◌, ◌+◌, ◌*◌, ℕ, IfOk, OnOk, drop, not, Some};
 ghost use Rattle.rk_base.specs.Text.{Text};
 ghost use Rattle.sh_ast.specs.Commands as tree;
 ghost use Rattle.sh_vars.specs.Held.{assigned, is_readonly};
@@ -9,9 +9,10 @@ ghost use Rattle.sh_means.specs.Compound.{for_each, for_fields, for_means, if_me
 ghost use Rattle.sh_means.specs.Eval.{compound_in, for_in, items_in, word_in, is_until};
 ghost use Rattle.sh_means.specs.Run.{run};
 ghost use Rattle.sh_means.specs.Simple.{Round};
-ghost use Rattle.sh_means.specs.Stack.{Steps, Goes, IsStep, context, branches_from, commands_from, first_of, whole, casing, looping, each_body, giving};
+ghost use Rattle.sh_means.specs.Stack.{Steps, Goes, context, branches_from, commands_from, first_of, whole, casing, looping, each_body, giving};
 ghost use Rattle.sh_means.specs.State.{Shell, with_slot, past_stage};
 ghost use Rattle.sh_means.specs.Views.{shell_of};
+ghost use Rattle.sh_means.specs.Weights.{Lowers, Pays, Sinks, branches_left, items_left, weigh, weigh_all, weigh_case, weigh_compound, weigh_for};
 ghost use Rattle.sh_means.specs.Trees.{for_words_of, given_if};
 
 use rk_base::{Bytes, NoMemory, WordList};
@@ -40,7 +41,8 @@ fn act_subshell(
     stack: &mut Vec<Frame>,
     state: &State,
 ) -> Result<Control, NoMemory>
-    ensures { IfOk result (Goes (subshell_means (whole list.now.value) place (shell_of state.now) (context stack.old.items)) (context stack.new.items) (shell_of state.now)) }
+    ensures talk { IfOk result (Goes (subshell_means (whole list.now.value) place (shell_of state.now) (context stack.old.items)) (context stack.new.items) (shell_of state.now)) }
+    ensures weight { IfOk result (λ c. weigh c + weigh_all stack.new.items ≤ 3 + weigh_all stack.old.items) }
 {
     let list = list.clone()?;
     let saved = state.save(alloc)?;
@@ -58,7 +60,8 @@ fn act_for(
     body: &Rc<CommandList>,
     state: &mut State,
 ) -> Result<Control, NoMemory>
-    ensures { IfOk result (λ c. (k : Next) → Goes (for_means name.now (for_in run (for_words_of words.now)) (whole body.now.value) place (shell_of state.old) k) k (shell_of state.new) c) }
+    ensures talk { IfOk result (λ c. (k : Next) → Goes (for_means name.now (for_in run (for_words_of words.now)) (whole body.now.value) place (shell_of state.old) k) k (shell_of state.new) c) }
+    ensures weight { IfOk result (λ c. weigh c ≤ weigh_for (for_words_of words.now)) }
 {
     let name = name.copy()?;
     let body = body.clone()?;
@@ -90,7 +93,8 @@ fn act_case(
     word: &Rc<Word>,
     items: &Rc<CaseItems>,
 ) -> Result<Control, NoMemory>
-    ensures { IfOk result (λ c. (k : Next) (e : Shell) → Goes (case_means (word_in run (tree.word word.now.value)) (items_in run (tree.case_items items.now.value)) place e k) k e c) }
+    ensures talk { IfOk result (λ c. (k : Next) (e : Shell) → Goes (case_means (word_in run (tree.word word.now.value)) (items_in run (tree.case_items items.now.value)) place e k) k e c) }
+    ensures weight { IfOk result (λ c. weigh c ≤ items_left items.now.value 0 0 + 8) }
 {
     let word = word.clone()?;
     let items = items.clone()?;
@@ -104,7 +108,8 @@ fn act_loop(
     condition: &Rc<CommandList>,
     body: &Rc<CommandList>,
 ) -> Result<Control, NoMemory>
-    ensures { IfOk result (λ c. (k : Next) (e : Shell) → Goes (run (Round 0 (is_until kind) (tree.commands condition.now.value) (tree.commands body.now.value)) place e k) k e c) }
+    ensures talk { IfOk result (λ c. (k : Next) (e : Shell) → Goes (run (Round 0 (is_until kind) (tree.commands condition.now.value) (tree.commands body.now.value)) place e k) k e c) }
+    ensures weight { IfOk result (λ c. weigh c ≡ 0) }
 {
     let condition = condition.clone()?;
     let body = body.clone()?;
@@ -127,7 +132,8 @@ pub fn act_compound(
     stack: &mut Vec<Frame>,
     state: &mut State,
 ) -> Result<Control, NoMemory>
-    ensures { IfOk result (Goes (compound_in run (tree.compound body.now) place (shell_of state.old) (context stack.old.items)) (context stack.new.items) (shell_of state.new)) }
+    ensures talk { IfOk result (Goes (compound_in run (tree.compound body.now) place (shell_of state.old) (context stack.old.items)) (context stack.new.items) (shell_of state.new)) }
+    ensures weight { IfOk result (λ c. weigh c + weigh_all stack.new.items < weigh_compound body.now + weigh_all stack.old.items) }
 {
     match body {
         Compound::Group(list) => {
@@ -166,7 +172,8 @@ pub fn act_if(
     otherwise: Rc<CommandList>,
     stack: &mut Vec<Frame>,
 ) -> Result<Control, NoMemory>
-    ensures { IfOk result (λ c. (e : Shell) → Goes (if_means (branches_from branches.value at) (whole otherwise.value) place e (context stack.old.items)) (context stack.new.items) e c) }
+    ensures talk { IfOk result (λ c. (e : Shell) → Goes (if_means (branches_from branches.value at) (whole otherwise.value) place e (context stack.old.items)) (context stack.new.items) e c) }
+    ensures weight { IfOk result (λ c. weigh c + weigh_all stack.new.items ≤ 3 * branches_left branches.value at + 1 + weigh_all stack.old.items) }
 {
     let rest = branches.clone()?;
     match branches.get(at) {
@@ -206,7 +213,7 @@ pub fn act_round(
     stack: &mut Vec<Frame>,
 ) -> Result<Acted, NoMemory>
     ensures talk { IfOk result (λ t. (e : Shell) → Steps (run (Round last (looping left) (tree.commands left.condition.value) (tree.commands left.body.value)) place e (context stack.old.items)) (context stack.new.items) e t) }
-    ensures costly { IfOk result (λ t. IsStep t.turn) }
+    ensures costly { IfOk result Pays }
 {
     let condition = left.condition.clone()?;
     let below = deeper(place);
@@ -233,7 +240,7 @@ fn give(state: &mut State, name: &[u8], value: &[u8]) -> Result<bool, NoMemory>
 /// A `for` goes on with its next field, which it pays for.
 pub fn act_each(place: Place, each: Each) -> Acted
     ensures talk { (k : Next) (e : Shell) → Steps (for_each each.name (drop each.at each.fields) (whole each.body.value) place k e) k e result }
-    ensures costly { IsStep result.turn }
+    ensures costly { Sinks 1 result }
 {
     if each.at < each.fields.len() {
         paid(Control::CompoundStep(CompoundStep::Gives(place, each)))
@@ -250,7 +257,8 @@ fn enter_body(
     stack: &mut Vec<Frame>,
 ) -> Result<Control, NoMemory>
     requires { next ≡ each.at + 1 }
-    ensures { IfOk result (λ c. (e : Shell) → Goes (each_body each place (context stack.old.items) e) (context stack.new.items) e c) }
+    ensures talk { IfOk result (λ c. (e : Shell) → Goes (each_body each place (context stack.old.items) e) (context stack.new.items) e c) }
+    ensures weight { IfOk result (λ c. weigh c + weigh_all stack.new.items ≤ 3 + weigh_all stack.old.items) }
 {
     let body = each.body.clone()?;
     let below = deeper(place);
@@ -269,7 +277,7 @@ pub fn act_gives(
     state: &mut State,
 ) -> Result<Acted, NoMemory>
     ensures talk { IfOk result (Steps (giving each place (context stack.old.items) (shell_of state.old)) (context stack.new.items) (shell_of state.new)) }
-    ensures costly { IfOk result (λ t. IsStep t.turn) }
+    ensures costly { IfOk result (Lowers 4 stack.old.items stack.new.items) }
 {
     let fields = each.fields.as_slice();
     match item_at(fields, each.at) {
@@ -296,7 +304,7 @@ pub fn act_case_at(
     state: &mut State,
 ) -> Result<Acted, NoMemory>
     ensures talk { IfOk result (λ t. (k : Next) → Steps (casing left left.pattern place k (shell_of state.old)) k (shell_of state.new) t) }
-    ensures costly { IfOk result (λ t. IsStep t.turn) }
+    ensures costly { IfOk result (Sinks (weigh_case left)) }
 {
     let items = left.items.clone()?;
     match items.get(left.at) {
@@ -330,7 +338,7 @@ pub fn act_stages(
     state: &mut State,
 ) -> Result<Acted, NoMemory>
     ensures talk { IfOk result (Steps (stages_mean input (commands_from list.value at) place (context stack.old.items) (shell_of state.old)) (context stack.new.items) (shell_of state.new)) }
-    ensures costly { IfOk result (λ t. IsStep t.turn) }
+    ensures costly { IfOk result (Lowers 3 stack.old.items stack.new.items) }
 {
     match list.get(at) {
         None => Ok(free(Control::Leave(Flow::Normal))),
@@ -377,7 +385,8 @@ pub fn act_stage(
     stack: &mut Vec<Frame>,
     state: &mut State,
 ) -> Result<Control, NoMemory>
-    ensures { IfOk result (Goes (first_of (commands_from list.value at) place (with_slot 1 (Some (number_after read_end)) (with_input input (shell_of state.old))) (λ f e. stages_mean (Some read_end) (commands_from list.value next) place (context stack.old.items) (past_stage (shell_of state.old) e))) (context stack.new.items) (shell_of state.new)) }
+    ensures talk { IfOk result (Goes (first_of (commands_from list.value at) place (with_slot 1 (Some (number_after read_end)) (with_input input (shell_of state.old))) (λ f e. stages_mean (Some read_end) (commands_from list.value next) place (context stack.old.items) (past_stage (shell_of state.old) e))) (context stack.new.items) (shell_of state.new)) }
+    ensures weight { IfOk result (λ c. weigh c + weigh_all stack.new.items ≤ 5 + weigh_all stack.old.items) }
 {
     let saved = state.save(alloc)?;
     let rest = list.clone()?;

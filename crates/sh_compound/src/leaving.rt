@@ -1,5 +1,5 @@
 // What a frame that is left leads to.
-ghost use Rattle.std.specs.Prelude.{◌≡◌, ◌≤◌, ◌==◌, ◌+◌, ◌^◌, IfOk, Bool, true, not, drop, if◌then◌else◌};
+ghost use Rattle.std.specs.Prelude.{◌≡◌, ◌≤◌, ◌<◌, ◌==◌, ◌+◌, ◌-◌, ◌*◌, ◌^◌, IfOk, Bool, true, not, drop, length, if◌then◌else◌};
 ghost use Rattle.sh_ast.specs.Commands as tree;
 ghost use Rattle.sh_means.specs.declared.control.Continuation.TheVariants as continuations;
 ghost use Rattle.sh_means.specs.declared.control.Undo.TheVariants as undos;
@@ -11,6 +11,7 @@ ghost use Rattle.sh_means.specs.Run.{run};
 ghost use Rattle.sh_means.specs.Stack.{Goes, context, continued, undone, commands_from, whole, looping, resumed};
 ghost use Rattle.sh_means.specs.State.{Shell};
 ghost use Rattle.sh_means.specs.Views.{shell_of};
+ghost use Rattle.sh_means.specs.Weights.{branches_left, weigh, weigh_all, weigh_continuation, weigh_undo};
 
 use crate::compounds::deeper;
 use crate::undoing::{put_back, put_back_variables};
@@ -25,7 +26,8 @@ use std::rc::Rc;
 
 // After a command of a list.
 fn leave_rest(place: Place, list: Rc<CommandList>, at: usize, flow: Flow) -> Control
-    ensures { (k : Next) (e : Shell) → Goes (continued (continuations.Rest place list at) k flow e) k e result }
+    ensures talk { (k : Next) (e : Shell) → Goes (continued (continuations.Rest place list at) k flow e) k e result }
+    ensures weight { weigh result ≤ 1 }
 {
     match flow {
         Flow::Normal => Control::Run(place, list, at),
@@ -49,7 +51,8 @@ fn takes(connector: Connector, status: u8) -> bool
 // The pipeline at a place of an AND-OR list; only at the last a failing status is not ignored.
 fn enter(place: Place, list: Rc<CommandList>, at: usize) -> Control
     requires { at ≤ 2 ^ 63 }
-    ensures { (k : Next) (e : Shell) → Goes (linked true (commands_from list.value at) place k e) k e result }
+    ensures talk { (k : Next) (e : Shell) → Goes (linked true (commands_from list.value at) place k e) k e result }
+    ensures weight { weigh result ≤ 1 }
 {
     let next = at + 1;
     match list.get(next) {
@@ -67,7 +70,8 @@ fn enter(place: Place, list: Rc<CommandList>, at: usize) -> Control
 // The pipeline at a place of an AND-OR list is taken, or passed over.
 fn link(place: Place, list: Rc<CommandList>, at: usize, taken: bool) -> Control
     requires { at ≤ 2 ^ 63 }
-    ensures { (k : Next) (e : Shell) → Goes (linked taken (commands_from list.value at) place k e) k e result }
+    ensures talk { (k : Next) (e : Shell) → Goes (linked taken (commands_from list.value at) place k e) k e result }
+    ensures weight { weigh result ≤ 1 }
 {
     if taken {
         enter(place, list, at)
@@ -85,7 +89,8 @@ fn links(
     stack: &mut Vec<Frame>,
     state: &State,
 ) -> Result<Control, NoMemory>
-    ensures { IfOk result (Goes (links_mean (commands_from list.value (at + 1)) (drop at connectors.value.items.items) place (context stack.old.items) (shell_of state.now)) (context stack.new.items) (shell_of state.now)) }
+    ensures talk { IfOk result (Goes (links_mean (commands_from list.value (at + 1)) (drop at connectors.value.items.items) place (context stack.old.items) (shell_of state.now)) (context stack.new.items) (shell_of state.now)) }
+    ensures weight { IfOk result (λ c. weigh c + weigh_all stack.new.items ≤ 2 * (length connectors.value.items.items - at) + weigh_all stack.old.items) }
 {
     let rest = list.clone()?;
     let later = connectors.clone()?;
@@ -108,7 +113,8 @@ fn leave_links(
     stack: &mut Vec<Frame>,
     state: &State,
 ) -> Result<Control, NoMemory>
-    ensures { IfOk result (Goes (continued (continuations.Links place list at connectors) (context stack.old.items) flow (shell_of state.now)) (context stack.new.items) (shell_of state.now)) }
+    ensures talk { IfOk result (Goes (continued (continuations.Links place list at connectors) (context stack.old.items) flow (shell_of state.now)) (context stack.new.items) (shell_of state.now)) }
+    ensures weight { IfOk result (λ c. weigh c + weigh_all stack.new.items ≤ 2 * (length connectors.value.items.items - at) + weigh_all stack.old.items) }
 {
     match flow {
         Flow::Normal => links(place, list, at, connectors, stack, state),
@@ -129,7 +135,8 @@ fn leave_choose(
     flow: Flow,
     state: &State,
 ) -> Control
-    ensures { (k : Next) → Goes (continued (continuations.Choose place body branches at otherwise) k flow (shell_of state.now)) k (shell_of state.now) result }
+    ensures talk { (k : Next) → Goes (continued (continuations.Choose place body branches at otherwise) k flow (shell_of state.now)) k (shell_of state.now) result }
+    ensures weight { weigh result ≤ 3 * branches_left branches.value at + 2 }
 {
     match flow {
         Flow::Normal => {
@@ -159,7 +166,8 @@ fn leave_loop(n: u64) -> Flow
 
 // After a loop's body.
 fn leave_body(place: Place, left: Loop, flow: Flow, state: &State) -> Control
-    ensures { (k : Next) → Goes (continued (continuations.Body place left) k flow (shell_of state.now)) k (shell_of state.now) result }
+    ensures talk { (k : Next) → Goes (continued (continuations.Body place left) k flow (shell_of state.now)) k (shell_of state.now) result }
+    ensures weight { weigh result ≡ 0 }
 {
     match flow {
         Flow::Normal => Control::CompoundStep(CompoundStep::Round(place, state.env.status, left)),
@@ -178,7 +186,8 @@ fn leave_body(place: Place, left: Loop, flow: Flow, state: &State) -> Control
 
 // After the body of a `for`.
 fn leave_each(place: Place, each: Each, flow: Flow) -> Control
-    ensures { (k : Next) (e : Shell) → Goes (continued (continuations.Each place each) k flow e) k e result }
+    ensures talk { (k : Next) (e : Shell) → Goes (continued (continuations.Each place each) k flow e) k e result }
+    ensures weight { weigh result ≤ 1 }
 {
     match flow {
         Flow::Normal => Control::CompoundStep(CompoundStep::Each(place, each)),
@@ -213,7 +222,8 @@ fn enter_body(
     stack: &mut Vec<Frame>,
     state: &mut State,
 ) -> Result<Control, NoMemory>
-    ensures { IfOk result (Goes (entered left last place (context stack.old.items) (shell_of state.old)) (context stack.new.items) (shell_of state.new)) }
+    ensures talk { IfOk result (Goes (entered left last place (context stack.old.items) (shell_of state.old)) (context stack.new.items) (shell_of state.new)) }
+    ensures weight { IfOk result (λ c. weigh c + weigh_all stack.new.items ≤ 2 + weigh_all stack.old.items) }
 {
     if goes_on(left.kind, state.env.status) {
         let body = left.body.clone()?;
@@ -234,7 +244,8 @@ fn leave_condition(
     stack: &mut Vec<Frame>,
     state: &mut State,
 ) -> Result<Control, NoMemory>
-    ensures { IfOk result (Goes (continued (continuations.Condition place last left) (context stack.old.items) flow (shell_of state.old)) (context stack.new.items) (shell_of state.new)) }
+    ensures talk { IfOk result (Goes (continued (continuations.Condition place last left) (context stack.old.items) flow (shell_of state.old)) (context stack.new.items) (shell_of state.new)) }
+    ensures weight { IfOk result (λ c. weigh c + weigh_all stack.new.items ≤ 2 + weigh_all stack.old.items) }
 {
     match flow {
         Flow::Normal => {
@@ -256,7 +267,8 @@ fn leave_condition(
 
 // After a command at which `set -e` looks.
 fn leave_watch(place: Place, flow: Flow, state: &State) -> Control
-    ensures { (k : Next) → Goes (continued (continuations.Watch place) k flow (shell_of state.now)) k (shell_of state.now) result }
+    ensures talk { (k : Next) → Goes (continued (continuations.Watch place) k flow (shell_of state.now)) k (shell_of state.now) result }
+    ensures weight { weigh result ≡ 0 }
 {
     match flow {
         Flow::Normal => {
@@ -275,7 +287,8 @@ fn leave_watch(place: Place, flow: Flow, state: &State) -> Control
 
 // After a pipeline with `!`.
 fn leave_invert(flow: Flow, state: &mut State) -> Control
-    ensures { (k : Next) → Goes (continued continuations.Invert k flow (shell_of state.old)) k (shell_of state.new) result }
+    ensures talk { (k : Next) → Goes (continued continuations.Invert k flow (shell_of state.old)) k (shell_of state.new) result }
+    ensures weight { weigh result ≡ 0 }
 {
     match flow {
         Flow::Normal => {
@@ -296,7 +309,8 @@ pub fn leave_continuation(
     stack: &mut Vec<Frame>,
     state: &mut State,
 ) -> Result<Control, NoMemory>
-    ensures { IfOk result (Goes (continued frame (context stack.old.items) flow (shell_of state.old)) (context stack.new.items) (shell_of state.new)) }
+    ensures talk { IfOk result (Goes (continued frame (context stack.old.items) flow (shell_of state.old)) (context stack.new.items) (shell_of state.new)) }
+    ensures weight { IfOk result (λ c. weigh c + weigh_all stack.new.items < weigh_continuation frame + weigh_all stack.old.items) }
 {
     match frame {
         Continuation::Rest(place, list, at) => Ok(leave_rest(place, list, at, flow)),
@@ -325,7 +339,8 @@ pub fn leave_continuation(
 
 // After a function or a dot script.
 fn returned(flow: Flow) -> Control
-    ensures { (k : Next) (e : Shell) → Goes (returned k flow e) k e result }
+    ensures talk { (k : Next) (e : Shell) → Goes (returned k flow e) k e result }
+    ensures weight { weigh result ≡ 0 }
 {
     match flow {
         Flow::Normal => Control::Leave(Flow::Normal),
@@ -338,7 +353,8 @@ fn returned(flow: Flow) -> Control
 
 /// After a command, what is undone.
 pub fn leave_undo(frame: Undo, flow: Flow, state: &mut State) -> Result<Control, NoMemory>
-    ensures { IfOk result (λ c. (k : Next) → Goes (undone frame k flow (shell_of state.old)) k (shell_of state.new) c) }
+    ensures talk { IfOk result (λ c. (k : Next) → Goes (undone frame k flow (shell_of state.old)) k (shell_of state.new) c) }
+    ensures weight { IfOk result (λ c. weigh c < weigh_undo frame) }
 {
     match frame {
         Undo::Redirected(redirects, before) => {

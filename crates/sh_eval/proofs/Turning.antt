@@ -1,5 +1,5 @@
 -- The machine's turns.
-use Rattle.std.proofs.Common.{◌≡◌, ℕ, refl, ap, ◌∙◌, zero, suc, arith, Result, Ok, Err, IfOk}
+use Rattle.std.proofs.Common.{◌≡◌, ◌+◌, ◌<◌, ◌↔◌, Bool, false, IsTrue, ℕ, refl, ap, ◌∙◌, zero, suc, arith, Result, Ok, Err, IfOk}
 use Rattle.rk_calls.specs.Costly.{IsCostly}
 use Rattle.rk_calls.specs.Talk.{Says, pay, after}
 use Rattle.rk_calls.specs.Views.{pay-nothing}
@@ -7,12 +7,15 @@ use Rattle.rk_calls.specs.declared.answer.Answer.TheVariants.{Go}
 use Rattle.rk_calls.specs.declared.turn.Turn.{Turn}
 use Rattle.rk_calls.specs.declared.turn.Turn.TheVariants.{Ask, More, Exit}
 use Rattle.sh_eval.specs.declared.machine.Evaluator.{Evaluator}
-use Rattle.sh_eval.specs.Machine.{IsFree, steps_on, evaluator_says}
+use Rattle.sh_eval.specs.Machine.{Sheds, steps_on, evaluator_says}
 use Rattle.sh_means.specs.declared.control.Acted.{Acted}
+use Rattle.sh_means.specs.declared.control.Control.{Control}
 use Rattle.sh_means.specs.Flows.{Next}
 use Rattle.sh_means.specs.Stack.{Steps, IsStep, context, stepped}
 use Rattle.sh_means.specs.State.{Shell}
 use Rattle.sh_means.specs.Views.{shell_of}
+use Rattle.sh_means.specs.Weights.{Falls, IsFree, Lowers, weigh, weigh_all}
+use Rattle.sh_means.proofs.Weighing.{falls_step, falls_less}
 
 pub stepped_after : (t : Turn) (x : Evaluator) (p : ℕ) → stepped t x.control (context x.stack.items) (shell_of x.state) p ≡ after t (evaluator_says x) p
 stepped_after (Ask call c) x p = refl
@@ -37,3 +40,18 @@ costly_step (Ask call c) h free = h
 costly_step (More zero) h free = absurd (free refl)
 costly_step (More (suc c)) h free = omega arith
 costly_step (Exit status c) h free = tt
+
+pub not_free : (b : Bool) (t : Turn) → (IsTrue b ↔ IsFree t) → b ≡ false → IsFree t → ⊥
+not_free b t h never free = let yes : IsTrue b = h.1 free in cc
+
+-- a step from what comes next, and what comes next then
+pub sheds : (x y : Evaluator) (t : Acted) (ctl : Control) → ctl ≡ x.control → y.control ≡ t.control → Lowers (weigh ctl) x.stack.items y.stack.items t → Sheds x t.turn y
+sheds x y t ctl hx hy h =
+    let falls : Falls (weigh ctl + weigh_all x.stack.items) (weigh_all y.stack.items) t = h (weigh ctl + weigh_all x.stack.items) (omega arith) in
+    let was : weigh ctl ≡ weigh x.control = ap weigh hx in
+    let is : weigh y.control ≡ weigh t.control = ap weigh hy in (
+      falls_step (weigh ctl + weigh_all x.stack.items) (weigh_all y.stack.items) t falls,
+      λ free.
+          let less : weigh t.control + weigh_all y.stack.items < weigh ctl + weigh_all x.stack.items = falls_less (weigh ctl + weigh_all x.stack.items) (weigh_all y.stack.items) t falls free in
+          omega arith,
+    )

@@ -5,9 +5,10 @@ ghost use Rattle.rk_calls.specs.declared.answer.Answer.TheVariants as answer;
 ghost use Rattle.sh_means.specs.Begins.{begins};
 ghost use Rattle.sh_means.specs.Flows.{Next, outermost};
 ghost use Rattle.sh_means.specs.Run.{run};
-ghost use Rattle.sh_means.specs.Stack.{Steps, IsStep};
+ghost use Rattle.sh_means.specs.Stack.{Steps};
 ghost use Rattle.sh_means.specs.Starts.{fails, is_directory, has_x, looked, runs_script, runs_command, script_opened, script_read};
 ghost use Rattle.sh_means.specs.Views.{shell_of};
+ghost use Rattle.sh_means.specs.Weights.{Sinks};
 
 use rk_base::{Bytes, FileType, NoMemory};
 use rk_calls::{Answer, Call, How, Turn, absolute, brought};
@@ -37,14 +38,14 @@ fn fail(
     state: &mut State,
 ) -> Result<Acted, NoMemory>
     ensures talk { IfOk result (λ t. (k : Next) → Steps (fails file.now what.now status k (shell_of state.old)) k (shell_of state.new) t) }
-    ensures costly { IfOk result (λ t. IsStep t.turn) }
+    ensures costly { IfOk result (Sinks 3) }
 {
     refuse(alloc, file.as_slice(), what, Flow::Exits, status, state)
 }
 
 fn open(alloc: Global, file: Bytes, state: &State) -> Result<Acted, NoMemory>
     ensures talk { IfOk result (λ t. (k : Next) → Steps (runs_script run file k (shell_of state.now)) k (shell_of state.now) t) }
-    ensures costly { IfOk result (λ t. IsStep t.turn) }
+    ensures costly { IfOk result (Sinks 3) }
 {
     let path = absolute(alloc, &state.env.wd, file.as_slice())?;
     Ok(Acted {
@@ -55,7 +56,7 @@ fn open(alloc: Global, file: Bytes, state: &State) -> Result<Acted, NoMemory>
 
 fn look(alloc: Global, file: Bytes, state: &State) -> Result<Acted, NoMemory>
     ensures talk { IfOk result (λ t. (k : Next) → Steps (runs_command run file k (shell_of state.now)) k (shell_of state.now) t) }
-    ensures costly { IfOk result (λ t. IsStep t.turn) }
+    ensures costly { IfOk result (Sinks 3) }
 {
     let path = absolute(alloc, &state.env.wd, file.as_slice())?;
     Ok(Acted {
@@ -90,7 +91,7 @@ fn found(
     state: &mut State,
 ) -> Result<Acted, NoMemory>
     ensures talk { IfOk result (λ t. (empty : Bool) (k : Next) → Steps (looked run file k (answer.Stat kind mode empty) (shell_of state.old)) k (shell_of state.new) t) }
-    ensures costly { IfOk result (λ t. IsStep t.turn) }
+    ensures costly { IfOk result (Sinks 3) }
 {
     if is_directory(kind) {
         return fail(alloc, &file, b"is a directory", 126, state);
@@ -103,7 +104,7 @@ fn found(
 
 fn looked(alloc: Global, file: Bytes, answer: Answer, state: &mut State) -> Result<Acted, NoMemory>
     ensures talk { IfOk result (λ t. (k : Next) → Steps (looked run file k answer (shell_of state.old)) k (shell_of state.new) t) }
-    ensures costly { IfOk result (λ t. IsStep t.turn) }
+    ensures costly { IfOk result (Sinks 3) }
 {
     match answer {
         Answer::No(errno) => fail(alloc, &file, errno.word().as_bytes(), 127, state),
@@ -129,7 +130,7 @@ fn script_opened(
     state: &mut State,
 ) -> Result<Acted, NoMemory>
     ensures talk { IfOk result (λ t. (k : Next) → Steps (script_opened run file n k (brought answer) (shell_of state.old)) k (shell_of state.new) t) }
-    ensures costly { IfOk result (λ t. IsStep t.turn) }
+    ensures costly { IfOk result (Sinks 3) }
 {
     let it = brought(alloc, answer)?;
     match it {
@@ -148,7 +149,7 @@ fn script_read(
     state: &mut State,
 ) -> Result<Acted, NoMemory>
     ensures talk { IfOk result (λ t. (k : Next) → Steps (script_read run file k (brought answer) (shell_of state.old)) k (shell_of state.new) t) }
-    ensures costly { IfOk result (λ t. IsStep t.turn) }
+    ensures costly { IfOk result (Sinks 3) }
 {
     let it = brought(alloc, answer)?;
     match it {
@@ -165,7 +166,7 @@ pub(crate) fn act_begin(
     state: &mut State,
 ) -> Result<Acted, NoMemory>
     ensures talk { IfOk result (λ t. (k : Next) → Steps (begins begin k answer (shell_of state.old)) k (shell_of state.new) t) }
-    ensures costly { IfOk result (λ t. IsStep t.turn) }
+    ensures costly { IfOk result (Sinks 3) }
 {
     match begin {
         Begin::Misused(line) => Ok(tell(line, Flow::Exits, 2, state)),

@@ -2,10 +2,11 @@
 ghost use Rattle.std.specs.Prelude.{◌≡◌, ◌↔◌, ℕ, IsTrue, IfOk};
 ghost use Rattle.sh_expand.specs.Told.{numbered};
 ghost use Rattle.sh_means.specs.Eval.{over};
-ghost use Rattle.sh_eval.specs.Machine.{IsFree, steps_on, evaluator_says};
-ghost use Rattle.sh_means.specs.Stack.{Steps, IsStep, context, resumed_compound, resumed_simple, waiting, resumed};
+ghost use Rattle.sh_eval.specs.Machine.{steps_on, evaluator_says, Sheds};
+ghost use Rattle.sh_means.specs.Stack.{Steps, context, resumed_compound, resumed_simple, waiting, resumed};
 ghost use Rattle.sh_means.specs.State.{heard};
 ghost use Rattle.sh_means.specs.Views.{shell_of};
+ghost use Rattle.sh_means.specs.Weights.{IsFree, Lowers, weigh, weigh_compound_step, weigh_simple_step, weigh_wait};
 ghost use Rattle.rk_calls.specs.Costly.{IsCostly};
 ghost use Rattle.rk_calls.specs.Talk.{after};
 
@@ -25,7 +26,7 @@ use sh_means::stack::pop;
 use sh_means::state::State;
 use sh_means::steps::{end, free, refuse};
 use sh_simple::assigning::next_assign;
-use sh_simple::launching::{resume_builtin, resume_builtin_refused};
+use sh_simple::launching::resume_builtin;
 use sh_vars::number_after;
 use sh_words::making::{next_redirect, resume_redirection};
 use sh_words::words::{deliver, next_word};
@@ -48,7 +49,7 @@ fn act_compound_step(
     state: &mut State,
 ) -> Result<Acted, NoMemory>
     ensures talk { IfOk result (Steps (resumed_compound step (context stack.old.items) (shell_of state.old)) (context stack.new.items) (shell_of state.new)) }
-    ensures costly { IfOk result (λ t. IsStep t.turn) }
+    ensures costly { IfOk result (Lowers (weigh_compound_step step) stack.old.items stack.new.items) }
 {
     match step {
         CompoundStep::Compound(place, body) => {
@@ -80,7 +81,7 @@ fn act_simple_step(
     state: &mut State,
 ) -> Result<Acted, NoMemory>
     ensures talk { IfOk result (Steps (resumed_simple step (context stack.old.items) answer (shell_of state.old)) (context stack.new.items) (shell_of state.new)) }
-    ensures costly { IfOk result (λ t. IsStep t.turn) }
+    ensures costly { IfOk result (Lowers (weigh_simple_step step) stack.old.items stack.new.items) }
 {
     match step {
         SimpleStep::Words(place, left) => next_word(alloc, place, left, stack, state),
@@ -100,7 +101,7 @@ fn act_wait(
     state: &mut State,
 ) -> Result<Acted, NoMemory>
     ensures talk { IfOk result (Steps (waiting wait (context stack.old.items) answer (shell_of state.old)) (context stack.new.items) (shell_of state.new)) }
-    ensures costly { IfOk result (λ t. IsStep t.turn) }
+    ensures costly { IfOk result (Lowers (weigh_wait wait) stack.old.items stack.new.items) }
 {
     match wait {
         Wait::Told(flow, status) => Ok(end(flow, status, state)),
@@ -128,14 +129,13 @@ fn act_wait(
             state,
         ),
         Wait::Builtin(builtin) => resume_builtin(builtin, answer, state),
-        Wait::Lacks(builtin) => resume_builtin_refused(builtin, state),
     }
 }
 
 // After a command; with nothing left to do the shell exits with its last status.
 fn act_leave(flow: Flow, stack: &mut Vec<Frame>, state: &mut State) -> Result<Acted, NoMemory>
     ensures talk { IfOk result (Steps ((context stack.old.items) flow (shell_of state.old)) (context stack.new.items) (shell_of state.new)) }
-    ensures costly { IfOk result (λ t. IsStep t.turn) }
+    ensures costly { IfOk result (Lowers 0 stack.old.items stack.new.items) }
 {
     match pop(stack) {
         None => Ok(Acted {
@@ -162,7 +162,7 @@ fn act(
     state: &mut State,
 ) -> Result<Acted, NoMemory>
     ensures talk { IfOk result (Steps (resumed control (context stack.old.items) answer (shell_of state.old)) (context stack.new.items) (shell_of state.new)) }
-    ensures costly { IfOk result (λ t. IsStep t.turn) }
+    ensures costly { IfOk result (Lowers (weigh control) stack.old.items stack.new.items) }
 {
     match control {
         Control::Begins(begin) => act_begin(alloc, begin, answer, state),
@@ -241,7 +241,7 @@ impl Evaluator {
 
     fn step(&mut self, answer: Answer) -> Result<Turn, NoMemory>
         ensures talk { IfOk result (λ t. (p : ℕ) → steps_on self.old answer p ≡ after t (evaluator_says self.new) p) }
-        ensures costly { IfOk result IsStep }
+        ensures costly { IfOk result (λ t. Sheds self.old t self.new) }
     {
         let control = take(&mut self.control);
         let Acted { turn, control } = act(
@@ -255,21 +255,20 @@ impl Evaluator {
         Ok(turn)
     }
 
-    /// Its next turn.
+    /// Its next turn. Each step that costs nothing leaves less to do without cost, so that a turn comes.
     pub fn resume(&mut self, answer: Answer) -> Result<Turn, NoMemory>
         ensures costly { IfOk result IsCostly }
         ensures talk { IfOk result (λ t. (p : ℕ) → evaluator_says self.old answer p ≡ after t (evaluator_says self.new) p) }
     {
         hear(&answer, &mut self.state);
-        let mut turn = self.step(answer)?;
-        let mut left: u64 = u64::MAX;
-        'free: while is_free(&turn) {
-            if left == 0 {
-                return Err(NoMemory);
+        let mut answer = answer;
+        'free: loop {
+            let turn = self.step(answer)?;
+            if is_free(&turn) {
+                answer = Answer::Go;
+            } else {
+                return Ok(turn);
             }
-            left -= 1;
-            turn = self.step(Answer::Go)?;
         }
-        Ok(turn)
     }
 }

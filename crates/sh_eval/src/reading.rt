@@ -4,8 +4,9 @@ ghost use Rattle.rk_calls.specs.Brought.{brought};
 ghost use Rattle.sh_means.specs.Flows.{Next};
 ghost use Rattle.sh_means.specs.Run.{run};
 ghost use Rattle.sh_means.specs.Simple.{Reads, dot_opened, dot_read};
-ghost use Rattle.sh_means.specs.Stack.{Steps, IsStep, context};
+ghost use Rattle.sh_means.specs.Stack.{Steps, context};
 ghost use Rattle.sh_means.specs.Views.{shell_of};
+ghost use Rattle.sh_means.specs.Weights.{Lowers, Sinks};
 
 use rk_base::{Bytes, NoMemory};
 use rk_calls::{Answer, Call, Turn, brought};
@@ -26,7 +27,7 @@ pub(crate) fn act_text(
     state: &mut State,
 ) -> Result<Acted, NoMemory>
     ensures talk { IfOk result (λ t. (k : Next) → Steps (run (Reads name.now text.now) place (shell_of state.old) k) k (shell_of state.new) t) }
-    ensures costly { IfOk result (λ t. IsStep t.turn) }
+    ensures costly { IfOk result (Sinks 2) }
 {
     let read = read_text(alloc, text.as_slice())?;
     match read {
@@ -49,7 +50,7 @@ pub(crate) fn dot_opened(
     state: &mut State,
 ) -> Result<Acted, NoMemory>
     ensures talk { IfOk result (λ t. (k : Next) → Steps (dot_opened run file n place k (brought answer) (shell_of state.old)) k (shell_of state.new) t) }
-    ensures costly { IfOk result (λ t. IsStep t.turn) }
+    ensures costly { IfOk result (Sinks 1) }
 {
     let it = brought(alloc, answer)?;
     match it {
@@ -78,7 +79,7 @@ pub(crate) fn dot_read(
     state: &mut State,
 ) -> Result<Acted, NoMemory>
     ensures talk { IfOk result (Steps (dot_read run file place (context stack.old.items) (brought answer) (shell_of state.old)) (context stack.new.items) (shell_of state.new)) }
-    ensures costly { IfOk result (λ t. IsStep t.turn) }
+    ensures costly { IfOk result (Lowers 4 stack.old.items stack.new.items) }
 {
     let it = brought(alloc, answer)?;
     match it {

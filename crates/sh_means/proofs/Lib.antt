@@ -1,5 +1,6 @@
 pub mod Stacks
 pub mod Substituted
+pub mod Weighing
 pub mod Places
 pub mod Folding
 pub mod Begun

@@ -15,6 +15,7 @@ pub mod StartLaws
 pub mod Run
 pub mod Views
 pub mod Stack
+pub mod Weights
 pub mod Trees
 pub mod Begins
 pub mod Launchable

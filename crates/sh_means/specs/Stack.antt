@@ -1,7 +1,6 @@
 -- What a control stack means: what comes after the command on top of it.
 use Rattle.std.specs.Prelude.{◌≡◌, ◌≤◌, ℕ, ◌+◌, ◌||◌, List, [], ◌∷◌, ◌++◌, drop, Option, Some, None, Bool, false, if◌then◌else◌}
 use Rattle.rk_base.specs.Text.{Text}
-use Rattle.rk_base.specs.declared.errno.Errno.TheVariants.{BadRef}
 use Rattle.rk_calls.specs.Brought.{brought, joined}
 use Rattle.rk_calls.specs.Talk.{Says, pay, exits}
 use Rattle.rk_calls.specs.declared.answer.Answer.{Answer}
@@ -172,7 +171,6 @@ waiting (wait.Read pl file) k a e = dot_read run file pl k (brought a) e
 waiting (wait.Redirects pl m r) k a e = redirecting m pl k r.value a e
 waiting (wait.Fails parameter message) k a e = faults parameter message k e
 waiting (wait.Builtin b) k a e = building b.value k a e
-waiting (wait.Lacks b) k a e = building b.value k (answer.No BadRef) e
 
 -- the body of a `for`, and then the fields behind the next one
 abbrev pub each_body : Each → Place → Next → Go_on

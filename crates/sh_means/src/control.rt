@@ -193,8 +193,6 @@ pub enum Wait {
     Fails(Bytes, Bytes),
     /// A builtin runs.
     Builtin(Box<Builtin>),
-    /// It has named a descriptor that the map lacks.
-    Lacks(Box<Builtin>),
 }
 
 /// A part of a compound command that comes next.

@@ -1,13 +1,14 @@
 // An expander's turns, and the bodies of its substitutions (XCU 2.6.3).
-ghost use Rattle.std.specs.Prelude.{◌≡◌, IfOk};
+ghost use Rattle.std.specs.Prelude.{◌≡◌, ◌≤◌, ◌+◌, IfOk};
 ghost use Rattle.sh_ast.specs.Commands as tree;
 ghost use Rattle.sh_means.specs.Eval.{word_in};
 ghost use Rattle.sh_means.specs.Flows.{Next};
 ghost use Rattle.sh_means.specs.Run.{run};
-ghost use Rattle.sh_means.specs.Stack.{Steps, Goes, IsStep, context, wording, whole};
+ghost use Rattle.sh_means.specs.Stack.{Steps, Goes, context, wording, whole};
 ghost use Rattle.sh_means.specs.State.{Shell, with_env};
 ghost use Rattle.sh_means.specs.Trees.{IsBody};
 ghost use Rattle.sh_means.specs.Views.{shell_of};
+ghost use Rattle.sh_means.specs.Weights.{Lowers, weigh, weigh_all, weigh_word};
 ghost use Rattle.sh_means.specs.Words.{body_at, in_subshell};
 ghost use Rattle.rk_calls.specs.declared.answer.Answer.TheVariants as answers;
 
@@ -49,7 +50,8 @@ fn enter_body(
     stack: &mut Vec<Frame>,
     state: &mut State,
 ) -> Result<Control, NoMemory>
-    ensures { IfOk result (Goes (in_subshell (body_at (word_in run (tree.word w.value.word.value)).bodies number) w.value.place (shell_of state.old) state.old.env (λ env. wording w.value (context stack.old.items) answers.Go (with_env env (shell_of state.old)))) (context stack.new.items) (shell_of state.new)) }
+    ensures talk { IfOk result (Goes (in_subshell (body_at (word_in run (tree.word w.value.word.value)).bodies number) w.value.place (shell_of state.old) state.old.env (λ env. wording w.value (context stack.old.items) answers.Go (with_env env (shell_of state.old)))) (context stack.new.items) (shell_of state.new)) }
+    ensures weight { IfOk result (λ c. weigh c + weigh_all stack.new.items ≤ weigh_word w.value + 2 + weigh_all stack.old.items) }
 {
     let body = body_of(alloc, &w.word, number)?;
     let saved = state.save(alloc)?;
@@ -69,7 +71,7 @@ pub fn act_expand(
     state: &mut State,
 ) -> Result<Acted, NoMemory>
     ensures talk { IfOk result (Steps (wording w.value (context stack.old.items) answer (shell_of state.old)) (context stack.new.items) (shell_of state.new)) }
-    ensures costly { IfOk result (λ t. IsStep t.turn) }
+    ensures costly { IfOk result (Lowers (weigh_word w.value) stack.old.items stack.new.items) }
 {
     let mut w = w;
     let wants = w.expander.resume(&mut state.env, answer)?;

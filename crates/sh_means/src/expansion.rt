@@ -1,5 +1,5 @@
 // Where the expansion of a word begins, and a `for` with its fields.
-ghost use Rattle.std.specs.Prelude.{IfOk};
+ghost use Rattle.std.specs.Prelude.{◌≤◌, ◌+◌, IfOk};
 ghost use Rattle.sh_ast.specs.Commands as tree;
 ghost use Rattle.sh_means.specs.Compound.{for_fields};
 ghost use Rattle.sh_means.specs.Eval.{word_in};
@@ -8,6 +8,7 @@ ghost use Rattle.sh_means.specs.Run.{run};
 ghost use Rattle.sh_means.specs.Stack.{Expands, Goes, aimed, whole};
 ghost use Rattle.sh_means.specs.State.{Shell};
 ghost use Rattle.sh_means.specs.Views.{shell_of};
+ghost use Rattle.sh_means.specs.Weights.{weigh, weigh_aim, weigh_word};
 ghost use Rattle.sh_means.specs.Words.{expand_word};
 
 use crate::control::{Aim, CompoundStep, Control, Each, PendingWord, SimpleStep};
@@ -27,7 +28,8 @@ pub fn pending(
     place: Place,
     aim: Aim,
 ) -> Result<Box<PendingWord>, NoMemory>
-    ensures { IfOk result (λ w. (k : Next) (e : Shell) → Expands (expand_word mode (word_in run (tree.word word.value)) place (aimed aim place k) k e) k e w.value) }
+    ensures talk { IfOk result (λ w. (k : Next) (e : Shell) → Expands (expand_word mode (word_in run (tree.word word.value)) place (aimed aim place k) k e) k e w.value) }
+    ensures weight { IfOk result (λ w. weigh_word w.value ≤ weigh_aim aim + 5) }
 {
     let expander = Expander::start(alloc, &word, mode)?;
     let wording = Box::new(
@@ -50,7 +52,8 @@ pub fn begin(
     place: Place,
     aim: Aim,
 ) -> Result<Control, NoMemory>
-    ensures { IfOk result (λ c. (k : Next) (e : Shell) → Goes (expand_word mode (word_in run (tree.word word.value)) place (aimed aim place k) k e) k e c) }
+    ensures talk { IfOk result (λ c. (k : Next) (e : Shell) → Goes (expand_word mode (word_in run (tree.word word.value)) place (aimed aim place k) k e) k e c) }
+    ensures weight { IfOk result (λ c. weigh c ≤ weigh_aim aim + 5) }
 {
     let wording = pending(alloc, word, mode, place, aim)?;
     Ok(Control::SimpleStep(SimpleStep::Expand(wording)))
@@ -64,7 +67,8 @@ pub fn over_fields(
     body: Rc<CommandList>,
     state: &mut State,
 ) -> Control
-    ensures { (k : Next) → Goes (for_fields name fields (whole body.value) place k (shell_of state.old)) k (shell_of state.new) result }
+    ensures talk { (k : Next) → Goes (for_fields name fields (whole body.value) place k (shell_of state.old)) k (shell_of state.new) result }
+    ensures weight { weigh result ≤ 1 }
 {
     if fields.len() == 0 {
         state.env.status = 0;

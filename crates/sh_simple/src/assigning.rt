@@ -1,7 +1,8 @@
 // Assignments, one after another, and then what the command does.
 ghost use Rattle.std.specs.Prelude.{IfOk};
-ghost use Rattle.sh_means.specs.Stack.{Steps, IsStep, context, assigning};
+ghost use Rattle.sh_means.specs.Stack.{Steps, context, assigning};
 ghost use Rattle.sh_means.specs.Views.{shell_of};
+ghost use Rattle.sh_means.specs.Weights.{Lowers, weigh_assignments};
 
 use crate::launching::work;
 use rk_base::NoMemory;
@@ -23,7 +24,7 @@ pub fn next_assign(
     state: &mut State,
 ) -> Result<Acted, NoMemory>
     ensures talk { IfOk result (Steps (assigning left left.ran place (context stack.old.items) (shell_of state.old)) (context stack.new.items) (shell_of state.new)) }
-    ensures costly { IfOk result (λ t. IsStep t.turn) }
+    ensures costly { IfOk result (Lowers (weigh_assignments left) stack.old.items stack.new.items) }
 {
     let assignments = left.assignments.clone()?;
     match assignments.get(left.at) {

@@ -5,8 +5,10 @@ ghost use Rattle.sh_means.specs.Flows.{Next, ends};
 ghost use Rattle.sh_simple.specs.Launching.{through};
 ghost use Rattle.sh_means.specs.Run.{run};
 ghost use Rattle.sh_means.specs.Simple.{launches, calls, behind_first, status_if, works};
-ghost use Rattle.sh_means.specs.Stack.{Steps, IsStep, context, building, kind_of_code};
+ghost use Rattle.sh_means.specs.Stack.{Steps, context, building, kind_of_code};
 ghost use Rattle.sh_means.specs.Views.{shell_of, function_of};
+ghost use Rattle.sh_means.specs.Weights.{Lowers, Pays, Sinks};
+ghost use Rattle.sh_builtin.specs.Refused.{HasBegun};
 ghost use Rattle.rk_calls.specs.declared.answer.Answer.TheVariants as answers;
 ghost use Rattle.rk_base.specs.declared.errno.Errno.TheVariants.{BadRef};
 
@@ -32,7 +34,7 @@ pub(crate) fn launch(
 ) -> Result<Acted, NoMemory>
     requires { 0 < length fields }
     ensures talk { IfOk result (λ t. (k : Next) → Steps (launches fields (λ n. ends flow n k) (shell_of state.now)) k (shell_of state.now) t) }
-    ensures costly { IfOk result (λ t. IsStep t.turn) }
+    ensures costly { IfOk result Pays }
 {
     let wd = state.env.wd.copy()?;
     let vars = state.env.vars.exported()?;
@@ -71,7 +73,7 @@ fn call(
     state: &mut State,
 ) -> Result<Acted, NoMemory>
     ensures talk { IfOk result (Steps (calls run (function_of callee) fields.now place (shell_of state.old) (context stack.old.items)) (context stack.new.items) (shell_of state.new)) }
-    ensures costly { IfOk result (λ t. IsStep t.turn) }
+    ensures costly { IfOk result Pays }
 {
     let positional = state.env.vars.copy_positional()?;
     let words = behind_first(alloc, fields.as_slice())?;
@@ -102,7 +104,7 @@ pub(crate) fn work(
     state: &mut State,
 ) -> Result<Acted, NoMemory>
     ensures talk { IfOk result (Steps (works run (kind_of_code doing.value.kind) doing.value.fields ran place (context stack.old.items) (shell_of state.old)) (context stack.new.items) (shell_of state.new)) }
-    ensures costly { IfOk result (λ t. IsStep t.turn) }
+    ensures costly { IfOk result (Lowers 3 stack.old.items stack.new.items) }
 {
     let Doing { kind, fields } = Box::into_inner(doing);
     match kind {
@@ -155,14 +157,51 @@ fn slot(descriptors: &DescriptorTable, d: u64) -> Option<u64>
     }
 }
 
-/// A builtin goes on with the answer that was heard.
+// It has named a descriptor that the map lacks: it hears that, until it calls one that the map has, pays, or is over.
+fn resume_refused(builtin: Box<Builtin>, state: &mut State) -> Result<Acted, NoMemory>
+    requires { HasBegun builtin.value }
+    ensures talk { IfOk result (λ t. (k : Next) → Steps (building builtin.value k (answers.No BadRef) (shell_of state.old)) k (shell_of state.new) t) }
+    ensures costly { IfOk result (Sinks 1) }
+{
+    let mut builtin = builtin;
+    'refused: loop {
+        let turn = builtin.resume(&mut state.env, Answer::No(Errno::BadRef))?;
+        match turn {
+            Turn::Ask(call, cost) => match through(call, &state.descriptors) {
+                Some(call) => {
+                    return Ok(Acted {
+                        turn: Turn::Ask(call, cost),
+                        control: Control::Waits(Wait::Builtin(builtin)),
+                    });
+                }
+                None => {}
+            },
+            Turn::More(cost) => {
+                return Ok(Acted {
+                    turn: Turn::More(cost),
+                    control: Control::Waits(Wait::Builtin(builtin)),
+                });
+            }
+            Turn::Exit(status, cost) => {
+                state.env.status = status;
+                return Ok(Acted {
+                    turn: Turn::More(cost),
+                    control: Control::Leave(Flow::Normal),
+                });
+            }
+        }
+    }
+}
+
+/// A builtin goes on with the answer that was heard. Where its call names a descriptor that the map lacks, it is not asked,
+/// and the builtin hears that at once.
 pub fn resume_builtin(
     builtin: Box<Builtin>,
     answer: Answer,
     state: &mut State,
 ) -> Result<Acted, NoMemory>
     ensures talk { IfOk result (λ t. (k : Next) → Steps (building builtin.value k answer (shell_of state.old)) k (shell_of state.new) t) }
-    ensures costly { IfOk result (λ t. IsStep t.turn) }
+    ensures costly { IfOk result (Sinks 1) }
 {
     let mut builtin = builtin;
     let turn = builtin.resume(&mut state.env, answer)?;
@@ -172,7 +211,10 @@ pub fn resume_builtin(
                 turn: Turn::Ask(call, cost),
                 control: Control::Waits(Wait::Builtin(builtin)),
             }),
-            None => Ok(free(Control::Waits(Wait::Lacks(builtin)))),
+            None => {
+                let acted = resume_refused(builtin, state)?;
+                Ok(acted)
+            }
         },
         Turn::More(cost) => Ok(Acted {
             turn: Turn::More(cost),
@@ -186,12 +228,4 @@ pub fn resume_builtin(
             })
         }
     }
-}
-
-/// The same where its call named a descriptor that the map lacks.
-pub fn resume_builtin_refused(builtin: Box<Builtin>, state: &mut State) -> Result<Acted, NoMemory>
-    ensures talk { IfOk result (λ t. (k : Next) → Steps (building builtin.value k (answers.No BadRef) (shell_of state.old)) k (shell_of state.new) t) }
-    ensures costly { IfOk result (λ t. IsStep t.turn) }
-{
-    resume_builtin(builtin, Answer::No(Errno::BadRef), state)
 }

@@ -4,8 +4,9 @@ ghost use Rattle.sh_means.specs.Flows.{Next, break_of, continue_of, return_flow}
 ghost use Rattle.sh_means.specs.Launchable.{names_command};
 ghost use Rattle.sh_means.specs.Run.{run};
 ghost use Rattle.sh_means.specs.Simple.{or_last, errs, unless_barred, sets, shifts, dots, obeys};
-ghost use Rattle.sh_means.specs.Stack.{Steps, IsStep};
+ghost use Rattle.sh_means.specs.Stack.{Steps};
 ghost use Rattle.sh_means.specs.Views.{shell_of};
+ghost use Rattle.sh_means.specs.Weights.{Pays, Sinks};
 
 use crate::launching::launch;
 use rk_base::{Bytes, NoMemory, WordList};
@@ -56,7 +57,7 @@ fn return_flow(returns: bool) -> Flow
 // An error of a special builtin ends the shell.
 fn err(alloc: Global, operand: &[u8], what: &[u8], state: &mut State) -> Result<Acted, NoMemory>
     ensures talk { IfOk result (λ t. (k : Next) → Steps (errs operand.now what.now k (shell_of state.old)) k (shell_of state.new) t) }
-    ensures costly { IfOk result (λ t. IsStep t.turn) }
+    ensures costly { IfOk result (Sinks 1) }
 {
     refuse(alloc, operand, what, Flow::Exits, 1, state)
 }
@@ -64,7 +65,7 @@ fn err(alloc: Global, operand: &[u8], what: &[u8], state: &mut State) -> Result<
 // After variables were changed, up to a readonly one.
 fn unless_barred(alloc: Global, barred: Option<Bytes>, state: &mut State) -> Result<Acted, NoMemory>
     ensures talk { IfOk result (λ t. (k : Next) → Steps (unless_barred barred k (shell_of state.old)) k (shell_of state.new) t) }
-    ensures costly { IfOk result (λ t. IsStep t.turn) }
+    ensures costly { IfOk result (Sinks 1) }
 {
     match barred {
         None => Ok(end(Flow::Normal, 0, state)),
@@ -91,7 +92,7 @@ fn set(options: Options, words: Option<WordList>, state: &mut State)
 
 fn shift_by(alloc: Global, n: u64, state: &mut State) -> Result<Acted, NoMemory>
     ensures talk { IfOk result (λ t. (k : Next) → Steps (shifts n k (shell_of state.old)) k (shell_of state.new) t) }
-    ensures costly { IfOk result (λ t. IsStep t.turn) }
+    ensures costly { IfOk result (Sinks 1) }
 {
     if shift(&mut state.env.vars, n) {
         return Ok(end(Flow::Normal, 0, state));
@@ -103,7 +104,7 @@ fn shift_by(alloc: Global, n: u64, state: &mut State) -> Result<Acted, NoMemory>
 // A dot script is opened.
 fn dot(alloc: Global, place: Place, file: Bytes, state: &State) -> Result<Acted, NoMemory>
     ensures talk { IfOk result (λ t. (k : Next) → Steps (dots run file place k (shell_of state.now)) k (shell_of state.now) t) }
-    ensures costly { IfOk result (λ t. IsStep t.turn) }
+    ensures costly { IfOk result Pays }
 {
     let path = absolute(alloc, &state.env.wd, file.as_slice())?;
     Ok(Acted {
@@ -121,7 +122,7 @@ pub(crate) fn obey(
 ) -> Result<Acted, NoMemory>
     requires { names_command order ≡ true }
     ensures talk { IfOk result (λ t. (k : Next) → Steps (obeys run order place k (shell_of state.old)) k (shell_of state.new) t) }
-    ensures costly { IfOk result (λ t. IsStep t.turn) }
+    ensures costly { IfOk result (Sinks 3) }
 {
     match order {
         Order::Pass => Ok(end(Flow::Normal, 0, state)),

@@ -1,5 +1,5 @@
 // Redirections, one after another, and what they are made for.
-ghost use Rattle.std.specs.Prelude.{◌≡◌, ℕ, ◌||◌, IfOk, OnOk, true};
+ghost use Rattle.std.specs.Prelude.{◌≡◌, ◌≤◌, ◌<◌, ℕ, ◌+◌, ◌||◌, IfOk, OnOk, true};
 ghost use Rattle.rk_calls.specs.Talk.{pay};
 ghost use Rattle.rk_calls.specs.Turns.{turns};
 ghost use Rattle.sh_expand.specs.declared.mode.Expanded.TheVariants.{Value};
@@ -10,9 +10,10 @@ ghost use Rattle.sh_redirect.specs.Stages.{IsAsking, after, redirecting_does};
 ghost use Rattle.sh_means.specs.Flows.{Next};
 ghost use Rattle.sh_words.specs.Making.{made_flow};
 ghost use Rattle.sh_means.specs.Simple.{unless_kept, for_its_time};
-ghost use Rattle.sh_means.specs.Stack.{Steps, Goes, IsStep, aimed, context, making, made_go, when_made, when_refused, redirecting, redirects_from, assigns_from};
+ghost use Rattle.sh_means.specs.Stack.{Steps, Goes, aimed, context, making, made_go, when_made, when_refused, redirecting, redirects_from, assigns_from};
 ghost use Rattle.sh_means.specs.declared.control.Made.TheVariants as mades;
 ghost use Rattle.sh_means.specs.Views.{shell_of};
+ghost use Rattle.sh_means.specs.Weights.{Lowers, Sinks, weigh, weigh_all, weigh_made, weigh_redirects};
 ghost use Rattle.sh_means.specs.Words.{named, names, redirect_kind, unredirected};
 
 use crate::literal::value;
@@ -42,7 +43,8 @@ fn put_map_back_later(
     before: Rc<DescriptorTable>,
     stack: &mut Vec<Frame>,
 ) -> Result<(), NoMemory>
-    ensures { OnOk result (context stack.new.items ≡ unredirected (named (redirects_from redirects.value 0)) before.value (context stack.old.items)) }
+    ensures talk { OnOk result (context stack.new.items ≡ unredirected (named (redirects_from redirects.value 0)) before.value (context stack.old.items)) }
+    ensures weight { OnOk result (weigh_all stack.new.items ≤ weigh_all stack.old.items + 1) }
 {
     match redirects.get(0) {
         None => Ok(()),
@@ -57,7 +59,8 @@ fn unless_kept(
     before: Rc<DescriptorTable>,
     stack: &mut Vec<Frame>,
 ) -> Result<(), NoMemory>
-    ensures { OnOk result (context stack.new.items ≡ unless_kept keeps (named (redirects_from redirects.value 0)) before.value (context stack.old.items)) }
+    ensures talk { OnOk result (context stack.new.items ≡ unless_kept keeps (named (redirects_from redirects.value 0)) before.value (context stack.old.items)) }
+    ensures weight { OnOk result (weigh_all stack.new.items ≤ weigh_all stack.old.items + 1) }
 {
     if keeps {
         return Ok(());
@@ -72,7 +75,8 @@ fn put_back_later(
     vars: &Vars,
     stack: &mut Vec<Frame>,
 ) -> Result<(), NoMemory>
-    ensures { OnOk result (context stack.new.items ≡ for_its_time true (names (assigns_from assignments.now.value 0)) vars.now (context stack.old.items)) }
+    ensures talk { OnOk result (context stack.new.items ≡ for_its_time true (names (assigns_from assignments.now.value 0)) vars.now (context stack.old.items)) }
+    ensures weight { OnOk result (weigh_all stack.new.items ≤ weigh_all stack.old.items + 1) }
 {
     match assignments.get(0) {
         None => Ok(()),
@@ -92,7 +96,8 @@ fn for_its_time(
     vars: &Vars,
     stack: &mut Vec<Frame>,
 ) -> Result<(), NoMemory>
-    ensures { OnOk result (context stack.new.items ≡ for_its_time plain (names (assigns_from assignments.now.value 0)) vars.now (context stack.old.items)) }
+    ensures talk { OnOk result (context stack.new.items ≡ for_its_time plain (names (assigns_from assignments.now.value 0)) vars.now (context stack.old.items)) }
+    ensures weight { OnOk result (weigh_all stack.new.items ≤ weigh_all stack.old.items + 1) }
 {
     if plain {
         put_back_later(assignments, vars, stack)?;
@@ -112,7 +117,8 @@ fn made_simple(
     stack: &mut Vec<Frame>,
     state: &State,
 ) -> Result<Control, NoMemory>
-    ensures { IfOk result (Goes (made_go (mades.Simple assignments doing) (named (redirects_from redirects.value 0)) before.value place (context stack.old.items) ran (shell_of state.now)) (context stack.new.items) (shell_of state.now)) }
+    ensures talk { IfOk result (Goes (made_go (mades.Simple assignments doing) (named (redirects_from redirects.value 0)) before.value place (context stack.old.items) ran (shell_of state.now)) (context stack.new.items) (shell_of state.now)) }
+    ensures weight { IfOk result (λ c. weigh c + weigh_all stack.new.items < weigh_made (mades.Simple assignments doing) + weigh_all stack.old.items) }
 {
     let plain = doing.kind.is_plain();
     let exported = doing.kind.exports();
@@ -139,7 +145,8 @@ fn all_made(
     stack: &mut Vec<Frame>,
     state: &State,
 ) -> Result<Control, NoMemory>
-    ensures { IfOk result (Goes (when_made left place (context stack.old.items) left.ran (shell_of state.now)) (context stack.new.items) (shell_of state.now)) }
+    ensures talk { IfOk result (Goes (when_made left place (context stack.old.items) left.ran (shell_of state.now)) (context stack.new.items) (shell_of state.now)) }
+    ensures weight { IfOk result (λ c. weigh c + weigh_all stack.new.items < weigh_made left.made + weigh_all stack.old.items) }
 {
     let PendingRedirects {
         redirects,
@@ -199,7 +206,8 @@ pub(crate) fn redirect(
     operand: Bytes,
     state: &State,
 ) -> Result<Control, NoMemory>
-    ensures { IfOk result (λ c. (k : Next) → Goes (aimed (aims.Operand left descriptor kind next) place k (Value operand) (shell_of state.now)) k (shell_of state.now) c) }
+    ensures talk { IfOk result (λ c. (k : Next) → Goes (aimed (aims.Operand left descriptor kind next) place k (Value operand) (shell_of state.now)) k (shell_of state.now) c) }
+    ensures weight { IfOk result (λ c. weigh c ≤ weigh_redirects left + 3) }
 {
     let mut left = left;
     left.ran = ran_since(left.ran, next, state);
@@ -219,7 +227,7 @@ fn redirect_literal(
     state: &State,
 ) -> Result<Acted, NoMemory>
     ensures talk { IfOk result (λ t. (k : Next) → Steps (pay (turns operand.now) (aimed (aims.Operand left descriptor kind (shell_of state.now).env.next) place k (Value operand.now) (shell_of state.now))) k (shell_of state.now) t) }
-    ensures costly { IfOk result (λ t. IsStep t.turn) }
+    ensures costly { IfOk result (Sinks (weigh_redirects left + 4)) }
 {
     let cost = turns(operand.as_slice());
     let operand = operand.copy()?;
@@ -241,7 +249,7 @@ pub fn next_redirect(
     state: &mut State,
 ) -> Result<Acted, NoMemory>
     ensures talk { IfOk result (Steps (making left left.ran place (context stack.old.items) (shell_of state.old)) (context stack.new.items) (shell_of state.new)) }
-    ensures costly { IfOk result (λ t. IsStep t.turn) }
+    ensures costly { IfOk result (Lowers (weigh_redirects left) stack.old.items stack.new.items) }
 {
     let redirects = left.redirects.clone()?;
     match redirects.get(left.at) {
@@ -281,7 +289,7 @@ fn refused(
     state: &mut State,
 ) -> Result<Acted, NoMemory>
     ensures talk { IfOk result (Steps (when_refused left place (context stack.old.items) (shell_of state.old)) (context stack.new.items) (shell_of state.new)) }
-    ensures costly { IfOk result (λ t. IsStep t.turn) }
+    ensures costly { IfOk result (Lowers 3 stack.old.items stack.new.items) }
 {
     let flow = refusal_flow(&left.made);
     let PendingRedirects {
@@ -321,7 +329,7 @@ pub fn resume_redirection(
     state: &mut State,
 ) -> Result<Acted, NoMemory>
     ensures talk { IfOk result (Steps (redirecting left place (context stack.old.items) r.value answer (shell_of state.old)) (context stack.new.items) (shell_of state.new)) }
-    ensures costly { IfOk result (λ t. IsStep t.turn) }
+    ensures costly { IfOk result (Lowers (weigh_redirects left + 3) stack.old.items stack.new.items) }
 {
     let mut r = r;
     let turn = next_turn(&mut r, &mut state.descriptors, &state.env, answer)?;

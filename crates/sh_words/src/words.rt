@@ -1,5 +1,5 @@
 // Expansion of words, and what it is for.
-ghost use Rattle.std.specs.Prelude.{◌≡◌, ℕ, ◌++◌, ◌∷◌, [], IfOk, OnOk, not};
+ghost use Rattle.std.specs.Prelude.{◌≡◌, ◌≤◌, ℕ, ◌+◌, ◌++◌, ◌∷◌, [], IfOk, OnOk, not};
 ghost use Rattle.rk_calls.specs.Talk.{pay};
 ghost use Rattle.rk_calls.specs.Turns.{turns};
 ghost use Rattle.sh_vars.specs.Held.{is_readonly};
@@ -7,11 +7,12 @@ ghost use Rattle.sh_expand.specs.declared.mode.Expanded.TheVariants.{Value};
 ghost use Rattle.sh_means.specs.declared.control.Aim.TheVariants as aims;
 ghost use Rattle.sh_means.specs.declared.control.Then.TheVariants as thens;
 ghost use Rattle.sh_means.specs.Flows.{Next};
-ghost use Rattle.sh_means.specs.Stack.{Steps, Goes, IsStep, aimed, context, fielding, making, then_means};
+ghost use Rattle.sh_means.specs.Stack.{Steps, Goes, aimed, context, fielding, making, then_means};
 ghost use Rattle.sh_means.specs.declared.flow.Place.{Place as Places};
 ghost use Rattle.sh_means.specs.State.{Shell, took};
 ghost use Rattle.sh_means.specs.Trees.{set_if};
 ghost use Rattle.sh_means.specs.Views.{shell_of};
+ghost use Rattle.sh_means.specs.Weights.{Lowers, Sinks, items_left, weigh, weigh_aim, weigh_assignments, weigh_case, weigh_command, weigh_fields, weigh_redirects, weigh_then};
 ghost use Rattle.sh_means.specs.Words.{fields_of, value_of};
 
 use crate::kinds::kind_of;
@@ -44,7 +45,8 @@ fn made_first(
     ran: bool,
     state: &State,
 ) -> Result<PendingRedirects, NoMemory>
-    ensures { IfOk result (λ m. (place : Places) (k : Next) (p : ℕ) → then_means (thens.Simple command) place k fields ran (shell_of state.now) p ≡ making m m.ran place k (shell_of state.now) p) }
+    ensures talk { IfOk result (λ m. (place : Places) (k : Next) (p : ℕ) → then_means (thens.Simple command) place k fields ran (shell_of state.now) p ≡ making m m.ran place k (shell_of state.now) p) }
+    ensures weight { IfOk result (λ m. weigh_redirects m ≡ weigh_command command.value) }
 {
     let kind = kind_of(alloc, &fields, &state.functions)?;
     let redirects = command.redirects.clone()?;
@@ -72,7 +74,7 @@ fn then(
     state: &mut State,
 ) -> Result<Acted, NoMemory>
     ensures talk { IfOk result (Steps (then_means then place (context stack.old.items) fields ran (shell_of state.old)) (context stack.new.items) (shell_of state.new)) }
-    ensures costly { IfOk result (λ t. IsStep t.turn) }
+    ensures costly { IfOk result (Lowers (weigh_then then) stack.old.items stack.new.items) }
 {
     match then {
         Then::Simple(command) => {
@@ -86,7 +88,7 @@ fn then(
 // A word that is one field of this text is one field more.
 fn push_field(place: Place, left: PendingFields, text: &Bytes) -> Result<Acted, NoMemory>
     ensures talk { IfOk result (λ t. (k : Next) (e : Shell) → Steps (pay (turns text.now) (fielding (record left { fields = left.fields ++ text.now ∷ [] }) place k e)) k e t) }
-    ensures costly { IfOk result (λ t. IsStep t.turn) }
+    ensures costly { IfOk result (Sinks (weigh_fields left + 1)) }
 {
     let mut left = left;
     let cost = turns(text.as_slice());
@@ -106,7 +108,7 @@ pub fn next_word(
     state: &mut State,
 ) -> Result<Acted, NoMemory>
     ensures talk { IfOk result (Steps (fielding left place (context stack.old.items) (shell_of state.old)) (context stack.new.items) (shell_of state.new)) }
-    ensures costly { IfOk result (λ t. IsStep t.turn) }
+    ensures costly { IfOk result (Lowers (weigh_fields left) stack.old.items stack.new.items) }
 {
     let words = left.words.clone()?;
     match words.get(left.at) {
@@ -177,7 +179,8 @@ fn take_fields(
     expanded: Expanded,
     state: &State,
 ) -> Result<PendingFields, NoMemory>
-    ensures { IfOk result (λ more. (place : Places) (k : Next) (p : ℕ) → aimed (aims.Fields left next) place k expanded (shell_of state.now) p ≡ fielding more place k (shell_of state.now) p) }
+    ensures talk { IfOk result (λ more. (place : Places) (k : Next) (p : ℕ) → aimed (aims.Fields left next) place k expanded (shell_of state.now) p ≡ fielding more place k (shell_of state.now) p) }
+    ensures weight { IfOk result (λ more. weigh_fields more ≡ weigh_fields left) }
 {
     let more = fields_of(alloc, expanded)?;
     let PendingFields {
@@ -226,7 +229,7 @@ fn assign(
     state: &mut State,
 ) -> Result<Acted, NoMemory>
     ensures talk { IfOk result (λ t. (k : Next) → Steps (aimed (aims.Value left name.now next) place k (Value value.now) (shell_of state.old)) k (shell_of state.new) t) }
-    ensures costly { IfOk result (λ t. IsStep t.turn) }
+    ensures costly { IfOk result (Sinks (weigh_assignments left + 1)) }
 {
     let mut left = left;
     left.ran = ran_since(left.ran, next, state);
@@ -244,7 +247,8 @@ fn assign(
 
 // The word of a `case` was expanded.
 fn look(place: Place, items: Rc<CaseItems>, value: Bytes) -> Control
-    ensures { (k : Next) (e : Shell) → Goes (aimed (aims.Subject items) place k (Value value) e) k e result }
+    ensures talk { (k : Next) (e : Shell) → Goes (aimed (aims.Subject items) place k (Value value) e) k e result }
+    ensures weight { weigh result ≡ items_left items.value 0 0 + 2 }
 {
     Control::CompoundStep(CompoundStep::Case(
         place,
@@ -259,7 +263,8 @@ fn look(place: Place, items: Rc<CaseItems>, value: Bytes) -> Control
 
 // A pattern was expanded, behind which the next one is at the place of the `case`.
 fn match_pattern(place: Place, casing: PendingCase, pattern: &Bytes) -> Result<Control, NoMemory>
-    ensures { IfOk result (λ c. (k : Next) (e : Shell) → Goes (aimed (aims.Pattern casing) place k (Value pattern.now) e) k e c) }
+    ensures talk { IfOk result (λ c. (k : Next) (e : Shell) → Goes (aimed (aims.Pattern casing) place k (Value pattern.now) e) k e c) }
+    ensures weight { IfOk result (λ c. weigh c ≤ weigh_case casing) }
 {
     if matches(pattern.as_slice(), casing.value.as_slice()) {
         let items = casing.items.clone()?;
@@ -284,7 +289,7 @@ fn deliver_to(
     state: &mut State,
 ) -> Result<Acted, NoMemory>
     ensures talk { IfOk result (Steps (aimed aim place (context stack.old.items) expanded (shell_of state.old)) (context stack.new.items) (shell_of state.new)) }
-    ensures costly { IfOk result (λ t. IsStep t.turn) }
+    ensures costly { IfOk result (Lowers (weigh_aim aim) stack.old.items stack.new.items) }
 {
     match aim {
         Aim::Fields(left, next) => {
@@ -322,7 +327,7 @@ pub fn deliver(
     state: &mut State,
 ) -> Result<Acted, NoMemory>
     ensures talk { IfOk result (Steps (aimed wording.value.aim wording.value.place (context stack.old.items) expanded (shell_of state.old)) (context stack.new.items) (shell_of state.new)) }
-    ensures costly { IfOk result (λ t. IsStep t.turn) }
+    ensures costly { IfOk result (Lowers (weigh_aim wording.value.aim) stack.old.items stack.new.items) }
 {
     let expanded_word = Box::into_inner(wording);
     let PendingWord {

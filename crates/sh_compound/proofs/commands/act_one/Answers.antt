@@ -1,4 +1,4 @@
-use Rattle.std.proofs.Common.{◌∙◌}
+use Rattle.std.proofs.Common.{◌∙◌, arith}
 use Rattle.sh_ast.specs.Commands as tree
 use Rattle.sh_means.specs.Stack.{context}
 use Rattle.sh_means.specs.Views.{shell_of}
@@ -13,3 +13,9 @@ pub returns-in-None-clause-talk : goal.returns-in-None-clause-talk
 returns-in-None-clause-talk c =
     let k = context c.args.stack.now.items in
     λ p. first_none c.args.list.now c.args.at c.args.place k (shell_of c.args.state.now) p c.in-None.ensures ∙ c.free.ensures.talk k (shell_of c.args.state.now) p
+
+pub returns-in_ok-acted-in-Some-clause-costly : goal.returns-in_ok-acted-in-Some-clause-costly
+returns-in_ok-acted-in-Some-clause-costly c = λ m le. c.in_ok-acted-in-Some.ensures.costly m _
+
+pub returns-in-None-clause-costly : goal.returns-in-None-clause-costly
+returns-in-None-clause-costly c = λ m le. c.free.ensures.costly m _ (omega arith)

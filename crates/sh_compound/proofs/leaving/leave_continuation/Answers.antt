@@ -1,51 +1,79 @@
-use Rattle.std.proofs.Common.{ap, ◌∙◌}
+use Rattle.std.proofs.Common.{ap, ◌∙◌, arith}
 use Rattle.sh_means.specs.declared.control.Continuation.{Continuation}
 use Rattle.sh_means.specs.Stack.{context, continued}
 use Rattle.sh_means.specs.Views.{shell_of}
 use Rattle.sh_means.proofs.Undone.{stage_back}
+use Rattle.sh_means.specs.Weights.{weigh_continuation}
 use Rattle.sh_compound.proofs.leaving.leave_continuation.Goals as goal
 
-pub returns-in-Rest : goal.returns-in-Rest
-returns-in-Rest c =
+pub returns-in-Rest-clause-talk : goal.returns-in-Rest-clause-talk
+returns-in-Rest-clause-talk c =
     λ p. ap (λ (x : Continuation). continued x (context c.args.stack.now.items) c.args.flow (shell_of c.args.state.now) p) c.in-Rest.is
-    ∙ c.leave_rest.ensures (context c.args.stack.now.items) (shell_of c.args.state.now) p
+    ∙ c.leave_rest.ensures.talk (context c.args.stack.now.items) (shell_of c.args.state.now) p
 
-pub returns-in_ok-control-in-Links : goal.returns-in_ok-control-in-Links
-returns-in_ok-control-in-Links c =
+pub returns-in_ok-control-in-Links-clause-talk : goal.returns-in_ok-control-in-Links-clause-talk
+returns-in_ok-control-in-Links-clause-talk c =
     λ p. ap (λ (x : Continuation). continued x (context c.args.stack.now.items) c.args.flow (shell_of c.args.state.now) p) c.in-Links.is
-    ∙ c.in_ok-control-in-Links.ensures p
+    ∙ c.in_ok-control-in-Links.ensures.talk p
 
-pub returns-in-Stage : goal.returns-in-Stage
-returns-in-Stage c =
+pub returns-in-Stage-clause-talk : goal.returns-in-Stage-clause-talk
+returns-in-Stage-clause-talk c =
     λ p. ap (λ (x : Continuation). continued x (context c.args.stack.now.items) c.args.flow (shell_of c.args.state.now) p) c.in-Stage.is
     ∙ stage_back c.in-Stage.place c.in-Stage.list c.in-Stage.at c.in-Stage.read_end c.in-Stage.status c.in-Stage.saved (context c.args.stack.now.items) c.args.flow (shell_of c.args.state.now) (shell_of c.come_back.new.self) p c.come_back.ensures
 
-pub returns-in-Watch : goal.returns-in-Watch
-returns-in-Watch c =
+pub returns-in-Watch-clause-talk : goal.returns-in-Watch-clause-talk
+returns-in-Watch-clause-talk c =
     λ p. ap (λ (x : Continuation). continued x (context c.args.stack.now.items) c.args.flow (shell_of c.args.state.now) p) c.in-Watch.is
-    ∙ c.leave_watch.ensures (context c.args.stack.now.items) p
+    ∙ c.leave_watch.ensures.talk (context c.args.stack.now.items) p
 
-pub returns-in-Invert : goal.returns-in-Invert
-returns-in-Invert c =
+pub returns-in-Invert-clause-talk : goal.returns-in-Invert-clause-talk
+returns-in-Invert-clause-talk c =
     λ p. ap (λ (x : Continuation). continued x (context c.args.stack.now.items) c.args.flow (shell_of c.args.state.now) p) c.in-Invert.is
-    ∙ c.leave_invert.ensures (context c.args.stack.now.items) p
+    ∙ c.leave_invert.ensures.talk (context c.args.stack.now.items) p
 
-pub returns-in_ok-control-in-Condition : goal.returns-in_ok-control-in-Condition
-returns-in_ok-control-in-Condition c =
+pub returns-in_ok-control-in-Condition-clause-talk : goal.returns-in_ok-control-in-Condition-clause-talk
+returns-in_ok-control-in-Condition-clause-talk c =
     λ p. ap (λ (x : Continuation). continued x (context c.args.stack.now.items) c.args.flow (shell_of c.args.state.now) p) c.in-Condition.is
-    ∙ c.in_ok-control-in-Condition.ensures p
+    ∙ c.in_ok-control-in-Condition.ensures.talk p
 
-pub returns-in-Body : goal.returns-in-Body
-returns-in-Body c =
+pub returns-in-Body-clause-talk : goal.returns-in-Body-clause-talk
+returns-in-Body-clause-talk c =
     λ p. ap (λ (x : Continuation). continued x (context c.args.stack.now.items) c.args.flow (shell_of c.args.state.now) p) c.in-Body.is
-    ∙ c.leave_body.ensures (context c.args.stack.now.items) p
+    ∙ c.leave_body.ensures.talk (context c.args.stack.now.items) p
 
-pub returns-in-Each : goal.returns-in-Each
-returns-in-Each c =
+pub returns-in-Each-clause-talk : goal.returns-in-Each-clause-talk
+returns-in-Each-clause-talk c =
     λ p. ap (λ (x : Continuation). continued x (context c.args.stack.now.items) c.args.flow (shell_of c.args.state.now) p) c.in-Each.is
-    ∙ c.leave_each.ensures (context c.args.stack.now.items) (shell_of c.args.state.now) p
+    ∙ c.leave_each.ensures.talk (context c.args.stack.now.items) (shell_of c.args.state.now) p
 
-pub returns-in-Choose : goal.returns-in-Choose
-returns-in-Choose c =
+pub returns-in-Choose-clause-talk : goal.returns-in-Choose-clause-talk
+returns-in-Choose-clause-talk c =
     λ p. ap (λ (x : Continuation). continued x (context c.args.stack.now.items) c.args.flow (shell_of c.args.state.now) p) c.in-Choose.is
-    ∙ c.leave_choose.ensures (context c.args.stack.now.items) p
+    ∙ c.leave_choose.ensures.talk (context c.args.stack.now.items) p
+
+pub returns-in-Rest-clause-weight : goal.returns-in-Rest-clause-weight
+returns-in-Rest-clause-weight c = omega (arith, ap weigh_continuation c.in-Rest.is, c.leave_rest.ensures.weight)
+
+pub returns-in_ok-control-in-Links-clause-weight : goal.returns-in_ok-control-in-Links-clause-weight
+returns-in_ok-control-in-Links-clause-weight c = omega (arith, ap weigh_continuation c.in-Links.is, c.in_ok-control-in-Links.ensures.weight)
+
+pub returns-in-Stage-clause-weight : goal.returns-in-Stage-clause-weight
+returns-in-Stage-clause-weight c = omega (arith, ap weigh_continuation c.in-Stage.is)
+
+pub returns-in-Watch-clause-weight : goal.returns-in-Watch-clause-weight
+returns-in-Watch-clause-weight c = omega (arith, ap weigh_continuation c.in-Watch.is, c.leave_watch.ensures.weight)
+
+pub returns-in-Invert-clause-weight : goal.returns-in-Invert-clause-weight
+returns-in-Invert-clause-weight c = omega (arith, ap weigh_continuation c.in-Invert.is, c.leave_invert.ensures.weight)
+
+pub returns-in_ok-control-in-Condition-clause-weight : goal.returns-in_ok-control-in-Condition-clause-weight
+returns-in_ok-control-in-Condition-clause-weight c = omega (arith, ap weigh_continuation c.in-Condition.is, c.in_ok-control-in-Condition.ensures.weight)
+
+pub returns-in-Body-clause-weight : goal.returns-in-Body-clause-weight
+returns-in-Body-clause-weight c = omega (arith, ap weigh_continuation c.in-Body.is, c.leave_body.ensures.weight)
+
+pub returns-in-Each-clause-weight : goal.returns-in-Each-clause-weight
+returns-in-Each-clause-weight c = omega (arith, ap weigh_continuation c.in-Each.is, c.leave_each.ensures.weight)
+
+pub returns-in-Choose-clause-weight : goal.returns-in-Choose-clause-weight
+returns-in-Choose-clause-weight c = omega (arith, ap weigh_continuation c.in-Choose.is, c.leave_choose.ensures.weight)

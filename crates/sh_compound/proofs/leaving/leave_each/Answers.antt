@@ -5,11 +5,11 @@ use Rattle.sh_means.specs.declared.flow.Flow.TheVariants.{Continues}
 use Rattle.sh_means.specs.Stack.{continued}
 use Rattle.sh_compound.proofs.leaving.leave_each.Goals as goal
 
-pub returns-in-Normal : goal.returns-in-Normal
-returns-in-Normal c =
+pub returns-in-Normal-clause-talk : goal.returns-in-Normal-clause-talk
+returns-in-Normal-clause-talk c =
     λ k e p. ap (λ (f : Flow). continued (continuation.Each c.args.place c.args.each) k f e p) c.in-Normal.is
 
-pub returns-then-n-eq0 : goal.returns-then-n-eq0
-returns-then-n-eq0 c =
+pub returns-then-n-eq0-clause-talk : goal.returns-then-n-eq0-clause-talk
+returns-then-n-eq0-clause-talk c =
     λ k e p. ap (λ (f : Flow). continued (continuation.Each c.args.place c.args.each) k f e p) c.in-Continues.is
     ∙ ap (λ n. continued (continuation.Each c.args.place c.args.each) k (Continues n) e p) c.if-n-eq0.true

@@ -1,4 +1,4 @@
-use Rattle.std.proofs.Common.{refl, ap, sym, ◌∙◌}
+use Rattle.std.proofs.Common.{refl, ap, sym, ◌∙◌, arith}
 use Rattle.sh_ast.specs.Commands as tree
 use Rattle.sh_tree.proofs.ReadAs.{reads}
 use Rattle.rk_calls.specs.Lines.{error_line}
@@ -10,6 +10,7 @@ use Rattle.sh_means.specs.Simple.{Reads}
 use Rattle.sh_means.specs.Views.{shell_of}
 use Rattle.sh_means.proofs.Calling.{text_run, text_faulty, told_words}
 use Rattle.sh_eval.proofs.Turning.{said_so}
+use Rattle.sh_means.proofs.Weighing.{sinks_more}
 use Rattle.sh_eval.proofs.reading.act_text.Goals as goal
 
 pub returns-in-Script-clause-talk : goal.returns-in-Script-clause-talk
@@ -23,3 +24,9 @@ returns-in-Fault-clause-talk c =
     (λ k p. text_faulty (reads c.args.text.now) c.in-Fault.words c.args.name.now c.args.text.now c.args.place k e p (ap reading_of (sym c.in-Fault.is) ∙ c.in_ok-read.ensures ∙ ap reads c.as_slice.ensures) refl
     ∙ told_words c.args.name.now c.as_slice-operand.result.now c.in-Fault.words c.as_slice-what.result.now k e p c.as_slice-operand.ensures c.as_slice-what.ensures)
     c.refuse.ensures.talk
+
+pub returns-in-Fault-clause-costly : goal.returns-in-Fault-clause-costly
+returns-in-Fault-clause-costly c = sinks_more c.refuse.result 1 2 c.refuse.ensures.costly (omega arith)
+
+pub returns-in-Script-clause-costly : goal.returns-in-Script-clause-costly
+returns-in-Script-clause-costly c = λ m n le. c.free.ensures.costly m n (omega arith)

@@ -1,4 +1,4 @@
-use Rattle.std.proofs.Common.{◌∙◌}
+use Rattle.std.proofs.Common.{◌∙◌, arith}
 use Rattle.sh_means.specs.Stack.{context}
 use Rattle.sh_means.specs.Views.{shell_of}
 use Rattle.sh_words.proofs.Refused.{refusal_leads}
@@ -6,5 +6,8 @@ use Rattle.sh_words.proofs.making.refused.Goals as goal
 
 pub returns-clause-talk : goal.returns-clause-talk
 returns-clause-talk c =
-    λ p. refusal_leads c.args.left c.args.place (context c.args.stack.now.items) (context c.put_continuation.new.stack.items) (context c.put_undo.new.stack.items) c.refusal_flow-flow.result (shell_of c.args.state.now) p c.refusal_flow-flow.ensures c.in_ok-put_continuation.ensures c.in_ok-put_undo.ensures
+    λ p. refusal_leads c.args.left c.args.place (context c.args.stack.now.items) (context c.put_continuation.new.stack.items) (context c.put_undo.new.stack.items) c.refusal_flow-flow.result (shell_of c.args.state.now) p c.refusal_flow-flow.ensures c.in_ok-put_continuation.ensures.talk c.in_ok-put_undo.ensures.talk
     ∙ c.end.ensures.talk (context c.put_undo.new.stack.items) p
+
+pub returns-clause-costly : goal.returns-clause-costly
+returns-clause-costly c = λ m le. c.end.ensures.costly m _ (omega (arith, c.in_ok-put_continuation.ensures.weight, c.in_ok-put_undo.ensures.weight))

@@ -1,4 +1,4 @@
-use Rattle.std.proofs.Common.{◌≡◌, ℕ, ◌||◌, Bool, true, false, not, codes, if◌then◌else◌, sym, ap, ◌∙◌}
+use Rattle.std.proofs.Common.{◌≡◌, ℕ, ◌||◌, Bool, true, false, not, codes, if◌then◌else◌, sym, ap, ◌∙◌, arith}
 use Rattle.rk_base.specs.Text.{Text}
 use Rattle.rk_calls.specs.Lines.{error_line}
 use Rattle.sh_vars.specs.Held.{Held, is_readonly}
@@ -45,3 +45,9 @@ returns-clause-talk c =
     λ k p. assigned c.args.left.exported c.in_ok-set.field-0 c.args.name.now c.args.value.now c.as_slice.result.now c.as_slice-2.result.now (assigning c.args.left (c.args.left.ran || took c.args.next e) c.args.place k) k e c.set.new.vars p c.as_slice.ensures c.as_slice-2.ensures c.in_ok-set.ensures.answer c.in_ok-set.ensures.vars c.if-not-branch.false
     ∙ ap (λ (ran : Bool). assigning c.args.left ran c.args.place k (with_held c.set.new.vars e) p) (sym c.ran_since.ensures)
     ∙ c.free.ensures.talk k (with_held c.set.new.vars e) p
+
+pub returns-then-not-branch-clause-costly : goal.returns-then-not-branch-clause-costly
+returns-then-not-branch-clause-costly c = λ m n h. c.in_ok-acted.ensures.costly m n (omega arith)
+
+pub returns-clause-costly : goal.returns-clause-costly
+returns-clause-costly c = λ m n h. c.free.ensures.costly m n (omega arith)

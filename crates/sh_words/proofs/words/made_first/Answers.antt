@@ -20,6 +20,7 @@ use Rattle.sh_means.specs.State.{Shell}
 use Rattle.sh_means.specs.Views.{shell_of, functions_of}
 use Rattle.sh_means.specs.Words.{redirect_all, named}
 use Rattle.sh_means.proofs.Launching.{launchable}
+use Rattle.sh_means.proofs.Weighing.{command_weighs}
 use Rattle.sh_words.proofs.words.made_first.Goals as goal
 
 -- the redirections of a simple command with these fields, as a kind
@@ -44,12 +45,18 @@ simple_then x rs as' d before doing ran pl k e p hr ha hk hb hd =
 pub invariant_of-doing : goal.invariant_of-doing
 invariant_of-doing c = record { launchable = launchable c.in_ok-kind.kind c.args.fields _ c.in_ok-kind.ensures }
 
-pub returns : goal.returns
+pub returns-clause-talk : goal.returns-clause-talk
 unfolding with_kind
-returns c =
+returns-clause-talk c =
     let e = shell_of c.args.state.now in
     λ place k p. simple_then c.args.command.value c.in_ok-redirects.redirects c.in_ok-assignments.assignments _ c.in_ok-before.before c.in_ok-boxed.boxed c.args.ran place k e p
     (c.in_ok-redirects.ensures.cases ∙ ap (λ (x : SimpleCommand). (out-SimpleCommand x).redirects.value) c.deref-2.ensures)
     (c.in_ok-assignments.ensures.cases ∙ ap (λ (x : SimpleCommand). (out-SimpleCommand x).assignments.value) c.deref-3.ensures)
     (c.in_ok-kind.ensures ∙ ap (λ (fs : code.Functions). kind_of c.args.fields (functions_of fs)) c.deref.ensures)
     c.in_ok-before.ensures.cases c.in_ok-boxed.ensures.ok
+
+pub returns-clause-weight : goal.returns-clause-weight
+returns-clause-weight c =
+    command_weighs c.args.command.value c.in_ok-redirects.redirects.value c.in_ok-assignments.assignments.value
+    (c.in_ok-redirects.ensures.cases ∙ ap (λ (x : SimpleCommand). (out-SimpleCommand x).redirects.value) c.deref-2.ensures)
+    (c.in_ok-assignments.ensures.cases ∙ ap (λ (x : SimpleCommand). (out-SimpleCommand x).assignments.value) c.deref-3.ensures)

@@ -1,15 +1,9 @@
 use Rattle.std.proofs.Common.{◌≡◌, ℕ}
-use Rattle.rk_calls.specs.Talk.{after}
-use Rattle.sh_eval.specs.Machine.{evaluator_says}
-use Rattle.sh_means.specs.Stack.{IsStep}
+use Rattle.sh_eval.specs.Machine.{steps_on, evaluator_says, free_work}
 use Rattle.sh_eval.proofs.machine.Evaluator.resume.Given as goal
 
 abbrev pub invariant-free : goal.invariant-free
-invariant-free l =
-    record {
-      talk : (p : ℕ) → evaluator_says l.fn.self l.fn.answer p ≡ after l.turn (evaluator_says l.self) p;
-      costly : IsStep l.turn;
-    }
+invariant-free l = (p : ℕ) → evaluator_says l.fn.self l.fn.answer p ≡ steps_on l.self l.answer p
 
 abbrev pub decreases-free : goal.decreases-free
-decreases-free l = l.left
+decreases-free l = free_work l.self

@@ -2,7 +2,7 @@ use Rattle.std.proofs.Common.{sym, ap, ◌∙◌}
 use Rattle.sh_means.specs.declared.control.Control.{Control}
 use Rattle.sh_means.specs.Stack.{context, resumed, stepped}
 use Rattle.sh_means.specs.Views.{shell_of}
-use Rattle.sh_eval.proofs.Turning.{stepped_after}
+use Rattle.sh_eval.proofs.Turning.{stepped_after, sheds}
 use Rattle.sh_eval.proofs.machine.Evaluator.step.Goals as goal
 
 pub returns-clause-talk : goal.returns-clause-talk
@@ -11,3 +11,7 @@ returns-clause-talk c =
     ∙ c.in_ok-turn.ensures.talk p
     ∙ ap (λ (ctl : Control). stepped c.in_ok-turn.field-0.turn ctl (context c.act.new.stack.items) (shell_of c.act.new.state) p) (sym c.put.ensures)
     ∙ stepped_after c.in_ok-turn.field-0.turn (record { alloc = c.args.self.now.alloc; state = c.act.new.state; stack = c.act.new.stack; control = c.put.new.control }) p
+
+pub returns-clause-costly : goal.returns-clause-costly
+returns-clause-costly c =
+    sheds c.args.self.now (record { alloc = c.args.self.now.alloc; state = c.act.new.state; stack = c.act.new.stack; control = c.put.new.control }) c.in_ok-turn.field-0 c.take-control.result c.take-control.ensures c.put.ensures c.in_ok-turn.ensures.costly
