@@ -3,16 +3,14 @@
 #![tactic(auto)]
 
 mod calls;
-mod session;
-mod workload;
 
-use crate::session::{Session, carried_out};
-use crate::workload::made;
+use crate::calls::Rkr;
 use rk_base::NoMemory;
+use rk_sessions::{Session, carried_out, made};
 use std::process::ExitCode;
 use std::{env, fs, io};
 
-fn print(rt: &HostRuntime, name: &str, came: Result<Session, NoMemory>) -> io::Result<()> {
+fn print(rt: &HostRuntime, name: &str, came: Result<Session<Rkr>, NoMemory>) -> io::Result<()> {
     match came {
         Ok(session) => {
             print!(rt; "{}", session.told())?;
@@ -30,11 +28,15 @@ fn print(rt: &HostRuntime, name: &str, came: Result<Session, NoMemory>) -> io::R
 fn run(rt: &HostRuntime, names: &[String]) -> io::Result<()> {
     'names: for name in names {
         let text = fs::read_to_string(rt, name.as_str())?;
-        print(rt, name.as_str(), carried_out(rt.alloc(), text.as_str()))?;
+        print(
+            rt,
+            name.as_str(),
+            carried_out(rt.alloc(), Rkr, text.as_str()),
+        )?;
     }
     'seeds: for seed in 0..4u64 {
         let name = format!(in rt.alloc(); "seed {seed}")?;
-        print(rt, name.as_str(), made(rt.alloc(), seed, 8))?;
+        print(rt, name.as_str(), made(rt.alloc(), Rkr, seed, 8))?;
     }
     Ok(())
 }

@@ -5,7 +5,7 @@ use std::alloc::Global;
 use tr_codec::{AttrRow, Attrs, read_attrs};
 
 /// Bytes as text.
-pub fn shown(bytes: &[u8]) -> &str {
+pub(crate) fn shown(bytes: &[u8]) -> &str {
     str::from_utf8(bytes).unwrap_or("not text")
 }
 
@@ -32,14 +32,14 @@ fn launched(explained: &str) -> &str {
 }
 
 /// How many commands were launched, and behind it the words of those that ran.
-pub fn ran(alloc: Global, explained: &str) -> Result<String, NoMemory> {
+pub(crate) fn ran(alloc: Global, explained: &str) -> Result<String, NoMemory> {
     let mut text = String::from_str(alloc, launched(explained))?;
     text.push_str(commands(alloc, explained)?.as_str())?;
     Ok(text)
 }
 
 /// Whether a text has this line.
-pub fn has_line(text: &str, wanted: &str) -> bool {
+pub(crate) fn has_line(text: &str, wanted: &str) -> bool {
     'lines: for line in text.lines() {
         if line == wanted {
             return true;
@@ -49,7 +49,7 @@ pub fn has_line(text: &str, wanted: &str) -> bool {
 }
 
 /// Whether a line has a number, a blank and this text.
-pub fn has_numbered(text: &str, wanted: &str) -> bool {
+pub(crate) fn has_numbered(text: &str, wanted: &str) -> bool {
     'lines: for line in text.lines() {
         let (_, rest) = line.split_once(' ').unwrap_or((line, ""));
         if rest == wanted {
@@ -60,7 +60,7 @@ pub fn has_numbered(text: &str, wanted: &str) -> bool {
 }
 
 /// What stands before an explanation.
-pub fn unexplained(errors: &str) -> &str {
+pub(crate) fn unexplained(errors: &str) -> &str {
     match errors.split_once("rkr: ran ") {
         Some((text, _)) => text,
         None => match errors.split_once("rkr: launched ") {
@@ -109,7 +109,7 @@ fn rows_shown(alloc: Global, bytes: &[u8]) -> Result<String, NoMemory> {
 }
 
 /// What kind of thing stands at a path.
-pub fn kind_at(folder: &MemFolder, place: &Path) -> &'static str {
+pub(crate) fn kind_at(folder: &MemFolder, place: &Path) -> &'static str {
     match folder.at(place) {
         Some(Standing::File(_)) => "file",
         Some(Standing::Dir) => "directory",
@@ -119,7 +119,7 @@ pub fn kind_at(folder: &MemFolder, place: &Path) -> &'static str {
 }
 
 /// The bytes of the file at a path, or none where there is no file.
-pub fn text_at(alloc: Global, folder: &MemFolder, place: &Path) -> Result<String, NoMemory> {
+pub(crate) fn text_at(alloc: Global, folder: &MemFolder, place: &Path) -> Result<String, NoMemory> {
     let text = match folder.at(place) {
         Some(Standing::File(bytes)) => shown(bytes.as_slice()),
         _ => "",
@@ -129,7 +129,7 @@ pub fn text_at(alloc: Global, folder: &MemFolder, place: &Path) -> Result<String
 }
 
 /// The rows of the attrs that stand at a path.
-pub fn rows_at(alloc: Global, folder: &MemFolder, place: &Path) -> Result<String, NoMemory> {
+pub(crate) fn rows_at(alloc: Global, folder: &MemFolder, place: &Path) -> Result<String, NoMemory> {
     match folder.at(place) {
         Some(Standing::File(bytes)) => rows_shown(alloc, bytes.as_slice()),
         _ => Ok(String::new(alloc)),
@@ -250,7 +250,7 @@ fn push_dirs(
 }
 
 /// What a folder holds in its root and in the directories there, but for the database.
-pub fn contents(alloc: Global, folder: &mut MemFolder) -> Result<String, NoMemory> {
+pub(crate) fn contents(alloc: Global, folder: &mut MemFolder) -> Result<String, NoMemory> {
     let root = Path::root(alloc)?;
     let mut text = files(alloc, folder, &root)?;
     push_dirs(alloc, &mut text, folder, &root)?;
@@ -287,7 +287,7 @@ fn push_next(text: &mut String, call: &FolderCall) -> Result<(), NoMemory> {
 }
 
 /// The calls that were made.
-pub fn calls_shown(alloc: Global, asked: &[FolderCall]) -> Result<String, NoMemory> {
+pub(crate) fn calls_shown(alloc: Global, asked: &[FolderCall]) -> Result<String, NoMemory> {
     let mut text = String::new(alloc);
     'calls: for call in asked {
         push_next(&mut text, call)?;
@@ -296,7 +296,7 @@ pub fn calls_shown(alloc: Global, asked: &[FolderCall]) -> Result<String, NoMemo
 }
 
 /// Those of them that are to change the folder.
-pub fn changes_shown(alloc: Global, asked: &[FolderCall]) -> Result<String, NoMemory> {
+pub(crate) fn changes_shown(alloc: Global, asked: &[FolderCall]) -> Result<String, NoMemory> {
     let mut text = String::new(alloc);
     'calls: for call in asked {
         if call.is_change() {
@@ -307,6 +307,6 @@ pub fn changes_shown(alloc: Global, asked: &[FolderCall]) -> Result<String, NoMe
 }
 
 /// Whether a call was to change the folder.
-pub fn asks_change(asked: &[FolderCall]) -> bool {
+pub(crate) fn asks_change(asked: &[FolderCall]) -> bool {
     asked.iter().any(|call| call.is_change())
 }

@@ -4,7 +4,7 @@ use std::alloc::Global;
 
 /// What is done with a folder, or looked at in it.
 #[derive(Clone, Copy)]
-pub enum StepKind {
+pub(crate) enum StepKind {
     /// A fresh folder with the text as its script, and nothing else.
     Fresh,
     /// Another script.
@@ -81,14 +81,14 @@ pub enum StepKind {
 
 /// A step: its kind, what stands behind its word, and the texts below it.
 #[derive(Drop)]
-pub struct Step {
-    pub kind: StepKind,
+pub(crate) struct Step {
+    pub(crate) kind: StepKind,
     /// What stands behind its word.
-    pub rest: String,
+    pub(crate) rest: String,
     /// The text below it.
-    pub text: String,
+    pub(crate) text: String,
     /// The error text below it.
-    pub errors: String,
+    pub(crate) errors: String,
 }
 
 fn kind_of(word: &str) -> StepKind {
@@ -187,7 +187,7 @@ fn is_comment(line: &str) -> bool {
 
 /// The steps of a file: a line for each, with its texts in the lines below it. Empty lines, and those that begin with `#`,
 /// say nothing.
-pub fn steps_of(alloc: Global, text: &str) -> Result<Vec<Step>, NoMemory> {
+pub(crate) fn steps_of(alloc: Global, text: &str) -> Result<Vec<Step>, NoMemory> {
     let mut steps: Vec<Step> = Vec::new(alloc);
     'lines: for line in text.lines() {
         if is_text(line) {

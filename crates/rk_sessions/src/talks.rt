@@ -180,6 +180,6 @@ fn table_of(alloc: Global, words: &str, text: &str) -> Result<Table, NoMemory> {
 }
 
 /// The database of one record: a command's words, and lines of what it asks and is answered.
-pub fn db_of(alloc: Global, words: &str, text: &str) -> Result<Bytes, NoMemory> {
+pub(crate) fn db_of(alloc: Global, words: &str, text: &str) -> Result<Bytes, NoMemory> {
     write_db(alloc, &table_of(alloc, words, text)?)
 }

@@ -1,15 +1,16 @@
 // A made workload: after each edit a build over the records comes to what a first one does.
+use crate::drawing::{Draws, SOURCES, script, source};
+use crate::program::Program;
 use crate::session::Session;
 use rk_base::NoMemory;
-use rk_sessions::{Draws, SOURCES, script, source};
 use std::alloc::Global;
 
 const SCRIPTS: u64 = 4;
 
-fn put_source(
+fn put_source<P: Program>(
     alloc: Global,
     draws: &mut Draws,
-    session: &mut Session,
+    session: &mut Session<P>,
     a: u64,
 ) -> Result<(), NoMemory> {
     let name = format!(in alloc; "/s{a}")?;
@@ -17,15 +18,19 @@ fn put_source(
     session.put(name.as_str(), text.as_str())
 }
 
-fn remove_source(alloc: Global, session: &mut Session, a: u64) -> Result<(), NoMemory> {
+fn remove_source<P: Program>(
+    alloc: Global,
+    session: &mut Session<P>,
+    a: u64,
+) -> Result<(), NoMemory> {
     let name = format!(in alloc; "/s{a}")?;
     session.remove(name.as_str())
 }
 
-fn put_script(
+fn put_script<P: Program>(
     alloc: Global,
     draws: &mut Draws,
-    session: &mut Session,
+    session: &mut Session<P>,
     j: u64,
 ) -> Result<(), NoMemory> {
     let name = format!(in alloc; "/g{j}.sh")?;
@@ -34,7 +39,11 @@ fn put_script(
     session.put(name.as_str(), text.as_str())
 }
 
-fn edit(alloc: Global, draws: &mut Draws, session: &mut Session) -> Result<(), NoMemory> {
+fn edit<P: Program>(
+    alloc: Global,
+    draws: &mut Draws,
+    session: &mut Session<P>,
+) -> Result<(), NoMemory> {
     let a = draws.draw(SOURCES);
     let j = draws.draw(SCRIPTS);
     match draws.draw(5) {
@@ -45,7 +54,11 @@ fn edit(alloc: Global, draws: &mut Draws, session: &mut Session) -> Result<(), N
     }
 }
 
-fn fill(alloc: Global, draws: &mut Draws, session: &mut Session) -> Result<(), NoMemory> {
+fn fill<P: Program>(
+    alloc: Global,
+    draws: &mut Draws,
+    session: &mut Session<P>,
+) -> Result<(), NoMemory> {
     'sources: for a in 0..SOURCES {
         put_source(alloc, draws, session, a)?;
     }
@@ -59,9 +72,14 @@ fn fill(alloc: Global, draws: &mut Draws, session: &mut Session) -> Result<(), N
 }
 
 /// The session of a seed: a first build, and so many edits with a build after each.
-pub(crate) fn made(alloc: Global, seed: u64, edits: u64) -> Result<Session, NoMemory> {
+pub fn made<P: Program>(
+    alloc: Global,
+    program: P,
+    seed: u64,
+    edits: u64,
+) -> Result<Session<P>, NoMemory> {
     let mut draws = Draws::new(seed);
-    let mut session = Session::new(alloc)?;
+    let mut session = Session::new(alloc, program)?;
     fill(alloc, &mut draws, &mut session)?;
     session.compare()?;
     'edits: for _ in 0..edits {

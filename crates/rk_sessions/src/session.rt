@@ -2,20 +2,22 @@
 mod arranging;
 mod asking;
 
-use crate::calls::{Built, Cut, ENOUGH, WHOLE, build_within};
+use crate::altering::bytes_of;
+use crate::numbers::{number, size, turns};
+use crate::program::{Built, Cut, ENOUGH, End, Program, WHOLE, build_within};
+use crate::showing::{
+    asks_change, contents, has_line, kind_at, ran, rows_at, shown, text_at, unexplained,
+};
+use crate::steps::{Step, StepKind, steps_of};
 use rk_base::{NoMemory, Path};
 use rk_folder::{Folder, FolderErr, MemFolder};
-use rk_sessions::{
-    Step, StepKind, asks_change, bytes_of, contents, has_line, kind_at, number, ran, rows_at,
-    shown, size, steps_of, text_at, turns, unexplained,
-};
-use rk_top::{Outcome, exit_code};
 use std::alloc::Global;
 
 /// A folder, what was built in it last, and what wasn't as it was wanted.
 #[derive(Drop)]
-pub(crate) struct Session {
+pub struct Session<P: Program> {
     alloc: Global,
+    program: P,
     folder: MemFolder,
     /// Another one, in which the same is done, but each build is the first.
     twin: MemFolder,
@@ -57,8 +59,8 @@ fn digits(alloc: Global, n: u64) -> Result<String, NoMemory> {
     Ok(text)
 }
 
-fn status_shown(alloc: Global, outcome: &Outcome) -> Result<String, NoMemory> {
-    digits(alloc, u64::from(exit_code(outcome)))
+fn status_shown(alloc: Global, built: &Built) -> Result<String, NoMemory> {
+    digits(alloc, u64::from(built.status))
 }
 
 // The put of the first number fails after so many bytes as the second says.
@@ -70,10 +72,11 @@ fn cut_of(line: &str) -> Cut {
     }
 }
 
-impl Session {
-    pub(crate) fn new(alloc: Global) -> Result<Session, NoMemory> {
+impl<P: Program> Session<P> {
+    pub(crate) fn new(alloc: Global, program: P) -> Result<Session<P>, NoMemory> {
         Ok(Session {
             alloc,
+            program,
             folder: MemFolder::new(alloc)?,
             twin: MemFolder::new(alloc)?,
             script: String::new(alloc),
@@ -89,16 +92,16 @@ impl Session {
     }
 
     /// What wasn't as it was wanted, a line for each such thing.
-    pub(crate) fn told(&self) -> &str {
+    pub fn told(&self) -> &str {
         self.told.as_str()
     }
 
-    pub(crate) fn builds(&self) -> u64 {
+    pub fn builds(&self) -> u64 {
         self.builds
     }
 
     /// How many things weren't as they were wanted.
-    pub(crate) fn otherwise(&self) -> u64 {
+    pub fn otherwise(&self) -> u64 {
         self.otherwise
     }
 
@@ -150,14 +153,14 @@ impl Session {
     /// Builds in both folders, and notes where they differ.
     pub(crate) fn compare(&mut self) -> Result<(), NoMemory> {
         self.builds = self.builds.saturating_add(1);
-        let built = build_within(self.alloc, ENOUGH, &mut self.folder)?;
+        let built = build_within(&self.program, self.alloc, ENOUGH, &mut self.folder)?;
         let fresh = self.afresh()?;
         self.judge_by(&built, &fresh)?;
         self.compare_folders()
     }
 
     fn judge_by(&mut self, built: &Built, fresh: &Built) -> Result<(), NoMemory> {
-        let status = status_shown(self.alloc, &fresh.outcome)?;
+        let status = status_shown(self.alloc, fresh)?;
         let errors = unexplained(shown(fresh.err.bytes()));
         self.judge(built, status.as_str(), shown(fresh.out.bytes()), errors)
     }
@@ -180,15 +183,15 @@ impl Session {
         if cost != 0 {
             self.cost = 0;
             'turns: for turns in 1..400u32 {
-                let built = build_within(self.alloc, turns, &mut self.folder)?;
-                if !matches!(built.outcome, Outcome::Spent) {
+                let built = build_within(&self.program, self.alloc, turns, &mut self.folder)?;
+                if !matches!(built.end, End::Spent) {
                     self.judge_turns(turns, cost)?;
                     return Ok(built);
                 }
             }
             self.judge_cost("400 or more", cost)?;
         }
-        build_within(self.alloc, ENOUGH, &mut self.folder)
+        build_within(&self.program, self.alloc, ENOUGH, &mut self.folder)
     }
 
     // Notes where the fewest turns that do aren't these.
@@ -210,7 +213,7 @@ impl Session {
         output: &str,
         error_text: &str,
     ) -> Result<(), NoMemory> {
-        let came = status_shown(self.alloc, &built.outcome)?;
+        let came = status_shown(self.alloc, built)?;
         self.tell("status", came.as_str(), status)?;
         self.tell("output", shown(built.out.bytes()), output)?;
         let errors = unexplained(shown(built.err.bytes()));
@@ -223,8 +226,8 @@ impl Session {
         let built = self.cheapest()?;
         self.judge(&built, status, output, error_text)?;
         self.explained = String::from_str(self.alloc, shown(built.err.bytes()))?;
-        self.count(&built.outcome)?;
-        self.untouched(&built.outcome)?;
+        self.count(built.end)?;
+        self.untouched(built.end)?;
         let fresh = self.afresh()?;
         self.judge(&fresh, status, output, error_text)
     }
@@ -235,13 +238,13 @@ impl Session {
         if self.twin.at(&db).is_some() {
             drop_file(&mut self.twin, self.alloc, &db)?;
         }
-        build_within(self.alloc, ENOUGH, &mut self.twin)
+        build_within(&self.program, self.alloc, ENOUGH, &mut self.twin)
     }
 
     fn spent(&mut self, turns: u32) -> Result<(), NoMemory> {
         self.begin_request();
-        let built = build_within(self.alloc, turns, &mut self.folder)?;
-        if !matches!(built.outcome, Outcome::Spent) || asks_change(self.folder.asked()) {
+        let built = build_within(&self.program, self.alloc, turns, &mut self.folder)?;
+        if !matches!(built.end, End::Spent) || asks_change(self.folder.asked()) {
             self.tell("budget", "enough", "spent")?;
         }
         self.tell("output", shown(built.out.bytes()), "")
@@ -365,10 +368,14 @@ fn drop_file(folder: &mut MemFolder, alloc: Global, place: &Path) -> Result<(), 
     }
 }
 
-/// The sessions of a file, carried out.
-pub(crate) fn carried_out(alloc: Global, text: &str) -> Result<Session, NoMemory> {
+/// The sessions of a file, carried out by the builds of a program.
+pub fn carried_out<P: Program>(
+    alloc: Global,
+    program: P,
+    text: &str,
+) -> Result<Session<P>, NoMemory> {
     let steps = steps_of(alloc, text)?;
-    let mut session = Session::new(alloc)?;
+    let mut session = Session::new(alloc, program)?;
     'steps: for step in &steps {
         session.take(step)?;
     }

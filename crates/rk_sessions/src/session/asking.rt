@@ -1,18 +1,18 @@
 // What is asked in a session, what the program told, and what it did to the folder.
 use super::{Session, at, digits, status_shown};
-use crate::calls::{WHOLE, ask_in, started};
+use crate::program::{ENOUGH, End, Program, WHOLE, ask_in};
+use crate::showing::{asks_change, calls_shown, changes_shown, has_numbered, shown};
+use crate::talks::db_of;
 use rk_base::NoMemory;
 use rk_folder::MemFolder;
-use rk_sessions::{asks_change, calls_shown, changes_shown, db_of, has_numbered, shown};
-use rk_top::Outcome;
 
 const USAGE: &str =
     "usage: rkr build [--steps N] [--explain] [--fresh] [--check] | check | trace [--json] | forget | gen SEED\n";
 
-impl Session {
+impl<P: Program> Session<P> {
     // An end tells how many commands were launched, and how many ran, as the explanation does.
-    pub(crate) fn count(&mut self, outcome: &Outcome) -> Result<(), NoMemory> {
-        if let Outcome::Ended { launched, ran, .. } = outcome {
+    pub(crate) fn count(&mut self, end: End) -> Result<(), NoMemory> {
+        if let End::Ended { launched, ran } = end {
             let line = format!(in self.alloc; "rkr: launched {launched}, ran {ran}")?;
             self.why(line.as_str())?;
         }
@@ -20,16 +20,11 @@ impl Session {
     }
 
     // Nothing is changed where a request is refused, and wrong words aren't followed by a call.
-    pub(crate) fn untouched(&mut self, outcome: &Outcome) -> Result<(), NoMemory> {
-        let is_changed = asks_change(self.folder.asked());
-        let is_wrong = match outcome {
-            Outcome::Usage => self.folder.calls() != self.calls,
-            Outcome::Special(_) => is_changed,
-            Outcome::Damaged(_, _) => is_changed,
-            Outcome::Forged { .. } => is_changed,
-            Outcome::Spent => is_changed,
-            Outcome::ReadFault => is_changed,
-            _ => false,
+    pub(crate) fn untouched(&mut self, end: End) -> Result<(), NoMemory> {
+        let is_wrong = match end {
+            End::Usage => self.folder.calls() != self.calls,
+            End::Refused | End::Spent => asks_change(self.folder.asked()),
+            End::Ended { .. } | End::Other => false,
         };
         if is_wrong {
             self.tell("refusal", "changes", "none")?;
@@ -47,11 +42,12 @@ impl Session {
     ) -> Result<(), NoMemory> {
         self.builds = self.builds.saturating_add(1);
         self.begin_request();
-        let asked = ask_in(self.alloc, line, &mut self.folder, self.output, self.errors)?;
+        let cuts = (self.output, self.errors);
+        let asked = ask_in(&self.program, self.alloc, line, &mut self.folder, cuts)?;
         self.output = WHOLE;
         self.errors = WHOLE;
-        self.untouched(&asked.outcome)?;
-        let came = status_shown(self.alloc, &asked.outcome)?;
+        self.untouched(asked.end)?;
+        let came = status_shown(self.alloc, &asked)?;
         self.tell(line, came.as_str(), status)?;
         self.tell("output", shown(asked.out.bytes()), output)?;
         self.tell("error text", shown(asked.err.bytes()), error_text)
@@ -91,14 +87,23 @@ impl Session {
         let (wanted, flag) = line.split_once(' ').unwrap_or((line, ""));
         self.builds = self.builds.saturating_add(1);
         self.begin_request();
-        let count = started(self.alloc, flag == "--check", &mut self.folder);
+        let is_checked = flag == "--check";
+        let count = self
+            .program
+            .started(self.alloc, ENOUGH, is_checked, &mut self.folder);
         let came = digits(self.alloc, count)?;
         self.tell("starts", came.as_str(), wanted)
     }
 
     // A line of the trace, behind its number.
     pub(crate) fn traced(&mut self, line: &str) -> Result<(), NoMemory> {
-        let asked = ask_in(self.alloc, "rkr trace", &mut self.folder, WHOLE, WHOLE)?;
+        let asked = ask_in(
+            &self.program,
+            self.alloc,
+            "rkr trace",
+            &mut self.folder,
+            (WHOLE, WHOLE),
+        )?;
         let trace = shown(asked.out.bytes());
         if has_numbered(trace, line) {
             return Ok(());
@@ -113,7 +118,13 @@ impl Session {
         let db = db_of(self.alloc, words, text)?;
         folder.set_file(self.alloc, &at(self.alloc, "/.rkr/db")?, db.as_slice())?;
         self.builds = self.builds.saturating_add(1);
-        let asked = ask_in(self.alloc, "rkr check", &mut folder, WHOLE, WHOLE)?;
+        let asked = ask_in(
+            &self.program,
+            self.alloc,
+            "rkr check",
+            &mut folder,
+            (WHOLE, WHOLE),
+        )?;
         self.tell(words, shown(asked.out.bytes()), "records 1\n")?;
         self.tell(words, shown(asked.err.bytes()), "")
     }
