@@ -78,7 +78,7 @@ pub fn unset_all(vars: &mut Vars, names: &[Bytes]) -> Result<Option<Bytes>, NoMe
             let name = x.copy()?;
             return Ok(Some(name));
         }
-        let _ = vars.unset(x.as_slice());
+        let _ = vars.unset(x.as_slice())?;
     }
     Ok(None)
 }

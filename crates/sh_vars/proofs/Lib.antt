@@ -1,2 +1,3 @@
 pub mod NameMap
 pub mod RowsLemmas
+pub mod TreeLemmas

@@ -1,56 +1,36 @@
 -- The variables in their order, and those that are exported.
-use Rattle.std.proofs.Common.{◌≡◌, ℕ, List, [], ◌∷◌, ◌++◌, Bool, true, false, cond, Option, Some, None, refl, sym, ap, subst, ◌∙◌, append-nil, map, vec_len, ◌&&◌}
+use Rattle.std.proofs.Common.{◌≡◌, List, [], ◌∷◌, Bool, true, false, cond, Option, Some, None, refl, sym, ap, ◌∙◌, not, ◌&&◌}
 use lib.Dec.{T}
-use Rattle.std.specs.Ordering.{is_lt}
-use Rattle.std.specs.declared.cmp.Ordering.TheVariants.{Less}
-use Rattle.std.specs.List.{AllByRecursion, AllZip, each_same, list_all, filter_map, cons_option}
-use Rattle.std.specs.List.Sorted.{IsStrictlySortedBy}
-use Rattle.std.specs.FinMap.Entries.{below_all}
-use Rattle.std.specs.FinMap.{entries, entries_sorted, from_sorted, get-from_sorted, entries-from_sorted, is_sorted}
+use Rattle.std.specs.Ordering.{eq_by_cmp, is_eq, is_lt, ordering_reverse}
+use Rattle.std.specs.declared.cmp.Ordering.{Ordering}
+use Rattle.std.specs.declared.cmp.Ordering.TheVariants.{Less, Equal, Greater}
+use Rattle.std.specs.Cmp.Lexicographic.{nat_list_cmp_total}
+use Rattle.std.specs.List.{list_all, filter_map, cons_option}
+use Rattle.std.specs.FinMap.Entries.{below_all, find-put, find-where_key}
+use Rattle.std.specs.FinMap.{empty, from_entries, find, put, insert, remove, get-insert, get-remove, entries, entries_sorted, from_sorted, get-from_sorted, entries-from_sorted, is_sorted}
 use Rattle.rk_base.specs.Text.{Text, text_cmp}
+use Rattle.rk_base.proofs.WithinLemmas.{exact_texts}
 use Rattle.rk_base.specs.Names.{ascend, ascend_from}
 use Rattle.rk_base.specs.Variables.{is_variable, names_of, are_variables}
 use Rattle.rk_base.specs.declared.vars.Var.{Var}
 use Rattle.sh_vars.specs.declared.variable.Variable.{Variable}
 use Rattle.sh_vars.specs.Held.{Variables, exported_var, exported_of, with_value}
-use Rattle.sh_vars.specs.Rows.{named, map_of}
-use Rattle.sh_vars.proofs.NameMap.{Key, by_items, get_found, same_maps}
+use Rattle.sh_vars.specs.Rows.{map_of}
+use Rattle.sh_vars.specs.Tree.{Row, IsInOrder, without_row}
+use Rattle.sh_vars.proofs.NameMap.{get_found, same_maps}
+use Rattle.sh_vars.proofs.TreeLemmas.{and_first, and_second}
 
 -- Rows in order are what the map lists.
-
-and_both : (a b : Bool) → T a → T b → T (a && b)
-and_both true b h k = k
-and_both false b h k = absurd h
-
-below_rest : (key : Text) (rows : List (Key × Variable)) → AllByRecursion (λ (k : Key). text_cmp key k.items ≡ Less) (map (λ (row : Key × Variable). row.0) rows) → T (below_all text_cmp key (named rows))
-below_rest key [] h = tt
-below_rest key (row ∷ rows) h = and_both _ _ (subst (λ r. T (is_lt r)) (sym h.0) tt) (below_rest key rows h.1)
-
-sorted_rows : (rows : List (Key × Variable)) → IsStrictlySortedBy by_items (map (λ (row : Key × Variable). row.0) rows) → T (is_sorted text_cmp (named rows))
-unfolding IsStrictlySortedBy
-sorted_rows [] h = tt
-sorted_rows (row ∷ rows) h = and_both _ _ (below_rest row.0.items rows h.0) (sorted_rows rows h.1)
 
 entries_sorted_map : (rows : List (Text × Variable)) → T (is_sorted text_cmp rows) → entries (map_of rows) ≡ rows
 entries_sorted_map rows h =
     ap entries (same_maps (map_of rows) (from_sorted rows) (λ q. get_found rows q ∙ sym (get-from_sorted text_cmp rows q h)))
     ∙ entries-from_sorted text_cmp rows h
 
-pub entries_named : (rows : List (Key × Variable)) (m : Variables) → map_of (named rows) ≡ m → IsStrictlySortedBy by_items (map (λ (row : Key × Variable). row.0) rows) → entries m ≡ named rows
-entries_named rows m view h = ap (λ (p : Variables). entries p) (sym view) ∙ entries_sorted_map (named rows) (sorted_rows rows h)
-
 -- What is exported.
 
-pub exported_all : (rows : List (Key × Variable)) (m : Variables) → map_of (named rows) ≡ m → IsStrictlySortedBy by_items (map (λ (row : Key × Variable). row.0) rows) → filter_map exported_var (named rows) ≡ exported_of m
-exported_all rows m view h = ap (filter_map exported_var) (sym (entries_named rows m view h))
-
-and_first : (a b : Bool) → T (a && b) → T a
-and_first true b h = tt
-and_first false b h = absurd h
-
-and_second : (a b : Bool) → T (a && b) → T b
-and_second true b h = h
-and_second false b h = absurd h
+pub exported_all : (rows : List Row) (m : Variables) → map_of rows ≡ m → IsInOrder rows → filter_map exported_var rows ≡ exported_of m
+exported_all rows m view h = ap (filter_map exported_var) (sym (entries_sorted_map rows h) ∙ ap (λ (p : Variables). entries p) view)
 
 is_yes : (b : Bool) → T b → b ≡ true
 is_yes true h = refl
@@ -99,16 +79,31 @@ no_other vars m is none = let yes : are_variables vars ≡ true = ap are_variabl
 pub listed : (vars : List Var) (m : Variables) (list : List Var) → vars ≡ exported_of m → cond (are_variables vars) (Some vars) None ≡ Some list → list ≡ exported_of m
 listed vars m list is some = let yes : are_variables vars ≡ true = ap are_variables is ∙ exported_variables m in cc
 
-pub at_end : (vars all : List Var) (left : List (Key × Variable)) → vars ++ filter_map exported_var (named left) ≡ all → left ≡ [] → vars ≡ all
-at_end vars all left so_far done = sym (append-nil vars) ∙ ap (λ (rows : List (Key × Variable)). vars ++ filter_map exported_var (named rows)) (sym done) ∙ so_far
+-- What a change of the rows is of the map.
 
--- A copy.
+pub rows_none : (rows : List Row) → rows ≡ [] → map_of rows ≡ empty
+unfolding map_of
+rows_none rows none = ap (λ (r : List Row). from_entries r) none
 
-copied_row : (row more : Key × Variable) → more.0.items ≡ row.0.items → more.1 ≡ row.1 → ◌≡◌ {A = Text × Variable} (more.0.items, more.1) (row.0.items, row.1)
-copied_row row more e f = ap (λ (t : Text). (t, more.1)) e ∙ ap (λ (v : Variable). (row.0.items, v)) f
+pub put_is : (rows more : List Row) (name : Text) (v : Variable) (m : Variables) → map_of rows ≡ m → more ≡ put text_cmp name v rows → map_of more ≡ insert m name v
+put_is rows more name v m view is =
+    ap (λ (r : List Row). map_of r) is
+    ∙ same_maps _ _ (λ q. get_found (put text_cmp name v rows) q
+    ∙ find-put text_cmp nat_list_cmp_total q name v rows
+    ∙ sym (get-insert nat_list_cmp_total (map_of rows) name v q ∙ ap (cond (eq_by_cmp text_cmp q name) (Some v)) (get_found rows q)))
+    ∙ ap (λ (p : Variables). insert p name v) view
 
-pub copied : (rows more : List (Key × Variable)) → AllZip (λ (p q : Key × Variable). (AllZip (λ (x y : ℕ). y ≡ x) p.0.items q.0.items × (vec_len q.0 ≡ vec_len p.0)) × (q.1 ≡ p.1)) rows more → named more ≡ named rows
-copied [] [] h = refl
-copied [] (m ∷ more) h = absurd h
-copied (r ∷ rows) [] h = absurd h
-copied (r ∷ rows) (m ∷ more) h = ap (λ (row : Text × Variable). row ∷ named more) (copied_row r m (each_same r.0.items m.0.items h.0.0.0) h.0.1) ∙ ap (λ (rest : List (Text × Variable)). (r.0.items, r.1) ∷ rest) (copied rows more h.1)
+other_way : (o : Ordering) (found : Option Variable) → cond (not (is_eq (ordering_reverse o))) found None ≡ cond (is_eq o) None found
+other_way Less found = refl
+other_way Equal found = refl
+other_way Greater found = refl
+
+pub take_is : (rows more : List Row) (name : Text) (m : Variables) → map_of rows ≡ m → more ≡ without_row name rows → map_of more ≡ remove m name
+take_is rows more name m view is =
+    ap (λ (r : List Row). map_of r) is
+    ∙ same_maps _ _ (λ q. get_found (without_row name rows) q
+    ∙ find-where_key text_cmp (λ (key : Text). not (eq_by_cmp text_cmp name key)) q (λ x e. ap (λ (t : Text). not (eq_by_cmp text_cmp name t)) (sym (exact_texts q x e))) rows
+    ∙ ap (λ (o : Ordering). cond (not (is_eq o)) (find text_cmp q rows) None) (nat_list_cmp_total.antisymm name q)
+    ∙ other_way (text_cmp q name) (find text_cmp q rows)
+    ∙ sym (get-remove nat_list_cmp_total (map_of rows) name q ∙ ap (cond (eq_by_cmp text_cmp q name) None) (get_found rows q)))
+    ∙ ap (λ (p : Variables). remove p name) view

@@ -6,6 +6,8 @@ mod env;
 mod numbers;
 mod positional;
 mod rows;
+mod tree;
+mod turns;
 mod variable;
 mod vars;
 

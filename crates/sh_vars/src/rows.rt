@@ -4,15 +4,16 @@ ghost use Rattle.std.specs.FinMap.{empty, get, insert, remove};
 ghost use Rattle.sh_vars.specs.Held.{exported_of};
 
 use crate::Variable;
+use crate::tree::Tree;
 use rk_base::{NoMemory, VarList};
 use std::alloc::Global;
-use std::collections::BTreeMap;
 use std::marker::Model;
 
-/// The variables under their names. A look-up takes no memory, and as many comparisons as a search in a B-tree.
+/// The variables under their names. A look-up takes no memory; it and each change take as many steps as a balanced tree has
+/// levels. A copy shares all, and goes on sharing what neither of the two changes.
 #[derive(Drop)]
 pub(crate) struct Rows {
-    rows: BTreeMap<Vec<u8>, Variable>,
+    tree: Tree,
 }
 
 impl Model for Rows {
@@ -25,24 +26,22 @@ impl Model for Rows {
 
     ghost coded = { map.code (coded_list coded_ℕ) it.the_row.coded };
 
-    ghost use Rattle.sh_vars.specs.Rows.{named, map_of};
+    ghost use Rattle.sh_vars.specs.Rows.{map_of};
 
-    ghost view = { λ r. map_of (named r.rows.entries) };
+    ghost view = { λ r. map_of r.tree };
 }
 
 impl Rows {
-    pub(crate) fn new(alloc: Global) -> Rows
+    pub(crate) fn new() -> Rows
         ensures { result ≡ empty }
     {
-        Rows {
-            rows: BTreeMap::new(alloc),
-        }
+        Rows { tree: Tree::new() }
     }
 
     pub(crate) fn get(&self, name: &[u8]) -> Option<&Variable>
         ensures { option_copied result ≡ get self.now name.now }
     {
-        self.rows.get(name)
+        self.tree.get(name)
     }
 
     /// A name has this variable, in the place of what it had.
@@ -55,22 +54,26 @@ impl Rows {
         ensures ok { OnOk result (self.new ≡ insert self.old name.now variable) }
         ensures err { OnErr result (self.new ≡ self.old) }
     {
-        let name = Vec::from_slice(alloc, name)?;
-        self.rows.insert(name, variable)?;
+        let tree = self.tree.put(alloc, name, variable)?;
+        self.tree = tree;
         Ok(())
     }
 
-    pub(crate) fn take(&mut self, name: &[u8])
-        ensures { self.new ≡ remove self.old name.now }
+    pub(crate) fn take(&mut self, alloc: Global, name: &[u8]) -> Result<(), NoMemory>
+        ensures ok { OnOk result (self.new ≡ remove self.old name.now) }
+        ensures err { OnErr result (self.new ≡ self.old) }
     {
-        let _ = self.rows.remove(name);
+        let tree = self.tree.without(alloc, name)?;
+        self.tree = tree;
+        Ok(())
     }
 
+    /// The same variables, shared.
     pub(crate) fn copy(&self) -> Result<Rows, NoMemory>
         ensures { IfOk result (λ rows. rows ≡ self.now) }
     {
-        let rows = self.rows.clone()?;
-        Ok(Rows { rows })
+        let tree = self.tree.copy()?;
+        Ok(Rows { tree })
     }
 
     /// Those that are exported and set, ascending by name.
@@ -78,11 +81,7 @@ impl Rows {
         ensures { IfOk result (λ vars. vars ≡ exported_of self.now) }
     {
         let mut vars = Vec::new(alloc);
-        for (name, variable) in &self.rows {
-            if let Some(var) = variable.exported_as(alloc, name.as_slice())? {
-                vars.push(var)?;
-            }
-        }
+        self.tree.list_exported(alloc, &mut vars)?;
         match VarList::from_vec(vars) {
             Some(list) => Ok(list),
             None => unreachable!(),

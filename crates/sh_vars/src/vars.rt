@@ -4,7 +4,7 @@ ghost use Rattle.sh_vars.specs.Held.{nothing, value_at, is_readonly, assigned, g
 ghost use Rattle.sh_vars.specs.Answers.{AnswersSet};
 
 use crate::Variable;
-use crate::positional::Positional;
+use crate::positional::{Positional, Shared};
 use crate::rows::Rows;
 use crate::variable::{is_given, is_kept, value_of};
 use rk_base::{Bytes, NoMemory as OutOfMemory, VarList, WordList};
@@ -48,11 +48,12 @@ impl Model for Vars {
     ghost view = { λ v. record { variables = v.rows; positional = v.positional } };
 }
 
-/// A copy of all variables, their flags and the positional parameters.
+/// A copy of all variables, their flags and the positional parameters. It shares them with what it was copied from, until
+/// either is changed.
 #[derive(Drop)]
 pub struct Saved {
     rows: Rows,
-    positional: WordList,
+    positional: Shared,
 }
 
 impl Model for Saved {
@@ -73,7 +74,7 @@ impl Vars {
     {
         Vars {
             alloc,
-            rows: Rows::new(alloc),
+            rows: Rows::new(),
             positional: Positional::new(WordList::new(Vec::new(alloc))),
         }
     }
@@ -88,8 +89,7 @@ impl Vars {
         ensures ok { OnOk result (self.new ≡ with_variable name.now variable self.old) }
         ensures err { OnErr result (self.new ≡ self.old) }
     {
-        self.rows.put(self.alloc, name, variable)?;
-        Ok(())
+        self.rows.put(self.alloc, name, variable)
     }
 
     /// Whether a variable is readonly.
@@ -136,22 +136,25 @@ impl Vars {
         Ok(())
     }
 
-    fn forget(&mut self, name: &[u8])
-        ensures { self.new ≡ without name.now self.old }
+    fn forget(&mut self, name: &[u8]) -> Result<(), OutOfMemory>
+        ensures ok { OnOk result (self.new ≡ without name.now self.old) }
+        ensures err { OnErr result (self.new ≡ self.old) }
     {
-        self.rows.take(name);
+        self.rows.take(self.alloc, name)
     }
 
-    /// Takes a variable away, with its flags. False, with nothing changed, exactly where it is readonly.
-    pub fn unset(&mut self, name: &[u8]) -> bool
-        ensures answer { result ≡ not (is_readonly self.old name.now) }
-        ensures vars { self.new ≡ (if is_readonly self.old name.now then self.old else without name.now self.old) }
+    /// Takes a variable away, with its flags. False, with nothing changed, exactly where it is readonly. Memory is for what
+    /// copies share of the other variables; after want of it all is as it was.
+    pub fn unset(&mut self, name: &[u8]) -> Result<bool, OutOfMemory>
+        ensures answer { IfOk result (λ answer. answer ≡ not (is_readonly self.old name.now)) }
+        ensures vars { OnOk result (self.new ≡ (if is_readonly self.old name.now then self.old else without name.now self.old)) }
+        ensures err { OnErr result (self.new ≡ self.old) }
     {
         if self.is_readonly(name) {
-            return false;
+            return Ok(false);
         }
-        self.forget(name);
-        true
+        self.forget(name)?;
+        Ok(true)
     }
 
     /// Marks a variable as exported; its value and its other flag stay. After want of memory all is as it was.
@@ -197,8 +200,7 @@ impl Vars {
     pub fn exported(&self) -> Result<VarList, OutOfMemory>
         ensures { IfOk result (λ vars. vars ≡ exported_of self.now.variables) }
     {
-        let vars = self.rows.exported(self.alloc)?;
-        Ok(vars)
+        self.rows.exported(self.alloc)
     }
 
     /// The positional parameters, `$1` first.
@@ -230,12 +232,13 @@ impl Vars {
         self.positional.shift(n);
     }
 
-    /// A copy of all of it.
+    /// A copy of all of it. It takes no memory for a variable; for the positional parameters it does once, until they are set
+    /// anew.
     pub fn save(&self) -> Result<Saved, OutOfMemory>
         ensures { IfOk result (λ saved. saved ≡ self.now) }
     {
         let rows = self.rows.copy()?;
-        let positional = self.copy_positional()?;
+        let positional = self.positional.shared(self.alloc)?;
         Ok(Saved { rows, positional })
     }
 
@@ -245,14 +248,10 @@ impl Vars {
         ensures err { OnErr result (self.new ≡ self.old) }
     {
         match saved.rows.get(name) {
-            None => {
-                self.forget(name);
-                Ok(())
-            }
+            None => self.forget(name),
             Some(variable) => {
                 let variable = variable.clone()?;
-                self.put(name, variable)?;
-                Ok(())
+                self.put(name, variable)
             }
         }
     }
@@ -263,6 +262,6 @@ impl Vars {
     {
         let Saved { rows, positional } = saved;
         self.rows = rows;
-        self.positional = Positional::new(positional);
+        self.positional = Positional::sharing(positional);
     }
 }

@@ -1,5 +1,5 @@
-use Rattle.sh_vars.proofs.NameMap.{new_is}
+use Rattle.sh_vars.proofs.RowsLemmas.{rows_none}
 use Rattle.sh_vars.proofs.rows.Rows.new.Goals as goal
 
 pub returns : goal.returns
-returns c = new_is c.new.result.entries c.new.ensures.empty
+returns c = rows_none c.new.result c.new.ensures

@@ -1,5 +1,5 @@
-use Rattle.sh_vars.proofs.NameMap.{take_is}
+use Rattle.sh_vars.proofs.RowsLemmas.{take_is}
 use Rattle.sh_vars.proofs.rows.Rows.take.Goals as goal
 
-pub returns : goal.returns
-returns c = take_is c.self.inside.rows.entries c.remove.new.self.entries c.args.name.now c.args.self.now c.self.view_is c.remove.ensures.updates.1 c.remove.ensures.updates.3
+pub returns-clause-ok : goal.returns-clause-ok
+returns-clause-ok c = take_is c.self.inside.tree c.in_ok-tree.tree c.args.name.now c.args.self.now c.self.view_is c.in_ok-tree.ensures
