@@ -1,2 +1,4 @@
 pub mod Numbers
+pub mod Modes
 mod Tables
+pub mod Gathering

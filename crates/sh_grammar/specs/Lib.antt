@@ -1,3 +1,4 @@
 pub mod Named
 pub mod Choices
 pub mod Marks
+pub mod Modes

@@ -1,8 +1,9 @@
 -- A parse tree, mark by mark: each rule in front of what its symbols are.
-use Rattle.std.specs.Prelude.{ℕ, List, [], ◌∷◌, ◌++◌}
+use Rattle.std.specs.Prelude.{ℕ, List, [], ◌∷◌, ◌++◌, Option, Some, None}
 use Rattle.sh_rules.specs.Grammar.{Parse, Leaf, Node, Parses, no_parses, parse_and}
 use Rattle.sh_rules.specs.Rules.{Rule, Token}
 use Rattle.sh_grammar.specs.Named.{rule_named}
+use Rattle.sh_grammar.specs.declared.rule.Rule as r
 use Rattle.sh_grammar.specs.declared.mark.Mark as d
 use Rattle.sh_grammar.specs.declared.mark.Mark.TheVariants as v
 
@@ -22,3 +23,10 @@ abbrev mutual
 abbrev pub mark_named : d.Mark → Mark
 mark_named (v.Node rule) = node (rule_named rule)
 mark_named (v.Leaf text) = leaf text
+
+-- marks, the last of them first, out of their rules, where a token's has none, and the texts of the tokens
+abbrev pub gathered : List (Option r.Rule) → List (List ℕ) → List Mark
+gathered [] texts = []
+gathered (Some rule ∷ rules) texts = node (rule_named rule) ∷ gathered rules texts
+gathered (None ∷ rules) [] = []
+gathered (None ∷ rules) (text ∷ texts) = leaf text ∷ gathered rules texts

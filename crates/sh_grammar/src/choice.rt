@@ -2,6 +2,7 @@
 ghost use Rattle.std.specs.Prelude.{◌≡◌, ◌↔◌, IsTrue, option_map, true};
 ghost use Rattle.sh_rules.specs.LookAhead.{number as number_lem, choose as choose_lem, mode as mode_lem};
 ghost use Rattle.sh_grammar.specs.Named.{part_named, rule_named};
+ghost use Rattle.sh_grammar.specs.Modes.{mode_number as mode_number_lem};
 ghost use Rattle.sh_grammar.specs.Choices.{is_met as is_met_lem, first_met as first_met_lem, tells};
 
 use crate::part::Part;
@@ -36,6 +37,20 @@ pub fn same_kind(a: TokenKind, b: TokenKind) -> bool
     ensures { IsTrue result ↔ (a ≡ b) }
 {
     number(a) == number(b)
+}
+
+fn mode_number(mode: Mode) -> u8
+    ensures { result ≡ mode_number_lem mode }
+{
+    mode as u8
+}
+
+/// Whether two modes are the same.
+#[tactic(auto, using(crate::proofs::Modes::same_mode_number))]
+pub fn same_mode(a: Mode, b: Mode) -> bool
+    ensures { IsTrue result ↔ (a ≡ b) }
+{
+    mode_number(a) == mode_number(b)
 }
 
 fn is_met(begins: Begins, kind: TokenKind) -> bool

@@ -7,8 +7,8 @@ mod part;
 mod rule;
 mod spelled;
 
-pub use choice::{Begins, choose, mode, same_kind};
-pub use mark::Mark;
+pub use choice::{Begins, choose, mode, same_kind, same_mode};
+pub use mark::{Mark, Marks};
 pub use part::Part;
 pub use rule::Rule;
 pub use spelled::{Symbol, spelling};

@@ -1,2 +1,3 @@
 pub mod Tokenized
 pub mod Popping
+pub mod AsRead

@@ -1,8 +1,9 @@
 // Tokens as they are read.
-ghost use Rattle.std.specs.Prelude.{◌≡◌, ◌++◌, ◌∷◌, [], ◌==◌, if◌then◌else◌, IfOk};
+ghost use Rattle.std.specs.Prelude.{◌≡◌, ◌++◌, ◌∷◌, [], ◌==◌, if◌then◌else◌, IfOk, IfSome};
+ghost use Rattle.std.specs.List.{list_all};
 ghost use Rattle.sh_token.specs.Bytes.{◌or◌, ◌also◌, is_tab};
 ghost use Rattle.sh_token.specs.Steps.{as_read};
-ghost use Rattle.sh_lex.specs.Takes.{read_of};
+ghost use Rattle.sh_lex.specs.Takes.{read_of, stays as stays_lem};
 
 use rk_base::{Bytes, NoMemory};
 use sh_token::body::{behind, first_of, is_over};
@@ -25,10 +26,38 @@ impl<'a> Taken<'a> {
     pub fn bytes(&self, alloc: Global) -> Result<Bytes, NoMemory>
         ensures { IfOk result (λ b. b ≡ read_of self.now) }
     {
+        if let Some(text) = self.plain() {
+            return Bytes::from_slice(alloc, text);
+        }
         let copy = copied(alloc, self.raw, self.tabs, self.begins, self.text)?;
         let bytes = Bytes::new(alloc, copy)?;
         Ok(bytes)
     }
+
+    /// The token's bytes as they stand in the text, where they are read so.
+    #[tactic(auto, using(crate::proofs::AsRead::read_plain))]
+    pub fn plain(&self) -> Option<&'a [u8]>
+        ensures { IfSome result (λ text. text.now ≡ read_of self.now) }
+    {
+        if !self.tabs && all_stay(self.text) {
+            Some(self.text)
+        } else {
+            None
+        }
+    }
+}
+
+// A byte joins no lines.
+fn stays(c: u8) -> bool
+    ensures { result ≡ stays_lem c }
+{
+    c != b'\\'
+}
+
+fn all_stay(text: &[u8]) -> bool
+    ensures { result ≡ list_all stays_lem text.now }
+{
+    text.iter().all(|c| stays(*c))
 }
 
 fn is_dropped(tabs: bool, fresh: bool, c: u8) -> bool

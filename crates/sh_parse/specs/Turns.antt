@@ -1,5 +1,5 @@
 -- What one turn of reading comes to.
-use Rattle.std.specs.Prelude.{◌≡◌, ℕ, List, ◌∷◌, Option, Some, None, Result, Ok, Err}
+use Rattle.std.specs.Prelude.{◌≡◌, List, ◌∷◌, Result, Ok, Err}
 use Rattle.sh_rules.specs.Grammar.{Symbol}
 use Rattle.sh_rules.specs.Reading.{Blocked, Over}
 use Rattle.sh_rules.specs.declared.token_kind.TokenKind.{TokenKind}
@@ -7,16 +7,11 @@ use Rattle.sh_rules.specs.Parts.{Part}
 use Rattle.sh_rules.specs.Rules.{Token}
 use Rattle.sh_grammar.specs.Marks.{Mark}
 use Rattle.sh_token.specs.Places.{Place}
-use Rattle.sh_tree.specs.TextReader.{StandsThere, HaltsAt}
+use Rattle.sh_tree.specs.TextReader.{HaltsAt}
 use Rattle.sh_tree.specs.Owing.{Keeps, Fewer}
 use Rattle.sh_tree.specs.Outcomes.{IsStuck}
 use Rattle.sh_parse.specs.declared.source.ParseErr.{ParseErr}
 use Rattle.sh_parse.specs.declared.source.ParseErr.TheVariants as stop
-
--- what was found before stands there
-abbrev pub Ahead : Option (TokenKind × ℕ) → Place → Type 0
-Ahead None p = Unit {0}
-Ahead (Some x) p = StandsThere x.0 x.1 p
 
 -- reading halts at a symbol
 abbrev pub Halted : Symbol TokenKind Part → Place → Place → ParseErr → Type 0

@@ -1,23 +1,23 @@
 // Reading, turn by turn: a part of the syntax gives way to the symbols of the rule that the token there chooses, a token is
 // taken. Nothing calls itself, so no text overflows the stack.
-ghost use Rattle.std.specs.Prelude.{◌≡◌, ◌∷◌, ◌++◌, [], List, MatchOption, MatchResult, IfOk, IfSome, Some, map};
+ghost use Rattle.std.specs.Prelude.{◌≡◌, ◌∷◌, ◌++◌, [], List, MatchOption, MatchResult, IfOk, Some};
 ghost use Rattle.sh_rules.specs.Grammar.{Symbol as Symbol', Want, Do};
 ghost use Rattle.sh_rules.specs.Reading.{Blocked};
 ghost use Rattle.sh_rules.specs.declared.token_kind.TokenKind as kinds;
 ghost use Rattle.sh_rules.specs.Parts as parts;
-ghost use Rattle.sh_rules.specs.LookAhead.{mode as mode_lem};
 ghost use Rattle.sh_rules.specs.Rules.{spelling as spelling_lem};
 ghost use Rattle.sh_grammar.specs.Named.{part_named, rule_named, symbol_named};
-ghost use Rattle.sh_grammar.specs.Marks.{mark_named, node as node_mark, leaf as leaf_mark};
-ghost use Rattle.sh_token.specs.Lexemes.{look as look_lem};
+ghost use Rattle.sh_grammar.specs.Marks.{node as node_mark, leaf as leaf_mark};
 ghost use Rattle.sh_tree.specs.TextReader.{StandsThere, NotOf, HaltsAt};
 ghost use Rattle.sh_tree.specs.Outcomes.{IsRead};
-ghost use Rattle.sh_parse.specs.Turns.{Ahead, Turns, StopsBy};
+ghost use Rattle.sh_parse.specs.Finding.{Ahead};
+ghost use Rattle.sh_parse.specs.Turns.{Turns, StopsBy};
 
+use crate::ahead::{Found, length_ahead, look_for};
 use crate::source::{ParseErr, Source};
-use crate::todo::{Marks, Todo, push_all};
+use crate::todo::{Todo, push_all};
 use rk_base::Bytes;
-use sh_grammar::{Mark, Part, Rule, Symbol, choose, mode, same_kind, spelling};
+use sh_grammar::{Mark, Marks, Part, Rule, Symbol, choose, same_kind, spelling};
 use sh_lex::mode_of;
 use sh_rules::TokenKind;
 use std::alloc::Global;
@@ -40,11 +40,11 @@ fn of_kind(kind: TokenKind, found: Option<(TokenKind, usize)>) -> Option<usize>
 
 // How many bytes the token of a kind has that stands there, where one stands; `ahead` is what was found there before.
 #[tactic(auto, using(crate::proofs::Turning::looked))]
-fn length_of<S: Source>(s: &S, kind: TokenKind, ahead: Option<(TokenKind, usize)>) -> Option<usize>
+fn length_of<S: Source>(s: &S, kind: TokenKind, ahead: Option<Found>) -> Option<usize>
     requires { Ahead ahead (S.place s.now) }
     ensures { MatchOption result (HaltsAt (Want kind) (S.place s.now) Blocked) (λ n. StandsThere kind n (S.place s.now)) }
 {
-    match of_kind(kind, ahead) {
+    match length_ahead(kind, ahead) {
         Some(length) => Some(length),
         None => of_kind(kind, s.look(mode_of(kind))),
     }
@@ -66,7 +66,7 @@ fn leaf<S: Source>(
     alloc: Global,
     s: &mut S,
     kind: TokenKind,
-    ahead: Option<(TokenKind, usize)>,
+    ahead: Option<Found>,
     marks: &mut Marks,
 ) -> Result<(), ParseErr>
     requires { Ahead ahead (S.place s.old) }
@@ -94,32 +94,26 @@ fn expand(rule: Rule, todo: &mut Todo, marks: &mut Marks) -> Result<(), ParseErr
     }
 }
 
-// The token with which a part may begin there.
-fn look_for<S: Source>(s: &S, part: Part) -> Option<(TokenKind, usize)>
-    ensures found { result ≡ look_lem (mode_lem (part_named part)) (S.place s.now) }
-    ensures by_itself { IfSome result (λ x. StandsThere x.0 x.1 (S.place s.now)) }
-{
-    s.look(mode(part))
-}
-
 // A part of the syntax is wanted: the token that chose its rule.
 #[tactic(auto, using(crate::proofs::Turning::none_halts, crate::proofs::Turning::unwanted_halts, crate::proofs::Turning::turn_chosen, crate::proofs::Turning::not_expanded))]
 fn node<S: Source>(
     s: &S,
     part: Part,
+    ahead: Option<Found>,
     todo: &mut Todo,
     marks: &mut Marks,
-) -> Result<(TokenKind, usize), ParseErr>
+) -> Result<Found, ParseErr>
+    requires { Ahead ahead (S.place s.now) }
     ensures turns { Turns (Do (part_named part)) todo.old todo.new marks.old marks.new (S.place s.now) (S.place s.now) result }
-    ensures found { IfOk result (λ x. StandsThere x.0 x.1 (S.place s.now)) }
+    ensures found { IfOk result (λ x. Ahead (Some x) (S.place s.now)) }
 {
-    match look_for(s, part) {
+    match look_for(s, part, ahead) {
         None => Err(ParseErr::Blocked),
-        Some((kind, length)) => match choose(part, kind) {
+        Some(found) => match choose(part, found.kind) {
             None => Err(ParseErr::Blocked),
             Some(rule) => match expand(rule, todo, marks) {
                 Err(stop) => Err(stop),
-                Ok(()) => Ok((kind, length)),
+                Ok(()) => Ok(found),
             },
         },
     }
@@ -130,10 +124,10 @@ fn turn<S: Source>(
     alloc: Global,
     s: &mut S,
     symbol: Symbol,
-    ahead: Option<(TokenKind, usize)>,
+    ahead: Option<Found>,
     todo: &mut Todo,
     marks: &mut Marks,
-) -> Result<Option<(TokenKind, usize)>, ParseErr>
+) -> Result<Option<Found>, ParseErr>
     requires { Ahead ahead (S.place s.old) }
     ensures turns { Turns (symbol_named symbol) todo.old todo.new marks.old marks.new (S.place s.old) (S.place s.new) result }
     ensures found { IfOk result (λ x. Ahead x (S.place s.new)) }
@@ -143,7 +137,7 @@ fn turn<S: Source>(
             Err(stop) => Err(stop),
             Ok(()) => Ok(None),
         },
-        Symbol::Do(part) => match node(s, part, todo, marks) {
+        Symbol::Do(part) => match node(s, part, ahead, todo, marks) {
             Err(stop) => Err(stop),
             Ok(found) => Ok(Some(found)),
         },
@@ -152,8 +146,8 @@ fn turn<S: Source>(
 
 /// Reads a script from where the source stands to the end of the text: its marks. On an error the source stands where reading stopped.
 #[tactic(auto, using(sh_tree::proofs::Owed::owed_first, crate::proofs::Turning::owes_on, crate::proofs::Turning::stops_there, sh_tree::proofs::Turning::whole_read))]
-pub fn read_marks<S: Source>(alloc: Global, s: &mut S) -> Result<Vec<Mark>, ParseErr>
-    ensures { MatchResult result (λ marks. IsRead (S.place s.old) (S.place s.new) (map mark_named marks.items)) (λ e. StopsBy (S.place s.old) (S.place s.new) e) }
+pub fn read_marks<S: Source>(alloc: Global, s: &mut S) -> Result<Marks, ParseErr>
+    ensures { MatchResult result (λ marks. IsRead (S.place s.old) (S.place s.new) marks) (λ e. StopsBy (S.place s.old) (S.place s.new) e) }
 {
     let mut todo = match Todo::script(alloc) {
         Err(_) => return Err(ParseErr::Memory),
@@ -167,5 +161,5 @@ pub fn read_marks<S: Source>(alloc: Global, s: &mut S) -> Result<Vec<Mark>, Pars
             Ok(found) => ahead = found,
         }
     }
-    Ok(marks.into_items())
+    Ok(marks)
 }

@@ -8,6 +8,7 @@ ghost use Rattle.sh_parse.specs.Answering.{IsAnswer, IsFaultTold, Tells, IsOnlyS
 
 use crate::reading::read_marks;
 use crate::source::ParseErr;
+use crate::text::Tokens;
 use rk_base::NoMemory;
 use sh_ast::CommandList;
 use sh_lex::{Cursor, ScriptFault, Why};
@@ -49,12 +50,15 @@ fn read(alloc: Global, text: &[u8]) -> Result<Script, ReadErr>
     requires { length text.now ≤ longest }
     ensures { IsAnswer text.now result }
 {
-    let mut cursor = Cursor::new(alloc, text);
-    match read_marks(alloc, &mut cursor) {
+    let mut tokens = match Tokens::new(alloc, text) {
+        Err(_) => return Err(ReadErr::NoMemory),
+        Ok(tokens) => tokens,
+    };
+    match read_marks(alloc, &mut tokens) {
         Err(stop) => match stop {
             ParseErr::Memory => Err(ReadErr::NoMemory),
-            ParseErr::Blocked => Err(fault(alloc, &cursor, false)),
-            ParseErr::Deep => Err(fault(alloc, &cursor, true)),
+            ParseErr::Blocked => Err(fault(alloc, &tokens.cursor, false)),
+            ParseErr::Deep => Err(fault(alloc, &tokens.cursor, true)),
         },
         Ok(marks) => match build(alloc, marks) {
             Err(_) => Err(ReadErr::NoMemory),

@@ -1,11 +1,10 @@
-// Symbols that are still to be read, and the marks of those that were.
+// Symbols that are still to be read.
 ghost use Rattle.std.specs.Prelude.{◌≡◌, ◌∷◌, ◌++◌, [], OnOk, IfOk, MatchOption, map};
 ghost use Rattle.sh_rules.specs.Rules.{script};
 ghost use Rattle.sh_grammar.specs.Named.{symbol_named};
-ghost use Rattle.sh_grammar.specs.Marks.{mark_named};
 
 use rk_base::NoMemory;
-use sh_grammar::{Mark, Part, Symbol};
+use sh_grammar::{Part, Symbol};
 use sh_rules::TokenKind;
 use std::alloc::Global;
 use std::marker::Model;
@@ -65,47 +64,5 @@ pub fn push_all(todo: &mut Todo, symbols: &[Symbol]) -> Result<(), NoMemory>
             push_all(todo, rest)?;
             todo.push(*first)
         }
-    }
-}
-
-/// Marks, in the order of the text.
-#[derive(Drop)]
-pub struct Marks {
-    items: Vec<Mark>,
-}
-
-impl Model for Marks {
-    ghost use Rattle.std.specs.Prelude.{List, map};
-    ghost use Rattle.sh_grammar.specs.Marks.{Mark, mark_named};
-
-    ghost Value = { List Mark };
-
-    ghost view = { λ m. map mark_named m.items.items };
-}
-
-impl Marks {
-    /// No marks.
-    pub fn new(alloc: Global) -> Marks
-        ensures { result ≡ [] }
-    {
-        Marks {
-            items: Vec::new(alloc),
-        }
-    }
-
-    /// One mark more, at the end.
-    pub fn push(&mut self, mark: Mark) -> Result<(), NoMemory>
-        ensures { OnOk result (self.new ≡ self.old ++ (mark_named mark ∷ [])) }
-    {
-        self.items.push(mark)?;
-        Ok(())
-    }
-
-    /// The marks, in the order of the text.
-    pub fn into_items(self) -> Vec<Mark>
-        ensures { map mark_named result.items ≡ self }
-    {
-        let Marks { items } = self;
-        items
     }
 }

@@ -1,6 +1,5 @@
 -- A tree's value is that of its marks.
-use Rattle.std.proofs.Common.{◌≡◌, List, [], ◌∷◌, ◌++◌, map, refl, sym, ap, ◌∙◌}
-use Rattle.std.proofs.lemmas.List.{map_push}
+use Rattle.std.proofs.Common.{◌≡◌, List, [], ◌∷◌, ◌++◌, refl, sym, ap, ◌∙◌}
 use Rattle.sh_ast.specs.Commands.{commands_of}
 use Rattle.sh_rules.specs.Grammar.{Parse, Leaf, Node, Parses, no_parses, parse_and}
 use Rattle.sh_rules.specs.Rules.{Rule, Token}
@@ -34,7 +33,6 @@ pub marked_last : (ms : List Mark) (m : Mark) (s : State) → marked_all (ms ++ 
 unfolding marked_all
 marked_last ms m s = marked_append ms (m ∷ []) s
 
--- marks of the code, the last of them taken
-pub marked_pushed : {A : Type 0} (f : A → Mark) (ms ns : List A) (m : A) (s t : State) → ms ≡ ns ++ m ∷ [] → t ≡ marked (f m) s → marked_all (map f ns) t ≡ marked_all (map f ms) s
-marked_pushed f ms ns m s t e h =
-    ap (marked_all (map f ns)) h ∙ sym (ap (λ l. marked_all (map f l) s) e ∙ ap (λ l. marked_all l s) (map_push f ns m) ∙ marked_last (map f ns) (f m) s)
+-- the last of the marks is taken
+pub marked_pushed : (ms ns : List Mark) (m : Mark) (s t : State) → ms ≡ ns ++ m ∷ [] → t ≡ marked m s → marked_all ns t ≡ marked_all ms s
+marked_pushed ms ns m s t e h = ap (marked_all ns) h ∙ sym (ap (λ l. marked_all l s) e ∙ marked_last ns m s)

@@ -4,6 +4,7 @@ ghost use Rattle.sh_ast.specs.Commands as c;
 ghost use Rattle.sh_tree.specs.Seen.{seen, state, bodies_seen};
 ghost use Rattle.sh_tree.specs.States as st;
 
+use crate::empties::Empties;
 use crate::row::Row;
 use crate::value::Value;
 use rk_base::NoMemory;
@@ -14,12 +15,13 @@ use std::rc::Rc;
 
 /// The values of what was read, that of the first symbol on top; for each word that is being read, and the one around it,
 /// the bodies of its substitutions; for the text, and each body of a here-document around what is read, the
-/// here-documents' bodies that no operator has yet.
+/// here-documents' bodies that no operator has yet; and what most commands have none of.
 #[derive(Drop)]
 pub struct Builder {
     pub(crate) values: Vec<Value>,
     pub(crate) bodies: Vec<Vec<Rc<CommandList>>>,
     pub(crate) documents: Vec<VecDeque<Rc<Word>>>,
+    pub(crate) empties: Empties,
 }
 
 impl Builder {
@@ -34,6 +36,7 @@ impl Builder {
             values: Vec::new(alloc),
             bodies: Vec::new(alloc),
             documents,
+            empties: Empties::new(alloc)?,
         })
     }
 

@@ -1,5 +1,5 @@
 // Scripts, out of marks.
-ghost use Rattle.std.specs.Prelude.{◌≡◌, IfOk, OnOk, map};
+ghost use Rattle.std.specs.Prelude.{◌≡◌, IfOk, OnOk};
 ghost use Rattle.sh_ast.specs.Commands as c;
 ghost use Rattle.sh_grammar.specs.Marks.{mark_named};
 ghost use Rattle.sh_tree.specs.Seen.{state};
@@ -11,14 +11,14 @@ use crate::taking::list_in;
 use crate::value::Value;
 use rk_base::NoMemory;
 use sh_ast::CommandList;
-use sh_grammar::Mark;
+use sh_grammar::{Mark, Marks};
 use std::alloc::Global;
 use std::rc::Rc;
 
 /// The commands of a script, by the marks that its reading leaves.
 #[tactic(auto, unfolding(crate::specs::Folds::marked_all, crate::specs::Folds::script_marked), using(crate::proofs::FoldLemmas::marked_pushed))]
-pub fn build(alloc: Global, mut marks: Vec<Mark>) -> Result<Rc<CommandList>, NoMemory>
-    ensures { IfOk result (λ r. c.commands r.value ≡ script_marked (map mark_named marks.items)) }
+pub fn build(alloc: Global, mut marks: Marks) -> Result<Rc<CommandList>, NoMemory>
+    ensures { IfOk result (λ r. c.commands r.value ≡ script_marked marks) }
 {
     let mut b = Builder::new(alloc)?;
     'marks: while let Some(mark) = marks.pop() {

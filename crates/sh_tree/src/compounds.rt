@@ -27,7 +27,7 @@ pub fn compound(b: &mut Builder, alloc: Global) -> Result<(), NoMemory>
     let body = compound_in(alloc, b.pop())?;
     let redirects = redirects_in(alloc, b.pop());
     let body = Rc::new(alloc, body)?;
-    let redirects = redirects_of(alloc, redirects)?;
+    let redirects = redirects_of(alloc, &b.empties, redirects)?;
     b.put_command(alloc, Command::Compound(body, redirects))
 }
 
@@ -42,7 +42,7 @@ pub fn function(b: &mut Builder, alloc: Global) -> Result<(), NoMemory>
     let body = compound_in(alloc, b.pop())?;
     let redirects = redirects_in(alloc, b.pop());
     let body = Rc::new(alloc, body)?;
-    let redirects = redirects_of(alloc, redirects)?;
+    let redirects = redirects_of(alloc, &b.empties, redirects)?;
     b.put_command(alloc, Command::Function(name, body, redirects))
 }
 

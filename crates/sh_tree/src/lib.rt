@@ -5,6 +5,7 @@ mod act;
 mod builder;
 mod building;
 mod compounds;
+mod empties;
 mod lists;
 mod parameters;
 mod parts;

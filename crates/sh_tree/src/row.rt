@@ -42,6 +42,9 @@ impl<T: Drop> Row<T> {
     pub fn add(&mut self, item: T) -> Result<(), NoMemory>
         ensures { OnOk result (self.new ≡ item ∷ self.old) }
     {
+        if self.items.is_empty() {
+            self.items.reserve_exact(1)?;
+        }
         self.items.push(item)?;
         Ok(())
     }
@@ -51,7 +54,11 @@ impl<T: Drop> Row<T> {
         ensures { OnOk result (self.new ≡ front ++ self.old) }
     {
         let Row { mut items } = front;
-        self.items.append(&mut items)?;
+        if self.items.is_empty() {
+            self.items = items;
+        } else {
+            self.items.append(&mut items)?;
+        }
         Ok(())
     }
 
@@ -62,12 +69,13 @@ impl<T: Drop> Row<T> {
         self.items.pop()
     }
 
-    /// The items, from the first to the last.
+    /// The items, from the first to the last, in no more room than they take.
     pub fn into_items(self) -> Vec<T>
         ensures { result.items ≡ self }
     {
         let Row { mut items } = self;
         items.reverse();
+        items.shrink_to_fit();
         items
     }
 }

@@ -9,6 +9,7 @@ ghost use Rattle.sh_tree.specs.Texts as t;
 ghost use Rattle.sh_tree.specs.Acts as act;
 
 use crate::builder::Builder;
+use crate::empties::Empties;
 use crate::parameters::{byte_at, descriptor_of, without_last};
 use crate::row::Row;
 use crate::taking::{redirects_in, simple_in, text_in, word_in, word_of};
@@ -166,9 +167,16 @@ pub fn name_quoted(b: &mut Builder, alloc: Global) -> Result<(), NoMemory>
 }
 
 /// The redirections of a command.
-pub fn redirects_of(alloc: Global, redirects: Row<Redirect>) -> Result<Rc<Redirects>, NoMemory>
+pub fn redirects_of(
+    alloc: Global,
+    empties: &Empties,
+    redirects: Row<Redirect>,
+) -> Result<Rc<Redirects>, NoMemory>
     ensures { IfOk result (λ r. c.redirects r.value ≡ c.redirects_of (map c.redirect redirects)) }
 {
+    if redirects.is_empty() {
+        return empties.redirects();
+    }
     let redirects = Rc::new(
         alloc,
         Redirects {
@@ -191,22 +199,38 @@ pub fn words_of(alloc: Global, words: Row<Rc<Word>>) -> Result<Rc<Words>, NoMemo
     Ok(words)
 }
 
-fn simple_of(
+// The assignments of a command.
+fn assignments_of(
     alloc: Global,
+    empties: &Empties,
     assignments: Row<Assignment>,
-    words: Row<Rc<Word>>,
-    redirects: Row<Redirect>,
-) -> Result<Command, NoMemory>
-    ensures { IfOk result (λ x. c.command x ≡ c.simple (c.simply (c.assignments_of (map c.assignment assignments)) (c.words_of (words_seen words)) (c.redirects_of (map c.redirect redirects)))) }
+) -> Result<Rc<Assignments>, NoMemory>
+    ensures { IfOk result (λ r. c.assignments r.value ≡ c.assignments_of (map c.assignment assignments)) }
 {
+    if assignments.is_empty() {
+        return empties.assignments();
+    }
     let assignments = Rc::new(
         alloc,
         Assignments {
             items: assignments.into_items(),
         },
     )?;
+    Ok(assignments)
+}
+
+fn simple_of(
+    alloc: Global,
+    empties: &Empties,
+    assignments: Row<Assignment>,
+    words: Row<Rc<Word>>,
+    redirects: Row<Redirect>,
+) -> Result<Command, NoMemory>
+    ensures { IfOk result (λ x. c.command x ≡ c.simple (c.simply (c.assignments_of (map c.assignment assignments)) (c.words_of (words_seen words)) (c.redirects_of (map c.redirect redirects)))) }
+{
+    let assignments = assignments_of(alloc, empties, assignments)?;
     let words = words_of(alloc, words)?;
-    let redirects = redirects_of(alloc, redirects)?;
+    let redirects = redirects_of(alloc, empties, redirects)?;
     let command = SimpleCommand {
         assignments,
         words,
@@ -221,6 +245,6 @@ pub fn simple_begun(b: &mut Builder, alloc: Global) -> Result<(), NoMemory>
     ensures { OnOk result (state b.new ≡ act.simple_begun (state b.old)) }
 {
     let (assignments, words, redirects) = simple_in(alloc, b.pop());
-    let command = simple_of(alloc, assignments, words, redirects)?;
+    let command = simple_of(alloc, &b.empties, assignments, words, redirects)?;
     b.put_command(alloc, command)
 }

@@ -3,10 +3,10 @@ use Rattle.sh_parse.proofs.Turning.{none_halts, unwanted_halts, turn_chosen}
 use Rattle.sh_parse.proofs.reading.node.Goals as goal
 
 pub returns-in-None-clause-turns : goal.returns-in-None-clause-turns
-returns-in-None-clause-turns g c = none_halts (part_named c.args.part) (g.S.Source.place c.args.s.now) c.in-None.ensures.found
+returns-in-None-clause-turns g c = none_halts (part_named c.args.part) (g.S.Source.place c.args.s.now) c.in-None.ensures
 
 pub returns-in-None-choose-clause-turns : goal.returns-in-None-choose-clause-turns
-returns-in-None-choose-clause-turns g c = unwanted_halts (part_named c.args.part) c.in-Some.kind c.in-Some.length (g.S.Source.place c.args.s.now) c.in-Some.ensures.found c.in-None-choose.ensures
+returns-in-None-choose-clause-turns g c = unwanted_halts (part_named c.args.part) c.in-Some.found.kind c.in-Some.found.length (g.S.Source.place c.args.s.now) c.in-Some.ensures.0 c.in-None-choose.ensures
 
 pub returns-in-Ok-clause-turns : goal.returns-in-Ok-clause-turns
-returns-in-Ok-clause-turns g c = turn_chosen (part_named c.args.part) c.in-Some.kind c.in-Some.length (rule_named c.in-Some-choose.rule) c.args.todo.now c.expand.new.todo c.args.marks.now c.expand.new.marks (g.S.Source.place c.args.s.now) c.in-Some.ensures.found c.in-Some-choose.ensures c.in-Ok.ensures.0 c.in-Ok.ensures.1
+returns-in-Ok-clause-turns g c = turn_chosen (part_named c.args.part) c.in-Some.found.kind c.in-Some.found.length (rule_named c.in-Some-choose.rule) c.args.todo.now c.expand.new.todo c.args.marks.now c.expand.new.marks (g.S.Source.place c.args.s.now) c.in-Some.ensures.0 c.in-Some-choose.ensures c.in-Ok.ensures.0 c.in-Ok.ensures.1

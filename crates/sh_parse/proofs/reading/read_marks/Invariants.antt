@@ -1,7 +1,7 @@
 use Rattle.sh_token.specs.Places.{size}
 use Rattle.sh_tree.specs.TextReader.{text_reader}
 use Rattle.sh_tree.specs.Owing.{Owes, turns_left}
-use Rattle.sh_parse.specs.Turns.{Ahead}
+use Rattle.sh_parse.specs.Finding.{Ahead}
 use Rattle.sh_parse.proofs.reading.read_marks.Given as goal
 
 -- what is still to be read is owed

@@ -1,5 +1,4 @@
-use Rattle.std.proofs.Common.{◌≡◌, map, length}
-use Rattle.sh_grammar.specs.Marks.{mark_named}
+use Rattle.std.proofs.Common.{◌≡◌, length}
 use Rattle.sh_tree.specs.Seen.{state}
 use Rattle.sh_tree.specs.States.{start}
 use Rattle.sh_tree.specs.Folds.{marked_all}
@@ -7,7 +6,7 @@ use Rattle.sh_tree.proofs.building.build.Given as goal
 
 -- what is left over what was built is the whole
 abbrev pub invariant-marks : goal.invariant-marks
-invariant-marks l = marked_all (map mark_named l.marks.items) (state l.b) ≡ marked_all (map mark_named l.fn.marks.items) start
+invariant-marks l = marked_all l.marks (state l.b) ≡ marked_all l.fn.marks start
 
 abbrev pub decreases-marks : goal.decreases-marks
-decreases-marks l = length l.marks.items
+decreases-marks l = length l.marks

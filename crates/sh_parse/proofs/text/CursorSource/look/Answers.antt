@@ -1,5 +1,0 @@
-use Rattle.sh_parse.proofs.Sourced.{found_there}
-use Rattle.sh_parse.proofs.text.CursorSource.look.Goals as goal
-
-pub returns-clause-by_itself : goal.returns-clause-by_itself
-returns-clause-by_itself c = found_there c.args.mode c.args.self.now c.look.result c.look.ensures.found
