@@ -33,7 +33,7 @@ use Rattle.sh_means.specs.Views.{back_to}
 use Rattle.sh_means.proofs.Folding.{branch_is}
 use Rattle.sh_means.proofs.Places.{branches_some, branches_none, branch_meant, commands_some, commands_none}
 
-pub if_begun : (bs rest : Rc Branches Global) (d : Branches) (x : Branch) (c b o : Rc CommandList Global) (at : ℕ) (pl : Place) (k k' : Next) (e : Shell) (p : ℕ) → d ≡ bs.value → Some (tree.branch x) ≡ branch_at (tree.branches d) at → rest.value ≡ bs.value → c.value ≡ (out-Branch x).condition.value → b.value ≡ (out-Branch x).body.value → k' ≡ continued (continuation.Choose pl b rest (at + 1) o) k → if_means (branches_from bs.value at) (whole o.value) pl e k p ≡ whole c.value (ignoring pl) e k' p
+pub if_begun : (bs rest : Rc Branches Global) (d : Branches) (x : Branch) (c b o : Rc CommandList Global) (at : ℕ) (pl : Place) (k k' : Next) (e : Shell) (p : ℕ) → d ≡ bs.value → Some (tree.branch x) ≡ branch_at (tree.branches d) at → rest.value ≡ bs.value → c.value ≡ (out-Branch x).condition.value → b.value ≡ (out-Branch x).body.value → k' ≡ continued (continuation.Choose pl b (record { branches = rest; at = at + 1; otherwise = o })) k → if_means (branches_from bs.value at) (whole o.value) pl e k p ≡ whole c.value (ignoring pl) e k' p
 if_begun bs rest d x c b o at pl k k' e p hd is hr hc hb hk =
     let go : Branches → CommandList → Next = λ R B. and_then (λ e. by_status e.env.status (λ e. whole B pl e k) (λ e. if_means (branches_from R (at + 1)) (whole o.value) pl e k) e) k in
     ap (λ (L : List BranchMeant). if_means L (whole o.value) pl e k p) (branches_some (tree.branches bs.value) at (tree.branch x) (subst (λ (d : Branches). Some (tree.branch x) ≡ branch_at (tree.branches d) at) hd is) ∙ ap (λ (t : tree.BranchTree). branch_meant t ∷ branches_from bs.value (at + 1)) (branch_is x))
@@ -59,7 +59,7 @@ stages_over l d at input pl k e p hd is =
 waits_on : List Means → List Means → Place → Option ℕ → ℕ → Next → Go_on
 waits_on L R pl input n k e = first_of L pl (with_slot 1 (Some (number_after n)) (with_input input e)) (λ f e'. stages_mean (Some n) R pl k (past_stage e e'))
 
-pub stage_more : (l : Rc CommandList Global) (t u : tree.CommandTree) (at : ℕ) (input : Option ℕ) (pl : Place) (k : Next) (e : Shell) (p : ℕ) → Some t ≡ command_at (tree.commands l.value) at → Some u ≡ command_at (tree.commands l.value) (at + 1) → stages_mean input (commands_from l.value at) pl k e p ≡ asks Pipe 1 (λ a. waiting (wait.Stage pl l at (at + 1) input e.env.next) k a) e p
+pub stage_more : (l : Rc CommandList Global) (t u : tree.CommandTree) (at : ℕ) (input : Option ℕ) (pl : Place) (k : Next) (e : Shell) (p : ℕ) → Some t ≡ command_at (tree.commands l.value) at → Some u ≡ command_at (tree.commands l.value) (at + 1) → stages_mean input (commands_from l.value at) pl k e p ≡ asks Pipe 1 (λ a. waiting (wait.Stage pl (record { list = l; at = at; next = at + 1; input = input; read_end = e.env.next })) k a) e p
 unfolding waits_on
 stage_more l t u at input pl k e p ht hu =
     let cs = tree.commands l.value in
@@ -132,7 +132,7 @@ taken_or [] c cs false pl k e p h = refl
 taken_or (m ∷ ms) c cs true pl k e p h = rw (sym h) refl
 taken_or (m ∷ ms) c cs false pl k e p h = rw (sym h) refl
 
-pub links_so : (l rest : Rc CommandList Global) (os later : Rc Connectors Global) (c : Connector) (at : ℕ) (b : Bool) (pl : Place) (k k' : Next) (e : Shell) (p : ℕ) → Some c ≡ slice_get os.value.items.items at → b ≡ takes c e.env.status → rest.value ≡ l.value → later.value ≡ os.value → k' ≡ continued (continuation.Links pl rest (at + 1) later) k → links_mean (commands_from l.value (at + 1)) (drop at os.value.items.items) pl k e p ≡ linked b (commands_from l.value (at + 1)) pl k' e p
+pub links_so : (l rest : Rc CommandList Global) (os later : Rc Connectors Global) (c : Connector) (at : ℕ) (b : Bool) (pl : Place) (k k' : Next) (e : Shell) (p : ℕ) → Some c ≡ slice_get os.value.items.items at → b ≡ takes c e.env.status → rest.value ≡ l.value → later.value ≡ os.value → k' ≡ continued (continuation.Links pl (record { pipelines = rest; at = at + 1; connectors = later })) k → links_mean (commands_from l.value (at + 1)) (drop at os.value.items.items) pl k e p ≡ linked b (commands_from l.value (at + 1)) pl k' e p
 links_so l rest os later c at b pl k k' e p hc hb hr ho hk =
     let os' = os.value.items.items in
     let ms = commands_from l.value (at + 1) in

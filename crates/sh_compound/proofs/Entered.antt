@@ -135,12 +135,12 @@ and_or_more tree.no_commands connectors pl k e p h = refl
 and_or_more (tree.command_and c tree.no_commands) connectors pl k e p h = cc
 and_or_more (tree.command_and c (tree.command_and d cs)) connectors pl k e p h = refl
 
-module _ (l0 : CommandList) (l r : Rc CommandList Global) (os0 : Connectors) (os : Rc Connectors Global) (d : CommandList) (b : Bool) (pl : Place) (k k' : Next) (e : Shell) (p : ℕ) (hl : l.value ≡ l0) (hr : r.value ≡ l0) (ho : os.value ≡ os0) (hd : d ≡ l.value) (hb : b ≡ is_one (tree.commands d)) (hk : k' ≡ continued (continuation.Links pl r 0 os) k) where
+module _ (l0 : CommandList) (l r : Rc CommandList Global) (os0 : Connectors) (os : Rc Connectors Global) (d : CommandList) (b : Bool) (pl : Place) (k k' : Next) (e : Shell) (p : ℕ) (hl : l.value ≡ l0) (hr : r.value ≡ l0) (ho : os.value ≡ os0) (hd : d ≡ l.value) (hb : b ≡ is_one (tree.commands d)) (hk : k' ≡ continued (continuation.Links pl (record { pipelines = r; at = 0; connectors = os })) k) where
   goes_so : (pl' : Place) → pay 1 (first_of (commands_from l0 0) pl' e (and_then (links_mean (commands_from l0 1) os0.items.items pl k) k)) p ≡ pay 1 (resumed (control.One pl' l 0) k' Go e) p
   goes_so pl' =
       ap (λ (c : CommandList). pay 1 (first_of (commands_from l0 0) pl' e (and_then (links_mean (commands_from c 1) os0.items.items pl k) k)) p) (sym hr)
       ∙ ap (λ (o : Connectors). pay 1 (first_of (commands_from l0 0) pl' e (and_then (links_mean (commands_from r.value 1) o.items.items pl k) k)) p) (sym ho)
-      ∙ ap (λ (c : CommandList). pay 1 (first_of (commands_from c 0) pl' e (continued (continuation.Links pl r 0 os) k)) p) (sym hl)
+      ∙ ap (λ (c : CommandList). pay 1 (first_of (commands_from c 0) pl' e (continued (continuation.Links pl (record { pipelines = r; at = 0; connectors = os })) k)) p) (sym hl)
       ∙ ap (λ (k : Next). pay 1 (first_of (commands_from l.value 0) pl' e k) p) (sym hk)
 
   is_so : b ≡ is_one (tree.commands l0)

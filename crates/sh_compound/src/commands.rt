@@ -14,13 +14,13 @@ ghost use Rattle.sh_means.specs.Views.{shell_of};
 ghost use Rattle.sh_means.specs.Weights.{Lowers, Pays};
 
 use rk_base::{Bytes, NoMemory, WordList};
-use rk_calls::Answer;
 use sh_ast::{Command, CommandList, Compound, Connectors, Redirects, SimpleCommand};
 use sh_means::control::{
-    Acted, CompoundStep, Continuation, Control, Frame, Made, PendingFields, PendingRedirects,
-    SimpleStep, Then,
+    Acted, CompoundStep, Continuation, Control, Frame, Made, PendingFields, PendingLinks,
+    PendingRedirects, SimpleStep, Then,
 };
 use sh_means::flow::{Flow, Place};
+use sh_means::interpreter::Interpreter;
 use sh_means::stack::put_continuation;
 use sh_means::state::{Callee, State};
 use sh_means::steps::{free, paid};
@@ -142,7 +142,12 @@ fn act_and_or(
     let list = pipelines.clone()?;
     let rest = pipelines.clone()?;
     let connectors = connectors.clone()?;
-    put_continuation(stack, Continuation::Links(place, rest, 0, connectors))?;
+    let links = PendingLinks {
+        pipelines: rest,
+        at: 0,
+        connectors,
+    };
+    put_continuation(stack, Continuation::Links(place, links))?;
     if is_one(&list) {
         return Ok(paid(Control::One(place, list, 0)));
     }
@@ -154,35 +159,29 @@ fn act_and_or(
 }
 
 // The turn that a command takes.
-fn act_command(
-    alloc: Global,
-    place: Place,
-    command: &Command,
-    stack: &mut Vec<Frame>,
-    state: &mut State,
-) -> Result<Acted, NoMemory>
-    ensures talk { IfOk result (Steps (command_in run (tree.command command.now) place (shell_of state.old) (context stack.old.items)) (context stack.new.items) (shell_of state.new)) }
+fn act_command(place: Place, command: &Command, shell: &mut Interpreter) -> Result<Acted, NoMemory>
+    ensures talk { IfOk result (Steps (command_in run (tree.command command.now) place (shell_of shell.old.state) (context shell.old.stack.items)) (context shell.new.stack.items) (shell_of shell.new.state)) }
     ensures costly { IfOk result Pays }
 {
     match command {
         Command::Simple(command) => {
-            let acted = act_simple(alloc, place, command)?;
+            let acted = act_simple(shell.alloc, place, command)?;
             Ok(acted)
         }
         Command::Compound(body, redirects) => {
-            let acted = act_redirected(place, body, redirects, state)?;
+            let acted = act_redirected(place, body, redirects, &shell.state)?;
             Ok(acted)
         }
         Command::Function(name, body, redirects) => {
-            let acted = act_function(name, body, redirects, state)?;
+            let acted = act_function(name, body, redirects, &mut shell.state)?;
             Ok(acted)
         }
         Command::Pipeline(negated, commands) => {
-            let acted = act_pipeline(place, *negated, commands, stack)?;
+            let acted = act_pipeline(place, *negated, commands, &mut shell.stack)?;
             Ok(acted)
         }
         Command::AndOr(pipelines, connectors) => {
-            let acted = act_and_or(place, pipelines, connectors, stack)?;
+            let acted = act_and_or(place, pipelines, connectors, &mut shell.stack)?;
             Ok(acted)
         }
     }
@@ -190,19 +189,17 @@ fn act_command(
 
 /// One of the commands of a list; nothing where there is none.
 pub fn act_one(
-    alloc: Global,
     place: Place,
     list: &CommandList,
     at: usize,
-    stack: &mut Vec<Frame>,
-    state: &mut State,
+    shell: &mut Interpreter,
 ) -> Result<Acted, NoMemory>
-    ensures talk { IfOk result (Steps (first_of (commands_from list.now at) place (shell_of state.old) (context stack.old.items)) (context stack.new.items) (shell_of state.new)) }
-    ensures costly { IfOk result (Lowers 1 stack.old.items stack.new.items) }
+    ensures talk { IfOk result (Steps (first_of (commands_from list.now at) place (shell_of shell.old.state) (context shell.old.stack.items)) (context shell.new.stack.items) (shell_of shell.new.state)) }
+    ensures costly { IfOk result (Lowers 1 shell.old.stack.items shell.new.stack.items) }
 {
     match list.get(at) {
         Some(command) => {
-            let acted = act_command(alloc, place, command, stack, state)?;
+            let acted = act_command(place, command, shell)?;
             Ok(acted)
         }
         None => Ok(free(Control::Leave(Flow::Normal))),
@@ -211,22 +208,20 @@ pub fn act_one(
 
 /// The commands of a list from a place on.
 pub fn act_run(
-    alloc: Global,
     place: Place,
     list: Rc<CommandList>,
     at: usize,
-    stack: &mut Vec<Frame>,
-    state: &mut State,
+    shell: &mut Interpreter,
 ) -> Result<Acted, NoMemory>
-    ensures talk { IfOk result (Steps (seq_all (commands_from list.value at) place (shell_of state.old) (context stack.old.items)) (context stack.new.items) (shell_of state.new)) }
-    ensures costly { IfOk result (Lowers 1 stack.old.items stack.new.items) }
+    ensures talk { IfOk result (Steps (seq_all (commands_from list.value at) place (shell_of shell.old.state) (context shell.old.stack.items)) (context shell.new.stack.items) (shell_of shell.new.state)) }
+    ensures costly { IfOk result (Lowers 1 shell.old.stack.items shell.new.stack.items) }
 {
     let rest = list.clone()?;
     match list.get(at) {
         Some(command) => {
             let next = at + 1;
-            put_continuation(stack, Continuation::Rest(place, rest, next))?;
-            let acted = act_command(alloc, place, command, stack, state)?;
+            put_continuation(&mut shell.stack, Continuation::Rest(place, rest, next))?;
+            let acted = act_command(place, command, shell)?;
             Ok(acted)
         }
         None => Ok(free(Control::Leave(Flow::Normal))),
@@ -245,16 +240,14 @@ fn clear_if_empty(list: &CommandList, state: &mut State)
 
 /// A whole list; one without a command has status 0.
 pub fn act_whole(
-    alloc: Global,
     place: Place,
     list: Rc<CommandList>,
-    stack: &mut Vec<Frame>,
-    state: &mut State,
+    shell: &mut Interpreter,
 ) -> Result<Acted, NoMemory>
-    ensures talk { IfOk result (Steps (whole list.value place (shell_of state.old) (context stack.old.items)) (context stack.new.items) (shell_of state.new)) }
-    ensures costly { IfOk result (Lowers 1 stack.old.items stack.new.items) }
+    ensures talk { IfOk result (Steps (whole list.value place (shell_of shell.old.state) (context shell.old.stack.items)) (context shell.new.stack.items) (shell_of shell.new.state)) }
+    ensures costly { IfOk result (Lowers 1 shell.old.stack.items shell.new.stack.items) }
 {
-    clear_if_empty(&list, state);
-    let acted = act_run(alloc, place, list, 0, stack, state)?;
+    clear_if_empty(&list, &mut shell.state);
+    let acted = act_run(place, list, 0, shell)?;
     Ok(acted)
 }

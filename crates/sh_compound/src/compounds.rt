@@ -16,15 +16,16 @@ ghost use Rattle.sh_means.specs.Weights.{Lowers, Pays, Sinks, branches_left, ite
 ghost use Rattle.sh_means.specs.Trees.{for_words_of, given_if};
 
 use rk_base::{Bytes, NoMemory, WordList};
-use rk_calls::{Answer, Call, Turn};
-use sh_ast::{Branches, CaseItems, CommandList, Compound, LoopKind, Word, Words};
+use rk_calls::{Call, Turn};
+use sh_ast::{CaseItems, CommandList, Compound, LoopKind, Word, Words};
 use sh_expand::Mode;
 use sh_means::control::{
     Acted, Aim, CompoundStep, Continuation, Control, Each, Frame, Loop, PendingCase, PendingFields,
-    SimpleStep, Then, Undo, Wait,
+    PendingIf, PendingStage, SimpleStep, Then, Undo, Wait,
 };
 use sh_means::expansion::{begin, over_fields};
 use sh_means::flow::{Flow, Place};
+use sh_means::interpreter::Interpreter;
 use sh_means::items::item_at;
 use sh_means::stack::{put_continuation, put_undo};
 use sh_means::state::State;
@@ -35,19 +36,17 @@ use std::rc::Rc;
 
 // A subshell, after which `set -e` looks at its status.
 fn act_subshell(
-    alloc: Global,
     place: Place,
     list: &Rc<CommandList>,
-    stack: &mut Vec<Frame>,
-    state: &State,
+    shell: &mut Interpreter,
 ) -> Result<Control, NoMemory>
-    ensures talk { IfOk result (Goes (subshell_means (whole list.now.value) place (shell_of state.now) (context stack.old.items)) (context stack.new.items) (shell_of state.now)) }
-    ensures weight { IfOk result (λ c. weigh c + weigh_all stack.new.items ≤ 3 + weigh_all stack.old.items) }
+    ensures talk { IfOk result (Goes (subshell_means (whole list.now.value) place (shell_of shell.old.state) (context shell.old.stack.items)) (context shell.new.stack.items) (shell_of shell.new.state)) }
+    ensures weight { IfOk result (λ c. weigh c + weigh_all shell.new.stack.items ≤ 3 + weigh_all shell.old.stack.items) }
 {
     let list = list.clone()?;
-    let saved = state.save(alloc)?;
-    put_continuation(stack, Continuation::Watch(place))?;
-    put_undo(stack, Undo::Subshell(saved))?;
+    let saved = shell.state.save(shell.alloc)?;
+    put_continuation(&mut shell.stack, Continuation::Watch(place))?;
+    put_undo(&mut shell.stack, Undo::Subshell(saved))?;
     Ok(Control::Whole(place, list))
 }
 
@@ -126,14 +125,12 @@ fn act_loop(
 
 /// A compound command.
 pub fn act_compound(
-    alloc: Global,
     place: Place,
     body: &Compound,
-    stack: &mut Vec<Frame>,
-    state: &mut State,
+    shell: &mut Interpreter,
 ) -> Result<Control, NoMemory>
-    ensures talk { IfOk result (Goes (compound_in run (tree.compound body.now) place (shell_of state.old) (context stack.old.items)) (context stack.new.items) (shell_of state.new)) }
-    ensures weight { IfOk result (λ c. weigh c + weigh_all stack.new.items < weigh_compound body.now + weigh_all stack.old.items) }
+    ensures talk { IfOk result (Goes (compound_in run (tree.compound body.now) place (shell_of shell.old.state) (context shell.old.stack.items)) (context shell.new.stack.items) (shell_of shell.new.state)) }
+    ensures weight { IfOk result (λ c. weigh c + weigh_all shell.new.stack.items < weigh_compound body.now + weigh_all shell.old.stack.items) }
 {
     match body {
         Compound::Group(list) => {
@@ -141,21 +138,26 @@ pub fn act_compound(
             Ok(Control::Whole(place, list))
         }
         Compound::Subshell(list) => {
-            let control = act_subshell(alloc, place, list, stack, state)?;
+            let control = act_subshell(place, list, shell)?;
             Ok(control)
         }
         Compound::For(name, words, body) => {
-            let control = act_for(alloc, place, name, words, body, state)?;
+            let control = act_for(shell.alloc, place, name, words, body, &mut shell.state)?;
             Ok(control)
         }
         Compound::Case(word, items) => {
-            let control = act_case(alloc, place, word, items)?;
+            let control = act_case(shell.alloc, place, word, items)?;
             Ok(control)
         }
         Compound::If(branches, otherwise) => {
             let branches = branches.clone()?;
             let otherwise = otherwise.clone()?;
-            Ok(Control::CompoundStep(CompoundStep::If(place, branches, 0, otherwise)))
+            let left = PendingIf {
+                branches,
+                at: 0,
+                otherwise,
+            };
+            Ok(Control::CompoundStep(CompoundStep::If(place, left)))
         }
         Compound::Loop(kind, condition, body) => {
             let control = act_loop(place, *kind, condition, body)?;
@@ -165,26 +167,27 @@ pub fn act_compound(
 }
 
 /// The branches of an `if` from a place on.
-pub fn act_if(
-    place: Place,
-    branches: Rc<Branches>,
-    at: usize,
-    otherwise: Rc<CommandList>,
-    stack: &mut Vec<Frame>,
-) -> Result<Control, NoMemory>
-    ensures talk { IfOk result (λ c. (e : Shell) → Goes (if_means (branches_from branches.value at) (whole otherwise.value) place e (context stack.old.items)) (context stack.new.items) e c) }
-    ensures weight { IfOk result (λ c. weigh c + weigh_all stack.new.items ≤ 3 * branches_left branches.value at + 1 + weigh_all stack.old.items) }
+pub fn act_if(place: Place, left: PendingIf, stack: &mut Vec<Frame>) -> Result<Control, NoMemory>
+    ensures talk { IfOk result (λ c. (e : Shell) → Goes (if_means (branches_from left.branches.value left.at) (whole left.otherwise.value) place e (context stack.old.items)) (context stack.new.items) e c) }
+    ensures weight { IfOk result (λ c. weigh c + weigh_all stack.new.items ≤ 3 * branches_left left.branches.value left.at + 1 + weigh_all stack.old.items) }
 {
+    let PendingIf {
+        branches,
+        at,
+        otherwise,
+    } = left;
     let rest = branches.clone()?;
     match branches.get(at) {
         Some(branch) => {
             let condition = branch.condition.clone()?;
             let body = branch.body.clone()?;
             let next = at + 1;
-            put_continuation(
-                stack,
-                Continuation::Choose(place, body, rest, next, otherwise),
-            )?;
+            let behind = PendingIf {
+                branches: rest,
+                at: next,
+                otherwise,
+            };
+            put_continuation(stack, Continuation::Choose(place, body, behind))?;
             let inside = Place {
                 ignores: true,
                 ..place
@@ -269,15 +272,9 @@ fn enter_body(
 }
 
 /// The variable of a `for` takes its next field, and the body is evaluated.
-pub fn act_gives(
-    alloc: Global,
-    place: Place,
-    each: Each,
-    stack: &mut Vec<Frame>,
-    state: &mut State,
-) -> Result<Acted, NoMemory>
-    ensures talk { IfOk result (Steps (giving each place (context stack.old.items) (shell_of state.old)) (context stack.new.items) (shell_of state.new)) }
-    ensures costly { IfOk result (Lowers 4 stack.old.items stack.new.items) }
+pub fn act_gives(place: Place, each: Each, shell: &mut Interpreter) -> Result<Acted, NoMemory>
+    ensures talk { IfOk result (Steps (giving each place (context shell.old.stack.items) (shell_of shell.old.state)) (context shell.new.stack.items) (shell_of shell.new.state)) }
+    ensures costly { IfOk result (Lowers 4 shell.old.stack.items shell.new.stack.items) }
 {
     let fields = each.fields.as_slice();
     match item_at(fields, each.at) {
@@ -285,12 +282,19 @@ pub fn act_gives(
         Some((field, next)) => {
             let name = each.name.as_slice();
             let value = field.as_slice();
-            let done = give(state, name, value)?;
+            let done = give(&mut shell.state, name, value)?;
             if done {
-                let control = enter_body(place, each, next, stack)?;
+                let control = enter_body(place, each, next, &mut shell.stack)?;
                 return Ok(free(control));
             }
-            let acted = refuse(alloc, name, b"readonly", Flow::Exits, 1, state)?;
+            let acted = refuse(
+                shell.alloc,
+                name,
+                b"readonly",
+                Flow::Exits,
+                1,
+                &mut shell.state,
+            )?;
             Ok(acted)
         }
     }
@@ -329,16 +333,14 @@ pub fn act_case_at(
 
 /// The next of the stages of a pipeline. Each but the last is asked a pipe.
 pub fn act_stages(
-    alloc: Global,
     place: Place,
     list: Rc<CommandList>,
     at: usize,
     input: Option<u64>,
-    stack: &mut Vec<Frame>,
-    state: &mut State,
+    shell: &mut Interpreter,
 ) -> Result<Acted, NoMemory>
-    ensures talk { IfOk result (Steps (stages_mean input (commands_from list.value at) place (context stack.old.items) (shell_of state.old)) (context stack.new.items) (shell_of state.new)) }
-    ensures costly { IfOk result (Lowers 3 stack.old.items stack.new.items) }
+    ensures talk { IfOk result (Steps (stages_mean input (commands_from list.value at) place (context shell.old.stack.items) (shell_of shell.old.state)) (context shell.new.stack.items) (shell_of shell.new.state)) }
+    ensures costly { IfOk result (Lowers 3 shell.old.stack.items shell.new.stack.items) }
 {
     match list.get(at) {
         None => Ok(free(Control::Leave(Flow::Normal))),
@@ -346,16 +348,22 @@ pub fn act_stages(
             let next = at + 1;
             match list.get(next) {
                 Some(_) => {
-                    let wait = Wait::Stage(place, list, at, next, input, state.env.next);
+                    let stage = PendingStage {
+                        list,
+                        at,
+                        next,
+                        input,
+                        read_end: shell.state.env.next,
+                    };
                     Ok(Acted {
                         turn: Turn::Ask(Call::Pipe, 1),
-                        control: Control::Waits(wait),
+                        control: Control::Waits(Wait::Stage(place, stage)),
                     })
                 }
                 None => {
-                    let saved = state.save(alloc)?;
-                    put_undo(stack, Undo::Subshell(saved))?;
-                    read_from(input, state)?;
+                    let saved = shell.state.save(shell.alloc)?;
+                    put_undo(&mut shell.stack, Undo::Subshell(saved))?;
+                    read_from(input, &mut shell.state)?;
                     Ok(free(Control::One(place, list, at)))
                 }
             }
@@ -375,28 +383,29 @@ fn read_from(input: Option<u64>, state: &mut State) -> Result<(), NoMemory>
 
 /// A stage begins, once the pipe between it and the next one was made.
 pub fn act_stage(
-    alloc: Global,
     place: Place,
-    list: Rc<CommandList>,
-    at: usize,
-    next: usize,
-    input: Option<u64>,
-    read_end: u64,
-    stack: &mut Vec<Frame>,
-    state: &mut State,
+    stage: PendingStage,
+    shell: &mut Interpreter,
 ) -> Result<Control, NoMemory>
-    ensures talk { IfOk result (Goes (first_of (commands_from list.value at) place (with_slot 1 (Some (number_after read_end)) (with_input input (shell_of state.old))) (λ f e. stages_mean (Some read_end) (commands_from list.value next) place (context stack.old.items) (past_stage (shell_of state.old) e))) (context stack.new.items) (shell_of state.new)) }
-    ensures weight { IfOk result (λ c. weigh c + weigh_all stack.new.items ≤ 5 + weigh_all stack.old.items) }
+    ensures talk { IfOk result (Goes (first_of (commands_from stage.list.value stage.at) place (with_slot 1 (Some (number_after stage.read_end)) (with_input stage.input (shell_of shell.old.state))) (λ f e. stages_mean (Some stage.read_end) (commands_from stage.list.value stage.next) place (context shell.old.stack.items) (past_stage (shell_of shell.old.state) e))) (context shell.new.stack.items) (shell_of shell.new.state)) }
+    ensures weight { IfOk result (λ c. weigh c + weigh_all shell.new.stack.items ≤ 5 + weigh_all shell.old.stack.items) }
 {
-    let saved = state.save(alloc)?;
+    let PendingStage {
+        list,
+        at,
+        next,
+        input,
+        read_end,
+    } = stage;
+    let saved = shell.state.save(shell.alloc)?;
     let rest = list.clone()?;
     let write_end = number_after(read_end);
-    let status = state.env.status;
+    let status = shell.state.env.status;
     put_continuation(
-        stack,
+        &mut shell.stack,
         Continuation::Stage(place, rest, next, read_end, status, saved),
     )?;
-    read_from(input, state)?;
-    state.set_descriptor(1, Some(write_end))?;
+    read_from(input, &mut shell.state)?;
+    shell.state.set_descriptor(1, Some(write_end))?;
     Ok(Control::One(place, list, at))
 }

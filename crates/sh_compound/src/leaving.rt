@@ -15,10 +15,13 @@ ghost use Rattle.sh_means.specs.Weights.{branches_left, weigh, weigh_all, weigh_
 
 use crate::compounds::deeper;
 use crate::undoing::{put_back, put_back_variables};
-use rk_base::{NoMemory, WordList};
-use sh_ast::{Branches, CommandList, Connector, Connectors, LoopKind};
-use sh_means::control::{CompoundStep, Continuation, Control, Each, Frame, Loop, SimpleStep, Undo};
+use rk_base::NoMemory;
+use sh_ast::{CommandList, Connector, LoopKind};
+use sh_means::control::{
+    CompoundStep, Continuation, Control, Each, Loop, PendingIf, PendingLinks, SimpleStep, Undo,
+};
 use sh_means::flow::{Flow, Place};
+use sh_means::interpreter::Interpreter;
 use sh_means::items::item_at;
 use sh_means::stack::put_continuation;
 use sh_means::state::State;
@@ -81,43 +84,43 @@ fn link(place: Place, list: Rc<CommandList>, at: usize, taken: bool) -> Control
 }
 
 // After a pipeline of an AND-OR list, by the connector of this number.
-fn links(
-    place: Place,
-    list: Rc<CommandList>,
-    at: usize,
-    connectors: Rc<Connectors>,
-    stack: &mut Vec<Frame>,
-    state: &State,
-) -> Result<Control, NoMemory>
-    ensures talk { IfOk result (Goes (links_mean (commands_from list.value (at + 1)) (drop at connectors.value.items.items) place (context stack.old.items) (shell_of state.now)) (context stack.new.items) (shell_of state.now)) }
-    ensures weight { IfOk result (λ c. weigh c + weigh_all stack.new.items ≤ 2 * (length connectors.value.items.items - at) + weigh_all stack.old.items) }
+fn links(place: Place, left: PendingLinks, shell: &mut Interpreter) -> Result<Control, NoMemory>
+    ensures talk { IfOk result (Goes (links_mean (commands_from left.pipelines.value (left.at + 1)) (drop left.at left.connectors.value.items.items) place (context shell.old.stack.items) (shell_of shell.old.state)) (context shell.new.stack.items) (shell_of shell.new.state)) }
+    ensures weight { IfOk result (λ c. weigh c + weigh_all shell.new.stack.items ≤ 2 * (length left.connectors.value.items.items - left.at) + weigh_all shell.old.stack.items) }
 {
-    let rest = list.clone()?;
+    let PendingLinks {
+        pipelines,
+        at,
+        connectors,
+    } = left;
+    let rest = pipelines.clone()?;
     let later = connectors.clone()?;
     match item_at(connectors.items.as_slice(), at) {
         None => Ok(Control::Leave(Flow::Normal)),
         Some((connector, next)) => {
-            let taken = takes(*connector, state.env.status);
-            put_continuation(stack, Continuation::Links(place, rest, next, later))?;
-            Ok(link(place, list, next, taken))
+            let taken = takes(*connector, shell.state.env.status);
+            let behind = PendingLinks {
+                pipelines: rest,
+                at: next,
+                connectors: later,
+            };
+            put_continuation(&mut shell.stack, Continuation::Links(place, behind))?;
+            Ok(link(place, pipelines, next, taken))
         }
     }
 }
 
 fn leave_links(
     place: Place,
-    list: Rc<CommandList>,
-    at: usize,
-    connectors: Rc<Connectors>,
+    left: PendingLinks,
     flow: Flow,
-    stack: &mut Vec<Frame>,
-    state: &State,
+    shell: &mut Interpreter,
 ) -> Result<Control, NoMemory>
-    ensures talk { IfOk result (Goes (continued (continuations.Links place list at connectors) (context stack.old.items) flow (shell_of state.now)) (context stack.new.items) (shell_of state.now)) }
-    ensures weight { IfOk result (λ c. weigh c + weigh_all stack.new.items ≤ 2 * (length connectors.value.items.items - at) + weigh_all stack.old.items) }
+    ensures talk { IfOk result (Goes (continued (continuations.Links place left) (context shell.old.stack.items) flow (shell_of shell.old.state)) (context shell.new.stack.items) (shell_of shell.new.state)) }
+    ensures weight { IfOk result (λ c. weigh c + weigh_all shell.new.stack.items ≤ 2 * (length left.connectors.value.items.items - left.at) + weigh_all shell.old.stack.items) }
 {
     match flow {
-        Flow::Normal => links(place, list, at, connectors, stack, state),
+        Flow::Normal => links(place, left, shell),
         Flow::Breaks(n) => Ok(Control::Leave(Flow::Breaks(n))),
         Flow::Continues(n) => Ok(Control::Leave(Flow::Continues(n))),
         Flow::Returns => Ok(Control::Leave(Flow::Returns)),
@@ -129,21 +132,19 @@ fn leave_links(
 fn leave_choose(
     place: Place,
     body: Rc<CommandList>,
-    branches: Rc<Branches>,
-    at: usize,
-    otherwise: Rc<CommandList>,
+    left: PendingIf,
     flow: Flow,
     state: &State,
 ) -> Control
-    ensures talk { (k : Next) → Goes (continued (continuations.Choose place body branches at otherwise) k flow (shell_of state.now)) k (shell_of state.now) result }
-    ensures weight { weigh result ≤ 3 * branches_left branches.value at + 2 }
+    ensures talk { (k : Next) → Goes (continued (continuations.Choose place body left) k flow (shell_of state.now)) k (shell_of state.now) result }
+    ensures weight { weigh result ≤ 3 * branches_left left.branches.value left.at + 2 }
 {
     match flow {
         Flow::Normal => {
             if state.env.status == 0 {
                 Control::Whole(place, body)
             } else {
-                Control::CompoundStep(CompoundStep::If(place, branches, at, otherwise))
+                Control::CompoundStep(CompoundStep::If(place, left))
             }
         }
         Flow::Breaks(n) => Control::Leave(Flow::Breaks(n)),
@@ -219,19 +220,18 @@ fn enter_body(
     place: Place,
     last: u8,
     left: Loop,
-    stack: &mut Vec<Frame>,
-    state: &mut State,
+    shell: &mut Interpreter,
 ) -> Result<Control, NoMemory>
-    ensures talk { IfOk result (Goes (entered left last place (context stack.old.items) (shell_of state.old)) (context stack.new.items) (shell_of state.new)) }
-    ensures weight { IfOk result (λ c. weigh c + weigh_all stack.new.items ≤ 2 + weigh_all stack.old.items) }
+    ensures talk { IfOk result (Goes (entered left last place (context shell.old.stack.items) (shell_of shell.old.state)) (context shell.new.stack.items) (shell_of shell.new.state)) }
+    ensures weight { IfOk result (λ c. weigh c + weigh_all shell.new.stack.items ≤ 2 + weigh_all shell.old.stack.items) }
 {
-    if goes_on(left.kind, state.env.status) {
+    if goes_on(left.kind, shell.state.env.status) {
         let body = left.body.clone()?;
         let below = deeper(place);
-        put_continuation(stack, Continuation::Body(place, left))?;
+        put_continuation(&mut shell.stack, Continuation::Body(place, left))?;
         return Ok(Control::Whole(below, body));
     }
-    state.env.status = last;
+    shell.state.env.status = last;
     Ok(Control::Leave(Flow::Normal))
 }
 
@@ -241,21 +241,20 @@ fn leave_condition(
     last: u8,
     left: Loop,
     flow: Flow,
-    stack: &mut Vec<Frame>,
-    state: &mut State,
+    shell: &mut Interpreter,
 ) -> Result<Control, NoMemory>
-    ensures talk { IfOk result (Goes (continued (continuations.Condition place last left) (context stack.old.items) flow (shell_of state.old)) (context stack.new.items) (shell_of state.new)) }
-    ensures weight { IfOk result (λ c. weigh c + weigh_all stack.new.items ≤ 2 + weigh_all stack.old.items) }
+    ensures talk { IfOk result (Goes (continued (continuations.Condition place last left) (context shell.old.stack.items) flow (shell_of shell.old.state)) (context shell.new.stack.items) (shell_of shell.new.state)) }
+    ensures weight { IfOk result (λ c. weigh c + weigh_all shell.new.stack.items ≤ 2 + weigh_all shell.old.stack.items) }
 {
     match flow {
         Flow::Normal => {
-            let control = enter_body(place, last, left, stack, state)?;
+            let control = enter_body(place, last, left, shell)?;
             Ok(control)
         }
         Flow::Breaks(n) => Ok(Control::Leave(leave_loop(n))),
         Flow::Continues(n) => {
             if n == 0 {
-                Ok(Control::CompoundStep(CompoundStep::Round(place, state.env.status, left)))
+                Ok(Control::CompoundStep(CompoundStep::Round(place, shell.state.env.status, left)))
             } else {
                 Ok(Control::Leave(Flow::Continues(n - 1)))
             }
@@ -306,33 +305,36 @@ fn leave_invert(flow: Flow, state: &mut State) -> Control
 pub fn leave_continuation(
     frame: Continuation,
     flow: Flow,
-    stack: &mut Vec<Frame>,
-    state: &mut State,
+    shell: &mut Interpreter,
 ) -> Result<Control, NoMemory>
-    ensures talk { IfOk result (Goes (continued frame (context stack.old.items) flow (shell_of state.old)) (context stack.new.items) (shell_of state.new)) }
-    ensures weight { IfOk result (λ c. weigh c + weigh_all stack.new.items < weigh_continuation frame + weigh_all stack.old.items) }
+    ensures talk { IfOk result (Goes (continued frame (context shell.old.stack.items) flow (shell_of shell.old.state)) (context shell.new.stack.items) (shell_of shell.new.state)) }
+    ensures weight { IfOk result (λ c. weigh c + weigh_all shell.new.stack.items < weigh_continuation frame + weigh_all shell.old.stack.items) }
 {
     match frame {
         Continuation::Rest(place, list, at) => Ok(leave_rest(place, list, at, flow)),
-        Continuation::Links(place, list, at, connectors) => {
-            let control = leave_links(place, list, at, connectors, flow, stack, state)?;
+        Continuation::Links(place, left) => {
+            let control = leave_links(place, left, flow, shell)?;
             Ok(control)
         }
         Continuation::Stage(place, list, at, read_end, status, saved) => {
-            state.come_back(saved);
-            state.env.status = status;
+            shell.state.come_back(saved);
+            shell.state.env.status = status;
             Ok(Control::CompoundStep(CompoundStep::Stages(place, list, at, Some(read_end))))
         }
-        Continuation::Watch(place) => Ok(leave_watch(place, flow, state)),
-        Continuation::Invert => Ok(leave_invert(flow, state)),
+        Continuation::Watch(place) => Ok(leave_watch(place, flow, &shell.state)),
+        Continuation::Invert => Ok(leave_invert(flow, &mut shell.state)),
         Continuation::Condition(place, last, left) => {
-            let control = leave_condition(place, last, left, flow, stack, state)?;
+            let control = leave_condition(place, last, left, flow, shell)?;
             Ok(control)
         }
-        Continuation::Body(place, left) => Ok(leave_body(place, left, flow, state)),
+        Continuation::Body(place, left) => Ok(leave_body(place, left, flow, &shell.state)),
         Continuation::Each(place, each) => Ok(leave_each(place, each, flow)),
-        Continuation::Choose(place, body, branches, at, otherwise) => Ok(leave_choose(
-            place, body, branches, at, otherwise, flow, state,
+        Continuation::Choose(place, body, left) => Ok(leave_choose(
+            place,
+            body,
+            left,
+            flow,
+            &shell.state,
         )),
     }
 }

@@ -17,7 +17,7 @@ use Rattle.sh_means.specs.Views.{shell_of}
 use Rattle.sh_means.specs.Weights.{Falls, IsFree, Lowers, weigh, weigh_all}
 use Rattle.sh_means.proofs.Weighing.{falls_step, falls_less}
 
-pub stepped_after : (t : Turn) (x : Evaluator) (p : ℕ) → stepped t x.control (context x.stack.items) (shell_of x.state) p ≡ after t (evaluator_says x) p
+pub stepped_after : (t : Turn) (x : Evaluator) (p : ℕ) → stepped t x.control (context x.shell.stack.items) (shell_of x.shell.state) p ≡ after t (evaluator_says x) p
 stepped_after (Ask call c) x p = refl
 stepped_after (More c) x p = refl
 stepped_after (Exit status c) x p = refl
@@ -45,13 +45,13 @@ pub not_free : (b : Bool) (t : Turn) → (IsTrue b ↔ IsFree t) → b ≡ false
 not_free b t h never free = let yes : IsTrue b = h.1 free in cc
 
 -- a step from what comes next, and what comes next then
-pub sheds : (x y : Evaluator) (t : Acted) (ctl : Control) → ctl ≡ x.control → y.control ≡ t.control → Lowers (weigh ctl) x.stack.items y.stack.items t → Sheds x t.turn y
+pub sheds : (x y : Evaluator) (t : Acted) (ctl : Control) → ctl ≡ x.control → y.control ≡ t.control → Lowers (weigh ctl) x.shell.stack.items y.shell.stack.items t → Sheds x t.turn y
 sheds x y t ctl hx hy h =
-    let falls : Falls (weigh ctl + weigh_all x.stack.items) (weigh_all y.stack.items) t = h (weigh ctl + weigh_all x.stack.items) (omega arith) in
+    let falls : Falls (weigh ctl + weigh_all x.shell.stack.items) (weigh_all y.shell.stack.items) t = h (weigh ctl + weigh_all x.shell.stack.items) (omega arith) in
     let was : weigh ctl ≡ weigh x.control = ap weigh hx in
     let is : weigh y.control ≡ weigh t.control = ap weigh hy in (
-      falls_step (weigh ctl + weigh_all x.stack.items) (weigh_all y.stack.items) t falls,
+      falls_step (weigh ctl + weigh_all x.shell.stack.items) (weigh_all y.shell.stack.items) t falls,
       λ free.
-          let less : weigh t.control + weigh_all y.stack.items < weigh ctl + weigh_all x.stack.items = falls_less (weigh ctl + weigh_all x.stack.items) (weigh_all y.stack.items) t falls free in
+          let less : weigh t.control + weigh_all y.shell.stack.items < weigh ctl + weigh_all x.shell.stack.items = falls_less (weigh ctl + weigh_all x.shell.stack.items) (weigh_all y.shell.stack.items) t falls free in
           omega arith,
     )

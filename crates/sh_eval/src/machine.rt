@@ -22,6 +22,7 @@ use sh_compound::leaving::{leave_continuation, leave_undo};
 use sh_means::control::{Acted, CompoundStep, Control, Frame, SimpleStep, Wait};
 use sh_means::expanding::act_expand;
 use sh_means::flow::Flow;
+use sh_means::interpreter::Interpreter;
 use sh_means::stack::pop;
 use sh_means::state::State;
 use sh_means::steps::{end, free, refuse};
@@ -36,143 +37,137 @@ use std::mem;
 /// A shell that evaluates a script: its state, what comes next, and the control stack of what is left to do.
 #[derive(Drop)]
 pub struct Evaluator {
-    alloc: Global,
-    state: State,
-    stack: Vec<Frame>,
+    shell: Interpreter,
     control: Control,
 }
 
-fn act_compound_step(
-    alloc: Global,
-    step: CompoundStep,
-    stack: &mut Vec<Frame>,
-    state: &mut State,
-) -> Result<Acted, NoMemory>
-    ensures talk { IfOk result (Steps (resumed_compound step (context stack.old.items) (shell_of state.old)) (context stack.new.items) (shell_of state.new)) }
-    ensures costly { IfOk result (Lowers (weigh_compound_step step) stack.old.items stack.new.items) }
+fn act_compound_step(step: CompoundStep, shell: &mut Interpreter) -> Result<Acted, NoMemory>
+    ensures talk { IfOk result (Steps (resumed_compound step (context shell.old.stack.items) (shell_of shell.old.state)) (context shell.new.stack.items) (shell_of shell.new.state)) }
+    ensures costly { IfOk result (Lowers (weigh_compound_step step) shell.old.stack.items shell.new.stack.items) }
 {
     match step {
         CompoundStep::Compound(place, body) => {
-            let control = act_compound(alloc, place, &body, stack, state)?;
+            let control = act_compound(place, &body, shell)?;
             Ok(free(control))
         }
         CompoundStep::Called(place, callee) => {
-            act_redirected(place, &callee.body, &callee.redirects, state)
+            act_redirected(place, &callee.body, &callee.redirects, &shell.state)
         }
-        CompoundStep::If(place, branches, at, otherwise) => {
-            let control = act_if(place, branches, at, otherwise, stack)?;
+        CompoundStep::If(place, left) => {
+            let control = act_if(place, left, &mut shell.stack)?;
             Ok(free(control))
         }
-        CompoundStep::Round(place, last, left) => act_round(place, last, left, stack),
+        CompoundStep::Round(place, last, left) => act_round(place, last, left, &mut shell.stack),
         CompoundStep::Each(place, each) => { Ok(act_each(place, each)) }
-        CompoundStep::Gives(place, each) => act_gives(alloc, place, each, stack, state),
-        CompoundStep::Case(place, casing) => act_case_at(alloc, place, casing, state),
-        CompoundStep::Stages(place, list, at, input) => act_stages(
-            alloc, place, list, at, input, stack, state,
+        CompoundStep::Gives(place, each) => act_gives(place, each, shell),
+        CompoundStep::Case(place, casing) => act_case_at(
+            shell.alloc,
+            place,
+            casing,
+            &mut shell.state,
         ),
+        CompoundStep::Stages(place, list, at, input) => act_stages(place, list, at, input, shell),
     }
 }
 
 fn act_simple_step(
-    alloc: Global,
     step: SimpleStep,
     answer: Answer,
-    stack: &mut Vec<Frame>,
-    state: &mut State,
+    shell: &mut Interpreter,
 ) -> Result<Acted, NoMemory>
-    ensures talk { IfOk result (Steps (resumed_simple step (context stack.old.items) answer (shell_of state.old)) (context stack.new.items) (shell_of state.new)) }
-    ensures costly { IfOk result (Lowers (weigh_simple_step step) stack.old.items stack.new.items) }
+    ensures talk { IfOk result (Steps (resumed_simple step (context shell.old.stack.items) answer (shell_of shell.old.state)) (context shell.new.stack.items) (shell_of shell.new.state)) }
+    ensures costly { IfOk result (Lowers (weigh_simple_step step) shell.old.stack.items shell.new.stack.items) }
 {
     match step {
-        SimpleStep::Words(place, left) => next_word(alloc, place, left, stack, state),
-        SimpleStep::Expand(wording) => act_expand(alloc, wording, answer, stack, state),
-        SimpleStep::Deliver(wording, expanded) => deliver(alloc, wording, expanded, stack, state),
-        SimpleStep::Make(place, left) => next_redirect(alloc, place, left, stack, state),
-        SimpleStep::Assign(place, left) => next_assign(alloc, place, left, stack, state),
-        SimpleStep::Text(place, name, text) => act_text(alloc, place, &name, &text, state),
+        SimpleStep::Words(place, left) => next_word(place, left, shell),
+        SimpleStep::Expand(wording) => act_expand(wording, answer, shell),
+        SimpleStep::Deliver(wording, expanded) => deliver(wording, expanded, shell),
+        SimpleStep::Make(place, left) => next_redirect(place, left, shell),
+        SimpleStep::Assign(place, left) => next_assign(place, left, shell),
+        SimpleStep::Text(place, name, text) => act_text(
+            shell.alloc,
+            place,
+            &name,
+            &text,
+            &mut shell.state,
+        ),
     }
 }
 
-fn act_wait(
-    alloc: Global,
-    wait: Wait,
-    answer: Answer,
-    stack: &mut Vec<Frame>,
-    state: &mut State,
-) -> Result<Acted, NoMemory>
-    ensures talk { IfOk result (Steps (waiting wait (context stack.old.items) answer (shell_of state.old)) (context stack.new.items) (shell_of state.new)) }
-    ensures costly { IfOk result (Lowers (weigh_wait wait) stack.old.items stack.new.items) }
+fn act_wait(wait: Wait, answer: Answer, shell: &mut Interpreter) -> Result<Acted, NoMemory>
+    ensures talk { IfOk result (Steps (waiting wait (context shell.old.stack.items) answer (shell_of shell.old.state)) (context shell.new.stack.items) (shell_of shell.new.state)) }
+    ensures costly { IfOk result (Lowers (weigh_wait wait) shell.old.stack.items shell.new.stack.items) }
 {
     match wait {
-        Wait::Told(flow, status) => Ok(end(flow, status, state)),
-        Wait::Launched(flow) => Ok(end(flow, joined(answer), state)),
-        Wait::Stage(place, list, at, next, input, read_end) => {
-            let control = act_stage(alloc, place, list, at, next, input, read_end, stack, state)?;
+        Wait::Told(flow, status) => Ok(end(flow, status, &mut shell.state)),
+        Wait::Launched(flow) => Ok(end(flow, joined(answer), &mut shell.state)),
+        Wait::Stage(place, stage) => {
+            let control = act_stage(place, stage, shell)?;
             Ok(free(control))
         }
-        Wait::Opened(place, file, n) => dot_opened(alloc, place, file, n, answer, state),
-        Wait::Read(place, file) => dot_read(alloc, place, file, answer, stack, state),
+        Wait::Opened(place, file, n) => dot_opened(
+            shell.alloc,
+            place,
+            file,
+            n,
+            answer,
+            &mut shell.state,
+        ),
+        Wait::Read(place, file) => dot_read(place, file, answer, shell),
         Wait::Redirects(place, left, redirecting) => resume_redirection(
             place,
             left,
             redirecting,
             answer,
-            stack,
-            state,
+            shell,
         ),
         Wait::Fails(parameter, message) => refuse(
-            alloc,
+            shell.alloc,
             parameter.as_slice(),
             message.as_slice(),
             Flow::Exits,
             1,
-            state,
+            &mut shell.state,
         ),
-        Wait::Builtin(builtin) => resume_builtin(builtin, answer, state),
+        Wait::Builtin(builtin) => resume_builtin(builtin, answer, &mut shell.state),
     }
 }
 
 // After a command; with nothing left to do the shell exits with its last status.
-fn act_leave(flow: Flow, stack: &mut Vec<Frame>, state: &mut State) -> Result<Acted, NoMemory>
-    ensures talk { IfOk result (Steps ((context stack.old.items) flow (shell_of state.old)) (context stack.new.items) (shell_of state.new)) }
-    ensures costly { IfOk result (Lowers 0 stack.old.items stack.new.items) }
+fn act_leave(flow: Flow, shell: &mut Interpreter) -> Result<Acted, NoMemory>
+    ensures talk { IfOk result (Steps ((context shell.old.stack.items) flow (shell_of shell.old.state)) (context shell.new.stack.items) (shell_of shell.new.state)) }
+    ensures costly { IfOk result (Lowers 0 shell.old.stack.items shell.new.stack.items) }
 {
-    match pop(stack) {
+    match pop(&mut shell.stack) {
         None => Ok(Acted {
-            turn: Turn::Exit(state.env.status, 0),
+            turn: Turn::Exit(shell.state.env.status, 0),
             control: Control::Leave(flow),
         }),
         Some(Frame::Continuation(frame)) => {
-            let control = leave_continuation(frame, flow, stack, state)?;
+            let control = leave_continuation(frame, flow, shell)?;
             Ok(free(control))
         }
         Some(Frame::Undo(frame)) => {
-            let control = leave_undo(frame, flow, state)?;
+            let control = leave_undo(frame, flow, &mut shell.state)?;
             Ok(free(control))
         }
     }
 }
 
 // One step, with the answer that was heard.
-fn act(
-    alloc: Global,
-    control: Control,
-    answer: Answer,
-    stack: &mut Vec<Frame>,
-    state: &mut State,
-) -> Result<Acted, NoMemory>
-    ensures talk { IfOk result (Steps (resumed control (context stack.old.items) answer (shell_of state.old)) (context stack.new.items) (shell_of state.new)) }
-    ensures costly { IfOk result (Lowers (weigh control) stack.old.items stack.new.items) }
+fn act(control: Control, answer: Answer, shell: &mut Interpreter) -> Result<Acted, NoMemory>
+    ensures talk { IfOk result (Steps (resumed control (context shell.old.stack.items) answer (shell_of shell.old.state)) (context shell.new.stack.items) (shell_of shell.new.state)) }
+    ensures costly { IfOk result (Lowers (weigh control) shell.old.stack.items shell.new.stack.items) }
 {
     match control {
-        Control::Begins(begin) => act_begin(alloc, begin, answer, state),
-        Control::Run(place, list, at) => act_run(alloc, place, list, at, stack, state),
-        Control::Whole(place, list) => act_whole(alloc, place, list, stack, state),
-        Control::One(place, list, at) => act_one(alloc, place, &list, at, stack, state),
-        Control::CompoundStep(step) => act_compound_step(alloc, step, stack, state),
-        Control::SimpleStep(step) => act_simple_step(alloc, step, answer, stack, state),
-        Control::Waits(wait) => act_wait(alloc, wait, answer, stack, state),
-        Control::Leave(flow) => act_leave(flow, stack, state),
+        Control::Begins(begin) => act_begin(shell.alloc, begin, answer, &mut shell.state),
+        Control::Run(place, list, at) => act_run(place, list, at, shell),
+        Control::Whole(place, list) => act_whole(place, list, shell),
+        Control::One(place, list, at) => act_one(place, &list, at, shell),
+        Control::CompoundStep(step) => act_compound_step(step, shell),
+        Control::SimpleStep(step) => act_simple_step(step, answer, shell),
+        Control::Waits(wait) => act_wait(wait, answer, shell),
+        Control::Leave(flow) => act_leave(flow, shell),
     }
 }
 
@@ -231,12 +226,12 @@ impl Evaluator {
     pub(crate) fn start(alloc: Global, state: State, control: Control) -> Evaluator
         ensures { evaluator_says result Answer.Go ≡ resumed control over Answer.Go (shell_of state) }
     {
-        Evaluator {
+        let shell = Interpreter {
             alloc,
-            state,
             stack: Vec::new(alloc),
-            control,
-        }
+            state,
+        };
+        Evaluator { shell, control }
     }
 
     fn step(&mut self, answer: Answer) -> Result<Turn, NoMemory>
@@ -244,13 +239,7 @@ impl Evaluator {
         ensures costly { IfOk result (λ t. Sheds self.old t self.new) }
     {
         let control = take(&mut self.control);
-        let Acted { turn, control } = act(
-            self.alloc,
-            control,
-            answer,
-            &mut self.stack,
-            &mut self.state,
-        )?;
+        let Acted { turn, control } = act(control, answer, &mut self.shell)?;
         put(&mut self.control, control);
         Ok(turn)
     }
@@ -260,7 +249,7 @@ impl Evaluator {
         ensures costly { IfOk result IsCostly }
         ensures talk { IfOk result (λ t. (p : ℕ) → evaluator_says self.old answer p ≡ after t (evaluator_says self.new) p) }
     {
-        hear(&answer, &mut self.state);
+        hear(&answer, &mut self.shell.state);
         let mut answer = answer;
         'free: loop {
             let turn = self.step(answer)?;

@@ -10,8 +10,9 @@ ghost use Rattle.sh_means.specs.Weights.{Lowers, Sinks};
 
 use rk_base::{Bytes, NoMemory};
 use rk_calls::{Answer, Call, Turn, brought};
-use sh_means::control::{Acted, Control, Frame, SimpleStep, Undo, Wait};
+use sh_means::control::{Acted, Control, SimpleStep, Undo, Wait};
 use sh_means::flow::{Flow, Place};
+use sh_means::interpreter::Interpreter;
 use sh_means::stack::put_undo;
 use sh_means::state::State;
 use sh_means::steps::{free, refuse};
@@ -71,20 +72,18 @@ pub(crate) fn dot_opened(
 
 /// Once a dot script was read, or refused.
 pub(crate) fn dot_read(
-    alloc: Global,
     place: Place,
     file: Bytes,
     answer: Answer,
-    stack: &mut Vec<Frame>,
-    state: &mut State,
+    shell: &mut Interpreter,
 ) -> Result<Acted, NoMemory>
-    ensures talk { IfOk result (Steps (dot_read run file place (context stack.old.items) (brought answer) (shell_of state.old)) (context stack.new.items) (shell_of state.new)) }
-    ensures costly { IfOk result (Lowers 4 stack.old.items stack.new.items) }
+    ensures talk { IfOk result (Steps (dot_read run file place (context shell.old.stack.items) (brought answer) (shell_of shell.old.state)) (context shell.new.stack.items) (shell_of shell.new.state)) }
+    ensures costly { IfOk result (Lowers 4 shell.old.stack.items shell.new.stack.items) }
 {
-    let it = brought(alloc, answer)?;
+    let it = brought(shell.alloc, answer)?;
     match it {
         Ok(text) => {
-            put_undo(stack, Undo::Script)?;
+            put_undo(&mut shell.stack, Undo::Script)?;
             let inside = Place {
                 returns: true,
                 ..place
@@ -92,12 +91,12 @@ pub(crate) fn dot_read(
             Ok(free(Control::SimpleStep(SimpleStep::Text(inside, file, text))))
         }
         Err(errno) => refuse(
-            alloc,
+            shell.alloc,
             file.as_slice(),
             errno.word().as_bytes(),
             Flow::Exits,
             1,
-            state,
+            &mut shell.state,
         ),
     }
 }

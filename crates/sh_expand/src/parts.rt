@@ -56,132 +56,12 @@ fn fault(alloc: Global, parameter: &Parameter, message: &[u8]) -> Result<Acted, 
     Ok(Acted::Fault(parameter, message))
 }
 
-// An unset parameter.
-fn put_unset(
-    alloc: Global,
-    env: &Env,
-    quoted: bool,
-    parameter: &Parameter,
-    marks: &mut Vec<Mark>,
-) -> Result<Acted, NoMemory>
-    ensures less { IfOk result (λ acted. acted_size acted < 1) }
-    ensures does { IfOk result (Does (λ body ms k fail e. unset env.now.nounset quoted parameter.now ms k fail e) env.now marks.old.items marks.new.items) }
-{
-    if env.nounset {
-        let acted = fault(alloc, parameter, b"not set")?;
-        return Ok(acted);
-    }
-    put_given(quoted, b"", marks)?;
-    Ok(Acted::Put)
-}
-
-// Values where they stand.
-fn put_values(
-    alloc: Global,
-    env: &Env,
-    splits: bool,
-    quoted: bool,
-    parameter: &Parameter,
-    marks: &mut Vec<Mark>,
-) -> Result<Acted, NoMemory>
-    ensures less { IfOk result (λ acted. acted_size acted < 1) }
-    ensures does { IfOk result (Does (λ body ms k fail e. got splits quoted parameter.now (values env.now parameter.now) ms k fail e) env.now marks.old.items marks.new.items) }
-{
-    let words = values(alloc, env, parameter)?;
-    match words {
-        None => put_unset(alloc, env, quoted, parameter, marks),
-        Some(words) => {
-            let apart = is_apart(splits, quoted, parameter);
-            put_all(
-                alloc,
-                apart,
-                quoted,
-                separator(env),
-                words.as_slice(),
-                marks,
-            )?;
-            Ok(Acted::Put)
-        }
-    }
-}
-
-// An unset parameter, whose bytes are counted.
-fn put_unmeasured(
-    alloc: Global,
-    env: &Env,
-    quoted: bool,
-    parameter: &Parameter,
-    marks: &mut Vec<Mark>,
-) -> Result<Acted, NoMemory>
-    ensures less { IfOk result (λ acted. acted_size acted < 1) }
-    ensures does { IfOk result (Does (λ body ms k fail e. unmeasured env.now.nounset quoted parameter.now ms k fail e) env.now marks.old.items marks.new.items) }
-{
-    if env.nounset {
-        let acted = fault(alloc, parameter, b"not set")?;
-        return Ok(acted);
-    }
-    put_given(quoted, b"0", marks)?;
-    Ok(Acted::Put)
-}
-
-// How many bytes the values have.
-fn put_length(
-    alloc: Global,
-    env: &Env,
-    quoted: bool,
-    parameter: &Parameter,
-    marks: &mut Vec<Mark>,
-) -> Result<Acted, NoMemory>
-    ensures less { IfOk result (λ acted. acted_size acted < 1) }
-    ensures does { IfOk result (Does (λ body ms k fail e. measured quoted parameter.now (values env.now parameter.now) ms k fail e) env.now marks.old.items marks.new.items) }
-{
-    let words = values(alloc, env, parameter)?;
-    match words {
-        None => put_unmeasured(alloc, env, quoted, parameter, marks),
-        Some(words) => {
-            let text = joined(alloc, separator(env), words.as_slice())?;
-            let digits = format!(in alloc; "{}", text.len() as u64)?;
-            put_given(quoted, digits.as_bytes(), marks)?;
-            Ok(Acted::Put)
-        }
-    }
-}
-
 /// The same parts once more.
 pub(crate) fn share(parts: &Rc<Parts>) -> Result<Rc<Parts>, NoMemory>
     ensures { IfOk result (λ copy. copy.value ≡ parts.now.value) }
 {
     let copy = parts.clone()?;
     Ok(copy)
-}
-
-// Values without what a pattern matches.
-fn put_removed(
-    alloc: Global,
-    env: &Env,
-    splits: bool,
-    quoted: bool,
-    parameter: &Parameter,
-    removal: Removal,
-    pattern: &Rc<Parts>,
-    marks: &mut Vec<Mark>,
-) -> Result<Acted, NoMemory>
-    ensures less { IfOk result (λ acted. acted_size acted < size (parts pattern.now.value) + 2) }
-    ensures does { IfOk result (Does (λ body ms k fail e. taken removal splits quoted parameter.now (values env.now parameter.now) ms (λ k' e'. expand body true false (parts pattern.now.value) [] k' fail e') k fail e) env.now marks.old.items marks.new.items) }
-{
-    let words = values(alloc, env, parameter)?;
-    match words {
-        None => put_unset(alloc, env, quoted, parameter, marks),
-        Some(words) => {
-            let apart = is_apart(splits, quoted, parameter);
-            let pattern = share(pattern)?;
-            Ok(Acted::Enter(
-                pattern,
-                false,
-                Then::Remove(removal, apart, quoted, words, take(marks)),
-            ))
-        }
-    }
 }
 
 // An operator's word where it stands.
@@ -240,142 +120,227 @@ fn parts_in(alloc: Global, word: &Option<Rc<Parts>>) -> Result<Rc<Parts>, NoMemo
     }
 }
 
-// A variable takes an operator's word.
-fn assign_word(
+// A parameter where it is expanded: in this environment, in a word whose fields are split or aren't, quoted or not.
+#[derive(Clone, Copy)]
+struct ParameterUse<'a> {
     alloc: Global,
-    quoted: bool,
-    parameter: &Parameter,
-    word: &Option<Rc<Parts>>,
-    marks: &mut Vec<Mark>,
-) -> Result<Acted, NoMemory>
-    ensures less { IfOk result (λ acted. acted_size acted < size_word (word_of word.now) + 2) }
-    ensures does { IfOk result (λ acted. (e : Env) → Does (λ body ms k fail e'. assigning quoted parameter.now ms (λ k' e'. expand_text body [] (word_of word.now) k' fail e') k fail e') e marks.old.items marks.new.items acted) }
-{
-    match parameter {
-        Parameter::Variable(name) => {
-            let name = name.copy()?;
-            let inner = parts_in(alloc, word)?;
-            Ok(Acted::Enter(inner, false, Then::Assign(quoted, name, take(marks))))
-        }
-        Parameter::Positional(_) => fault(alloc, parameter, b"not valid"),
-        Parameter::At => fault(alloc, parameter, b"not valid"),
-        Parameter::Asterisk => fault(alloc, parameter, b"not valid"),
-        Parameter::Count => fault(alloc, parameter, b"not valid"),
-        Parameter::Status => fault(alloc, parameter, b"not valid"),
-        Parameter::Zero => fault(alloc, parameter, b"not valid"),
-    }
-}
-
-// An operator's word is the message of a fault.
-fn fail_with(
-    alloc: Global,
-    parameter: &Parameter,
-    word: &Option<Rc<Parts>>,
-    marks: &mut Vec<Mark>,
-) -> Result<Acted, NoMemory>
-    ensures less { IfOk result (λ acted. acted_size acted < size_word (word_of word.now) + 2) }
-    ensures does { IfOk result (λ acted. (e : Env) → Does (λ body ms k fail e'. expand_text body not_set (word_of word.now) (λ t e''. fail (spelling parameter.now) t e'') fail e') e marks.old.items marks.new.items acted) }
-{
-    match word {
-        None => fault(alloc, parameter, b"not set"),
-        Some(word) => {
-            let _ = take(marks);
-            let inner = share(word)?;
-            let parameter = Bytes::from_slice(alloc, parameter.spelling())?;
-            Ok(Acted::Enter(inner, false, Then::Message(parameter)))
-        }
-    }
-}
-
-// A parameter with an operator, where its value counts.
-fn use_set(
-    alloc: Global,
-    env: &Env,
+    env: &'a Env,
     splits: bool,
     quoted: bool,
-    parameter: &Parameter,
-    by: Substitute,
-    word: &Option<Rc<Parts>>,
-    marks: &mut Vec<Mark>,
-) -> Result<Acted, NoMemory>
-    ensures less { IfOk result (λ acted. acted_size acted < size_word (word_of word.now) + 2) }
-    ensures does { IfOk result (Does (used_by by true splits quoted parameter.now (word_of word.now)) env.now marks.old.items marks.new.items) }
-{
-    match by {
-        Substitute::Default => {
-            let acted = put_values(alloc, env, splits, quoted, parameter, marks)?;
-            Ok(acted)
-        }
-        Substitute::Assign => {
-            let acted = put_values(alloc, env, splits, quoted, parameter, marks)?;
-            Ok(acted)
-        }
-        Substitute::Fault => {
-            let acted = put_values(alloc, env, splits, quoted, parameter, marks)?;
-            Ok(acted)
-        }
-        Substitute::Alternative => {
-            let acted = put_word(splits, quoted, word, marks)?;
-            Ok(acted)
-        }
-    }
+    parameter: &'a Parameter,
 }
 
-// A parameter with an operator, where its value doesn't count.
-fn use_unset(
-    alloc: Global,
-    splits: bool,
-    quoted: bool,
-    parameter: &Parameter,
-    by: Substitute,
-    word: &Option<Rc<Parts>>,
-    marks: &mut Vec<Mark>,
-) -> Result<Acted, NoMemory>
-    ensures less { IfOk result (λ acted. acted_size acted < size_word (word_of word.now) + 2) }
-    ensures does { IfOk result (λ acted. (e : Env) → Does (used_by by false splits quoted parameter.now (word_of word.now)) e marks.old.items marks.new.items acted) }
-{
-    match by {
-        Substitute::Default => {
-            let acted = put_word(splits, quoted, word, marks)?;
-            Ok(acted)
+impl<'a> ParameterUse<'a> {
+    // An unset parameter.
+    fn put_unset(&self, marks: &mut Vec<Mark>) -> Result<Acted, NoMemory>
+        ensures less { IfOk result (λ acted. acted_size acted < 1) }
+        ensures does { IfOk result (Does (λ body ms k fail e. unset self.now.env.now.nounset self.now.quoted self.now.parameter.now ms k fail e) self.now.env.now marks.old.items marks.new.items) }
+    {
+        if self.env.nounset {
+            let acted = fault(self.alloc, self.parameter, b"not set")?;
+            return Ok(acted);
         }
-        Substitute::Assign => {
-            let acted = assign_word(alloc, quoted, parameter, word, marks)?;
-            Ok(acted)
-        }
-        Substitute::Fault => {
-            let acted = fail_with(alloc, parameter, word, marks)?;
-            Ok(acted)
-        }
-        Substitute::Alternative => {
-            put_given(quoted, b"", marks)?;
-            Ok(Acted::Put)
-        }
+        put_given(self.quoted, b"", marks)?;
+        Ok(Acted::Put)
     }
-}
 
-// A parameter with an operator.
-fn use_parameter(
-    alloc: Global,
-    env: &Env,
-    splits: bool,
-    quoted: bool,
-    parameter: &Parameter,
-    condition: Condition,
-    by: Substitute,
-    word: &Option<Rc<Parts>>,
-    marks: &mut Vec<Mark>,
-) -> Result<Acted, NoMemory>
-    ensures less { IfOk result (λ acted. acted_size acted < size_word (word_of word.now) + 2) }
-    ensures does { IfOk result (Does (λ body ms k fail e. used_by by (counts condition (value e parameter.now)) splits quoted parameter.now (word_of word.now) body ms k fail e) env.now marks.old.items marks.new.items) }
-{
-    let text = value(alloc, env, parameter)?;
-    if counts(condition, text.as_ref()) {
-        let acted = use_set(alloc, env, splits, quoted, parameter, by, word, marks)?;
-        return Ok(acted);
+    // Values where they stand.
+    fn put_values(&self, marks: &mut Vec<Mark>) -> Result<Acted, NoMemory>
+        ensures less { IfOk result (λ acted. acted_size acted < 1) }
+        ensures does { IfOk result (Does (λ body ms k fail e. got self.now.splits self.now.quoted self.now.parameter.now (values self.now.env.now self.now.parameter.now) ms k fail e) self.now.env.now marks.old.items marks.new.items) }
+    {
+        let words = values(self.alloc, self.env, self.parameter)?;
+        match words {
+            None => self.put_unset(marks),
+            Some(words) => {
+                let apart = is_apart(self.splits, self.quoted, self.parameter);
+                put_all(
+                    self.alloc,
+                    apart,
+                    self.quoted,
+                    separator(self.env),
+                    words.as_slice(),
+                    marks,
+                )?;
+                Ok(Acted::Put)
+            }
+        }
     }
-    let acted = use_unset(alloc, splits, quoted, parameter, by, word, marks)?;
-    Ok(acted)
+
+    // An unset parameter, whose bytes are counted.
+    fn put_unmeasured(&self, marks: &mut Vec<Mark>) -> Result<Acted, NoMemory>
+        ensures less { IfOk result (λ acted. acted_size acted < 1) }
+        ensures does { IfOk result (Does (λ body ms k fail e. unmeasured self.now.env.now.nounset self.now.quoted self.now.parameter.now ms k fail e) self.now.env.now marks.old.items marks.new.items) }
+    {
+        if self.env.nounset {
+            let acted = fault(self.alloc, self.parameter, b"not set")?;
+            return Ok(acted);
+        }
+        put_given(self.quoted, b"0", marks)?;
+        Ok(Acted::Put)
+    }
+
+    // How many bytes the values have.
+    fn put_length(&self, marks: &mut Vec<Mark>) -> Result<Acted, NoMemory>
+        ensures less { IfOk result (λ acted. acted_size acted < 1) }
+        ensures does { IfOk result (Does (λ body ms k fail e. measured self.now.quoted self.now.parameter.now (values self.now.env.now self.now.parameter.now) ms k fail e) self.now.env.now marks.old.items marks.new.items) }
+    {
+        let words = values(self.alloc, self.env, self.parameter)?;
+        match words {
+            None => self.put_unmeasured(marks),
+            Some(words) => {
+                let text = joined(self.alloc, separator(self.env), words.as_slice())?;
+                let digits = format!(in self.alloc; "{}", text.len() as u64)?;
+                put_given(self.quoted, digits.as_bytes(), marks)?;
+                Ok(Acted::Put)
+            }
+        }
+    }
+
+    // Values without what a pattern matches.
+    fn put_removed(
+        &self,
+        removal: Removal,
+        pattern: &Rc<Parts>,
+        marks: &mut Vec<Mark>,
+    ) -> Result<Acted, NoMemory>
+        ensures less { IfOk result (λ acted. acted_size acted < size (parts pattern.now.value) + 2) }
+        ensures does { IfOk result (Does (λ body ms k fail e. taken removal self.now.splits self.now.quoted self.now.parameter.now (values self.now.env.now self.now.parameter.now) ms (λ k' e'. expand body true false (parts pattern.now.value) [] k' fail e') k fail e) self.now.env.now marks.old.items marks.new.items) }
+    {
+        let words = values(self.alloc, self.env, self.parameter)?;
+        match words {
+            None => self.put_unset(marks),
+            Some(words) => {
+                let apart = is_apart(self.splits, self.quoted, self.parameter);
+                let pattern = share(pattern)?;
+                Ok(Acted::Enter(
+                    pattern,
+                    false,
+                    Then::Remove(removal, apart, self.quoted, words, take(marks)),
+                ))
+            }
+        }
+    }
+
+    // A variable takes an operator's word.
+    fn assign_word(
+        &self,
+        word: &Option<Rc<Parts>>,
+        marks: &mut Vec<Mark>,
+    ) -> Result<Acted, NoMemory>
+        ensures less { IfOk result (λ acted. acted_size acted < size_word (word_of word.now) + 2) }
+        ensures does { IfOk result (λ acted. (e : Env) → Does (λ body ms k fail e'. assigning self.now.quoted self.now.parameter.now ms (λ k' e'. expand_text body [] (word_of word.now) k' fail e') k fail e') e marks.old.items marks.new.items acted) }
+    {
+        match self.parameter {
+            Parameter::Variable(name) => {
+                let name = name.copy()?;
+                let inner = parts_in(self.alloc, word)?;
+                Ok(Acted::Enter(inner, false, Then::Assign(self.quoted, name, take(marks))))
+            }
+            Parameter::Positional(_) => fault(self.alloc, self.parameter, b"not valid"),
+            Parameter::At => fault(self.alloc, self.parameter, b"not valid"),
+            Parameter::Asterisk => fault(self.alloc, self.parameter, b"not valid"),
+            Parameter::Count => fault(self.alloc, self.parameter, b"not valid"),
+            Parameter::Status => fault(self.alloc, self.parameter, b"not valid"),
+            Parameter::Zero => fault(self.alloc, self.parameter, b"not valid"),
+        }
+    }
+
+    // An operator's word is the message of a fault.
+    fn fail_with(&self, word: &Option<Rc<Parts>>, marks: &mut Vec<Mark>) -> Result<Acted, NoMemory>
+        ensures less { IfOk result (λ acted. acted_size acted < size_word (word_of word.now) + 2) }
+        ensures does { IfOk result (λ acted. (e : Env) → Does (λ body ms k fail e'. expand_text body not_set (word_of word.now) (λ t e''. fail (spelling self.now.parameter.now) t e'') fail e') e marks.old.items marks.new.items acted) }
+    {
+        match word {
+            None => fault(self.alloc, self.parameter, b"not set"),
+            Some(word) => {
+                let _ = take(marks);
+                let inner = share(word)?;
+                let parameter = Bytes::from_slice(self.alloc, self.parameter.spelling())?;
+                Ok(Acted::Enter(inner, false, Then::Message(parameter)))
+            }
+        }
+    }
+
+    // A parameter with an operator, where its value counts.
+    fn use_set(
+        &self,
+        by: Substitute,
+        word: &Option<Rc<Parts>>,
+        marks: &mut Vec<Mark>,
+    ) -> Result<Acted, NoMemory>
+        ensures less { IfOk result (λ acted. acted_size acted < size_word (word_of word.now) + 2) }
+        ensures does { IfOk result (Does (used_by by true self.now.splits self.now.quoted self.now.parameter.now (word_of word.now)) self.now.env.now marks.old.items marks.new.items) }
+    {
+        match by {
+            Substitute::Default => {
+                let acted = self.put_values(marks)?;
+                Ok(acted)
+            }
+            Substitute::Assign => {
+                let acted = self.put_values(marks)?;
+                Ok(acted)
+            }
+            Substitute::Fault => {
+                let acted = self.put_values(marks)?;
+                Ok(acted)
+            }
+            Substitute::Alternative => {
+                let acted = put_word(self.splits, self.quoted, word, marks)?;
+                Ok(acted)
+            }
+        }
+    }
+
+    // A parameter with an operator, where its value doesn't count.
+    fn use_unset(
+        &self,
+        by: Substitute,
+        word: &Option<Rc<Parts>>,
+        marks: &mut Vec<Mark>,
+    ) -> Result<Acted, NoMemory>
+        ensures less { IfOk result (λ acted. acted_size acted < size_word (word_of word.now) + 2) }
+        ensures does { IfOk result (λ acted. (e : Env) → Does (used_by by false self.now.splits self.now.quoted self.now.parameter.now (word_of word.now)) e marks.old.items marks.new.items acted) }
+    {
+        match by {
+            Substitute::Default => {
+                let acted = put_word(self.splits, self.quoted, word, marks)?;
+                Ok(acted)
+            }
+            Substitute::Assign => {
+                let acted = self.assign_word(word, marks)?;
+                Ok(acted)
+            }
+            Substitute::Fault => {
+                let acted = self.fail_with(word, marks)?;
+                Ok(acted)
+            }
+            Substitute::Alternative => {
+                put_given(self.quoted, b"", marks)?;
+                Ok(Acted::Put)
+            }
+        }
+    }
+
+    // A parameter with an operator.
+    fn use_parameter(
+        &self,
+        condition: Condition,
+        by: Substitute,
+        word: &Option<Rc<Parts>>,
+        marks: &mut Vec<Mark>,
+    ) -> Result<Acted, NoMemory>
+        ensures less { IfOk result (λ acted. acted_size acted < size_word (word_of word.now) + 2) }
+        ensures does { IfOk result (Does (λ body ms k fail e. used_by by (counts condition (value e self.now.parameter.now)) self.now.splits self.now.quoted self.now.parameter.now (word_of word.now) body ms k fail e) self.now.env.now marks.old.items marks.new.items) }
+    {
+        let text = value(self.alloc, self.env, self.parameter)?;
+        if counts(condition, text.as_ref()) {
+            let acted = self.use_set(by, word, marks)?;
+            return Ok(acted);
+        }
+        let acted = self.use_unset(by, word, marks)?;
+        Ok(acted)
+    }
 }
 
 /// What a part of a word does: whether the word is an operator's, and whether fields are split.
@@ -396,25 +361,51 @@ pub(crate) fn act(
             Ok(Acted::Put)
         }
         Part::Value(quoting, parameter) => {
-            let acted = put_values(alloc, env, splits, is_quoted(*quoting), parameter, marks)?;
+            let quoted = is_quoted(*quoting);
+            let used = ParameterUse {
+                alloc,
+                env,
+                splits,
+                quoted,
+                parameter,
+            };
+            let acted = used.put_values(marks)?;
             Ok(acted)
         }
         Part::Length(quoting, parameter) => {
-            let acted = put_length(alloc, env, is_quoted(*quoting), parameter, marks)?;
+            let quoted = is_quoted(*quoting);
+            let used = ParameterUse {
+                alloc,
+                env,
+                splits,
+                quoted,
+                parameter,
+            };
+            let acted = used.put_length(marks)?;
             Ok(acted)
         }
         Part::Substitute(quoting, parameter, condition, by, word) => {
             let quoted = is_quoted(*quoting);
-            let acted = use_parameter(
-                alloc, env, splits, quoted, parameter, *condition, *by, word, marks,
-            )?;
+            let used = ParameterUse {
+                alloc,
+                env,
+                splits,
+                quoted,
+                parameter,
+            };
+            let acted = used.use_parameter(*condition, *by, word, marks)?;
             Ok(acted)
         }
         Part::Remove(quoting, parameter, removal, pattern) => {
             let quoted = is_quoted(*quoting);
-            let acted = put_removed(
-                alloc, env, splits, quoted, parameter, *removal, pattern, marks,
-            )?;
+            let used = ParameterUse {
+                alloc,
+                env,
+                splits,
+                quoted,
+                parameter,
+            };
+            let acted = used.put_removed(*removal, pattern, marks)?;
             Ok(acted)
         }
         Part::Command(quoting, number) => Ok(Acted::Subst(is_quoted(*quoting), *number)),

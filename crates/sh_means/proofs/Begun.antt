@@ -50,7 +50,7 @@ pub words_over : (f : PendingFields) (pl : Place) (k : Next) (e : Shell) (ws : W
 words_over f pl k e ws p hs is =
     ap (λ (ms : List WordMeant). expand_words ms f.fields f.ran pl (then_means f.then pl k) k e p) (words_none (tree.words f.words.value) f.at (subst (λ (ws : Words). None ≡ word_at (tree.words ws) f.at) hs is))
 
-pub assign_next : (a : PendingAssignments) (pl : Place) (k : Next) (e : Shell) (as' : Assignments) (x : Assignment) (name : Text) (w : Rc Word Global) (p : ℕ) → as' ≡ a.assignments.value → w.value ≡ (out-Assignment x).value.value → name ≡ (out-Assignment x).name → Some (tree.assignment x) ≡ assignment_at (tree.assignments as') a.at → assigning a a.ran pl k e p ≡ expand_word mode.Value (word_in run (tree.word w.value)) pl (aimed (aim.Value (record a { at = a.at + 1 }) name e.env.next) pl k) k e p
+pub assign_next : (a : PendingAssignments) (pl : Place) (k : Next) (e : Shell) (as' : Assignments) (x : Assignment) (name : Text) (w : Rc Word Global) (p : ℕ) → as' ≡ a.assignments.value → w.value ≡ (out-Assignment x).value.value → name ≡ (out-Assignment x).name → Some (tree.assignment x) ≡ assignment_at (tree.assignments as') a.at → assigning a a.ran pl k e p ≡ expand_word mode.Value (word_in run (tree.word w.value)) pl (aimed (aim.Value (record { left = record a { at = a.at + 1 }; name = name; next = e.env.next })) pl k) k e p
 assign_next a pl k e as' x name w p hs hw hn is =
     let is' = subst (λ (as' : Assignments). Some (tree.assignment x) ≡ assignment_at (tree.assignments as') a.at) hs is in
     let W : Bool → Go_on = λ ran. works run (kind_of_code a.doing.value.kind) a.doing.value.fields ran pl k in
@@ -64,7 +64,7 @@ pub assigns_over : (a : PendingAssignments) (pl : Place) (k : Next) (e : Shell) 
 assigns_over a pl k e as' p hs is =
     ap (λ (ms : List AssignMeant). assign_all ms a.exported a.ran pl (λ ran. works run (kind_of_code a.doing.value.kind) a.doing.value.fields ran pl k) k e p) (assigns_none (tree.assignments a.assignments.value) a.at (subst (λ (as' : Assignments). None ≡ assignment_at (tree.assignments as') a.at) hs is))
 
-pub redirect_next : (m : PendingRedirects) (pl : Place) (k : Next) (e : Shell) (rs : Redirects) (x : Redirect) (r : kind.Redirect) (p : ℕ) → rs ≡ m.redirects.value → r ≡ redirect_kind (out-Redirect x).operator → Some (tree.redirect x) ≡ redirect_at (tree.redirects rs) m.at → making m m.ran pl k e p ≡ expand_word mode.Value (word_in run (tree.word (out-Redirect x).operand.value)) pl (aimed (aim.Operand (record m { at = m.at + 1 }) (out-Redirect x).descriptor r e.env.next) pl k) k e p
+pub redirect_next : (m : PendingRedirects) (pl : Place) (k : Next) (e : Shell) (rs : Redirects) (x : Redirect) (r : kind.Redirect) (p : ℕ) → rs ≡ m.redirects.value → r ≡ redirect_kind (out-Redirect x).operator → Some (tree.redirect x) ≡ redirect_at (tree.redirects rs) m.at → making m m.ran pl k e p ≡ expand_word mode.Value (word_in run (tree.word (out-Redirect x).operand.value)) pl (aimed (aim.Operand (record { left = record m { at = m.at + 1 }; descriptor = (out-Redirect x).descriptor; kind = r; next = e.env.next })) pl k) k e p
 redirect_next m pl k e rs x r p hs hr is =
     let is' = subst (λ (rs : Redirects). Some (tree.redirect x) ≡ redirect_at (tree.redirects rs) m.at) hs is in
     let rest = redirects_from m.redirects.value (m.at + 1) in

@@ -48,15 +48,15 @@ fields_taken f pl k e next x fs more ran p hf hm hr =
 -- a value alone counts, but for words that give fields
 abbrev pub IsValued : Aim → Type 0
 IsValued (aim.Fields f next) = ⊥
-IsValued (aim.Operand m d kind next) = Unit {0}
-IsValued (aim.Value a name next) = Unit {0}
+IsValued (aim.Operand o) = Unit {0}
+IsValued (aim.Value v) = Unit {0}
 IsValued (aim.Subject is) = Unit {0}
 IsValued (aim.Pattern c) = Unit {0}
 
 pub same_value : (u : Aim) (x : Expanded) (v : Text) (pl : Place) (k : Next) (e : Shell) (p : ℕ) → IsValued u → v ≡ value_of x → aimed u pl k x e p ≡ aimed u pl k (Value v) e p
 same_value (aim.Fields f next) x v pl k e p valued h = absurd valued
-same_value (aim.Operand m d kind next) x v pl k e p valued h = ap (λ (t : Text). redirect_to kind d t (making m (m.ran || took next e) pl k) (when_refused m pl k) e p) (sym h)
-same_value (aim.Value a name next) x v pl k e p valued h = ap (λ (t : Text). assigns a.exported name t (assigning a (a.ran || took next e) pl k) k e p) (sym h)
+same_value (aim.Operand o) x v pl k e p valued h = ap (λ (t : Text). redirect_to o.kind o.descriptor t (making o.left (o.left.ran || took o.next e) pl k) (when_refused o.left pl k) e p) (sym h)
+same_value (aim.Value a) x v pl k e p valued h = ap (λ (t : Text). assigns a.left.exported a.name t (assigning a.left (a.left.ran || took a.next e) pl k) k e p) (sym h)
 same_value (aim.Subject is) x v pl k e p valued h = ap (λ (t : Text). case_items (items_from is.value 0) t pl k e p) (sym h)
 same_value (aim.Pattern c) x v pl k e p valued h =
     ap (λ (t : Text). (if is_matched t c.value then case_body (items_from c.items.value c.at) pl e k else casing c c.pattern pl k e) p) (sym h)

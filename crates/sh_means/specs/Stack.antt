@@ -140,8 +140,8 @@ casing c i pl k = case_from (items_from c.items.value c.at) i c.value pl k
 -- what comes after a word
 abbrev pub aimed : Aim → Place → Next → Expanded → Go_on
 aimed (aim.Fields f next) pl k x e = expand_words (words_from f.words.value f.at) (f.fields ++ fields_of x) (f.ran || took next e) pl (then_means f.then pl k) k e
-aimed (aim.Operand m d kind next) pl k x e = redirect_to kind d (value_of x) (making m (m.ran || took next e) pl k) (when_refused m pl k) e
-aimed (aim.Value a name next) pl k x e = assigns a.exported name (value_of x) (assigning a (a.ran || took next e) pl k) k e
+aimed (aim.Operand o) pl k x e = redirect_to o.kind o.descriptor (value_of x) (making o.left (o.left.ran || took o.next e) pl k) (when_refused o.left pl k) e
+aimed (aim.Value v) pl k x e = assigns v.left.exported v.name (value_of x) (assigning v.left (v.left.ran || took v.next e) pl k) k e
 aimed (aim.Subject is) pl k x e = case_items (items_from is.value 0) (value_of x) pl k e
 aimed (aim.Pattern c) pl k x e = if is_matched (value_of x) c.value then case_body (items_from c.items.value c.at) pl e k else casing c c.pattern pl k e
 
@@ -165,7 +165,7 @@ building b k a e = builtin_does b a (slot e.descriptors) (λ status env. ends No
 abbrev pub waiting : Wait → Next → Answer → Go_on
 waiting (wait.Told f n) k a e = ends f n k e
 waiting (wait.Launched f) k a e = ends f (joined a) k e
-waiting (wait.Stage pl l i j input n) k a e = first_of (commands_from l.value i) pl (with_slot 1 (Some (number_after n)) (with_input input e)) (λ f e'. stages_mean (Some n) (commands_from l.value j) pl k (past_stage e e'))
+waiting (wait.Stage pl s) k a e = first_of (commands_from s.list.value s.at) pl (with_slot 1 (Some (number_after s.read_end)) (with_input s.input e)) (λ f e'. stages_mean (Some s.read_end) (commands_from s.list.value s.next) pl k (past_stage e e'))
 waiting (wait.Opened pl file n) k a e = dot_opened run file n pl k (brought a) e
 waiting (wait.Read pl file) k a e = dot_read run file pl k (brought a) e
 waiting (wait.Redirects pl m r) k a e = redirecting m pl k r.value a e
@@ -190,7 +190,7 @@ looping l = is_until l.kind
 abbrev pub resumed_compound : CompoundStep → Next → Go_on
 resumed_compound (compound_step.Compound pl b) k e = compound_in run (tree.compound b.value) pl e k
 resumed_compound (compound_step.Called pl callee) k e = compound_means (redirects_in run (function_of callee).redirects) (compound_in run (function_of callee).body) pl e k
-resumed_compound (compound_step.If pl bs i otherwise) k e = if_means (branches_from bs.value i) (whole otherwise.value) pl e k
+resumed_compound (compound_step.If pl left) k e = if_means (branches_from left.branches.value left.at) (whole left.otherwise.value) pl e k
 resumed_compound (compound_step.Round pl last l) k e = run (Round last (looping l) (tree.commands l.condition.value) (tree.commands l.body.value)) pl e k
 resumed_compound (compound_step.Each pl each) k e = for_each each.name (drop each.at each.fields) (whole each.body.value) pl k e
 resumed_compound (compound_step.Gives pl each) k e = giving each pl k e
@@ -220,14 +220,14 @@ resumed (control.Leave f) k a e = k f e
 
 abbrev pub continued : Continuation → Next → Next
 continued (continuation.Rest pl l i) k = and_then (λ e. seq_all (commands_from l.value i) pl e k) k
-continued (continuation.Links pl l i connectors) k = and_then (links_mean (commands_from l.value (i + 1)) (drop i connectors.value.items.items) pl k) k
+continued (continuation.Links pl left) k = and_then (links_mean (commands_from left.pipelines.value (left.at + 1)) (drop left.at left.connectors.value.items.items) pl k) k
 continued (continuation.Stage pl l i n status saved) k = λ f e. stages_mean (Some n) (commands_from l.value i) pl k (with_status status (back_to saved.value e))
 continued (continuation.Watch pl) k = watched pl k
 continued continuation.Invert k = inverted k
 continued (continuation.Condition pl last l) k = after_condition (whole l.body.value) run last (looping l) (tree.commands l.condition.value) (tree.commands l.body.value) pl k
 continued (continuation.Body pl l) k = after_body run (looping l) (tree.commands l.condition.value) (tree.commands l.body.value) pl k
 continued (continuation.Each pl each) k = let go = for_each each.name (drop each.at each.fields) (whole each.body.value) pl k in in_loop go go k
-continued (continuation.Choose pl body bs i otherwise) k = and_then (λ e. by_status e.env.status (λ e. whole body.value pl e k) (λ e. if_means (branches_from bs.value i) (whole otherwise.value) pl e k) e) k
+continued (continuation.Choose pl body left) k = and_then (λ e. by_status e.env.status (λ e. whole body.value pl e k) (λ e. if_means (branches_from left.branches.value left.at) (whole left.otherwise.value) pl e k) e) k
 
 abbrev pub undone : Undo → Next → Next
 undone (undo.Redirected rs before) k = unredirected (named (redirects_from rs.value 0)) before.value k

@@ -133,8 +133,8 @@ weigh_case c = items_left c.items.value c.at c.pattern + 2
 -- what comes after a word
 abbrev pub weigh_aim : Aim → ℕ
 weigh_aim (aim.Fields f next) = weigh_fields f
-weigh_aim (aim.Operand m d kind next) = weigh_redirects m + 4
-weigh_aim (aim.Value a name next) = weigh_assignments a + 1
+weigh_aim (aim.Operand o) = weigh_redirects o.left + 4
+weigh_aim (aim.Value v) = weigh_assignments v.left + 1
 weigh_aim (aim.Subject is) = items_left is.value 0 0 + 3
 weigh_aim (aim.Pattern c) = weigh_case c + 1
 
@@ -144,7 +144,7 @@ weigh_word w = weigh_aim w.aim + 3 * bodies_due w.expander + 2
 -- What comes next.
 
 abbrev pub weigh_wait : Wait → ℕ
-weigh_wait (wait.Stage pl l i j input n) = 6
+weigh_wait (wait.Stage pl s) = 6
 weigh_wait (wait.Read pl file) = 4
 weigh_wait (wait.Redirects pl m r) = weigh_redirects m + 3
 weigh_wait w = 1
@@ -152,7 +152,7 @@ weigh_wait w = 1
 abbrev pub weigh_compound_step : CompoundStep → ℕ
 weigh_compound_step (compound_step.Compound pl b) = weigh_compound b.value
 weigh_compound_step (compound_step.Called pl callee) = 0
-weigh_compound_step (compound_step.If pl bs i otherwise) = 3 * branches_left bs.value i + 2
+weigh_compound_step (compound_step.If pl left) = 3 * branches_left left.branches.value left.at + 2
 weigh_compound_step (compound_step.Round pl last l) = 0
 weigh_compound_step (compound_step.Each pl each) = 1
 weigh_compound_step (compound_step.Gives pl each) = 4
@@ -181,14 +181,14 @@ weigh (control.Leave f) = 0
 
 abbrev pub weigh_continuation : Continuation → ℕ
 weigh_continuation (continuation.Rest pl l i) = 2
-weigh_continuation (continuation.Links pl l i connectors) = 2 * (length connectors.value.items.items - i) + 1
+weigh_continuation (continuation.Links pl left) = 2 * (length left.connectors.value.items.items - left.at) + 1
 weigh_continuation (continuation.Stage pl l i n status saved) = 4
 weigh_continuation (continuation.Watch pl) = 1
 weigh_continuation continuation.Invert = 1
 weigh_continuation (continuation.Condition pl last l) = 3
 weigh_continuation (continuation.Body pl l) = 1
 weigh_continuation (continuation.Each pl each) = 2
-weigh_continuation (continuation.Choose pl body bs i otherwise) = 3 * branches_left bs.value i + 3
+weigh_continuation (continuation.Choose pl body left) = 3 * branches_left left.branches.value left.at + 3
 
 abbrev pub weigh_undo : Undo → ℕ
 weigh_undo (undo.Substitution w saved) = weigh_word w.value + 1

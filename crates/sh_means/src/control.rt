@@ -136,13 +136,30 @@ pub struct PendingCase {
     pub value: Bytes,
 }
 
+/// A redirection whose operand is expanded, before those that are left, and the next local number before that.
+#[derive(Drop)]
+pub struct PendingOperand {
+    pub left: PendingRedirects,
+    pub descriptor: u8,
+    pub kind: Redirect,
+    pub next: u64,
+}
+
+/// An assignment whose value is expanded, before those that are left, and the next local number before that.
+#[derive(Drop)]
+pub struct PendingValue {
+    pub left: PendingAssignments,
+    pub name: Bytes,
+    pub next: u64,
+}
+
 /// What a word is expanded for. A number is the next local number before its expansion. What goes on after the word is at the
 /// place behind it.
 #[derive(Drop)]
 pub enum Aim {
     Fields(PendingFields, u64),
-    Operand(PendingRedirects, u8, Redirect, u64),
-    Value(PendingAssignments, Bytes, u64),
+    Operand(PendingOperand),
+    Value(PendingValue),
     Subject(Rc<CaseItems>),
     Pattern(PendingCase),
 }
@@ -173,6 +190,32 @@ pub struct Loop {
     pub body: Rc<CommandList>,
 }
 
+/// The branches of an `if` from a place on, and its last list.
+#[derive(Drop)]
+pub struct PendingIf {
+    pub branches: Rc<Branches>,
+    pub at: usize,
+    pub otherwise: Rc<CommandList>,
+}
+
+/// The pipelines of an AND-OR list behind this place, by the connectors from there on.
+#[derive(Drop)]
+pub struct PendingLinks {
+    pub pipelines: Rc<CommandList>,
+    pub at: usize,
+    pub connectors: Rc<Connectors>,
+}
+
+/// A stage of a pipeline at a place, before the next one; it reads from `input`, and the pipe behind it has this read end.
+#[derive(Drop)]
+pub struct PendingStage {
+    pub list: Rc<CommandList>,
+    pub at: usize,
+    pub next: usize,
+    pub input: Option<u64>,
+    pub read_end: u64,
+}
+
 /// What was begun and has had its turn.
 #[derive(Drop)]
 pub enum Wait {
@@ -180,9 +223,8 @@ pub enum Wait {
     Told(Flow, u8),
     /// A command is launched; then it ends so.
     Launched(Flow),
-    /// The pipe behind the stage at the first of two places is made, whose read end has the last number; the second is the
-    /// next stage's, and before the number stands what the stage reads.
-    Stage(Place, Rc<CommandList>, usize, usize, Option<u64>, u64),
+    /// The pipe behind a stage is made.
+    Stage(Place, PendingStage),
     /// A dot script is opened, and has this number then.
     Opened(Place, Bytes, u64),
     /// It is read.
@@ -201,8 +243,7 @@ pub enum CompoundStep {
     Compound(Place, Rc<Compound>),
     /// The body of a function that was called.
     Called(Place, Callee),
-    /// The branches of an `if` from a place on.
-    If(Place, Rc<Branches>, usize, Rc<CommandList>),
+    If(Place, PendingIf),
     /// A round of a loop whose body last had this status.
     Round(Place, u8, Loop),
     Each(Place, Each),
@@ -263,7 +304,7 @@ pub enum Control {
 #[derive(Drop)]
 pub enum Continuation {
     Rest(Place, Rc<CommandList>, usize),
-    Links(Place, Rc<CommandList>, usize, Rc<Connectors>),
+    Links(Place, PendingLinks),
     /// After a stage, whose pipe has this read end; the status is the one before the pipeline.
     Stage(Place, Rc<CommandList>, usize, u64, u8, Box<SavedState>),
     Watch(Place),
@@ -271,8 +312,8 @@ pub enum Continuation {
     Condition(Place, u8, Loop),
     Body(Place, Loop),
     Each(Place, Each),
-    /// After the condition of a branch, at the place behind it.
-    Choose(Place, Rc<CommandList>, Rc<Branches>, usize, Rc<CommandList>),
+    /// After the condition of a branch: its body, and the branches behind it.
+    Choose(Place, Rc<CommandList>, PendingIf),
 }
 
 /// What is undone after a command.

@@ -12,9 +12,9 @@ ghost use Rattle.sh_means.specs.Weights.{Lowers, weigh, weigh_all, weigh_word};
 ghost use Rattle.sh_means.specs.Words.{body_at, in_subshell};
 ghost use Rattle.rk_calls.specs.declared.answer.Answer.TheVariants as answers;
 
-use crate::control::{Acted, Control, Frame, PendingWord, SimpleStep, Undo, Wait};
+use crate::control::{Acted, Control, PendingWord, SimpleStep, Undo, Wait};
+use crate::interpreter::Interpreter;
 use crate::stack::put_undo;
-use crate::state::State;
 use crate::steps::free;
 use rk_base::NoMemory;
 use rk_calls::{Answer, Turn};
@@ -44,37 +44,33 @@ fn body_of(alloc: Global, word: &Word, number: u64) -> Result<Rc<CommandList>, N
 
 // A substitution's body begins in a subshell, with 1 on the pipe that was made last.
 fn enter_body(
-    alloc: Global,
     w: Box<PendingWord>,
     number: u64,
-    stack: &mut Vec<Frame>,
-    state: &mut State,
+    shell: &mut Interpreter,
 ) -> Result<Control, NoMemory>
-    ensures talk { IfOk result (Goes (in_subshell (body_at (word_in run (tree.word w.value.word.value)).bodies number) w.value.place (shell_of state.old) state.old.env (λ env. wording w.value (context stack.old.items) answers.Go (with_env env (shell_of state.old)))) (context stack.new.items) (shell_of state.new)) }
-    ensures weight { IfOk result (λ c. weigh c + weigh_all stack.new.items ≤ weigh_word w.value + 2 + weigh_all stack.old.items) }
+    ensures talk { IfOk result (Goes (in_subshell (body_at (word_in run (tree.word w.value.word.value)).bodies number) w.value.place (shell_of shell.old.state) shell.old.state.env (λ env. wording w.value (context shell.old.stack.items) answers.Go (with_env env (shell_of shell.old.state)))) (context shell.new.stack.items) (shell_of shell.new.state)) }
+    ensures weight { IfOk result (λ c. weigh c + weigh_all shell.new.stack.items ≤ weigh_word w.value + 2 + weigh_all shell.old.stack.items) }
 {
-    let body = body_of(alloc, &w.word, number)?;
-    let saved = state.save(alloc)?;
+    let body = body_of(shell.alloc, &w.word, number)?;
+    let saved = shell.state.save(shell.alloc)?;
     let place = w.place;
-    put_undo(stack, Undo::Substitution(w, saved))?;
-    let write_end = state.env.next.saturating_sub(1);
-    state.set_descriptor(1, Some(write_end))?;
+    put_undo(&mut shell.stack, Undo::Substitution(w, saved))?;
+    let write_end = shell.state.env.next.saturating_sub(1);
+    shell.state.set_descriptor(1, Some(write_end))?;
     Ok(Control::Whole(place, body))
 }
 
 /// An expander's next turn, with the answer that was heard.
 pub fn act_expand(
-    alloc: Global,
     w: Box<PendingWord>,
     answer: Answer,
-    stack: &mut Vec<Frame>,
-    state: &mut State,
+    shell: &mut Interpreter,
 ) -> Result<Acted, NoMemory>
-    ensures talk { IfOk result (Steps (wording w.value (context stack.old.items) answer (shell_of state.old)) (context stack.new.items) (shell_of state.new)) }
-    ensures costly { IfOk result (Lowers (weigh_word w.value) stack.old.items stack.new.items) }
+    ensures talk { IfOk result (Steps (wording w.value (context shell.old.stack.items) answer (shell_of shell.old.state)) (context shell.new.stack.items) (shell_of shell.new.state)) }
+    ensures costly { IfOk result (Lowers (weigh_word w.value) shell.old.stack.items shell.new.stack.items) }
 {
     let mut w = w;
-    let wants = w.expander.resume(&mut state.env, answer)?;
+    let wants = w.expander.resume(&mut shell.state.env, answer)?;
     match wants {
         Expanding::Ask(call, cost) => Ok(Acted {
             turn: Turn::Ask(call, cost),
@@ -85,7 +81,7 @@ pub fn act_expand(
             control: Control::SimpleStep(SimpleStep::Expand(w)),
         }),
         Expanding::Body(number) => {
-            let control = enter_body(alloc, w, number, stack, state)?;
+            let control = enter_body(w, number, shell)?;
             Ok(free(control))
         }
         Expanding::Done(expanded, cost) => Ok(Acted {

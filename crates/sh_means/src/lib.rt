@@ -8,6 +8,7 @@ pub mod expanding;
 pub mod expansion;
 pub mod flow;
 pub mod functions;
+pub mod interpreter;
 pub mod items;
 mod laws;
 pub mod stack;

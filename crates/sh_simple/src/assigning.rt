@@ -8,23 +8,20 @@ use crate::launching::work;
 use rk_base::NoMemory;
 use rk_calls::Answer;
 use sh_expand::Mode;
-use sh_means::control::{Acted, Aim, Frame, PendingAssignments};
+use sh_means::control::{Acted, Aim, PendingAssignments, PendingValue};
 use sh_means::expanding::act_expand;
 use sh_means::expansion::pending;
 use sh_means::flow::Place;
-use sh_means::state::State;
-use std::alloc::Global;
+use sh_means::interpreter::Interpreter;
 
 /// The next of the assignments, or what the command does.
 pub fn next_assign(
-    alloc: Global,
     place: Place,
     left: PendingAssignments,
-    stack: &mut Vec<Frame>,
-    state: &mut State,
+    shell: &mut Interpreter,
 ) -> Result<Acted, NoMemory>
-    ensures talk { IfOk result (Steps (assigning left left.ran place (context stack.old.items) (shell_of state.old)) (context stack.new.items) (shell_of state.new)) }
-    ensures costly { IfOk result (Lowers (weigh_assignments left) stack.old.items stack.new.items) }
+    ensures talk { IfOk result (Steps (assigning left left.ran place (context shell.old.stack.items) (shell_of shell.old.state)) (context shell.new.stack.items) (shell_of shell.new.state)) }
+    ensures costly { IfOk result (Lowers (weigh_assignments left) shell.old.stack.items shell.new.stack.items) }
 {
     let assignments = left.assignments.clone()?;
     match assignments.get(left.at) {
@@ -33,9 +30,13 @@ pub fn next_assign(
             let value = assignment.value.clone()?;
             let mut left = left;
             left.at += 1;
-            let aim = Aim::Value(left, name, state.env.next);
-            let wording = pending(alloc, value, Mode::Value, place, aim)?;
-            act_expand(alloc, wording, Answer::Go, stack, state)
+            let aim = Aim::Value(PendingValue {
+                left,
+                name,
+                next: shell.state.env.next,
+            });
+            let wording = pending(shell.alloc, value, Mode::Value, place, aim)?;
+            act_expand(wording, Answer::Go, shell)
         }
         None => {
             let PendingAssignments {
@@ -45,7 +46,7 @@ pub fn next_assign(
                 ran,
                 doing,
             } = left;
-            let acted = work(alloc, doing, ran, place, stack, state)?;
+            let acted = work(doing, ran, place, shell)?;
             Ok(acted)
         }
     }

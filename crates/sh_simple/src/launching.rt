@@ -16,9 +16,10 @@ use crate::special::obey;
 use rk_base::{Bytes, Errno, NoMemory, WordList};
 use rk_calls::{Answer, Call, Key, Turn};
 use sh_builtin::Builtin;
-use sh_means::control::{Acted, CommandKind, CompoundStep, Control, Frame, Undo, Wait};
+use sh_means::control::{Acted, CommandKind, CompoundStep, Control, Undo, Wait};
 use sh_means::doing::Doing;
 use sh_means::flow::{Flow, Place};
+use sh_means::interpreter::Interpreter;
 use sh_means::stack::put_undo;
 use sh_means::state::{Callee, State};
 use sh_means::steps::{end, free, paid};
@@ -65,20 +66,18 @@ fn behind_first(alloc: Global, fields: &[Bytes]) -> Result<WordList, NoMemory>
 
 // A function is called.
 fn call(
-    alloc: Global,
     callee: Callee,
     fields: &WordList,
     place: Place,
-    stack: &mut Vec<Frame>,
-    state: &mut State,
+    shell: &mut Interpreter,
 ) -> Result<Acted, NoMemory>
-    ensures talk { IfOk result (Steps (calls run (function_of callee) fields.now place (shell_of state.old) (context stack.old.items)) (context stack.new.items) (shell_of state.new)) }
+    ensures talk { IfOk result (Steps (calls run (function_of callee) fields.now place (shell_of shell.old.state) (context shell.old.stack.items)) (context shell.new.stack.items) (shell_of shell.new.state)) }
     ensures costly { IfOk result Pays }
 {
-    let positional = state.env.vars.copy_positional()?;
-    let words = behind_first(alloc, fields.as_slice())?;
-    put_undo(stack, Undo::Function(positional))?;
-    state.env.vars.set_positional(words);
+    let positional = shell.state.env.vars.copy_positional()?;
+    let words = behind_first(shell.alloc, fields.as_slice())?;
+    put_undo(&mut shell.stack, Undo::Function(positional))?;
+    shell.state.env.vars.set_positional(words);
     let inside = Place {
         loops: 0,
         returns: true,
@@ -96,36 +95,34 @@ fn status_if(ran: bool, status: u8) -> u8
 
 /// What a simple command does, once its assignments were made.
 pub(crate) fn work(
-    alloc: Global,
     doing: Box<Doing>,
     ran: bool,
     place: Place,
-    stack: &mut Vec<Frame>,
-    state: &mut State,
+    shell: &mut Interpreter,
 ) -> Result<Acted, NoMemory>
-    ensures talk { IfOk result (Steps (works run (kind_of_code doing.value.kind) doing.value.fields ran place (context stack.old.items) (shell_of state.old)) (context stack.new.items) (shell_of state.new)) }
-    ensures costly { IfOk result (Lowers 3 stack.old.items stack.new.items) }
+    ensures talk { IfOk result (Steps (works run (kind_of_code doing.value.kind) doing.value.fields ran place (context shell.old.stack.items) (shell_of shell.old.state)) (context shell.new.stack.items) (shell_of shell.new.state)) }
+    ensures costly { IfOk result (Lowers 3 shell.old.stack.items shell.new.stack.items) }
 {
     let Doing { kind, fields } = Box::into_inner(doing);
     match kind {
         CommandKind::Bare => {
-            let status = status_if(ran, state.env.status);
-            Ok(end(Flow::Normal, status, state))
+            let status = status_if(ran, shell.state.env.status);
+            Ok(end(Flow::Normal, status, &mut shell.state))
         }
         CommandKind::Special(order) => {
-            let acted = obey(alloc, order, place, state)?;
+            let acted = obey(shell.alloc, order, place, &mut shell.state)?;
             Ok(acted)
         }
         CommandKind::Calls(callee) => {
-            let acted = call(alloc, callee, &fields, place, stack, state)?;
+            let acted = call(callee, &fields, place, shell)?;
             Ok(acted)
         }
         CommandKind::Builtin => {
-            let builtin = Box::new(alloc, Builtin::start(alloc, &fields)?)?;
+            let builtin = Box::new(shell.alloc, Builtin::start(shell.alloc, &fields)?)?;
             Ok(free(Control::Waits(Wait::Builtin(builtin))))
         }
         CommandKind::Launches => {
-            let acted = launch(alloc, fields, Flow::Normal, state)?;
+            let acted = launch(shell.alloc, fields, Flow::Normal, &shell.state)?;
             Ok(acted)
         }
     }

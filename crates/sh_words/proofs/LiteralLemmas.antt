@@ -181,10 +181,10 @@ field_taken f pl k e ws w text p hs is one =
     ∙ field_given (tree.word w) text pl (aimed (aim.Fields (record f { at = f.at + 1 }) e.env.next) pl k) k e p one
     ∙ ap (λ (b : Bool). pay (turns text) (expand_words (words_from f.words.value (f.at + 1)) (f.fields ++ text ∷ []) b pl (then_means f.then pl k) k e) p) (no_more f.ran e)
 
-pub operand_taken : (m : PendingRedirects) (pl : Place) (k : Next) (e : Shell) (rs : Redirects) (x : Redirect) (r : kind.Redirect) (text : Text) (p : ℕ) → rs ≡ m.redirects.value → r ≡ redirect_kind (out-Redirect x).operator → Some (tree.redirect x) ≡ redirect_at (tree.redirects rs) m.at → IsValue text (parts_of (tree.word (out-Redirect x).operand.value)) → making m m.ran pl k e p ≡ pay (turns text) (aimed (aim.Operand (record m { at = m.at + 1 }) (out-Redirect x).descriptor r e.env.next) pl k (Value text) e) p
+pub operand_taken : (m : PendingRedirects) (pl : Place) (k : Next) (e : Shell) (rs : Redirects) (x : Redirect) (r : kind.Redirect) (text : Text) (p : ℕ) → rs ≡ m.redirects.value → r ≡ redirect_kind (out-Redirect x).operator → Some (tree.redirect x) ≡ redirect_at (tree.redirects rs) m.at → IsValue text (parts_of (tree.word (out-Redirect x).operand.value)) → making m m.ran pl k e p ≡ pay (turns text) (aimed (aim.Operand (record { left = record m { at = m.at + 1 }; descriptor = (out-Redirect x).descriptor; kind = r; next = e.env.next })) pl k (Value text) e) p
 operand_taken m pl k e rs x r text p hs hr is one =
     redirect_next m pl k e rs x r p hs hr is
-    ∙ value_given (tree.word (out-Redirect x).operand.value) text pl (aimed (aim.Operand (record m { at = m.at + 1 }) (out-Redirect x).descriptor r e.env.next) pl k) k e p one
+    ∙ value_given (tree.word (out-Redirect x).operand.value) text pl (aimed (aim.Operand (record { left = record m { at = m.at + 1 }; descriptor = (out-Redirect x).descriptor; kind = r; next = e.env.next })) pl k) k e p one
 
 -- A word that isn't is expanded.
 
@@ -193,7 +193,7 @@ word_expanded f pl k e ws w w' p hs hw is =
     word_next f pl k e ws w p hs is
     ∙ ap (λ (v : Word). expand_word mode.Fields (word_in run (tree.word v)) pl (aimed (aim.Fields (record f { at = f.at + 1 }) e.env.next) pl k) k e p) (sym hw)
 
-pub operand_expanded : (m : PendingRedirects) (pl : Place) (k : Next) (e : Shell) (rs : Redirects) (x : Redirect) (r : kind.Redirect) (w : Rc Word Global) (p : ℕ) → rs ≡ m.redirects.value → w.value ≡ (out-Redirect x).operand.value → r ≡ redirect_kind (out-Redirect x).operator → Some (tree.redirect x) ≡ redirect_at (tree.redirects rs) m.at → making m m.ran pl k e p ≡ expand_word mode.Value (word_in run (tree.word w.value)) pl (aimed (aim.Operand (record m { at = m.at + 1 }) (out-Redirect x).descriptor r e.env.next) pl k) k e p
+pub operand_expanded : (m : PendingRedirects) (pl : Place) (k : Next) (e : Shell) (rs : Redirects) (x : Redirect) (r : kind.Redirect) (w : Rc Word Global) (p : ℕ) → rs ≡ m.redirects.value → w.value ≡ (out-Redirect x).operand.value → r ≡ redirect_kind (out-Redirect x).operator → Some (tree.redirect x) ≡ redirect_at (tree.redirects rs) m.at → making m m.ran pl k e p ≡ expand_word mode.Value (word_in run (tree.word w.value)) pl (aimed (aim.Operand (record { left = record m { at = m.at + 1 }; descriptor = (out-Redirect x).descriptor; kind = r; next = e.env.next })) pl k) k e p
 operand_expanded m pl k e rs x r w p hs hw hr is =
     redirect_next m pl k e rs x r p hs hr is
-    ∙ ap (λ (v : Word). expand_word mode.Value (word_in run (tree.word v)) pl (aimed (aim.Operand (record m { at = m.at + 1 }) (out-Redirect x).descriptor r e.env.next) pl k) k e p) (sym hw)
+    ∙ ap (λ (v : Word). expand_word mode.Value (word_in run (tree.word v)) pl (aimed (aim.Operand (record { left = record m { at = m.at + 1 }; descriptor = (out-Redirect x).descriptor; kind = r; next = e.env.next })) pl k) k e p) (sym hw)

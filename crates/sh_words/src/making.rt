@@ -23,18 +23,18 @@ use sh_ast::{Assignments, RedirectOperator, Redirects};
 use sh_expand::Mode;
 use sh_means::control::{
     Acted, Aim, CompoundStep, Continuation, Control, Frame, Made, PendingAssignments,
-    PendingRedirects, SimpleStep, Undo, Wait,
+    PendingOperand, PendingRedirects, SimpleStep, Undo, Wait,
 };
 use sh_means::doing::Doing;
 use sh_means::expanding::act_expand;
 use sh_means::expansion::pending;
 use sh_means::flow::{Flow, Place};
+use sh_means::interpreter::Interpreter;
 use sh_means::stack::{put_continuation, put_undo};
 use sh_means::state::State;
 use sh_means::steps::{end, free};
 use sh_redirect::{DescriptorTable, Redirect, Redirecting};
 use sh_vars::{Env, Vars};
-use std::alloc::Global;
 use std::rc::Rc;
 
 // The map is put back, where there are redirections.
@@ -106,26 +106,36 @@ fn for_its_time(
     Ok(())
 }
 
-// A simple command whose redirections were made.
-fn made_simple(
-    place: Place,
+// The redirections that were made, the map before them, and whether a substitution took place so far.
+#[derive(Drop)]
+struct Redirected {
     redirects: Rc<Redirects>,
     before: Rc<DescriptorTable>,
     ran: bool,
+}
+
+// A simple command whose redirections were made.
+fn made_simple(
+    place: Place,
+    redirected: Redirected,
     assignments: Rc<Assignments>,
     doing: Box<Doing>,
-    stack: &mut Vec<Frame>,
-    state: &State,
+    shell: &mut Interpreter,
 ) -> Result<Control, NoMemory>
-    ensures talk { IfOk result (Goes (made_go (mades.Simple assignments doing) (named (redirects_from redirects.value 0)) before.value place (context stack.old.items) ran (shell_of state.now)) (context stack.new.items) (shell_of state.now)) }
-    ensures weight { IfOk result (λ c. weigh c + weigh_all stack.new.items < weigh_made (mades.Simple assignments doing) + weigh_all stack.old.items) }
+    ensures talk { IfOk result (Goes (made_go (mades.Simple assignments doing) (named (redirects_from redirected.redirects.value 0)) redirected.before.value place (context shell.old.stack.items) redirected.ran (shell_of shell.old.state)) (context shell.new.stack.items) (shell_of shell.new.state)) }
+    ensures weight { IfOk result (λ c. weigh c + weigh_all shell.new.stack.items < weigh_made (mades.Simple assignments doing) + weigh_all shell.old.stack.items) }
 {
+    let Redirected {
+        redirects,
+        before,
+        ran,
+    } = redirected;
     let plain = doing.kind.is_plain();
     let exported = doing.kind.exports();
     let keeps = doing.kind.keeps();
-    put_continuation(stack, Continuation::Watch(place))?;
-    unless_kept(keeps, redirects, before, stack)?;
-    for_its_time(plain, &assignments, &state.env.vars, stack)?;
+    put_continuation(&mut shell.stack, Continuation::Watch(place))?;
+    unless_kept(keeps, redirects, before, &mut shell.stack)?;
+    for_its_time(plain, &assignments, &shell.state.env.vars, &mut shell.stack)?;
     Ok(Control::SimpleStep(SimpleStep::Assign(
         place,
         PendingAssignments {
@@ -142,11 +152,10 @@ fn made_simple(
 fn all_made(
     place: Place,
     left: PendingRedirects,
-    stack: &mut Vec<Frame>,
-    state: &State,
+    shell: &mut Interpreter,
 ) -> Result<Control, NoMemory>
-    ensures talk { IfOk result (Goes (when_made left place (context stack.old.items) left.ran (shell_of state.now)) (context stack.new.items) (shell_of state.now)) }
-    ensures weight { IfOk result (λ c. weigh c + weigh_all stack.new.items < weigh_made left.made + weigh_all stack.old.items) }
+    ensures talk { IfOk result (Goes (when_made left place (context shell.old.stack.items) left.ran (shell_of shell.old.state)) (context shell.new.stack.items) (shell_of shell.new.state)) }
+    ensures weight { IfOk result (λ c. weigh c + weigh_all shell.new.stack.items < weigh_made left.made + weigh_all shell.old.stack.items) }
 {
     let PendingRedirects {
         redirects,
@@ -157,20 +166,16 @@ fn all_made(
     } = left;
     match made {
         Made::Simple(assignments, doing) => {
-            let control = made_simple(
-                place,
+            let redirected = Redirected {
                 redirects,
                 before,
                 ran,
-                assignments,
-                doing,
-                stack,
-                state,
-            )?;
+            };
+            let control = made_simple(place, redirected, assignments, doing, shell)?;
             Ok(control)
         }
         Made::Compound(body) => {
-            put_map_back_later(redirects, before, stack)?;
+            put_map_back_later(redirects, before, &mut shell.stack)?;
             Ok(Control::CompoundStep(CompoundStep::Compound(place, body)))
         }
     }
@@ -197,42 +202,40 @@ pub(crate) fn ran_since(ran: bool, next: u64, state: &State) -> bool
 
 /// The operand of a redirection was expanded.
 pub(crate) fn redirect(
-    alloc: Global,
     place: Place,
-    left: PendingRedirects,
-    descriptor: u8,
-    kind: Redirect,
-    next: u64,
-    operand: Bytes,
-    state: &State,
+    operand: PendingOperand,
+    text: Bytes,
+    shell: &Interpreter,
 ) -> Result<Control, NoMemory>
-    ensures talk { IfOk result (λ c. (k : Next) → Goes (aimed (aims.Operand left descriptor kind next) place k (Value operand) (shell_of state.now)) k (shell_of state.now) c) }
-    ensures weight { IfOk result (λ c. weigh c ≤ weigh_redirects left + 3) }
+    ensures talk { IfOk result (λ c. (k : Next) → Goes (aimed (aims.Operand operand) place k (Value text) (shell_of shell.now.state)) k (shell_of shell.now.state) c) }
+    ensures weight { IfOk result (λ c. weigh c ≤ weigh_redirects operand.left + 3) }
 {
+    let PendingOperand {
+        left,
+        descriptor,
+        kind,
+        next,
+    } = operand;
     let mut left = left;
-    left.ran = ran_since(left.ran, next, state);
-    let started = Redirecting::start(alloc, kind, descriptor, operand);
-    let redirecting = Box::new(alloc, started)?;
+    left.ran = ran_since(left.ran, next, &shell.state);
+    let started = Redirecting::start(shell.alloc, kind, descriptor, text);
+    let redirecting = Box::new(shell.alloc, started)?;
     Ok(Control::Waits(Wait::Redirects(place, left, redirecting)))
 }
 
 // A redirection whose operand is this text, whatever the state is.
 fn redirect_literal(
-    alloc: Global,
     place: Place,
-    left: PendingRedirects,
-    descriptor: u8,
-    kind: Redirect,
-    operand: &Bytes,
-    state: &State,
+    operand: PendingOperand,
+    text: &Bytes,
+    shell: &Interpreter,
 ) -> Result<Acted, NoMemory>
-    ensures talk { IfOk result (λ t. (k : Next) → Steps (pay (turns operand.now) (aimed (aims.Operand left descriptor kind (shell_of state.now).env.next) place k (Value operand.now) (shell_of state.now))) k (shell_of state.now) t) }
-    ensures costly { IfOk result (Sinks (weigh_redirects left + 4)) }
+    ensures talk { IfOk result (λ t. (k : Next) → Steps (pay (turns text.now) (aimed (aims.Operand operand) place k (Value text.now) (shell_of shell.now.state))) k (shell_of shell.now.state) t) }
+    ensures costly { IfOk result (Sinks (weigh_redirects operand.left + 4)) }
 {
-    let cost = turns(operand.as_slice());
-    let operand = operand.copy()?;
-    let next = state.env.next;
-    let control = redirect(alloc, place, left, descriptor, kind, next, operand, state)?;
+    let cost = turns(text.as_slice());
+    let text = text.copy()?;
+    let control = redirect(place, operand, text, shell)?;
     Ok(Acted {
         turn: Turn::More(cost),
         control,
@@ -242,14 +245,12 @@ fn redirect_literal(
 /// The next of the redirections, or what they were made for. Where its operand is one text whatever the state is, no
 /// expansion begins.
 pub fn next_redirect(
-    alloc: Global,
     place: Place,
     left: PendingRedirects,
-    stack: &mut Vec<Frame>,
-    state: &mut State,
+    shell: &mut Interpreter,
 ) -> Result<Acted, NoMemory>
-    ensures talk { IfOk result (Steps (making left left.ran place (context stack.old.items) (shell_of state.old)) (context stack.new.items) (shell_of state.new)) }
-    ensures costly { IfOk result (Lowers (weigh_redirects left) stack.old.items stack.new.items) }
+    ensures talk { IfOk result (Steps (making left left.ran place (context shell.old.stack.items) (shell_of shell.old.state)) (context shell.new.stack.items) (shell_of shell.new.state)) }
+    ensures costly { IfOk result (Lowers (weigh_redirects left) shell.old.stack.items shell.new.stack.items) }
 {
     let redirects = left.redirects.clone()?;
     match redirects.get(left.at) {
@@ -257,16 +258,22 @@ pub fn next_redirect(
             let mut left = left;
             left.at += 1;
             let kind = kind_of(r.operator);
+            let operand = PendingOperand {
+                left,
+                descriptor: r.descriptor,
+                kind,
+                next: shell.state.env.next,
+            };
             if let Some(text) = value(&r.operand) {
-                return redirect_literal(alloc, place, left, r.descriptor, kind, text, state);
+                return redirect_literal(place, operand, text, shell);
             }
             let word = r.operand.clone()?;
-            let aim = Aim::Operand(left, r.descriptor, kind, state.env.next);
-            let wording = pending(alloc, word, Mode::Value, place, aim)?;
-            act_expand(alloc, wording, Answer::Go, stack, state)
+            let aim = Aim::Operand(operand);
+            let wording = pending(shell.alloc, word, Mode::Value, place, aim)?;
+            act_expand(wording, Answer::Go, shell)
         }
         None => {
-            let control = all_made(place, left, stack, state)?;
+            let control = all_made(place, left, shell)?;
             Ok(free(control))
         }
     }
@@ -282,14 +289,9 @@ fn refusal_flow(made: &Made) -> Flow
 }
 
 // A redirection was refused, which was told.
-fn refused(
-    place: Place,
-    left: PendingRedirects,
-    stack: &mut Vec<Frame>,
-    state: &mut State,
-) -> Result<Acted, NoMemory>
-    ensures talk { IfOk result (Steps (when_refused left place (context stack.old.items) (shell_of state.old)) (context stack.new.items) (shell_of state.new)) }
-    ensures costly { IfOk result (Lowers 3 stack.old.items stack.new.items) }
+fn refused(place: Place, left: PendingRedirects, shell: &mut Interpreter) -> Result<Acted, NoMemory>
+    ensures talk { IfOk result (Steps (when_refused left place (context shell.old.stack.items) (shell_of shell.old.state)) (context shell.new.stack.items) (shell_of shell.new.state)) }
+    ensures costly { IfOk result (Lowers 3 shell.old.stack.items shell.new.stack.items) }
 {
     let flow = refusal_flow(&left.made);
     let PendingRedirects {
@@ -299,9 +301,9 @@ fn refused(
         ran: _,
         made: _,
     } = left;
-    put_continuation(stack, Continuation::Watch(place))?;
-    put_undo(stack, Undo::Redirected(redirects, before))?;
-    Ok(end(flow, 1, state))
+    put_continuation(&mut shell.stack, Continuation::Watch(place))?;
+    put_undo(&mut shell.stack, Undo::Redirected(redirects, before))?;
+    Ok(end(flow, 1, &mut shell.state))
 }
 
 // A redirection's next turn. A map that other states share is copied first.
@@ -325,14 +327,18 @@ pub fn resume_redirection(
     left: PendingRedirects,
     r: Box<Redirecting>,
     answer: Answer,
-    stack: &mut Vec<Frame>,
-    state: &mut State,
+    shell: &mut Interpreter,
 ) -> Result<Acted, NoMemory>
-    ensures talk { IfOk result (Steps (redirecting left place (context stack.old.items) r.value answer (shell_of state.old)) (context stack.new.items) (shell_of state.new)) }
-    ensures costly { IfOk result (Lowers (weigh_redirects left + 3) stack.old.items stack.new.items) }
+    ensures talk { IfOk result (Steps (redirecting left place (context shell.old.stack.items) r.value answer (shell_of shell.old.state)) (context shell.new.stack.items) (shell_of shell.new.state)) }
+    ensures costly { IfOk result (Lowers (weigh_redirects left + 3) shell.old.stack.items shell.new.stack.items) }
 {
     let mut r = r;
-    let turn = next_turn(&mut r, &mut state.descriptors, &state.env, answer)?;
+    let turn = next_turn(
+        &mut r,
+        &mut shell.state.descriptors,
+        &shell.state.env,
+        answer,
+    )?;
     match turn {
         sh_redirect::Turn::Ask(call, cost) => Ok(Acted {
             turn: Turn::Ask(call, cost),
@@ -340,7 +346,7 @@ pub fn resume_redirection(
         }),
         sh_redirect::Turn::Made => Ok(free(Control::SimpleStep(SimpleStep::Make(place, left)))),
         sh_redirect::Turn::Refused => {
-            let acted = refused(place, left, stack, state)?;
+            let acted = refused(place, left, shell)?;
             Ok(acted)
         }
     }

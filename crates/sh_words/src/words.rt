@@ -23,13 +23,14 @@ use rk_calls::{Answer, Turn, turns};
 use sh_ast::{CaseItems, SimpleCommand};
 use sh_expand::{Expanded, Mode};
 use sh_means::control::{
-    Acted, Aim, CompoundStep, Control, Frame, Made, PendingAssignments, PendingCase, PendingFields,
-    PendingRedirects, PendingWord, SimpleStep, Then, Wait,
+    Acted, Aim, CompoundStep, Control, Made, PendingCase, PendingFields, PendingRedirects,
+    PendingValue, PendingWord, SimpleStep, Then,
 };
 use sh_means::doing::Doing;
 use sh_means::expanding::act_expand;
 use sh_means::expansion::{over_fields, pending};
 use sh_means::flow::{Flow, Place};
+use sh_means::interpreter::Interpreter;
 use sh_means::state::State;
 use sh_means::steps::{free, refuse};
 use sh_pattern::matches;
@@ -39,21 +40,20 @@ use std::rc::Rc;
 
 // The redirections of a simple command, whose words gave these fields, are made first.
 fn made_first(
-    alloc: Global,
     command: Rc<SimpleCommand>,
     fields: WordList,
     ran: bool,
-    state: &State,
+    shell: &Interpreter,
 ) -> Result<PendingRedirects, NoMemory>
-    ensures talk { IfOk result (λ m. (place : Places) (k : Next) (p : ℕ) → then_means (thens.Simple command) place k fields ran (shell_of state.now) p ≡ making m m.ran place k (shell_of state.now) p) }
+    ensures talk { IfOk result (λ m. (place : Places) (k : Next) (p : ℕ) → then_means (thens.Simple command) place k fields ran (shell_of shell.now.state) p ≡ making m m.ran place k (shell_of shell.now.state) p) }
     ensures weight { IfOk result (λ m. weigh_redirects m ≡ weigh_command command.value) }
 {
-    let kind = kind_of(alloc, &fields, &state.functions)?;
+    let kind = kind_of(shell.alloc, &fields, &shell.state.functions)?;
     let redirects = command.redirects.clone()?;
     let assignments = command.assignments.clone()?;
-    let before = state.descriptors.clone()?;
+    let before = shell.state.descriptors.clone()?;
     let doing = Doing { kind, fields };
-    let boxed = Box::new(alloc, doing)?;
+    let boxed = Box::new(shell.alloc, doing)?;
     Ok(PendingRedirects {
         redirects,
         at: 0,
@@ -65,23 +65,21 @@ fn made_first(
 
 // What is done once words have given their fields.
 fn then(
-    alloc: Global,
     place: Place,
     then: Then,
     fields: WordList,
     ran: bool,
-    stack: &mut Vec<Frame>,
-    state: &mut State,
+    shell: &mut Interpreter,
 ) -> Result<Acted, NoMemory>
-    ensures talk { IfOk result (Steps (then_means then place (context stack.old.items) fields ran (shell_of state.old)) (context stack.new.items) (shell_of state.new)) }
-    ensures costly { IfOk result (Lowers (weigh_then then) stack.old.items stack.new.items) }
+    ensures talk { IfOk result (Steps (then_means then place (context shell.old.stack.items) fields ran (shell_of shell.old.state)) (context shell.new.stack.items) (shell_of shell.new.state)) }
+    ensures costly { IfOk result (Lowers (weigh_then then) shell.old.stack.items shell.new.stack.items) }
 {
     match then {
         Then::Simple(command) => {
-            let left = made_first(alloc, command, fields, ran, state)?;
-            next_redirect(alloc, place, left, stack, state)
+            let left = made_first(command, fields, ran, shell)?;
+            next_redirect(place, left, shell)
         }
-        Then::For(name, body) => Ok(free(over_fields(place, name, fields, body, state))),
+        Then::For(name, body) => Ok(free(over_fields(place, name, fields, body, &mut shell.state))),
     }
 }
 
@@ -101,14 +99,12 @@ fn push_field(place: Place, left: PendingFields, text: &Bytes) -> Result<Acted, 
 
 /// The next of the words. Where it is one field whatever the state is, no expansion begins.
 pub fn next_word(
-    alloc: Global,
     place: Place,
     left: PendingFields,
-    stack: &mut Vec<Frame>,
-    state: &mut State,
+    shell: &mut Interpreter,
 ) -> Result<Acted, NoMemory>
-    ensures talk { IfOk result (Steps (fielding left place (context stack.old.items) (shell_of state.old)) (context stack.new.items) (shell_of state.new)) }
-    ensures costly { IfOk result (Lowers (weigh_fields left) stack.old.items stack.new.items) }
+    ensures talk { IfOk result (Steps (fielding left place (context shell.old.stack.items) (shell_of shell.old.state)) (context shell.new.stack.items) (shell_of shell.new.state)) }
+    ensures costly { IfOk result (Lowers (weigh_fields left) shell.old.stack.items shell.new.stack.items) }
 {
     let words = left.words.clone()?;
     match words.get(left.at) {
@@ -119,9 +115,9 @@ pub fn next_word(
                 return push_field(place, left, text);
             }
             let word = word.clone()?;
-            let aim = Aim::Fields(left, state.env.next);
-            let wording = pending(alloc, word, Mode::Fields, place, aim)?;
-            act_expand(alloc, wording, Answer::Go, stack, state)
+            let aim = Aim::Fields(left, shell.state.env.next);
+            let wording = pending(shell.alloc, word, Mode::Fields, place, aim)?;
+            act_expand(wording, Answer::Go, shell)
         }
         None => {
             let PendingFields {
@@ -131,7 +127,7 @@ pub fn next_word(
                 ran,
                 then: aim,
             } = left;
-            then(alloc, place, aim, fields, ran, stack, state)
+            then(place, aim, fields, ran, shell)
         }
     }
 }
@@ -173,16 +169,15 @@ fn push_all(fields: &mut WordList, more: &[Bytes]) -> Result<(), NoMemory>
 
 // One of several words gave these fields.
 fn take_fields(
-    alloc: Global,
     left: PendingFields,
     next: u64,
     expanded: Expanded,
-    state: &State,
+    shell: &Interpreter,
 ) -> Result<PendingFields, NoMemory>
-    ensures talk { IfOk result (λ more. (place : Places) (k : Next) (p : ℕ) → aimed (aims.Fields left next) place k expanded (shell_of state.now) p ≡ fielding more place k (shell_of state.now) p) }
+    ensures talk { IfOk result (λ more. (place : Places) (k : Next) (p : ℕ) → aimed (aims.Fields left next) place k expanded (shell_of shell.now.state) p ≡ fielding more place k (shell_of shell.now.state) p) }
     ensures weight { IfOk result (λ more. weigh_fields more ≡ weigh_fields left) }
 {
-    let more = fields_of(alloc, expanded)?;
+    let more = fields_of(shell.alloc, expanded)?;
     let PendingFields {
         words,
         at,
@@ -190,7 +185,7 @@ fn take_fields(
         ran,
         then,
     } = left;
-    let ran = ran_since(ran, next, state);
+    let ran = ran_since(ran, next, &shell.state);
     let mut fields = fields;
     push_all(&mut fields, more.as_slice())?;
     Ok(PendingFields {
@@ -222,15 +217,14 @@ fn set(vars: &mut Vars, exported: bool, name: &[u8], value: &[u8]) -> Result<boo
 fn assign(
     alloc: Global,
     place: Place,
-    left: PendingAssignments,
-    name: &Bytes,
-    next: u64,
+    left: PendingValue,
     value: &Bytes,
     state: &mut State,
 ) -> Result<Acted, NoMemory>
-    ensures talk { IfOk result (λ t. (k : Next) → Steps (aimed (aims.Value left name.now next) place k (Value value.now) (shell_of state.old)) k (shell_of state.new) t) }
-    ensures costly { IfOk result (Sinks (weigh_assignments left + 1)) }
+    ensures talk { IfOk result (λ t. (k : Next) → Steps (aimed (aims.Value left) place k (Value value.now) (shell_of state.old)) k (shell_of state.new) t) }
+    ensures costly { IfOk result (Sinks (weigh_assignments left.left + 1)) }
 {
+    let PendingValue { left, name, next } = left;
     let mut left = left;
     left.ran = ran_since(left.ran, next, state);
     if !set(
@@ -281,37 +275,35 @@ fn match_pattern(place: Place, casing: PendingCase, pattern: &Bytes) -> Result<C
 
 // What a word gave is used for its aim.
 fn deliver_to(
-    alloc: Global,
     place: Place,
     aim: Aim,
     expanded: Expanded,
-    stack: &mut Vec<Frame>,
-    state: &mut State,
+    shell: &mut Interpreter,
 ) -> Result<Acted, NoMemory>
-    ensures talk { IfOk result (Steps (aimed aim place (context stack.old.items) expanded (shell_of state.old)) (context stack.new.items) (shell_of state.new)) }
-    ensures costly { IfOk result (Lowers (weigh_aim aim) stack.old.items stack.new.items) }
+    ensures talk { IfOk result (Steps (aimed aim place (context shell.old.stack.items) expanded (shell_of shell.old.state)) (context shell.new.stack.items) (shell_of shell.new.state)) }
+    ensures costly { IfOk result (Lowers (weigh_aim aim) shell.old.stack.items shell.new.stack.items) }
 {
     match aim {
         Aim::Fields(left, next) => {
-            let left = take_fields(alloc, left, next, expanded, state)?;
-            next_word(alloc, place, left, stack, state)
+            let left = take_fields(left, next, expanded, shell)?;
+            next_word(place, left, shell)
         }
-        Aim::Operand(left, descriptor, kind, next) => {
-            let operand = value_of(alloc, expanded)?;
-            let control = redirect(alloc, place, left, descriptor, kind, next, operand, state)?;
+        Aim::Operand(operand) => {
+            let text = value_of(shell.alloc, expanded)?;
+            let control = redirect(place, operand, text, shell)?;
             Ok(free(control))
         }
-        Aim::Value(left, name, next) => {
-            let value = value_of(alloc, expanded)?;
-            let acted = assign(alloc, place, left, &name, next, &value, state)?;
+        Aim::Value(left) => {
+            let value = value_of(shell.alloc, expanded)?;
+            let acted = assign(shell.alloc, place, left, &value, &mut shell.state)?;
             Ok(acted)
         }
         Aim::Subject(items) => {
-            let value = value_of(alloc, expanded)?;
+            let value = value_of(shell.alloc, expanded)?;
             Ok(free(look(place, items, value)))
         }
         Aim::Pattern(casing) => {
-            let pattern = value_of(alloc, expanded)?;
+            let pattern = value_of(shell.alloc, expanded)?;
             let control = match_pattern(place, casing, &pattern)?;
             Ok(free(control))
         }
@@ -320,14 +312,12 @@ fn deliver_to(
 
 /// What a word gave is used as it was meant.
 pub fn deliver(
-    alloc: Global,
     wording: Box<PendingWord>,
     expanded: Expanded,
-    stack: &mut Vec<Frame>,
-    state: &mut State,
+    shell: &mut Interpreter,
 ) -> Result<Acted, NoMemory>
-    ensures talk { IfOk result (Steps (aimed wording.value.aim wording.value.place (context stack.old.items) expanded (shell_of state.old)) (context stack.new.items) (shell_of state.new)) }
-    ensures costly { IfOk result (Lowers (weigh_aim wording.value.aim) stack.old.items stack.new.items) }
+    ensures talk { IfOk result (Steps (aimed wording.value.aim wording.value.place (context shell.old.stack.items) expanded (shell_of shell.old.state)) (context shell.new.stack.items) (shell_of shell.new.state)) }
+    ensures costly { IfOk result (Lowers (weigh_aim wording.value.aim) shell.old.stack.items shell.new.stack.items) }
 {
     let expanded_word = Box::into_inner(wording);
     let PendingWord {
@@ -336,6 +326,6 @@ pub fn deliver(
         place,
         aim,
     } = expanded_word;
-    let acted = deliver_to(alloc, place, aim, expanded, stack, state)?;
+    let acted = deliver_to(place, aim, expanded, shell)?;
     Ok(acted)
 }

@@ -7,12 +7,12 @@ use Rattle.sh_compound.proofs.commands.act_one.Goals as goal
 
 pub returns-in_ok-acted-in-Some-clause-talk : goal.returns-in_ok-acted-in-Some-clause-talk
 returns-in_ok-acted-in-Some-clause-talk c =
-    λ p. first_some c.args.list.now (tree.command c.in-Some.command.now) c.args.at c.args.place (context c.args.stack.now.items) (shell_of c.args.state.now) p c.in-Some.ensures ∙ c.in_ok-acted-in-Some.ensures.talk p
+    λ p. first_some c.args.list.now (tree.command c.in-Some.command.now) c.args.at c.args.place (context c.args.shell.now.stack.items) (shell_of c.args.shell.now.state) p c.in-Some.ensures ∙ c.in_ok-acted-in-Some.ensures.talk p
 
 pub returns-in-None-clause-talk : goal.returns-in-None-clause-talk
 returns-in-None-clause-talk c =
-    let k = context c.args.stack.now.items in
-    λ p. first_none c.args.list.now c.args.at c.args.place k (shell_of c.args.state.now) p c.in-None.ensures ∙ c.free.ensures.talk k (shell_of c.args.state.now) p
+    let k = context c.args.shell.now.stack.items in
+    λ p. first_none c.args.list.now c.args.at c.args.place k (shell_of c.args.shell.now.state) p c.in-None.ensures ∙ c.free.ensures.talk k (shell_of c.args.shell.now.state) p
 
 pub returns-in_ok-acted-in-Some-clause-costly : goal.returns-in_ok-acted-in-Some-clause-costly
 returns-in_ok-acted-in-Some-clause-costly c = λ m le. c.in_ok-acted-in-Some.ensures.costly m _

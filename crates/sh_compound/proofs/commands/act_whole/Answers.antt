@@ -6,5 +6,5 @@ use Rattle.sh_compound.proofs.commands.act_whole.Goals as goal
 
 pub returns-clause-talk : goal.returns-clause-talk
 returns-clause-talk c =
-    λ p. whole_begun c.args.list.value c.deref.result.now c.args.place (context c.args.stack.now.items) (shell_of c.args.state.now) (shell_of c.clear_if_empty.new.state) p c.deref.ensures c.clear_if_empty.ensures
+    λ p. whole_begun c.args.list.value c.deref.result.now c.args.place (context c.args.shell.now.stack.items) (shell_of c.args.shell.now.state) (shell_of c.clear_if_empty.new.state) p c.deref.ensures c.clear_if_empty.ensures
     ∙ c.in_ok-acted.ensures.talk p

@@ -13,33 +13,33 @@ use Rattle.sh_compound.proofs.compounds.act_compound.Goals as goal
 
 pub returns-in_ok-list-in-Group-clause-talk : goal.returns-in_ok-list-in-Group-clause-talk
 returns-in_ok-list-in-Group-clause-talk c =
-    λ p. ap (λ (t : tree.CompoundTree). compound_in run t c.args.place (shell_of c.args.state.now) (context c.args.stack.now.items) p) (ap (λ (x : Compound). tree.compound x) c.in-Group.is ∙ a_group_is c.in-Group.list)
-    ∙ group_entered c.in-Group.list.value c.in_ok-list-in-Group.list c.args.place (context c.args.stack.now.items) (shell_of c.args.state.now) p c.in_ok-list-in-Group.ensures.cases
+    λ p. ap (λ (t : tree.CompoundTree). compound_in run t c.args.place (shell_of c.args.shell.now.state) (context c.args.shell.now.stack.items) p) (ap (λ (x : Compound). tree.compound x) c.in-Group.is ∙ a_group_is c.in-Group.list)
+    ∙ group_entered c.in-Group.list.value c.in_ok-list-in-Group.list c.args.place (context c.args.shell.now.stack.items) (shell_of c.args.shell.now.state) p c.in_ok-list-in-Group.ensures.cases
 
 pub returns-in_ok-control-in-Subshell-clause-talk : goal.returns-in_ok-control-in-Subshell-clause-talk
 returns-in_ok-control-in-Subshell-clause-talk c =
-    λ p. ap (λ (t : tree.CompoundTree). compound_in run t c.args.place (shell_of c.args.state.now) (context c.args.stack.now.items) p) (ap (λ (x : Compound). tree.compound x) c.in-Subshell.is ∙ a_subshell_is c.in-Subshell.list)
+    λ p. ap (λ (t : tree.CompoundTree). compound_in run t c.args.place (shell_of c.args.shell.now.state) (context c.args.shell.now.stack.items) p) (ap (λ (x : Compound). tree.compound x) c.in-Subshell.is ∙ a_subshell_is c.in-Subshell.list)
     ∙ c.in_ok-control-in-Subshell.ensures.talk p
 
 pub returns-in_ok-control-in-For-clause-talk : goal.returns-in_ok-control-in-For-clause-talk
 returns-in_ok-control-in-For-clause-talk c =
-    λ p. ap (λ (t : tree.CompoundTree). compound_in run t c.args.place (shell_of c.args.state.now) (context c.args.stack.now.items) p) (ap (λ (x : Compound). tree.compound x) c.in-For.is ∙ a_for_is c.in-For.name c.in-For.words c.in-For.body)
-    ∙ c.in_ok-control-in-For.ensures.talk (context c.args.stack.now.items) p
+    λ p. ap (λ (t : tree.CompoundTree). compound_in run t c.args.place (shell_of c.args.shell.now.state) (context c.args.shell.now.stack.items) p) (ap (λ (x : Compound). tree.compound x) c.in-For.is ∙ a_for_is c.in-For.name c.in-For.words c.in-For.body)
+    ∙ c.in_ok-control-in-For.ensures.talk (context c.args.shell.now.stack.items) p
 
 pub returns-in_ok-control-in-Case-clause-talk : goal.returns-in_ok-control-in-Case-clause-talk
 returns-in_ok-control-in-Case-clause-talk c =
-    λ p. ap (λ (t : tree.CompoundTree). compound_in run t c.args.place (shell_of c.args.state.now) (context c.args.stack.now.items) p) (ap (λ (x : Compound). tree.compound x) c.in-Case.is ∙ a_case_is c.in-Case.word c.in-Case.items)
-    ∙ c.in_ok-control-in-Case.ensures.talk (context c.args.stack.now.items) (shell_of c.args.state.now) p
+    λ p. ap (λ (t : tree.CompoundTree). compound_in run t c.args.place (shell_of c.args.shell.now.state) (context c.args.shell.now.stack.items) p) (ap (λ (x : Compound). tree.compound x) c.in-Case.is ∙ a_case_is c.in-Case.word c.in-Case.items)
+    ∙ c.in_ok-control-in-Case.ensures.talk (context c.args.shell.now.stack.items) (shell_of c.args.shell.now.state) p
 
 pub returns-in_ok-otherwise-in-If-clause-talk : goal.returns-in_ok-otherwise-in-If-clause-talk
 returns-in_ok-otherwise-in-If-clause-talk c =
-    λ p. ap (λ (t : tree.CompoundTree). compound_in run t c.args.place (shell_of c.args.state.now) (context c.args.stack.now.items) p) (ap (λ (x : Compound). tree.compound x) c.in-If.is ∙ an_if_is c.in-If.branches c.in-If.otherwise)
-    ∙ if_entered c.in-If.branches.value c.in_ok-branches-in-If.branches c.in-If.otherwise.value c.in_ok-otherwise-in-If.otherwise c.args.place (context c.args.stack.now.items) (shell_of c.args.state.now) p c.in_ok-branches-in-If.ensures.cases c.in_ok-otherwise-in-If.ensures.cases
+    λ p. ap (λ (t : tree.CompoundTree). compound_in run t c.args.place (shell_of c.args.shell.now.state) (context c.args.shell.now.stack.items) p) (ap (λ (x : Compound). tree.compound x) c.in-If.is ∙ an_if_is c.in-If.branches c.in-If.otherwise)
+    ∙ if_entered c.in-If.branches.value c.in_ok-branches-in-If.branches c.in-If.otherwise.value c.in_ok-otherwise-in-If.otherwise c.args.place (context c.args.shell.now.stack.items) (shell_of c.args.shell.now.state) p c.in_ok-branches-in-If.ensures.cases c.in_ok-otherwise-in-If.ensures.cases
 
 pub returns-in_ok-control-in-Loop-clause-talk : goal.returns-in_ok-control-in-Loop-clause-talk
 returns-in_ok-control-in-Loop-clause-talk c =
-    λ p. ap (λ (t : tree.CompoundTree). compound_in run t c.args.place (shell_of c.args.state.now) (context c.args.stack.now.items) p) (ap (λ (x : Compound). tree.compound x) c.in-Loop.is ∙ a_loop_is c.in-Loop.kind c.in-Loop.condition c.in-Loop.body)
-    ∙ c.in_ok-control-in-Loop.ensures.talk (context c.args.stack.now.items) (shell_of c.args.state.now) p
+    λ p. ap (λ (t : tree.CompoundTree). compound_in run t c.args.place (shell_of c.args.shell.now.state) (context c.args.shell.now.stack.items) p) (ap (λ (x : Compound). tree.compound x) c.in-Loop.is ∙ a_loop_is c.in-Loop.kind c.in-Loop.condition c.in-Loop.body)
+    ∙ c.in_ok-control-in-Loop.ensures.talk (context c.args.shell.now.stack.items) (shell_of c.args.shell.now.state) p
 
 pub returns-in_ok-list-in-Group-clause-weight : goal.returns-in_ok-list-in-Group-clause-weight
 returns-in_ok-list-in-Group-clause-weight c = omega (arith, ap weigh_compound c.in-Group.is, group_weighs c.in-Group.list)

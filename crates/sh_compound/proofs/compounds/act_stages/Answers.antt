@@ -11,21 +11,21 @@ overflow_add-next c = let small : c.args.at < 9223372036854775808 = command_smal
 
 pub returns-in-None-clause-talk : goal.returns-in-None-clause-talk
 returns-in-None-clause-talk c =
-    let k = context c.args.stack.now.items in
-    let e = shell_of c.args.state.now in
+    let k = context c.args.shell.now.stack.items in
+    let e = shell_of c.args.shell.now.state in
     λ p. stages_over c.args.list.value c.deref.result.now c.args.at c.args.input c.args.place k e p c.deref.ensures c.in-None.ensures ∙ c.free.ensures.talk k e p
 
 pub returns-in-Some-get-clause-talk : goal.returns-in-Some-get-clause-talk
 returns-in-Some-get-clause-talk c =
     let l = c.args.list.value in
-    λ p. stage_more c.args.list _ _ c.args.at c.args.input c.args.place (context c.args.stack.now.items) (shell_of c.args.state.now) p (found l c.deref.result.now _ c.args.at c.args.at c.deref.ensures refl c.in-Some.ensures) (found l c.deref-in-Some.result.now _ (c.args.at + 1) (c.args.at + 1) c.deref-in-Some.ensures refl c.in-Some-get.ensures)
+    λ p. stage_more c.args.list _ _ c.args.at c.args.input c.args.place (context c.args.shell.now.stack.items) (shell_of c.args.shell.now.state) p (found l c.deref.result.now _ c.args.at c.args.at c.deref.ensures refl c.in-Some.ensures) (found l c.deref-in-Some.result.now _ (c.args.at + 1) (c.args.at + 1) c.deref-in-Some.ensures refl c.in-Some-get.ensures)
 
 pub returns-in_ok-read_from-in-None-get-clause-talk : goal.returns-in_ok-read_from-in-None-get-clause-talk
 returns-in_ok-read_from-in-None-get-clause-talk c =
     let l = c.args.list.value in
     let k' = context c.put_undo.new.stack.items in
     let e' = shell_of c.read_from.new.state in
-    λ p. stage_last c.args.list _ c.args.at c.in_ok-saved-in-None-get.saved c.args.input c.args.place (context c.args.stack.now.items) k' (shell_of c.args.state.now) e' p (found l c.deref.result.now _ c.args.at c.args.at c.deref.ensures refl c.in-Some.ensures) (found l c.deref-in-Some.result.now _ (c.args.at + 1) (c.args.at + 1) c.deref-in-Some.ensures refl c.in-None-get.ensures) c.in_ok-saved-in-None-get.ensures c.in_ok-put_undo-in-None-get.ensures.talk c.in_ok-read_from-in-None-get.ensures
+    λ p. stage_last c.args.list _ c.args.at c.in_ok-saved-in-None-get.saved c.args.input c.args.place (context c.args.shell.now.stack.items) k' (shell_of c.args.shell.now.state) e' p (found l c.deref.result.now _ c.args.at c.args.at c.deref.ensures refl c.in-Some.ensures) (found l c.deref-in-Some.result.now _ (c.args.at + 1) (c.args.at + 1) c.deref-in-Some.ensures refl c.in-None-get.ensures) c.in_ok-saved-in-None-get.ensures c.in_ok-put_undo-in-None-get.ensures.talk c.in_ok-read_from-in-None-get.ensures
     ∙ c.free-in-None-get.ensures.talk k' e' p
 
 pub returns-in-Some-get-clause-costly : goal.returns-in-Some-get-clause-costly

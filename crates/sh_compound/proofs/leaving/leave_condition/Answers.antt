@@ -7,5 +7,5 @@ use Rattle.sh_compound.proofs.leaving.leave_condition.Goals as goal
 
 pub returns-in_ok-control-in-Normal-clause-talk : goal.returns-in_ok-control-in-Normal-clause-talk
 returns-in_ok-control-in-Normal-clause-talk c =
-    λ p. ap (λ (f : Flow). continued (continuation.Condition c.args.place c.args.last c.args.left) (context c.args.stack.now.items) f (shell_of c.args.state.now) p) c.in-Normal.is
+    λ p. ap (λ (f : Flow). continued (continuation.Condition c.args.place c.args.last c.args.left) (context c.args.shell.now.stack.items) f (shell_of c.args.shell.now.state) p) c.in-Normal.is
     ∙ c.in_ok-control-in-Normal.ensures.talk p

@@ -12,20 +12,20 @@ use Rattle.sh_eval.proofs.machine.act_compound_step.Goals as goal
 
 pub returns-in_ok-control-in-Compound-clause-talk : goal.returns-in_ok-control-in-Compound-clause-talk
 returns-in_ok-control-in-Compound-clause-talk c =
-    let k = context c.args.stack.now.items in
-    let e = shell_of c.args.state.now in
-    λ p. ap (λ (x : CompoundStep). resumed_compound x k e p) c.in-Compound.is ∙ ap (λ (b : Compound). compound_in run (tree.compound b) c.in-Compound.place e k p) (sym c.deref.ensures) ∙ c.in_ok-control-in-Compound.ensures.talk p ∙ c.free.ensures.talk (context c.act_compound.new.stack.items) (shell_of c.act_compound.new.state) p
+    let k = context c.args.shell.now.stack.items in
+    let e = shell_of c.args.shell.now.state in
+    λ p. ap (λ (x : CompoundStep). resumed_compound x k e p) c.in-Compound.is ∙ ap (λ (b : Compound). compound_in run (tree.compound b) c.in-Compound.place e k p) (sym c.deref.ensures) ∙ c.in_ok-control-in-Compound.ensures.talk p ∙ c.free.ensures.talk (context c.act_compound.new.shell.stack.items) (shell_of c.act_compound.new.shell.state) p
 
 pub returns-in_ok-control-in-If-clause-talk : goal.returns-in_ok-control-in-If-clause-talk
 returns-in_ok-control-in-If-clause-talk c =
-    let k = context c.args.stack.now.items in
-    let e = shell_of c.args.state.now in
+    let k = context c.args.shell.now.stack.items in
+    let e = shell_of c.args.shell.now.state in
     λ p. ap (λ (x : CompoundStep). resumed_compound x k e p) c.in-If.is ∙ c.in_ok-control-in-If.ensures.talk e p ∙ c.free-in-If.ensures.talk (context c.act_if.new.stack.items) e p
 
 pub returns-in-Each-clause-talk : goal.returns-in-Each-clause-talk
 returns-in-Each-clause-talk c =
-    let k = context c.args.stack.now.items in
-    let e = shell_of c.args.state.now in
+    let k = context c.args.shell.now.stack.items in
+    let e = shell_of c.args.shell.now.state in
     λ p. ap (λ (x : CompoundStep). resumed_compound x k e p) c.in-Each.is ∙ c.act_each.ensures.talk k e p
 
 pub returns-in_ok-control-in-Compound-clause-costly : goal.returns-in_ok-control-in-Compound-clause-costly

@@ -9,19 +9,19 @@ use Rattle.sh_eval.proofs.machine.act_leave.Goals as goal
 
 pub returns-in-None-clause-talk : goal.returns-in-None-clause-talk
 returns-in-None-clause-talk c =
-    let e = shell_of c.args.state.now in
+    let e = shell_of c.args.shell.now.state in
     λ p. ap (λ (k : Next). k c.args.flow e p) c.in-None.ensures.talk
 
 pub returns-in_ok-control-in-Some-Continuation-clause-talk : goal.returns-in_ok-control-in-Some-Continuation-clause-talk
 returns-in_ok-control-in-Some-Continuation-clause-talk c =
-    let e = shell_of c.args.state.now in
+    let e = shell_of c.args.shell.now.state in
     λ p. ap (λ (k : Next). k c.args.flow e p) c.in-Some-Continuation.ensures.talk
     ∙ ap (λ (f : Frame). above f (context c.pop.new.stack.items) c.args.flow e p) c.in-Some-Continuation.field-0-is
-    ∙ c.in_ok-control-in-Some-Continuation.ensures.talk p ∙ c.free.ensures.talk (context c.leave_continuation.new.stack.items) (shell_of c.leave_continuation.new.state) p
+    ∙ c.in_ok-control-in-Some-Continuation.ensures.talk p ∙ c.free.ensures.talk (context c.leave_continuation.new.shell.stack.items) (shell_of c.leave_continuation.new.shell.state) p
 
 pub returns-in_ok-control-in-Some-Undo-clause-talk : goal.returns-in_ok-control-in-Some-Undo-clause-talk
 returns-in_ok-control-in-Some-Undo-clause-talk c =
-    let e = shell_of c.args.state.now in
+    let e = shell_of c.args.shell.now.state in
     λ p. ap (λ (k : Next). k c.args.flow e p) c.in-Some-Undo.ensures.talk
     ∙ ap (λ (f : Frame). above f (context c.pop.new.stack.items) c.args.flow e p) c.in-Some-Undo.field-0-is
     ∙ c.in_ok-control-in-Some-Undo.ensures.talk (context c.pop.new.stack.items) p ∙ c.free-in-Some-Undo.ensures.talk (context c.pop.new.stack.items) (shell_of c.leave_undo.new.state) p

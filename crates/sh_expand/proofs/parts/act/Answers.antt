@@ -7,7 +7,7 @@ returns-in_ok-acted-in-Substitute-clause-less c =
 
 pub returns-in_ok-acted-in-Substitute-clause-does : goal.returns-in_ok-acted-in-Substitute-clause-does
 returns-in_ok-acted-in-Substitute-clause-does c =
-    operator_does c.args.it.now c.in-Substitute.quoting c.in-Substitute.parameter c.in-Substitute.condition c.in-Substitute.by c.in-Substitute.word c.args.inner c.args.splits _ c.args.env.now c.args.marks.now.items _ _ c.in-Substitute.is c.is_quoted-quoted.ensures c.in_ok-acted-in-Substitute.ensures.does
+    operator_does c.args.it.now c.in-Substitute.quoting c.in-Substitute.parameter c.in-Substitute.condition c.in-Substitute.by c.in-Substitute.word c.args.inner c.args.splits _ c.args.env.now c.args.marks.now.items _ _ c.in-Substitute.is c.is_quoted-quoted-in-Substitute.ensures c.in_ok-acted-in-Substitute.ensures.does
 
 pub returns-in-Arithmetic-clause-does : goal.returns-in-Arithmetic-clause-does
 returns-in-Arithmetic-clause-does c =

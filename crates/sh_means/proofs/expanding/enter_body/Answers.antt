@@ -15,9 +15,9 @@ use Rattle.sh_means.proofs.expanding.enter_body.Goals as goal
 
 pub returns-clause-talk : goal.returns-clause-talk
 returns-clause-talk c =
-    let e = shell_of c.args.state.now in
+    let e = shell_of c.args.shell.now.state in
     let k = context c.put_undo.new.stack.items in
-    λ p. sub_entered c.args.w c.args.number c.in_ok-body.body c.in_ok-saved.saved e (context c.args.stack.now.items) k p (ap (λ (w : Word). body_at (word_in run (tree.word w)).bodies c.args.number) (sym (c.deref-2.ensures ∙ ap (λ (w : PendingWord). w.word.value) c.deref.ensures)) ∙ c.in_ok-body.ensures) c.in_ok-saved.ensures c.in_ok-put_undo.ensures.talk
+    λ p. sub_entered c.args.w c.args.number c.in_ok-body.body c.in_ok-saved.saved e (context c.args.shell.now.stack.items) k p (ap (λ (w : Word). body_at (word_in run (tree.word w)).bodies c.args.number) (sym (c.deref-2.ensures ∙ ap (λ (w : PendingWord). w.word.value) c.deref.ensures)) ∙ c.in_ok-body.ensures) c.in_ok-saved.ensures c.in_ok-put_undo.ensures.talk
     ∙ ap (λ (x : Shell). resumed (Whole c.args.w.value.place c.in_ok-body.body) k Go x p) (sym (c.in_ok-set_descriptor.ensures ∙ ap (λ (n : ℕ). with_slot 1 (Some n) e) c.saturating_sub-write_end.ensures))
     ∙ ap (λ (w : PendingWord). resumed (Whole w.place c.in_ok-body.body) k Go (shell_of c.set_descriptor.new.self) p) (sym c.deref-3.ensures)
 

@@ -13,8 +13,8 @@ overflow_add-left c = let small : c.args.left.at < 9223372036854775808 = assignm
 
 pub returns-in_ok-wording-in-Some-clause-talk : goal.returns-in_ok-wording-in-Some-clause-talk
 returns-in_ok-wording-in-Some-clause-talk c =
-    let k = context c.args.stack.now.items in
-    let e = shell_of c.args.state.now in
+    let k = context c.args.shell.now.stack.items in
+    let e = shell_of c.args.shell.now.state in
     IfOk-weaker c.act_expand.result _ _
     (λ t told p. assign_next c.args.left c.args.place k e c.deref.result.now c.in-Some.assignment.now c.in_ok-name-in-Some.name c.in_ok-value-in-Some.value p (c.deref.ensures ∙ c.in_ok-assignments.ensures.cases) c.in_ok-value-in-Some.ensures.cases c.in_ok-name-in-Some.ensures c.in-Some.ensures
     ∙ c.in_ok-wording-in-Some.ensures.talk k e p ∙ told p)
@@ -22,8 +22,8 @@ returns-in_ok-wording-in-Some-clause-talk c =
 
 pub returns-in_ok-acted-in-None-clause-talk : goal.returns-in_ok-acted-in-None-clause-talk
 returns-in_ok-acted-in-None-clause-talk c =
-    let k = context c.args.stack.now.items in
-    λ p. assigns_over c.args.left c.args.place k (shell_of c.args.state.now) c.deref.result.now p (c.deref.ensures ∙ c.in_ok-assignments.ensures.cases) c.in-None.ensures ∙ c.in_ok-acted-in-None.ensures.talk p
+    let k = context c.args.shell.now.stack.items in
+    λ p. assigns_over c.args.left c.args.place k (shell_of c.args.shell.now.state) c.deref.result.now p (c.deref.ensures ∙ c.in_ok-assignments.ensures.cases) c.in-None.ensures ∙ c.in_ok-acted-in-None.ensures.talk p
 
 pub returns-in_ok-wording-in-Some-clause-costly : goal.returns-in_ok-wording-in-Some-clause-costly
 returns-in_ok-wording-in-Some-clause-costly c =

@@ -18,17 +18,17 @@ overflow_add-left c = let small : c.args.left.at < 9223372036854775808 = redirec
 
 pub returns-in-Some-value-clause-talk : goal.returns-in-Some-value-clause-talk
 returns-in-Some-value-clause-talk c =
-    let k = context c.args.stack.now.items in
+    let k = context c.args.shell.now.stack.items in
     IfOk-weaker c.redirect_literal.result _ _
-    (λ t told p. operand_taken c.args.left c.args.place k (shell_of c.args.state.now) c.deref.result.now c.in-Some.r.now c.kind_of-kind.result c.in-Some-value.text.now p (c.deref.ensures ∙ c.in_ok-redirects.ensures.cases) c.kind_of-kind.ensures c.in-Some.ensures
+    (λ t told p. operand_taken c.args.left c.args.place k (shell_of c.args.shell.now.state) c.deref.result.now c.in-Some.r.now c.kind_of-kind.result c.in-Some-value.text.now p (c.deref.ensures ∙ c.in_ok-redirects.ensures.cases) c.kind_of-kind.ensures c.in-Some.ensures
     (subst (λ (w : Word). IsValue c.in-Some-value.text.now (parts_of (tree.word w))) c.deref-in-Some.ensures c.in-Some-value.ensures)
     ∙ told k p)
     c.redirect_literal.ensures.talk
 
 pub returns-in-Some-clause-talk : goal.returns-in-Some-clause-talk
 returns-in-Some-clause-talk c =
-    let k = context c.args.stack.now.items in
-    let e = shell_of c.args.state.now in
+    let k = context c.args.shell.now.stack.items in
+    let e = shell_of c.args.shell.now.state in
     IfOk-weaker c.act_expand.result _ _
     (λ t told p. operand_expanded c.args.left c.args.place k e c.deref.result.now c.in-Some.r.now c.kind_of-kind.result c.in_ok-word-in-Some.word p (c.deref.ensures ∙ c.in_ok-redirects.ensures.cases) c.in_ok-word-in-Some.ensures.cases c.kind_of-kind.ensures c.in-Some.ensures
     ∙ c.in_ok-wording-in-Some.ensures.talk k e p ∙ told p)
@@ -36,14 +36,14 @@ returns-in-Some-clause-talk c =
 
 pub returns-clause-talk : goal.returns-clause-talk
 returns-clause-talk c =
-    let e = shell_of c.args.state.now in
-    λ p. redirects_over c.args.left c.args.place (context c.args.stack.now.items) e c.deref.result.now p (c.deref.ensures ∙ c.in_ok-redirects.ensures.cases) c.in-None.ensures
-    ∙ c.in_ok-control-in-None.ensures.talk p ∙ c.free.ensures.talk (context c.all_made.new.stack.items) e p
+    let e = shell_of c.args.shell.now.state in
+    λ p. redirects_over c.args.left c.args.place (context c.args.shell.now.stack.items) e c.deref.result.now p (c.deref.ensures ∙ c.in_ok-redirects.ensures.cases) c.in-None.ensures
+    ∙ c.in_ok-control-in-None.ensures.talk p ∙ c.free.ensures.talk (context c.all_made.new.shell.stack.items) (shell_of c.all_made.new.shell.state) p
 
 pub returns-in-Some-value-clause-costly : goal.returns-in-Some-value-clause-costly
 returns-in-Some-value-clause-costly c =
     let less : redirects_left c.args.left.redirects.value c.args.left.at ≡ redirects_left c.args.left.redirects.value (c.args.left.at + 1) + 1 = redirect_less c.deref.result.now c.args.left.redirects.value c.args.left.at _ (c.deref.ensures ∙ c.in_ok-redirects.ensures.cases) c.in-Some.ensures in
-    sinks_lower c.redirect_literal.result _ _ c.args.stack.now.items c.redirect_literal.ensures.costly (omega (arith, less))
+    sinks_lower c.redirect_literal.result _ _ c.args.shell.now.stack.items c.redirect_literal.ensures.costly (omega (arith, less))
 
 pub returns-in-Some-clause-costly : goal.returns-in-Some-clause-costly
 returns-in-Some-clause-costly c =

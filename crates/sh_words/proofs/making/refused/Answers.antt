@@ -6,7 +6,7 @@ use Rattle.sh_words.proofs.making.refused.Goals as goal
 
 pub returns-clause-talk : goal.returns-clause-talk
 returns-clause-talk c =
-    λ p. refusal_leads c.args.left c.args.place (context c.args.stack.now.items) (context c.put_continuation.new.stack.items) (context c.put_undo.new.stack.items) c.refusal_flow-flow.result (shell_of c.args.state.now) p c.refusal_flow-flow.ensures c.in_ok-put_continuation.ensures.talk c.in_ok-put_undo.ensures.talk
+    λ p. refusal_leads c.args.left c.args.place (context c.args.shell.now.stack.items) (context c.put_continuation.new.stack.items) (context c.put_undo.new.stack.items) c.refusal_flow-flow.result (shell_of c.args.shell.now.state) p c.refusal_flow-flow.ensures c.in_ok-put_continuation.ensures.talk c.in_ok-put_undo.ensures.talk
     ∙ c.end.ensures.talk (context c.put_undo.new.stack.items) p
 
 pub returns-clause-costly : goal.returns-clause-costly

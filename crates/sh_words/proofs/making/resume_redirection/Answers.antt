@@ -8,15 +8,15 @@ use Rattle.sh_words.proofs.making.resume_redirection.Goals as goal
 
 pub returns-in-Ask-clause-talk : goal.returns-in-Ask-clause-talk
 returns-in-Ask-clause-talk c =
-    λ p. redirect_asks c.args.left c.args.place (context c.args.stack.now.items) c.args.r.value c.deref_mut.result.now c.next_turn.new.r c.args.answer (shell_of c.args.state.now) c.next_turn.new.map.value c.in_ok-turn.turn c.deref_mut.ensures.value c.in_ok-turn.ensures.does c.in-Ask.call c.in-Ask.cost p c.in-Ask.is
+    λ p. redirect_asks c.args.left c.args.place (context c.args.shell.now.stack.items) c.args.r.value c.deref_mut.result.now c.next_turn.new.r c.args.answer (shell_of c.args.shell.now.state) c.next_turn.new.map.value c.in_ok-turn.turn c.deref_mut.ensures.value c.in_ok-turn.ensures.does c.in-Ask.call c.in-Ask.cost p c.in-Ask.is
 
 pub returns-in-Made-clause-talk : goal.returns-in-Made-clause-talk
 returns-in-Made-clause-talk c =
-    λ p. redirect_made c.args.left c.args.place (context c.args.stack.now.items) c.args.r.value c.deref_mut.result.now c.next_turn.new.r c.args.answer (shell_of c.args.state.now) c.next_turn.new.map.value c.in_ok-turn.turn c.deref_mut.ensures.value c.in_ok-turn.ensures.does p c.in-Made.is ∙ c.free.ensures.talk (context c.args.stack.now.items) _ p
+    λ p. redirect_made c.args.left c.args.place (context c.args.shell.now.stack.items) c.args.r.value c.deref_mut.result.now c.next_turn.new.r c.args.answer (shell_of c.args.shell.now.state) c.next_turn.new.map.value c.in_ok-turn.turn c.deref_mut.ensures.value c.in_ok-turn.ensures.does p c.in-Made.is ∙ c.free.ensures.talk (context c.args.shell.now.stack.items) _ p
 
 pub returns-in_ok-acted-in-Refused-clause-talk : goal.returns-in_ok-acted-in-Refused-clause-talk
 returns-in_ok-acted-in-Refused-clause-talk c =
-    λ p. redirect_refused c.args.left c.args.place (context c.args.stack.now.items) c.args.r.value c.deref_mut.result.now c.next_turn.new.r c.args.answer (shell_of c.args.state.now) c.next_turn.new.map.value c.in_ok-turn.turn c.deref_mut.ensures.value c.in_ok-turn.ensures.does p c.in-Refused.is ∙ c.in_ok-acted-in-Refused.ensures.talk p
+    λ p. redirect_refused c.args.left c.args.place (context c.args.shell.now.stack.items) c.args.r.value c.deref_mut.result.now c.next_turn.new.r c.args.answer (shell_of c.args.shell.now.state) c.next_turn.new.map.value c.in_ok-turn.turn c.deref_mut.ensures.value c.in_ok-turn.ensures.does p c.in-Refused.is ∙ c.in_ok-acted-in-Refused.ensures.talk p
 
 pub returns-in-Ask-clause-costly : goal.returns-in-Ask-clause-costly
 returns-in-Ask-clause-costly c = λ m le. falls_asked m _ c.in-Ask.call c.in-Ask.cost _ (subst IsAsking c.in-Ask.is c.in_ok-turn.ensures.costly)

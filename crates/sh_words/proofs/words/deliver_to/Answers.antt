@@ -10,32 +10,32 @@ use Rattle.sh_words.proofs.words.deliver_to.Goals as goal
 
 pub returns-in_ok-control-in-Operand-clause-talk : goal.returns-in_ok-control-in-Operand-clause-talk
 returns-in_ok-control-in-Operand-clause-talk c =
-    let k = context c.args.stack.now.items in
-    let e = shell_of c.args.state.now in
+    let k = context c.args.shell.now.stack.items in
+    let e = shell_of c.args.shell.now.state in
     λ p. ap (λ (u : Aim). aimed u c.args.place k c.args.expanded e p) c.in-Operand.is
-    ∙ same_value (aim.Operand c.in-Operand.left c.in-Operand.descriptor c.in-Operand.kind c.in-Operand.next) c.args.expanded c.in_ok-operand-in-Operand.operand c.args.place k e p tt c.in_ok-operand-in-Operand.ensures
+    ∙ same_value (aim.Operand c.in-Operand.operand) c.args.expanded c.in_ok-text-in-Operand.text c.args.place k e p tt c.in_ok-text-in-Operand.ensures
     ∙ c.in_ok-control-in-Operand.ensures.talk k p ∙ c.free.ensures.talk k e p
 
 pub returns-in_ok-acted-in-Value-clause-talk : goal.returns-in_ok-acted-in-Value-clause-talk
 returns-in_ok-acted-in-Value-clause-talk c =
-    let k = context c.args.stack.now.items in
-    let e = shell_of c.args.state.now in
+    let k = context c.args.shell.now.stack.items in
+    let e = shell_of c.args.shell.now.state in
     λ p. ap (λ (u : Aim). aimed u c.args.place k c.args.expanded e p) c.in-Value.is
-    ∙ same_value (aim.Value c.in-Value.left c.in-Value.name c.in-Value.next) c.args.expanded c.in_ok-value-in-Value.value c.args.place k e p tt c.in_ok-value-in-Value.ensures
+    ∙ same_value (aim.Value c.in-Value.left) c.args.expanded c.in_ok-value-in-Value.value c.args.place k e p tt c.in_ok-value-in-Value.ensures
     ∙ c.in_ok-acted-in-Value.ensures.talk k p
 
 pub returns-in_ok-value-in-Subject-clause-talk : goal.returns-in_ok-value-in-Subject-clause-talk
 returns-in_ok-value-in-Subject-clause-talk c =
-    let k = context c.args.stack.now.items in
-    let e = shell_of c.args.state.now in
+    let k = context c.args.shell.now.stack.items in
+    let e = shell_of c.args.shell.now.state in
     λ p. ap (λ (u : Aim). aimed u c.args.place k c.args.expanded e p) c.in-Subject.is
     ∙ same_value (aim.Subject c.in-Subject.items) c.args.expanded c.in_ok-value-in-Subject.value c.args.place k e p tt c.in_ok-value-in-Subject.ensures
     ∙ c.look.ensures.talk k e p ∙ c.free-in-Subject.ensures.talk k e p
 
 pub returns-in_ok-control-in-Pattern-clause-talk : goal.returns-in_ok-control-in-Pattern-clause-talk
 returns-in_ok-control-in-Pattern-clause-talk c =
-    let k = context c.args.stack.now.items in
-    let e = shell_of c.args.state.now in
+    let k = context c.args.shell.now.stack.items in
+    let e = shell_of c.args.shell.now.state in
     λ p. ap (λ (u : Aim). aimed u c.args.place k c.args.expanded e p) c.in-Pattern.is
     ∙ same_value (aim.Pattern c.in-Pattern.casing) c.args.expanded c.in_ok-pattern-in-Pattern.pattern c.args.place k e p tt c.in_ok-pattern-in-Pattern.ensures
     ∙ c.in_ok-control-in-Pattern.ensures.talk k e p ∙ c.free-in-Pattern.ensures.talk k e p

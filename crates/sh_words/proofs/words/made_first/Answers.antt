@@ -48,7 +48,7 @@ invariant_of-doing c = record { launchable = launchable c.in_ok-kind.kind c.args
 pub returns-clause-talk : goal.returns-clause-talk
 unfolding with_kind
 returns-clause-talk c =
-    let e = shell_of c.args.state.now in
+    let e = shell_of c.args.shell.now.state in
     λ place k p. simple_then c.args.command.value c.in_ok-redirects.redirects c.in_ok-assignments.assignments _ c.in_ok-before.before c.in_ok-boxed.boxed c.args.ran place k e p
     (c.in_ok-redirects.ensures.cases ∙ ap (λ (x : SimpleCommand). (out-SimpleCommand x).redirects.value) c.deref-2.ensures)
     (c.in_ok-assignments.ensures.cases ∙ ap (λ (x : SimpleCommand). (out-SimpleCommand x).assignments.value) c.deref-3.ensures)

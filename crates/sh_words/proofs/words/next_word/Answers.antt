@@ -18,8 +18,8 @@ overflow_add-left c = let small : c.args.left.at < 9223372036854775808 = word_sm
 
 pub returns-in-Some-field-clause-talk : goal.returns-in-Some-field-clause-talk
 returns-in-Some-field-clause-talk c =
-    let k = context c.args.stack.now.items in
-    let e = shell_of c.args.state.now in
+    let k = context c.args.shell.now.stack.items in
+    let e = shell_of c.args.shell.now.state in
     IfOk-weaker c.push_field.result _ _
     (λ t told p. field_taken c.args.left c.args.place k e c.deref.result.now c.in-Some.word.now.value c.in-Some-field.text.now p (c.deref.ensures ∙ c.in_ok-words.ensures.cases) c.in-Some.ensures
     (subst (λ (w : Word). IsField c.in-Some-field.text.now (parts_of (tree.word w))) c.deref-in-Some.ensures c.in-Some-field.ensures)
@@ -28,8 +28,8 @@ returns-in-Some-field-clause-talk c =
 
 pub returns-in_ok-wording-in-Some-clause-talk : goal.returns-in_ok-wording-in-Some-clause-talk
 returns-in_ok-wording-in-Some-clause-talk c =
-    let k = context c.args.stack.now.items in
-    let e = shell_of c.args.state.now in
+    let k = context c.args.shell.now.stack.items in
+    let e = shell_of c.args.shell.now.state in
     IfOk-weaker c.act_expand.result _ _
     (λ t told p. word_expanded c.args.left c.args.place k e c.deref.result.now c.in-Some.word.now.value c.in_ok-word-in-Some.word p (c.deref.ensures ∙ c.in_ok-words.ensures.cases) c.in_ok-word-in-Some.ensures.cases c.in-Some.ensures
     ∙ c.in_ok-wording-in-Some.ensures.talk k e p ∙ told p)
@@ -37,15 +37,15 @@ returns-in_ok-wording-in-Some-clause-talk c =
 
 pub returns-in-None-clause-talk : goal.returns-in-None-clause-talk
 returns-in-None-clause-talk c =
-    let k = context c.args.stack.now.items in
+    let k = context c.args.shell.now.stack.items in
     IfOk-weaker c.then.result _ _
-    (λ t told p. words_over c.args.left c.args.place k (shell_of c.args.state.now) c.deref.result.now p (c.deref.ensures ∙ c.in_ok-words.ensures.cases) c.in-None.ensures ∙ told p)
+    (λ t told p. words_over c.args.left c.args.place k (shell_of c.args.shell.now.state) c.deref.result.now p (c.deref.ensures ∙ c.in_ok-words.ensures.cases) c.in-None.ensures ∙ told p)
     c.then.ensures.talk
 
 pub returns-in-Some-field-clause-costly : goal.returns-in-Some-field-clause-costly
 returns-in-Some-field-clause-costly c =
     let less : words_left c.args.left.words.value c.args.left.at ≡ words_left c.args.left.words.value (c.args.left.at + 1) + 1 = word_less c.deref.result.now c.args.left.words.value c.args.left.at _ (c.deref.ensures ∙ c.in_ok-words.ensures.cases) c.in-Some.ensures in
-    sinks_lower c.push_field.result _ _ c.args.stack.now.items c.push_field.ensures.costly (omega (arith, less))
+    sinks_lower c.push_field.result _ _ c.args.shell.now.stack.items c.push_field.ensures.costly (omega (arith, less))
 
 pub returns-in_ok-wording-in-Some-clause-costly : goal.returns-in_ok-wording-in-Some-clause-costly
 returns-in_ok-wording-in-Some-clause-costly c =

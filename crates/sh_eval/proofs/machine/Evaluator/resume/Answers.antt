@@ -17,4 +17,4 @@ pub returns-else-is_free-clause-talk : goal.returns-else-is_free-clause-talk
 returns-else-is_free-clause-talk c = λ p. c.free.invariant p ∙ c.in_ok-turn.ensures.talk p
 
 pub free-init : goal.free-init
-free-init c = λ p. ap (λ (e : Shell). resumed c.args.self.now.control (context c.args.self.now.stack.items) c.args.answer e p) (sym c.hear.ensures)
+free-init c = λ p. ap (λ (e : Shell). resumed c.args.self.now.control (context c.args.self.now.shell.stack.items) c.args.answer e p) (sym c.hear.ensures)

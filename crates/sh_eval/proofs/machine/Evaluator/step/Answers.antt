@@ -7,11 +7,11 @@ use Rattle.sh_eval.proofs.machine.Evaluator.step.Goals as goal
 
 pub returns-clause-talk : goal.returns-clause-talk
 returns-clause-talk c =
-    λ p. ap (λ (ctl : Control). resumed ctl (context c.args.self.now.stack.items) c.args.answer (shell_of c.args.self.now.state) p) (sym c.take-control.ensures)
+    λ p. ap (λ (ctl : Control). resumed ctl (context c.args.self.now.shell.stack.items) c.args.answer (shell_of c.args.self.now.shell.state) p) (sym c.take-control.ensures)
     ∙ c.in_ok-turn.ensures.talk p
-    ∙ ap (λ (ctl : Control). stepped c.in_ok-turn.field-0.turn ctl (context c.act.new.stack.items) (shell_of c.act.new.state) p) (sym c.put.ensures)
-    ∙ stepped_after c.in_ok-turn.field-0.turn (record { alloc = c.args.self.now.alloc; state = c.act.new.state; stack = c.act.new.stack; control = c.put.new.control }) p
+    ∙ ap (λ (ctl : Control). stepped c.in_ok-turn.field-0.turn ctl (context c.act.new.shell.stack.items) (shell_of c.act.new.shell.state) p) (sym c.put.ensures)
+    ∙ stepped_after c.in_ok-turn.field-0.turn (record { shell = c.act.new.shell; control = c.put.new.control }) p
 
 pub returns-clause-costly : goal.returns-clause-costly
 returns-clause-costly c =
-    sheds c.args.self.now (record { alloc = c.args.self.now.alloc; state = c.act.new.state; stack = c.act.new.stack; control = c.put.new.control }) c.in_ok-turn.field-0 c.take-control.result c.take-control.ensures c.put.ensures c.in_ok-turn.ensures.costly
+    sheds c.args.self.now (record { shell = c.act.new.shell; control = c.put.new.control }) c.in_ok-turn.field-0 c.take-control.result c.take-control.ensures c.put.ensures c.in_ok-turn.ensures.costly
