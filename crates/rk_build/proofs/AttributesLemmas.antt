@@ -11,10 +11,10 @@ use Rattle.rk_tree.specs.Entries.{Entries, is_dir, IsFit, IsWholeSnapshot}
 use Rattle.rk_tree.specs.Node.{Node as Entry, File, Dir, Link}
 use Rattle.rk_tree.proofs.TextLemmas.{same_is, told_apart}
 use Rattle.rk_tree.proofs.RowsLemmas.{get-found, same_maps}
-use Rattle.tr_codec.specs.Attrs.{file_mode, dir_mode, is_mode, is_link_text, suits, is_row, ascend_from, ascend, are_rows}
-use Rattle.tr_codec.specs.declared.rows.AttrRow.{AttrRow}
-use Rattle.tr_codec.specs.declared.rows.AttrRow.TheVariants as row
-use Rattle.tr_codec.proofs.RowLemmas.{rows_are}
+use Rattle.rk_attrs.specs.Rows.{file_mode, dir_mode, is_mode, is_link_text, suits, is_row, ascend_from, ascend, are_rows}
+use Rattle.rk_attrs.specs.declared.rows.AttrRow.{AttrRow}
+use Rattle.rk_attrs.specs.declared.rows.AttrRow.TheVariants as row
+use Rattle.rk_attrs.proofs.RowLemmas.{rows_are}
 use Rattle.rk_folder.specs.Attributes.{with_rows, stands_with}
 use Rattle.rk_folder.specs.Hidden.{hidden_dir}
 use Rattle.rk_folder.specs.Import.{snapshot_of}

@@ -1,7 +1,9 @@
 -- The texts of the hidden directory and of its state files.
 use Rattle.std.proofs.Common.{◌≡◌, true, false, refl}
 use Rattle.std.specs.Ordering.{eq_by_cmp}
-use Rattle.rk_base.specs.Text.{text_cmp, root, parent, join, is_within}
+use Rattle.rk_base.specs.Text.{text_cmp, root, parent, join, is_within, same_text}
+use Rattle.rk_folder.specs.Hidden.{install_file, fresh_list_file}
+use Rattle.rk_folder.specs.Specials.{is_state_file}
 use Rattle.rk_build.specs.Holdings.{hidden_dir, attrs_file, db_file}
 
 pub hidden_parent : parent hidden_dir ≡ root
@@ -16,7 +18,7 @@ pub db_parent : parent db_file ≡ hidden_dir
 unfolding parent join
 db_parent = refl
 
--- the three are apart, and are hidden
+-- they are apart, and are hidden
 
 pub dir_not_attrs : eq_by_cmp text_cmp hidden_dir attrs_file ≡ false
 unfolding join
@@ -53,3 +55,43 @@ attrs_hidden = refl
 pub db_hidden : is_within hidden_dir db_file ≡ true
 unfolding is_within join
 db_hidden = refl
+
+pub install_not_dir : same_text install_file hidden_dir ≡ false
+unfolding join
+install_not_dir = refl
+
+pub install_not_attrs : same_text install_file attrs_file ≡ false
+unfolding join
+install_not_attrs = refl
+
+pub install_not_db : same_text install_file db_file ≡ false
+unfolding join
+install_not_db = refl
+
+pub install_hidden : is_within hidden_dir install_file ≡ true
+unfolding is_within join
+install_hidden = refl
+
+pub install_state : is_state_file install_file ≡ true
+unfolding join
+install_state = refl
+
+pub fresh_list_not_dir : same_text fresh_list_file hidden_dir ≡ false
+unfolding join
+fresh_list_not_dir = refl
+
+pub fresh_list_not_attrs : same_text fresh_list_file attrs_file ≡ false
+unfolding join
+fresh_list_not_attrs = refl
+
+pub fresh_list_not_db : same_text fresh_list_file db_file ≡ false
+unfolding join
+fresh_list_not_db = refl
+
+pub fresh_list_hidden : is_within hidden_dir fresh_list_file ≡ true
+unfolding is_within join
+fresh_list_hidden = refl
+
+pub fresh_list_state : is_state_file fresh_list_file ≡ true
+unfolding join
+fresh_list_state = refl

@@ -9,6 +9,7 @@ use Rattle.rk_folder.specs.Whole.{IsWhole}
 use Rattle.rk_folder.specs.Specials.{state_fault, hidden_fault, state_special, first_special}
 use Rattle.rk_folder.specs.Import.{entry_of, snapshot_of}
 use Rattle.rk_folder.proofs.ImportLemmas.{hidden-plain}
+use Rattle.rk_folder.proofs.ReadingLemmas.{are_plain}
 use Rattle.rk_folder.proofs.SnapshotLemmas.{get-snapshot_of}
 use Rattle.rk_folder.specs.declared.folder.Standing.{Standing}
 use Rattle.rk_folder.specs.declared.folder.Standing.TheVariants.{File, Dir, Special}
@@ -16,7 +17,7 @@ use Rattle.rk_build.specs.declared.holding.Holding.{Holding}
 use Rattle.rk_build.specs.Holdings.{hidden_dir, db_file, attrs_file, placed, dir_where, Holds, IsBuilt, MayBecome}
 use Rattle.rk_build.specs.Imported.{holding_of}
 use Rattle.rk_build.proofs.HiddenLemmas.{attrs_parent, db_parent}
-use Rattle.rk_build.proofs.SeenLemmas.{no_fault, stands-outside, odd-within}
+use Rattle.rk_build.proofs.SeenLemmas.{stands-outside, odd-within}
 
 -- What is imported of what stands at a path.
 
@@ -100,8 +101,8 @@ module _ (held : Held) (whole : IsWhole held) (plain : first_special held ≡ No
     unseen = λ path within. get-imported held path ∙ ap (shown (standing held path)) within ∙ shown_hidden (standing held path);
     outside = λ path out. shown_outside path out ∙ ap placed (sym (get-imported held path ∙ ap (shown (standing held path)) out));
     rkr = dir_held (standing held hidden_dir) (state_special held) (hidden-plain held whole plain);
-    db = state_held db_file (standing held db_file) (λ stands. (no_fault (state_fault attrs_file (standing held attrs_file)) _ (in_hidden db_file db_parent stands)).1);
-    attrs = state_held attrs_file (standing held attrs_file) (λ stands. (no_fault (state_fault attrs_file (standing held attrs_file)) _ (in_hidden attrs_file attrs_parent stands)).0);
+    db = state_held db_file (standing held db_file) (λ stands. (are_plain held (in_hidden db_file db_parent stands)).db);
+    attrs = state_held attrs_file (standing held attrs_file) (λ stands. (are_plain held (in_hidden attrs_file attrs_parent stands)).attrs);
   }
 
   -- and so it may become what a build leaves

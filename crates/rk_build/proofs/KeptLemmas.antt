@@ -3,13 +3,13 @@ use Rattle.std.proofs.Common.{◌≡◌, List, [], ◌∷◌, Bool, true, false,
 use Rattle.std.specs.FinMap.{get}
 use Rattle.std.specs.List.{list_all}
 use Rattle.rk_base.specs.Text.{Text, is_within, same_text}
-use Rattle.rk_base.proofs.CanonicalLemmas.{both}
-use Rattle.rk_base.proofs.WithinLemmas.{same_is}
+use Rattle.rk_base.proofs.CanonicalLemmas.{both, either}
+use Rattle.rk_base.proofs.WithinLemmas.{same_is, same_itself}
 use Rattle.tr_record.specs.declared.records.Record.{Record}
-use Rattle.tr_codec.specs.Attrs.{are_rows}
+use Rattle.rk_attrs.specs.Rows.{are_rows}
 use Rattle.tr_codec.specs.Fits.{Fits}
 use Rattle.tr_codec.specs.Spelling.{db_spelling}
-use Rattle.tr_codec.specs.declared.rows.AttrRow.{AttrRow}
+use Rattle.rk_attrs.specs.declared.rows.AttrRow.{AttrRow}
 use Rattle.tr_codec.proofs.RowLemmas.{one_attrs}
 use Rattle.tr_codec.proofs.SealLemmas.{one_table}
 use Rattle.rk_tree.specs.Copies.{snapshot_of as entries_of}
@@ -17,9 +17,10 @@ use Rattle.rk_tree.specs.Entries.{IsWholeSnapshot}
 use Rattle.rk_tree.specs.Node.{Node}
 use Rattle.rk_tree.specs.Node as entry
 use Rattle.rk_kernel.specs.World.{World}
+use Rattle.rk_folder.specs.Hidden.{install_file, fresh_list_file}
 use Rattle.rk_folder.specs.Listing.{IsFirst}
 use Rattle.rk_folder.specs.Told.{Held, standing, bytes_in, is_dir, is_odd}
-use Rattle.rk_folder.specs.Specials.{first_special, is_fault, is_hidden_fault, is_special, is_other_than_dir, is_other_than_file}
+use Rattle.rk_folder.specs.Specials.{first_special, is_fault, is_hidden_fault, is_special, is_state_file, is_other_than_dir, is_other_than_file}
 use Rattle.rk_folder.specs.Whole.{IsWhole}
 use Rattle.rk_folder.specs.declared.folder.Standing.TheVariants.{File}
 use Rattle.rk_folder.proofs.FirstLemmas.{first_special-is}
@@ -27,6 +28,7 @@ use Rattle.rk_build.specs.Attributes.{attrs_of}
 use Rattle.rk_build.specs.Holdings.{IsAfter, dir_where, placed, hidden_dir, attrs_file, db_file}
 use Rattle.rk_build.specs.declared.holding.Holding.{Holding}
 use Rattle.rk_build.proofs.AttributesLemmas.{attrs_are, built-held}
+use Rattle.rk_build.proofs.HiddenLemmas.{install_hidden, install_state, install_not_dir, install_not_db, install_not_attrs, fresh_list_hidden, fresh_list_state, fresh_list_not_dir, fresh_list_not_db, fresh_list_not_attrs}
 use Rattle.rk_build.proofs.SeenLemmas.{odd-within}
 use Rattle.rk_build.specs.Fresh.{AreInMemory, IsInMemory, attrs_bytes, held_after}
 use Rattle.rk_build.specs.Kept.{AreRows, IsTable, state_in}
@@ -41,9 +43,14 @@ never_both : (x a : Bool) → (x ≡ true → a ≡ false) → (x && a) ≡ fals
 never_both true a h = h refl
 never_both false a h = refl
 
-never_either : (x y a : Bool) → (x ≡ true → a ≡ false) → (y ≡ true → a ≡ false) → ((x || y) && a) ≡ false
-never_either true y a h g = h refl
-never_either false y a h g = never_both y a g
+never_any : (x y z w a : Bool) → (x ≡ true → a ≡ false) → (y ≡ true → a ≡ false) → (z ≡ true → a ≡ false) → (w ≡ true → a ≡ false) → ((x || (y || (z || w))) && a) ≡ false
+never_any true y z w a h g i j = h refl
+never_any false true z w a h g i j = g refl
+never_any false false true w a h g i j = i refl
+never_any false false false w a h g i j = never_both w a j
+
+apart : (a b : Text) → same_text a b ≡ false → a ≡ b → ⊥
+apart a b other same = clash (same_text a b) (ap (same_text a) (sym same) ∙ same_itself a) other
 
 neither : (x y : Bool) → x ≡ false → y ≡ false → (x || y) ≡ false
 neither x y h g = cc
@@ -85,13 +92,30 @@ module _ (held after : Held) (holding : Holding) (whole : IsWhole held) (plain :
   dir_there : is_other_than_dir (standing after hidden_dir) ≡ false
   dir_there = ap is_other_than_dir (is.holds.rkr ∙ ap dir_where rkr)
 
+  -- a list of calls is as before
+  nowhere : (q : Text) → is_fault held q ≡ false
+  nowhere = subst (IsFirst (is_fault held)) plain (first_special-is held)
+
+  was_well : (q : Text) → is_within hidden_dir q ≡ true → is_state_file q ≡ true → is_other_than_file (standing held q) ≡ false
+  unfolding is_fault
+  was_well q inside state =
+      ap (λ (b : Bool). b && is_other_than_file (standing held q)) (sym state)
+      ∙ (either (same_text q hidden_dir && is_other_than_dir (standing held q)) (is_state_file q && is_other_than_file (standing held q))
+      (sym (ap (λ (b : Bool). cond b (is_hidden_fault q (standing held q)) (is_special (standing held q) || (is_dir (standing held q) && is_odd q held.odd))) inside) ∙ nowhere q)).1
+
+  list_well : (q : Text) → is_within hidden_dir q ≡ true → is_state_file q ≡ true → same_text q hidden_dir ≡ false → same_text q db_file ≡ false → same_text q attrs_file ≡ false → is_other_than_file (standing after q) ≡ false
+  list_well q inside state dir db attrs =
+      ap is_other_than_file (is.same_else.below q inside (apart q hidden_dir dir) (apart q db_file db) (apart q attrs_file attrs)) ∙ was_well q inside state
+
   hidden_well : (q : Text) → is_hidden_fault q (standing after q) ≡ false
   hidden_well q =
-      neither (same_text q hidden_dir && is_other_than_dir (standing after q)) ((same_text q attrs_file || same_text q db_file) && is_other_than_file (standing after q))
+      neither (same_text q hidden_dir && is_other_than_dir (standing after q)) (is_state_file q && is_other_than_file (standing after q))
       (never_both (same_text q hidden_dir) (is_other_than_dir (standing after q)) (λ e. ap (λ (t : Text). is_other_than_dir (standing after t)) (same_is q hidden_dir e) ∙ dir_there))
-      (never_either (same_text q attrs_file) (same_text q db_file) (is_other_than_file (standing after q))
+      (never_any (same_text q attrs_file) (same_text q db_file) (same_text q install_file) (same_text q fresh_list_file) (is_other_than_file (standing after q))
       (λ e. ap (λ (t : Text). is_other_than_file (standing after t)) (same_is q attrs_file e) ∙ ap is_other_than_file is.holds.attrs ∙ file_plain holding.state.attrs)
-      (λ e. ap (λ (t : Text). is_other_than_file (standing after t)) (same_is q db_file e) ∙ ap is_other_than_file is.holds.db ∙ file_plain holding.state.db))
+      (λ e. ap (λ (t : Text). is_other_than_file (standing after t)) (same_is q db_file e) ∙ ap is_other_than_file is.holds.db ∙ file_plain holding.state.db)
+      (λ e. ap (λ (t : Text). is_other_than_file (standing after t)) (same_is q install_file e) ∙ list_well install_file install_hidden install_state install_not_dir install_not_db install_not_attrs)
+      (λ e. ap (λ (t : Text). is_other_than_file (standing after t)) (same_is q fresh_list_file e) ∙ list_well fresh_list_file fresh_list_hidden fresh_list_state fresh_list_not_dir fresh_list_not_db fresh_list_not_attrs))
 
   no_fault_inside : (q : Text) → is_within hidden_dir q ≡ true → is_fault after q ≡ false
   unfolding is_fault

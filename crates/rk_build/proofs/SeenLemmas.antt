@@ -7,7 +7,7 @@ use Rattle.rk_tree.proofs.TextLemmas.{same_itself, or_right}
 use Rattle.rk_folder.specs.Told.{Held, standing, is_file, is_dir, is_nothing, is_odd}
 use Rattle.rk_folder.specs.Whole.{IsWhole}
 use Rattle.rk_folder.specs.Listing.{IsFirst}
-use Rattle.rk_folder.specs.Specials.{or_else, is_special, is_fault, first_special}
+use Rattle.rk_folder.specs.Specials.{is_special, is_fault, first_special}
 use Rattle.rk_folder.specs.declared.folder.Standing.{Standing}
 use Rattle.rk_folder.specs.declared.folder.Standing.TheVariants.{File, Dir, Special}
 use Rattle.rk_folder.proofs.FirstLemmas.{first_special-is}
@@ -16,11 +16,6 @@ use Rattle.rk_build.specs.Holdings.{hidden_dir}
 
 clash : (b : Bool) → b ≡ true → b ≡ false → ⊥
 clash b t f = cc
-
--- neither of two, where none is first
-pub no_fault : (a b : Option Text) → or_else a b ≡ None → (a ≡ None) × (b ≡ None)
-no_fault None b h = (refl, h)
-no_fault (Some path) b h = cc
 
 -- what stands and isn't special
 file_or_dir : (o : Option Standing) → is_nothing o ≡ false → is_special o ≡ false → (is_dir o ≡ true) ⊎ (is_file o ≡ true)

@@ -3,7 +3,7 @@ use Rattle.std.proofs.Common.{◌≡◌, ◌≢◌, ◌<◌, ◌≤◌, ◌-◌,
 use Rattle.rk_base.specs.Text.{Text}
 use Rattle.tr_record.specs.declared.records.Record.{Record}
 use Rattle.tr_codec.specs.Reads.{IsDamage}
-use Rattle.tr_codec.specs.declared.rows.AttrRow.{AttrRow}
+use Rattle.rk_attrs.specs.declared.rows.AttrRow.{AttrRow}
 use Rattle.tr_codec.specs.declared.fault.Damage.{Damage}
 use Rattle.tr_codec.specs.declared.fault.Damage.TheVariants as damage
 use Rattle.rk_calls.specs.Keys.{KeyValue}

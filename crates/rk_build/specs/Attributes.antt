@@ -6,9 +6,9 @@ use Rattle.rk_base.specs.Text.{Text}
 use Rattle.rk_tree.specs.Entries.{Entries, IsWholeSnapshot}
 use Rattle.rk_tree.specs.Rows.{map_of}
 use Rattle.rk_tree.specs.Node.{Node as Entry, File, Dir, Link}
-use Rattle.tr_codec.specs.Attrs.{file_mode, dir_mode}
-use Rattle.tr_codec.specs.declared.rows.AttrRow.{AttrRow}
-use Rattle.tr_codec.specs.declared.rows.AttrRow.TheVariants as row
+use Rattle.rk_attrs.specs.Rows.{file_mode, dir_mode}
+use Rattle.rk_attrs.specs.declared.rows.AttrRow.{AttrRow}
+use Rattle.rk_attrs.specs.declared.rows.AttrRow.TheVariants as row
 use Rattle.rk_folder.specs.Attributes.{with_rows}
 use Rattle.rk_folder.specs.Import.{snapshot_of}
 use Rattle.rk_folder.specs.Told.{Held}

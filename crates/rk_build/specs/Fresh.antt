@@ -1,10 +1,10 @@
 -- What the fresh run leaves.
-use Rattle.std.specs.Prelude.{◌<◌, ◌≤◌, ◌^◌, List, [], ◌∷◌, ◌++◌, length, true, Option, Some, None}
+use Rattle.std.specs.Prelude.{◌<◌, ◌≤◌, ◌^◌, List, [], ◌∷◌, ◌++◌, length, true, false, Option, Some, None}
 use Rattle.rk_base.specs.Text.{Text}
 use Rattle.tr_record.specs.declared.records.Record.{Record}
 use Rattle.tr_codec.specs.Attrs.{attrs_spelling}
 use Rattle.tr_codec.specs.Spelling.{db_spelling}
-use Rattle.tr_codec.specs.declared.rows.AttrRow.{AttrRow}
+use Rattle.rk_attrs.specs.declared.rows.AttrRow.{AttrRow}
 use Rattle.rk_tree.specs.Copies.{snapshot_of as entries_of}
 use Rattle.rk_kernel.specs.World.{World}
 use Rattle.rk_runs.specs.Run.{Outcome, Done, Spent}
@@ -36,7 +36,11 @@ attrs_bytes (row ∷ rows) = Some (attrs_spelling (row ∷ rows))
 
 -- what a folder is to hold after a run: the entries of the final tree, the rows that it doesn't keep itself, and the trace
 abbrev pub held_after : World → List Record → Holding
-held_after world table = record { entries = entries_of world.tree; rkr = true; state = record { db = Some (db_spelling table); attrs = attrs_bytes (attrs_of (entries_of world.tree)) } }
+held_after world table = record {
+  entries = entries_of world.tree;
+  rkr = true;
+  state = record { db = Some (db_spelling table); attrs = attrs_bytes (attrs_of (entries_of world.tree)); install = None; fresh_list = false };
+}
 
 -- fewer than 2^64 bytes, as all bytes in memory are
 abbrev pub IsInMemory : Option Text → Type 0

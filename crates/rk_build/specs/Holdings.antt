@@ -53,7 +53,7 @@ pub record IsBuilt (holding : Holding) : Type 0 where
 
 -- what it holds, with these bytes of a database
 abbrev pub with_db : Option Text → Holding → Holding
-with_db db it = record { entries = it.entries; rkr = it.rkr; state = record { db = db; attrs = it.state.attrs } }
+with_db db it = record { entries = it.entries; rkr = it.rkr; state = record { db = db; attrs = it.state.attrs; install = it.state.install; fresh_list = it.state.fresh_list } }
 
 -- a folder that may become what a build leaves
 pub record MayBecome (held : Held) (before after : Holding) : Type 0 where

@@ -2,12 +2,13 @@
 use Rattle.std.specs.Prelude.{◌≡◌, ◌≢◌, Bool, true, List, [], Option, Some, None, Result, Ok, Err}
 use Rattle.rk_base.specs.Text.{Text}
 use Rattle.tr_record.specs.declared.records.Record.{Record}
-use Rattle.tr_codec.specs.Attrs.{are_rows, attrs_spelling}
+use Rattle.rk_attrs.specs.Rows.{are_rows}
+use Rattle.tr_codec.specs.Attrs.{attrs_spelling}
 use Rattle.tr_codec.specs.Fits.{Fits}
 use Rattle.tr_codec.specs.Reads.{IsDamage}
 use Rattle.tr_codec.specs.Spelling.{db_spelling}
 use Rattle.tr_codec.specs.declared.fault.Damage.{Damage}
-use Rattle.tr_codec.specs.declared.rows.AttrRow.{AttrRow}
+use Rattle.rk_attrs.specs.declared.rows.AttrRow.{AttrRow}
 use Rattle.rk_folder.specs.Told.{Held}
 use Rattle.rk_folder.specs.Import.{read_state, snapshot_of, state_of}
 use Rattle.rk_folder.specs.Attributes.{with_rows}

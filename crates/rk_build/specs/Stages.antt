@@ -17,7 +17,7 @@ use Rattle.rk_build.specs.declared.holding.Holding.{Holding}
 use Rattle.rk_build.specs.declared.ops.Op.{Op}
 use Rattle.rk_build.specs.declared.installation.InstallErr.TheVariants as install
 use Rattle.tr_codec.specs.Fits.{Fits}
-use Rattle.tr_codec.specs.declared.rows.AttrRow.{AttrRow}
+use Rattle.rk_attrs.specs.declared.rows.AttrRow.{AttrRow}
 use Rattle.tr_record.specs.declared.records.Record.{Record}
 use Rattle.rk_base.specs.Text.{Text}
 use Rattle.rk_runs.specs.Run.{Spent}

@@ -5,10 +5,10 @@ ghost use Rattle.rk_tree.specs.Entries.{IsWholeSnapshot};
 ghost use Rattle.rk_tree.specs.Node.{File, Dir};
 ghost use Rattle.rk_build.specs.Attributes.{row_of, attr_row, attrs_of, RowsKeep, PlainHeld, BuiltHeld};
 
+use rk_attrs::{AttrRow, Attrs, DIR_MODE, FILE_MODE};
 use rk_base::{NoMemory, Path};
 use rk_tree::{Entry, Node, Snapshot};
 use std::alloc::Global;
-use tr_codec::{AttrRow, Attrs, DIR_MODE, FILE_MODE};
 
 fn file_row(mode: u16) -> Option<AttrRow>
     ensures { result ≡ row_of (File mode []) }

@@ -11,10 +11,10 @@ use crate::kept::{KeptState, kept};
 use crate::look::look;
 use crate::options::is_fresh;
 use crate::stop::BuildErr;
+use rk_attrs::Attrs;
 use rk_folder::Folder;
 use rk_request::Request;
 use std::alloc::Global;
-use tr_codec::Attrs;
 use tr_record::Table;
 
 /// What the folder holds, and the rows of attributes and the records that its state files keep.

@@ -6,10 +6,11 @@ ghost use Rattle.rk_build.specs.declared.stop.BuildErr.TheVariants as stop;
 
 use crate::outcome::StateFile;
 use crate::stop::{BuildErr, Refusal};
+use rk_attrs::Attrs;
 use rk_base::Bytes;
 use rk_folder::State;
 use std::alloc::Global;
-use tr_codec::{Attrs, CodecErr, Damage, read_attrs, read_db};
+use tr_codec::{CodecErr, Damage, read_attrs, read_db};
 use tr_record::Table;
 
 /// The rows of attributes and the records.

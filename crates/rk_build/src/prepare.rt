@@ -100,6 +100,8 @@ fn held_after(alloc: Global, finished: &Finished, was: Option<&Bytes>) -> Result
         state: State {
             db: Some(db),
             attrs,
+            install: None,
+            fresh_list: false,
         },
     })
 }

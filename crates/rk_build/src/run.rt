@@ -7,6 +7,7 @@ ghost use Rattle.rk_build.specs.Run.{Runs, StartsRun};
 
 use crate::options::turns;
 use crate::stop::BuildErr;
+use rk_attrs::Attrs;
 use rk_base::{Budget, NoMemory, Steps};
 use rk_calls::Maker;
 use rk_folder::tree_of;
@@ -16,7 +17,6 @@ use rk_request::Request;
 use rk_tree::Snapshot;
 use std::alloc::Global;
 use std::sync::ledger::Ledger;
-use tr_codec::Attrs;
 use tr_record::Table;
 
 /// A run that ended: the world that it left, the script's status, the records of its commands, and those of them that ran,

@@ -47,7 +47,7 @@ pub fn check<M: Maker, F: Folder, O: Sink>(
     ensures puts { WritesCounted (O.faults out.old) (O.faults out.new) result }
     ensures steady { F.steady folder.old ≡ true → O.steady out.old ≡ true → IsNoFault result }
 
-    // The root and `.rkr` are listed, and then the two files read; nothing else is asked.
+    // The root and `.rkr` are listed, and then the state files read; nothing else is asked.
     ensures calls { MakesCalls all_state_looks (F.schedule folder.old) (F.schedule folder.new) }
 {
     match database(alloc, folder)? {

@@ -15,10 +15,10 @@ use Rattle.rk_tree.specs.Copies.{put_found}
 use Rattle.rk_tree.specs.Entries.{Entries, is_dir, IsFit, IsWholeSnapshot}
 use Rattle.rk_tree.specs.Node.{Node as Entry, File, Dir, Link}
 use Rattle.rk_tree.proofs.TextLemmas.{told_apart, ties_itself}
-use Rattle.tr_codec.specs.Attrs.{file_mode, dir_mode, is_mode, is_link_text, suits, is_row, ascend_from, ascend}
-use Rattle.tr_codec.specs.declared.rows.AttrRow.{AttrRow}
-use Rattle.tr_codec.specs.declared.rows.AttrRow.TheVariants as row
-use Rattle.tr_codec.proofs.RowLemmas.{row_parts}
+use Rattle.rk_attrs.specs.Rows.{file_mode, dir_mode, is_mode, is_link_text, suits, is_row, ascend_from, ascend}
+use Rattle.rk_attrs.specs.declared.rows.AttrRow.{AttrRow}
+use Rattle.rk_attrs.specs.declared.rows.AttrRow.TheVariants as row
+use Rattle.rk_attrs.proofs.RowLemmas.{row_parts}
 use Rattle.rk_folder.specs.Attributes.{put_by, with_row, with_rows, stands_with}
 
 -- What a row puts.

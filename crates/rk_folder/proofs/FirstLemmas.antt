@@ -7,9 +7,9 @@ use Rattle.rk_base.specs.Text.{Text, text_cmp, is_within, same_text}
 use Rattle.rk_base.proofs.CanonicalLemmas.{both}
 use Rattle.rk_tree.proofs.TextLemmas.{one_of, or_right, ties_itself}
 use Rattle.rk_folder.specs.Told.{Held, standing, is_dir, is_odd}
-use Rattle.rk_folder.specs.Hidden.{hidden_dir, attrs_file, db_file}
+use Rattle.rk_folder.specs.Hidden.{hidden_dir}
 use Rattle.rk_folder.specs.Listing.{is_listed_before, earlier, first_listed, IsFirst}
-use Rattle.rk_folder.specs.Specials.{is_special, is_hidden_fault, is_fault, paths_of, first_special, or_else}
+use Rattle.rk_folder.specs.Specials.{is_special, is_state_file, is_hidden_fault, is_fault, paths_of, first_special, or_else}
 use Rattle.rk_folder.specs.Steps.{first_within}
 use Rattle.rk_folder.specs.declared.folder.Standing.{Standing}
 use Rattle.rk_folder.proofs.HeldLemmas.{same_path, one_path}
@@ -114,7 +114,7 @@ nothing-faulty : (held : Held) (q : Text) → standing held q ≡ None → is_fa
 unfolding is_fault
 nothing-faulty held q none =
     ap (λ (o : Option Standing). cond (is_within hidden_dir q) (is_hidden_fault q o) (is_special o || (is_dir o && is_odd q held.odd))) none
-    ∙ none_faulty (is_within hidden_dir q) (same_text q hidden_dir) (same_text q attrs_file || same_text q db_file) (is_odd q held.odd)
+    ∙ none_faulty (is_within hidden_dir q) (same_text q hidden_dir) (is_state_file q) (is_odd q held.odd)
 
 pub fault-stands : (held : Held) (q : Text) → is_fault held q ≡ true → (it : Standing) × (standing held q ≡ Some it)
 fault-stands held q fault = elim (standing held q) as (λ (o : Option Standing). standing held q ≡ o → (it : Standing) × (o ≡ Some it)) [

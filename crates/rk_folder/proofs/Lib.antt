@@ -8,6 +8,7 @@ pub mod ListingLemmas
 pub mod LooksLemmas
 pub mod OrderLemmas
 pub mod ReadingLemmas
+pub mod RootLemmas
 pub mod SnapshotLemmas
 pub mod SpecialLemmas
 pub mod TakenLemmas

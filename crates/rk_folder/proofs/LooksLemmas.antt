@@ -3,9 +3,9 @@ use Rattle.std.proofs.Common.{◌≡◌, ℕ, zero, suc, ◌+◌, ◌<◌, ◌++
 use Rattle.std.specs.Prelude.{flat_map}
 use Rattle.rk_base.specs.Text.{Text, root, join, same_text}
 use Rattle.rk_folder.specs.Told.{Held, standing, is_dir, items_of}
-use Rattle.rk_folder.specs.Hidden.{hidden_dir, attrs_file, db_file}
+use Rattle.rk_folder.specs.Hidden.{hidden_dir, attrs_file, db_file, install_file}
 use Rattle.rk_folder.specs.Schedule.{AreSomeOf, Made, MakesCalls, Schedule}
-use Rattle.rk_folder.specs.Looks.{LooksInOrder, item_looks, lists, looks, looks_within, reads, state_looks, state_reads}
+use Rattle.rk_folder.specs.Looks.{LooksInOrder, item_looks, lists, looks, looks_within, reads, reads_unless, state_looks, state_reads}
 use Rattle.rk_folder.specs.declared.folder.FolderCall.{FolderCall}
 use Rattle.rk_folder.specs.declared.folder.Item.{Item}
 use Rattle.rk_folder.specs.declared.folder.Item.TheVariants as item
@@ -123,14 +123,24 @@ root-part told now_told n reach dir items before now same at is calls =
 
 -- the first alone
 pub first-read : (skips_db : Bool) (at : Text) (before now : Option Schedule) → at ≡ attrs_file → MakesCalls (reads at) before now → MakesCalls (state_reads skips_db) before now
-first-read skips_db at before now is calls =
-    makes-first (reads attrs_file) (cond skips_db [] (reads db_file)) before now (makes-same (reads at) (reads attrs_file) before now (ap reads is) calls)
+first-read skips_db at before now is calls = makes-first (reads attrs_file) (reads_unless skips_db db_file ++ reads install_file) before now (makes-same (reads at) (reads attrs_file) before now (ap reads is) calls)
 
--- both of them
-pub both-read : (skips_db : Bool) (at db : Text) (before on now : Option Schedule) → skips_db ≡ false → at ≡ attrs_file → db ≡ db_file → MakesCalls (reads at) before on → MakesCalls (reads db) on now → MakesCalls (state_reads skips_db) before now
-both-read skips_db at db before on now off is is_db first calls =
-    let all : reads at ++ reads db ≡ state_reads skips_db = ap (λ (a : Text). reads a ++ reads db) is ∙ ap (λ (d : Text). reads attrs_file ++ reads d) is_db ∙ ap state_reads (sym off) in
-    makes-same (reads at ++ reads db) (state_reads skips_db) before now all (makes-then (reads at) (reads db) before on now first calls)
+-- the database too, or it was passed over
+pub second-read : (skips_db : Bool) (at db : Text) (before on now : Option Schedule) → at ≡ attrs_file → db ≡ db_file → MakesCalls (reads at) before on → MakesCalls (reads_unless skips_db db) on now → MakesCalls (state_reads skips_db) before now
+second-read skips_db at db before on now is is_db first calls =
+    makes-then (reads attrs_file) (reads_unless skips_db db_file ++ reads install_file) before on now (makes-same (reads at) (reads attrs_file) before on (ap reads is) first)
+    (makes-first (reads_unless skips_db db_file) (reads install_file) on now (makes-same (reads_unless skips_db db) (reads_unless skips_db db_file) on now (ap (reads_unless skips_db) is_db) calls))
+
+unless-read : (passed : Bool) (file : Text) (before now : Option Schedule) → MakesCalls (reads_unless passed file) before now → MakesCalls (reads file) before now
+unless-read true file before now calls = makes-first [] (reads file) before now calls
+unless-read false file before now calls = calls
+
+-- and the list
+pub all-read : (skips_db passed : Bool) (at db install : Text) (before on mid now : Option Schedule) → at ≡ attrs_file → db ≡ db_file → install ≡ install_file → MakesCalls (reads at) before on → MakesCalls (reads_unless skips_db db) on mid → MakesCalls (reads_unless passed install) mid now → MakesCalls (state_reads skips_db) before now
+all-read skips_db passed at db install before on mid now is is_db is_install first next calls =
+    makes-then (reads attrs_file) (reads_unless skips_db db_file ++ reads install_file) before on now (makes-same (reads at) (reads attrs_file) before on (ap reads is) first)
+    (makes-then (reads_unless skips_db db_file) (reads install_file) on mid now (makes-same (reads_unless skips_db db) (reads_unless skips_db db_file) on mid (ap (reads_unless skips_db) is_db) next)
+    (makes-same (reads install) (reads install_file) mid now (ap reads is_install) (unless-read passed install mid now calls)))
 
 pub state-read : (told : Option Held) (skips_db : Bool) (before now : Option Schedule) → IfSome told (λ held. standing held hidden_dir ≡ Some Dir) → MakesCalls (state_reads skips_db) before now → LooksInOrder told (state_looks skips_db) before now
 state-read None skips_db before now dir calls = tt

@@ -1,22 +1,24 @@
 -- What the parts of an import tell, where the folder tells what it holds.
 use Rattle.std.proofs.Common.{◌≡◌, List, Bool, true, false, Option, Some, None, IfSome, is_some, option_map, refl, sym, ap, subst, ◌∙◌, cond}
 use Rattle.std.specs.List.{list_all}
-use Rattle.rk_base.specs.Text.{Text, root, hidden}
+use Rattle.rk_base.specs.Text.{Text, root, hidden, join}
+use Rattle.rk_base.specs.Canonical.{is_name}
 use Rattle.rk_base.proofs.CanonicalLemmas.{root-canonical}
-use Rattle.rk_folder.specs.Told.{Held, standing, is_dir, bytes_in, item_of, items_of}
+use Rattle.rk_folder.specs.Told.{Held, standing, is_file, bytes_in, item_of, items_of}
 use Rattle.rk_folder.specs.Whole.{IsWhole, TellsWhole}
-use Rattle.rk_folder.specs.Hidden.{hidden_dir, attrs_name, db_name, attrs_file, db_file}
+use Rattle.rk_folder.specs.Hidden.{hidden_dir, attrs_name, db_name, install_name, fresh_list_name, attrs_file, db_file, install_file, fresh_list_file}
 use Rattle.rk_folder.specs.Specials.{or_else, state_fault, state_special, hidden_fault, hidden_special}
-use Rattle.rk_folder.specs.Import.{has_database, state_of}
-use Rattle.rk_folder.specs.Steps.{agrees, item_named, is_no_file, special_file, nothing_special}
+use Rattle.rk_folder.specs.Import.{has_database}
+use Rattle.rk_folder.specs.Steps.{agrees, file_path, item_named, is_no_file, listed_among, listed_in, special_file, nothing_special}
 use Rattle.rk_folder.specs.declared.hidden_files.Hidden.{Hidden}
-use Rattle.rk_folder.specs.declared.importing.StateFile.{StateFile}
-use Rattle.rk_folder.specs.declared.importing.StateFile.TheVariants as state
+use Rattle.rk_folder.specs.declared.hidden_listing.Listed.{Listed}
+use Rattle.rk_folder.specs.declared.hidden_listing.StateFile.{StateFile}
+use Rattle.rk_folder.specs.declared.hidden_listing.StateFile.TheVariants as state
 use Rattle.rk_folder.specs.declared.folder.Item.{Item}
 use Rattle.rk_folder.specs.declared.folder.Item.TheVariants as item
 use Rattle.rk_folder.specs.declared.folder.Standing.{Standing}
 use Rattle.rk_folder.specs.declared.folder.Standing.TheVariants.{File, Dir, Special}
-use Rattle.rk_folder.proofs.HiddenLemmas.{hidden-is_name, attrs-named, db-named, hidden-canonical, nothing_below}
+use Rattle.rk_folder.proofs.HiddenLemmas.{hidden-is_name, attrs-named, db-named, install-named, fresh_list-named, hidden-canonical, nothing_below}
 use Rattle.rk_folder.proofs.ListingLemmas.{items-agree, item_named-is}
 
 -- a directory's items, where the folder tells what it holds
@@ -40,53 +42,99 @@ told-agree-now told now dir items is whole listed = moved-told (λ held. list_al
 
 -- The hidden directory.
 
-abbrev pub file_path : StateFile → Text
-file_path state.Attrs = attrs_file
-file_path state.Db = db_file
+-- one state file, and those behind it
+one_special : (name path : Text) (file : StateFile) (o : Option Standing) (rest : Option StateFile) (more : Option Text) → file_path file ≡ path → option_map file_path rest ≡ more
+    → option_map file_path (cond (is_no_file (option_map (item_of name) o)) (Some file) rest) ≡ or_else (state_fault path o) more
+one_special name path file None rest more at is = is
+one_special name path file (Some (File bytes)) rest more at is = is
+one_special name path file (Some Dir) rest more at is = ap (λ (p : Text). Some p) at
+one_special name path file (Some Special) rest more at is = ap (λ (p : Text). Some p) at
 
-db_special : (d : Option Standing) → option_map file_path (cond (is_no_file (option_map (item_of db_name) d)) (Some state.Db) None) ≡ state_fault db_file d
-db_special None = refl
-db_special (Some (File bytes)) = refl
-db_special (Some Dir) = refl
-db_special (Some Special) = refl
+last_special : (o : Option Standing) → option_map file_path (cond (is_no_file (option_map (item_of fresh_list_name) o)) (Some state.FreshList) None) ≡ state_fault fresh_list_file o
+last_special None = refl
+last_special (Some (File bytes)) = refl
+last_special (Some Dir) = refl
+last_special (Some Special) = refl
 
-file_special : (a d : Option Standing) → option_map file_path (special_file (option_map (item_of attrs_name) a) (option_map (item_of db_name) d)) ≡ or_else (state_fault attrs_file a) (state_fault db_file d)
-file_special None d = db_special d
-file_special (Some (File bytes)) d = db_special d
-file_special (Some Dir) d = refl
-file_special (Some Special) d = refl
+abbrev pub special_by : Option Standing → Option Standing → Option Standing → Option Standing → Option StateFile
+special_by a d i n = special_file (option_map (item_of attrs_name) a) (option_map (item_of db_name) d) (option_map (item_of install_name) i) (option_map (item_of fresh_list_name) n)
 
-state_is : (held : Held) (items : List Item) (o : Option StateFile) → IsWhole held → items ≡ items_of held hidden_dir → o ≡ special_file (item_named attrs_name items) (item_named db_name items) → state_special held ≡ option_map file_path o
+file_special : (a d i n : Option Standing) → option_map file_path (special_by a d i n) ≡ or_else (state_fault attrs_file a) (or_else (state_fault db_file d) (or_else (state_fault install_file i) (state_fault fresh_list_file n)))
+file_special a d i n =
+    one_special attrs_name attrs_file state.Attrs a _ _ refl
+    (one_special db_name db_file state.Db d _ _ refl (one_special install_name install_file state.Install i _ _ refl (last_special n)))
+
+-- a name in its listing
+named_in : (held : Held) (items : List Item) (name : Text) → IsWhole held → items ≡ items_of held hidden_dir → is_name name ≡ true → item_named name items ≡ option_map (item_of name) (standing held (join hidden_dir name))
+named_in held items name whole is n = ap (item_named name) is ∙ item_named-is held hidden_dir name whole hidden-canonical n
+
+-- the first special state file by its listing
+abbrev pub special_among : List Item → Option StateFile
+special_among items = special_file (item_named attrs_name items) (item_named db_name items) (item_named install_name items) (item_named fresh_list_name items)
+
+among_is : (held : Held) (items : List Item) → IsWhole held → items ≡ items_of held hidden_dir → special_among items ≡ special_by (standing held attrs_file) (standing held db_file) (standing held install_file) (standing held fresh_list_file)
+among_is held items whole is =
+    ap (λ (x : Option Item). special_file x (item_named db_name items) (item_named install_name items) (item_named fresh_list_name items)) (named_in held items attrs_name whole is attrs-named)
+    ∙ ap (λ (x : Option Item). special_file (option_map (item_of attrs_name) (standing held attrs_file)) x (item_named install_name items) (item_named fresh_list_name items)) (named_in held items db_name whole is db-named)
+    ∙ ap (λ (x : Option Item). special_file (option_map (item_of attrs_name) (standing held attrs_file)) (option_map (item_of db_name) (standing held db_file)) x (item_named fresh_list_name items)) (named_in held items install_name whole is install-named)
+    ∙ ap (special_file (option_map (item_of attrs_name) (standing held attrs_file)) (option_map (item_of db_name) (standing held db_file)) (option_map (item_of install_name) (standing held install_file))) (named_in held items fresh_list_name whole is fresh_list-named)
+
+state_is : (held : Held) (items : List Item) (o : Option StateFile) → IsWhole held → items ≡ items_of held hidden_dir → o ≡ special_among items → state_special held ≡ option_map file_path o
 state_is held items o whole is file =
-    let a : item_named attrs_name items ≡ option_map (item_of attrs_name) (standing held attrs_file) = ap (item_named attrs_name) is ∙ item_named-is held hidden_dir attrs_name whole hidden-canonical attrs-named in
-    let d : item_named db_name items ≡ option_map (item_of db_name) (standing held db_file) = ap (item_named db_name) is ∙ item_named-is held hidden_dir db_name whole hidden-canonical db-named in
-    sym (ap (option_map file_path) (file ∙ ap (λ (x : Option Item). special_file x (item_named db_name items)) a ∙ ap (special_file (option_map (item_of attrs_name) (standing held attrs_file))) d)
-    ∙ file_special (standing held attrs_file) (standing held db_file))
+    sym (ap (option_map file_path) (file ∙ among_is held items whole is) ∙ file_special (standing held attrs_file) (standing held db_file) (standing held install_file) (standing held fresh_list_file))
 
-pub told-state : (told : Option Held) (items : List Item) (o : Option StateFile) (file : StateFile) (path : Text) → TellsWhole told → ToldItems told hidden_dir items → o ≡ special_file (item_named attrs_name items) (item_named db_name items) → o ≡ Some file → path ≡ file_path file → IfSome told (λ held. state_special held ≡ Some path)
+pub told-state : (told : Option Held) (items : List Item) (o : Option StateFile) (file : StateFile) (path : Text) → TellsWhole told → ToldItems told hidden_dir items → o ≡ special_among items → o ≡ Some file → path ≡ file_path file → IfSome told (λ held. state_special held ≡ Some path)
 told-state None items o file path whole listed o_is is at = tt
 told-state (Some held) items o file path whole listed o_is is at = state_is held items o whole listed.1 o_is ∙ ap (option_map file_path) is ∙ ap (λ (p : Text). Some p) (sym at)
 
-or_else-some : (first : Option Text) (path : Text) → or_else first (Some path) ≡ None → ⊥
-or_else-some None path h = cc
-or_else-some (Some other) path h = cc
+-- where none of two is there, neither is
+pub or_else-none : (first second : Option Text) → or_else first second ≡ None → (first ≡ None) × (second ≡ None)
+or_else-none None second h = (refl, h)
+or_else-none (Some path) second h = cc
 
--- where neither state file is special, the database stands where it is listed
-db_listed : (a d : Option Standing) → or_else (state_fault attrs_file a) (state_fault db_file d) ≡ None → is_some (option_map (item_of db_name) d) ≡ is_some (bytes_in d)
-db_listed a None plain = refl
-db_listed a (Some (File bytes)) plain = refl
-db_listed a (Some Dir) plain = absurd (or_else-some (state_fault attrs_file a) db_file plain)
-db_listed a (Some Special) plain = absurd (or_else-some (state_fault attrs_file a) db_file plain)
+-- where no state file is special, each is a file, or nothing
+pub record ArePlain (held : Held) : Type 0 where
+  pub attrs : state_fault attrs_file (standing held attrs_file) ≡ None
+  pub db : state_fault db_file (standing held db_file) ≡ None
+  pub install : state_fault install_file (standing held install_file) ≡ None
+  pub fresh_list : state_fault fresh_list_file (standing held fresh_list_file) ≡ None
 
-pub told-no_state : (told : Option Held) (items : List Item) (o : Option StateFile) (b : Bool) → TellsWhole told → ToldItems told hidden_dir items → o ≡ special_file (item_named attrs_name items) (item_named db_name items) → o ≡ None → b ≡ is_some (item_named db_name items)
-    → IfSome told (λ held. (state_special held ≡ None) × (b ≡ has_database held))
-told-no_state None items o b whole listed o_is none b_is = tt
-told-no_state (Some held) items o b whole listed o_is none b_is =
+pub are_plain : (held : Held) → state_special held ≡ None → ArePlain held
+are_plain held plain =
+    let a = or_else-none (state_fault attrs_file (standing held attrs_file)) _ plain in
+    let d = or_else-none (state_fault db_file (standing held db_file)) _ a.1 in
+    let i = or_else-none (state_fault install_file (standing held install_file)) _ d.1 in
+    record { attrs = a.0; db = d.0; install = i.0; fresh_list = i.1 }
+
+-- it stands where it is listed
+db_listed : (path name : Text) (o : Option Standing) → state_fault path o ≡ None → is_some (option_map (item_of name) o) ≡ is_some (bytes_in o)
+db_listed path name None plain = refl
+db_listed path name (Some (File bytes)) plain = refl
+db_listed path name (Some Dir) plain = cc
+db_listed path name (Some Special) plain = cc
+
+file_listed : (path name : Text) (o : Option Standing) → state_fault path o ≡ None → is_some (option_map (item_of name) o) ≡ is_file o
+file_listed path name None plain = refl
+file_listed path name (Some (File bytes)) plain = refl
+file_listed path name (Some Dir) plain = cc
+file_listed path name (Some Special) plain = cc
+
+abbrev listed : Bool → Bool → Bool → Listed
+listed db install fresh_list = record { db = db; install = install; fresh_list = fresh_list }
+
+listed_is : (held : Held) (items : List Item) → IsWhole held → items ≡ items_of held hidden_dir → ArePlain held → listed_among items ≡ listed_in held
+listed_is held items whole is plain =
+    let of : (name : Text) → is_name name ≡ true → is_some (item_named name items) ≡ is_some (option_map (item_of name) (standing held (join hidden_dir name))) = λ name n. ap (λ (x : Option Item). is_some x) (named_in held items name whole is n) in
+    ap (λ (b : Bool). listed b (is_some (item_named install_name items)) (is_some (item_named fresh_list_name items))) (of db_name db-named ∙ db_listed db_file db_name (standing held db_file) plain.db)
+    ∙ ap (λ (b : Bool). listed (has_database held) b (is_some (item_named fresh_list_name items))) (of install_name install-named ∙ file_listed install_file install_name (standing held install_file) plain.install)
+    ∙ ap (listed (has_database held) (is_file (standing held install_file))) (of fresh_list_name fresh_list-named ∙ file_listed fresh_list_file fresh_list_name (standing held fresh_list_file) plain.fresh_list)
+
+pub told-no_state : (told : Option Held) (items : List Item) (o : Option StateFile) (it : Listed) → TellsWhole told → ToldItems told hidden_dir items → o ≡ special_among items → o ≡ None → it ≡ listed_among items
+    → IfSome told (λ held. (state_special held ≡ None) × (it ≡ listed_in held))
+told-no_state None items o it whole listed o_is none is = tt
+told-no_state (Some held) items o it whole listed o_is none is =
     let plain : state_special held ≡ None = state_is held items o whole listed.1 o_is ∙ ap (option_map file_path) none in
-    let d : item_named db_name items ≡ option_map (item_of db_name) (standing held db_file) = ap (item_named db_name) listed.1 ∙ item_named-is held hidden_dir db_name whole hidden-canonical db-named in (
-      plain,
-      b_is ∙ ap (λ (x : Option Item). is_some x) d ∙ db_listed (standing held attrs_file) (standing held db_file) plain,
-    )
+    (plain, is ∙ listed_is held items whole listed.1 (are_plain held plain))
 
 -- The state files.
 
@@ -103,21 +151,24 @@ dir_item (Some (File bytes)) name h = cc
 dir_item (Some Dir) name h = refl
 dir_item (Some Special) name h = cc
 
-abbrev pub found : Bool → Option Text → Option Text → Hidden
-found rkr db attrs = record { rkr = rkr; state = record { db = db; attrs = attrs } }
+-- where the directory doesn't stand
+pub record IsGone (held : Held) : Type 0 where
+  pub attrs : standing held attrs_file ≡ None
+  pub db : standing held db_file ≡ None
+  pub install : standing held install_file ≡ None
+  pub fresh_list : standing held fresh_list_file ≡ None
 
-pub found_is : (held : Held) (rkr : Bool) (db attrs : Option Text) → is_dir (standing held hidden_dir) ≡ rkr → bytes_in (standing held db_file) ≡ db → bytes_in (standing held attrs_file) ≡ attrs → found rkr db attrs ≡ state_of held
-found_is held rkr db attrs r d a =
-    ap (λ (b : Bool). found b db attrs) (sym r) ∙ ap (λ (x : Option Text). found (is_dir (standing held hidden_dir)) x attrs) (sym d)
-    ∙ ap (found (is_dir (standing held hidden_dir)) (bytes_in (standing held db_file))) (sym a)
+pub is_gone : (held : Held) → IsWhole held → standing held hidden_dir ≡ None → IsGone held
+is_gone held whole gone = record {
+  attrs = nothing_below held attrs_name whole attrs-named gone;
+  db = nothing_below held db_name whole db-named gone;
+  install = nothing_below held install_name whole install-named gone;
+  fresh_list = nothing_below held fresh_list_name whole fresh_list-named gone;
+}
 
-pub told-absent : (told : Option Held) (items : List Item) (s : Hidden) → TellsWhole told → ToldItems told root items → item_named hidden items ≡ None → s ≡ found false None None → IfSome told (λ held. (hidden_special held ≡ None) × (s ≡ state_of held))
-told-absent None items s whole listed none is = tt
-told-absent (Some held) items s whole listed none is =
-    let gone : standing held hidden_dir ≡ None = no_item _ (sym (hidden_item held items whole listed.1) ∙ none) in (
-      ap (λ (o : Option Standing). hidden_fault o (state_special held)) gone,
-      is ∙ found_is held false None None (ap is_dir gone) (ap bytes_in (nothing_below held db_name whole db-named gone)) (ap bytes_in (nothing_below held attrs_name whole attrs-named gone)),
-    )
+-- whether the directory stands, and the state files
+abbrev pub found : Bool → Option Text → Option Text → Option Text → Bool → Hidden
+found rkr db attrs install fresh_list = record { rkr = rkr; state = record { db = db; attrs = attrs; install = install; fresh_list = fresh_list } }
 
 pub told-hidden_dir : (told : Option Held) (items : List Item) (name : Text) → TellsWhole told → ToldItems told root items → item_named hidden items ≡ Some (item.Dir name) → IfSome told (λ held. standing held hidden_dir ≡ Some Dir)
 told-hidden_dir None items name whole listed is = tt

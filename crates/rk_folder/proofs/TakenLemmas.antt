@@ -182,12 +182,12 @@ first_is held dir items b o whole c lists seen is odd plain fault =
     special-items held dir whole c seen lists (sym (odd_item-is held dir) ∙ ap (list_any is_odd_item) (sym is) ∙ sym odd ∙ plain) ∙ ap (first_fault (special_in held dir)) (sym is) ∙ fault
 
 -- by what the items tell
-pub told-items : (told now : Option Held) (dir : Text) (items all : List Item) (b : Bool) (old new : Entries) (result : Result (Unit {0}) ImportErr) → now ≡ told → all ≡ items → TellsWhole told → is_canonical dir ≡ true → IfSome told (λ held. can_list dir held ≡ true) → is_within hidden_dir dir ≡ false → tree.is_dir (get old dir) ≡ true → ToldItems told dir items → b ≡ list_any is_odd_item items → b ≡ false
+pub told-items : {A : Type 0} (told now : Option Held) (dir : Text) (items all : List Item) (b : Bool) (old new : Entries) (result : Result A ImportErr) → now ≡ told → all ≡ items → TellsWhole told → is_canonical dir ≡ true → IfSome told (λ held. can_list dir held ≡ true) → is_within hidden_dir dir ≡ false → tree.is_dir (get old dir) ≡ true → ToldItems told dir items → b ≡ list_any is_odd_item items → b ≡ false
     → Tells now (λ held. first_fault (special_in held dir) all) (λ held it. new ≡ with_items held dir old all) result → Tells told (λ held. first_within held dir) (λ held it. new ≡ with_within held dir old) result
-told-items told now dir items all b old new result is same whole c lists seen d listed odd plain tells =
+told-items {A = A} told now dir items all b old new result is same whole c lists seen d listed odd plain tells =
     here told result whole lists listed (subst (λ (t : Option Held). Tells t (λ held. first_fault (special_in held dir) items) (λ held it. new ≡ with_items held dir old items) result) is
     (subst (λ (x : List Item). Tells now (λ held. first_fault (special_in held dir) x) (λ held it. new ≡ with_items held dir old x) result) same tells)) where
-      here : (t : Option Held) (r : Result (Unit {0}) ImportErr) → TellsWhole t → IfSome t (λ held. can_list dir held ≡ true) → ToldItems t dir items → Tells t (λ held. first_fault (special_in held dir) items) (λ held it. new ≡ with_items held dir old items) r
+      here : (t : Option Held) (r : Result A ImportErr) → TellsWhole t → IfSome t (λ held. can_list dir held ≡ true) → ToldItems t dir items → Tells t (λ held. first_fault (special_in held dir) items) (λ held it. new ≡ with_items held dir old items) r
           → Tells t (λ held. first_within held dir) (λ held it. new ≡ with_within held dir old) r
       here None (Ok it) w l i k = tt
       here None (Err (err.Special path)) w l i k = tt

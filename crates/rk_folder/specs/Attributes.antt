@@ -6,9 +6,9 @@ use Rattle.rk_base.specs.Text.{Text, text_cmp, parent}
 use Rattle.rk_tree.specs.Copies.{put_found}
 use Rattle.rk_tree.specs.Entries.{Entries, is_dir}
 use Rattle.rk_tree.specs.Node.{Node as Entry, File, Dir, Link}
-use Rattle.tr_codec.specs.Attrs.{are_rows}
-use Rattle.tr_codec.specs.declared.rows.AttrRow.{AttrRow}
-use Rattle.tr_codec.specs.declared.rows.AttrRow.TheVariants as row
+use Rattle.rk_attrs.specs.Rows.{are_rows}
+use Rattle.rk_attrs.specs.declared.rows.AttrRow.{AttrRow}
+use Rattle.rk_attrs.specs.declared.rows.AttrRow.TheVariants as row
 
 -- a file's mode is applied where a file stands
 abbrev pub file_with : ℕ → Option Entry → Option Entry

@@ -7,10 +7,10 @@ use Rattle.rk_tree.specs.Entries.{Entries}
 use Rattle.rk_tree.specs.Rows.{map_of}
 use Rattle.rk_tree.specs.Node.{Node as Entry}
 use Rattle.rk_tree.specs.Node as entry
-use Rattle.tr_codec.specs.Attrs.{file_mode, dir_mode}
+use Rattle.rk_attrs.specs.Rows.{file_mode, dir_mode}
 use Rattle.rk_folder.specs.Counts.{Rose}
-use Rattle.rk_folder.specs.Told.{Held, standing, is_dir, bytes_in}
-use Rattle.rk_folder.specs.Hidden.{hidden_dir, attrs_file, db_file}
+use Rattle.rk_folder.specs.Told.{Held, standing, is_dir, is_file, bytes_in}
+use Rattle.rk_folder.specs.Hidden.{hidden_dir, attrs_file, db_file, install_file, fresh_list_file}
 use Rattle.rk_folder.specs.Specials.{first_special}
 use Rattle.rk_folder.specs.declared.folder.Standing.{Standing}
 use Rattle.rk_folder.specs.declared.folder.Standing.TheVariants.{File, Dir, Special}
@@ -32,16 +32,26 @@ imported row = if is_within hidden_dir row.0 then None else option_map (λ it. (
 abbrev pub snapshot_of : Held → Entries
 snapshot_of held = map_of (filter_map imported (entries held.places))
 
--- whether `.rkr` stands, and the bytes of the state files that stand
+-- whether `.rkr` stands, the bytes of the state files that stand, and whether a list stands that isn't sealed yet
 abbrev pub state_of : Held → Hidden
 state_of held = record {
   rkr = is_dir (standing held hidden_dir);
-  state = record { db = bytes_in (standing held db_file); attrs = bytes_in (standing held attrs_file) };
+  state = record {
+    db = bytes_in (standing held db_file);
+    attrs = bytes_in (standing held attrs_file);
+    install = bytes_in (standing held install_file);
+    fresh_list = is_file (standing held fresh_list_file);
+  };
 }
 
 -- the state files that are read: all of them, or all but the database
 abbrev pub read_state : Bool → State → State
-read_state skips_db state = record { db = if skips_db then None else state.db; attrs = state.attrs }
+read_state skips_db state = record {
+  db = if skips_db then None else state.db;
+  attrs = state.attrs;
+  install = state.install;
+  fresh_list = state.fresh_list;
+}
 
 -- whether `.rkr` stands, and the bytes of the state files that are read
 abbrev pub hidden_read : Bool → Held → Hidden

@@ -2,7 +2,7 @@
 use Rattle.std.specs.Prelude.{zero, suc, ◌++◌, ◌∷◌, [], ℕ, List, Bool, Option, IfSome, flat_map, if◌then◌else◌}
 use Rattle.rk_base.specs.Text.{Text, root, join, same_text}
 use Rattle.rk_folder.specs.Told.{Held, standing, is_dir, items_of}
-use Rattle.rk_folder.specs.Hidden.{hidden_dir, attrs_file, db_file}
+use Rattle.rk_folder.specs.Hidden.{hidden_dir, attrs_file, db_file, install_file}
 use Rattle.rk_folder.specs.Schedule.{Schedule, MakesCalls}
 use Rattle.rk_folder.specs.declared.folder.FolderCall.{FolderCall}
 use Rattle.rk_folder.specs.declared.folder.FolderCall.TheVariants as asks
@@ -32,9 +32,13 @@ unfoldable pub looks_within : ℕ → Held → Text → List FolderCall
 looks_within zero held dir = lists dir
 looks_within (suc more) held dir = lists dir ++ flat_map (item_looks (looks_within more held) dir) (items_of held dir)
 
--- the state files are two; the database may be passed over
+-- a file is read, or passed over
+abbrev pub reads_unless : Bool → Text → List FolderCall
+reads_unless passed file = if passed then [] else reads file
+
+-- of the state files three are read; the database may be passed over
 abbrev pub state_reads : Bool → List FolderCall
-state_reads skips_db = reads attrs_file ++ (if skips_db then [] else reads db_file)
+state_reads skips_db = reads attrs_file ++ (reads_unless skips_db db_file ++ reads install_file)
 
 -- where `.rkr` stands, each state file is read
 abbrev pub state_looks : Bool → Held → List FolderCall
@@ -49,7 +53,7 @@ abbrev pub state_listings : List FolderCall
 state_listings = lists root ++ lists hidden_dir
 
 abbrev pub all_state_looks : List FolderCall
-all_state_looks = state_listings ++ (reads attrs_file ++ reads db_file)
+all_state_looks = state_listings ++ (reads attrs_file ++ (reads db_file ++ reads install_file))
 
 -- a folder that tells what it holds, and its schedule, was asked for some of these calls and for no other
 abbrev pub LooksInOrder : Option Held → (Held → List FolderCall) → Option Schedule → Option Schedule → Type 0

@@ -4,7 +4,7 @@ use Rattle.std.specs.List.{filter}
 use Rattle.std.specs.FinMap.{entries}
 use Rattle.rk_base.specs.Text.{Text, is_within, same_text}
 use Rattle.rk_folder.specs.Told.{Held, standing, is_dir, is_odd}
-use Rattle.rk_folder.specs.Hidden.{hidden_dir, attrs_file, db_file}
+use Rattle.rk_folder.specs.Hidden.{hidden_dir, attrs_file, db_file, install_file, fresh_list_file}
 use Rattle.rk_folder.specs.Listing.{first_listed}
 use Rattle.rk_folder.specs.declared.folder.Standing.{Standing}
 use Rattle.rk_folder.specs.declared.folder.Standing.TheVariants.{File, Dir, Special}
@@ -28,9 +28,12 @@ is_other_than_file (Some (File bytes)) = false
 is_other_than_file (Some Dir) = true
 is_other_than_file (Some Special) = true
 
+abbrev pub is_state_file : Text → Bool
+is_state_file path = same_text path attrs_file || (same_text path db_file || (same_text path install_file || same_text path fresh_list_file))
+
 -- `.rkr` is to be a directory, and each state file in it a file
 abbrev pub is_hidden_fault : Text → Option Standing → Bool
-is_hidden_fault path it = same_text path hidden_dir && is_other_than_dir it || (same_text path attrs_file || same_text path db_file) && is_other_than_file it
+is_hidden_fault path it = same_text path hidden_dir && is_other_than_dir it || is_state_file path && is_other_than_file it
 
 -- elsewhere nothing is to be special, and no directory is to hold a name which is none
 unfoldable pub is_fault : Held → Text → Bool
@@ -60,7 +63,9 @@ state_fault path (Some Special) = Some path
 
 -- the first state file that is special
 abbrev pub state_special : Held → Option Text
-state_special held = or_else (state_fault attrs_file (standing held attrs_file)) (state_fault db_file (standing held db_file))
+state_special held =
+    or_else (state_fault attrs_file (standing held attrs_file))
+    (or_else (state_fault db_file (standing held db_file)) (or_else (state_fault install_file (standing held install_file)) (state_fault fresh_list_file (standing held fresh_list_file))))
 
 abbrev pub hidden_fault : Option Standing → Option Text → Option Text
 hidden_fault None state = None

@@ -1,8 +1,8 @@
 -- What the parts of an import work on.
-use Rattle.std.specs.Prelude.{◌≡◌, List, [], ◌∷◌, Bool, true, false, not, ◌&&◌, Option, Some, None, IfSome, if◌then◌else◌}
+use Rattle.std.specs.Prelude.{◌≡◌, List, [], ◌∷◌, Bool, true, false, not, ◌&&◌, Option, Some, None, IfSome, is_some, if◌then◌else◌}
 use Rattle.std.specs.FinMap.{empty, entries, get, insert}
 use Rattle.std.specs.List.{filter, filter_map}
-use Rattle.rk_base.specs.Text.{Text, root, join, is_within, same_text}
+use Rattle.rk_base.specs.Text.{Text, root, hidden, join, is_within, same_text}
 use Rattle.rk_base.specs.Canonical.{is_name}
 use Rattle.rk_tree.specs.Entries as tree
 use Rattle.rk_tree.specs.Entries.{Entries}
@@ -11,14 +11,17 @@ use Rattle.rk_tree.specs.Node as entry
 use Rattle.rk_folder.specs.Told.{Held, standing, is_dir, is_file, items_of}
 use Rattle.rk_folder.specs.Listing.{first_listed}
 use Rattle.rk_folder.specs.Specials.{is_special, is_fault, paths_of, or_else}
-use Rattle.rk_folder.specs.Import.{imported}
+use Rattle.rk_folder.specs.Hidden.{hidden_dir, attrs_file, db_file, db_name, install_file, install_name, fresh_list_file, fresh_list_name}
+use Rattle.rk_folder.specs.Import.{has_database, imported}
 use Rattle.rk_folder.specs.declared.folder.Item.{Item}
 use Rattle.rk_folder.specs.declared.folder.Item.TheVariants as item
 use Rattle.rk_folder.specs.declared.folder.Standing.{Standing}
 use Rattle.rk_folder.specs.declared.folder.FolderErr.{FolderErr}
 use Rattle.rk_folder.specs.declared.folder.FolderErr.TheVariants as folder
-use Rattle.rk_folder.specs.declared.importing.StateFile.{StateFile}
-use Rattle.rk_folder.specs.declared.importing.StateFile.TheVariants as state
+use Rattle.rk_folder.specs.declared.hidden_listing.StateFile.{StateFile}
+use Rattle.rk_folder.specs.declared.hidden_listing.StateFile.TheVariants as state
+use Rattle.rk_folder.specs.declared.hidden_listing.Listed.{Listed}
+use Rattle.rk_folder.specs.declared.hidden_files.Hidden.{Hidden}
 use Rattle.rk_folder.specs.declared.importing.ImportErr.{ImportErr}
 use Rattle.rk_folder.specs.declared.importing.ImportErr.TheVariants as err
 
@@ -130,6 +133,67 @@ abbrev pub is_no_file : Option Item → Bool
 is_no_file None = false
 is_no_file (Some it) = not (is_file_item it)
 
--- the first state file that is special, by what is listed of the names of both
-abbrev pub special_file : Option Item → Option Item → Option StateFile
-special_file attrs db = if is_no_file attrs then Some state.Attrs else if is_no_file db then Some state.Db else None
+-- the first state file that is special, by what is listed of their names
+abbrev pub special_file : Option Item → Option Item → Option Item → Option Item → Option StateFile
+special_file attrs db install fresh_list =
+    if is_no_file attrs then Some state.Attrs else
+    if is_no_file db then Some state.Db else
+    if is_no_file install then Some state.Install else
+    if is_no_file fresh_list then Some state.FreshList else None
+
+abbrev pub file_path : StateFile → Text
+file_path state.Attrs = attrs_file
+file_path state.Db = db_file
+file_path state.Install = install_file
+file_path state.FreshList = fresh_list_file
+
+-- What the listing of the hidden directory tells of its state files.
+
+-- which of them are listed
+abbrev pub listed_among : List Item → Listed
+listed_among items = record {
+  db = is_some (item_named db_name items);
+  install = is_some (item_named install_name items);
+  fresh_list = is_some (item_named fresh_list_name items);
+}
+
+abbrev pub has_db : Option Listed → Bool
+has_db None = false
+has_db (Some listed) = listed.db
+
+-- which of them stand
+abbrev pub listed_in : Held → Listed
+listed_in held = record {
+  db = has_database held;
+  install = is_file (standing held install_file);
+  fresh_list = is_file (standing held fresh_list_file);
+}
+
+-- where it is a directory
+abbrev pub hidden_listed : Held → Option Listed
+hidden_listed held = if is_dir (standing held hidden_dir) then Some (listed_in held) else None
+
+-- the item of the root that it is
+abbrev pub is_hidden_dir : Item → Bool
+is_hidden_dir (item.File name) = false
+is_hidden_dir (item.Dir name) = same_text name hidden
+is_hidden_dir (item.Special name) = false
+is_hidden_dir item.Odd = false
+
+-- what an item of the root tells of them
+abbrev pub listed_at : Held → Item → Option Listed
+listed_at held it = if is_hidden_dir it then Some (listed_in held) else None
+
+-- where it doesn't stand
+abbrev pub nothing_found : Hidden
+nothing_found = record { rkr = false; state = record { db = None; attrs = None; install = None; fresh_list = false } }
+
+-- the latter of two, where there is one
+abbrev pub newer : Option Listed → Option Listed → Option Listed
+newer old None = old
+newer old (Some it) = Some it
+
+-- and what all items tell
+abbrev pub listed_by : Held → Option Listed → List Item → Option Listed
+listed_by held listed [] = listed
+listed_by held listed (it ∷ its) = listed_by held (newer listed (listed_at held it)) its

@@ -6,10 +6,10 @@ ghost use Rattle.rk_tree.specs.Copies as tree;
 ghost use Rattle.rk_tree.specs.Entries.{is_dir, node_of, IsWholeSnapshot};
 ghost use Rattle.rk_folder.specs.Attributes.{file_with, dir_with, link_in, put_by, with_row, with_rows, RowsApply};
 
+use rk_attrs::{AttrRow, Attrs};
 use rk_base::{Bytes, NoMemory, Path};
 use rk_tree::{Entry, Node, Snapshot, Tree};
 use std::alloc::Global;
-use tr_codec::{AttrRow, Attrs};
 
 // The file with this mode, where one stands.
 fn file_with(mode: u16, it: Option<&Node>) -> Result<Option<Entry>, NoMemory>

@@ -6,11 +6,17 @@ ghost use Rattle.rk_folder.specs.Hidden as paths;
 use rk_base::{Bytes, NoMemory, Path, PathFault};
 use std::alloc::Global;
 
-/// The bytes of the state files that stand.
+/// The state files: the bytes of those that stand, and whether there is a list of calls that isn't sealed yet.
 #[derive(Debug, Drop)]
 pub struct State {
+    /// The database.
     pub db: Option<Bytes>,
+    /// The rows of attributes.
     pub attrs: Option<Bytes>,
+    /// The sealed list of calls.
+    pub install: Option<Bytes>,
+    /// Whether `install.new` stands, the list that isn't sealed yet.
+    pub fresh_list: bool,
 }
 
 /// Whether `.rkr` stands, and its state files.
@@ -25,6 +31,10 @@ pub(crate) const HIDDEN: &[u8] = b".rkr";
 pub(crate) const ATTRS: &[u8] = b"attrs";
 
 pub(crate) const DB: &[u8] = b"db";
+
+pub(crate) const INSTALL: &[u8] = b"install";
+
+pub(crate) const FRESH_LIST: &[u8] = b"install.new";
 
 // The path of a canonical text.
 fn path_of(alloc: Global, text: &[u8]) -> Result<Path, NoMemory>
@@ -60,4 +70,20 @@ pub fn db_file(alloc: Global) -> Result<Path, NoMemory>
     ensures { IfOk result (λ p. p ≡ paths.db_file) }
 {
     path_of(alloc, b"/.rkr/db")
+}
+
+/// The path of the sealed list of calls, `/.rkr/install`.
+#[tactic(auto, unfolding(rk_base::specs::Text::join))]
+pub fn install_file(alloc: Global) -> Result<Path, NoMemory>
+    ensures { IfOk result (λ p. p ≡ paths.install_file) }
+{
+    path_of(alloc, b"/.rkr/install")
+}
+
+/// The path of a list of calls that isn't sealed yet, `/.rkr/install.new`.
+#[tactic(auto, unfolding(rk_base::specs::Text::join))]
+pub fn fresh_list_file(alloc: Global) -> Result<Path, NoMemory>
+    ensures { IfOk result (λ p. p ≡ paths.fresh_list_file) }
+{
+    path_of(alloc, b"/.rkr/install.new")
 }

@@ -5,7 +5,8 @@ ghost use Rattle.rk_folder.specs.Specials.{first_special};
 ghost use Rattle.rk_folder.specs.Looks.{LooksInOrder, looks};
 ghost use Rattle.rk_folder.specs.Import.{Tells, ReadCaused, MemoryCounted, ReadSteadily, hidden_read, snapshot_of};
 
-use crate::importing::{entries_listed, list};
+use crate::entries::{RootEntries, entries_listed};
+use crate::importing::list;
 use crate::state_files::state_listed;
 use crate::{Folder, Hidden, ImportErr};
 use rk_base::Path;
@@ -51,7 +52,7 @@ pub fn import<F: Folder>(
     ensures reach { F.reach folder.new ≡ F.reach folder.old }
 {
     let items = list(alloc, folder, &Path::root(alloc)?)?;
-    let entries = entries_listed(alloc, folder, &items)?;
-    let hidden = state_listed(alloc, folder, &items, skips_db)?;
+    let RootEntries { entries, listed } = entries_listed(alloc, folder, &items)?;
+    let hidden = state_listed(alloc, folder, listed, skips_db)?;
     Ok(Imported { entries, hidden })
 }

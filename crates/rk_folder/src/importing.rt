@@ -19,12 +19,12 @@ ghost use Rattle.rk_folder.specs.Steps.{MayCall};
 ghost use Rattle.rk_folder.specs.declared.folder.Item.TheVariants as item;
 ghost use Rattle.rk_folder.specs.declared.importing.ImportErr.TheVariants as err;
 
-use crate::hidden_files::{ATTRS, DB, attrs_file, db_file, hidden_dir};
+use crate::hidden_listing::look_at_state;
 use crate::{Folder, FolderErr, Got, Item};
+use rk_attrs::{DIR_MODE, FILE_MODE};
 use rk_base::{Bytes, Name, NoMemory, Path};
 use rk_tree::{Entry, Node, Snapshot};
 use std::alloc::Global;
-use tr_codec::{DIR_MODE, FILE_MODE};
 
 /// Why a folder wasn't imported.
 #[derive(Debug, Drop)]
@@ -143,83 +143,11 @@ pub(crate) fn named<'a>(items: &'a [Item], name: &[u8]) -> Option<&'a Item>
     None
 }
 
-fn has_odd(items: &[Item]) -> bool
+/// Whether a name is listed that is none.
+pub(crate) fn has_odd(items: &[Item]) -> bool
     ensures { result ≡ list_any steps.is_odd_item items.now }
 {
     items.iter().any(|item| matches!(item, Item::Odd))
-}
-
-// A state file.
-#[derive(Clone, Copy, Debug, PartialEq, Eq)]
-enum StateFile {
-    Attrs,
-    Db,
-}
-
-// Something is listed, and it is no file.
-fn is_no_file(item: Option<&Item>) -> bool
-    ensures { result ≡ steps.is_no_file (option_copied item.entry) }
-{
-    match item {
-        None => false,
-        Some(Item::File(_)) => false,
-        Some(_) => true,
-    }
-}
-
-fn is_listed(item: Option<&Item>) -> bool
-    ensures { result ≡ is_some (option_copied item.entry) }
-{
-    item.is_some()
-}
-
-// The first state file in `.rkr` that is special.
-fn special_state(items: &[Item]) -> Option<StateFile>
-    ensures { result ≡ steps.special_file (steps.item_named attrs_name items.now) (steps.item_named db_name items.now) }
-{
-    if is_no_file(named(items, ATTRS)) {
-        return Some(StateFile::Attrs);
-    }
-    if is_no_file(named(items, DB)) {
-        return Some(StateFile::Db);
-    }
-    None
-}
-
-/// Whether the database stands in `.rkr`, by its listing: no file is read.
-pub(crate) fn database_listed<F: Folder>(alloc: Global, folder: &mut F) -> Result<bool, ImportErr>
-    requires { MayCall (F.told folder.old) (told.can_list hidden_dir) }
-    ensures listed { Tells (F.told folder.old) state_special (λ held stands. stands ≡ has_database held) result }
-    ensures cause { ReadCaused (F.read_faults folder.old) (F.read_faults folder.new) result }
-    ensures memory { MemoryCounted (F.memory_failures folder.old) (F.memory_failures folder.new) result }
-    ensures steady { ReadSteadily (F.steady folder.old) (F.steady folder.new) result }
-    ensures held { F.told folder.new ≡ F.told folder.old }
-    ensures writes { F.write_faults folder.new ≡ F.write_faults folder.old }
-    ensures reach { F.reach folder.new ≡ F.reach folder.old }
-    ensures calls { MakesCalls (lists hidden_dir) (F.schedule folder.old) (F.schedule folder.new) }
-{
-    let items = list(alloc, folder, &hidden_dir(alloc)?)?;
-    match special_state(&items) {
-        None => Ok(is_listed(named(&items, DB))),
-        Some(StateFile::Attrs) => Err(ImportErr::Special(attrs_file(alloc)?)),
-        Some(StateFile::Db) => Err(ImportErr::Special(db_file(alloc)?)),
-    }
-}
-
-/// Looks at the state files in `.rkr`.
-pub(crate) fn look_at_state<F: Folder>(alloc: Global, folder: &mut F) -> Result<(), ImportErr>
-    requires { MayCall (F.told folder.old) (told.can_list hidden_dir) }
-    ensures look { Tells (F.told folder.old) state_special (λ held it. Unit {0}) result }
-    ensures cause { ReadCaused (F.read_faults folder.old) (F.read_faults folder.new) result }
-    ensures memory { MemoryCounted (F.memory_failures folder.old) (F.memory_failures folder.new) result }
-    ensures steady { ReadSteadily (F.steady folder.old) (F.steady folder.new) result }
-    ensures held { F.told folder.new ≡ F.told folder.old }
-    ensures writes { F.write_faults folder.new ≡ F.write_faults folder.old }
-    ensures reach { F.reach folder.new ≡ F.reach folder.old }
-    ensures calls { MakesCalls (lists hidden_dir) (F.schedule folder.old) (F.schedule folder.new) }
-{
-    let _listed = database_listed(alloc, folder)?;
-    Ok(())
 }
 
 // Whether it is the path of `.rkr`.
@@ -318,9 +246,9 @@ fn take_dir<F: Folder>(
     take_all(alloc, folder, &path, snapshot)
 }
 
-// What a listing of a directory tells of one name, put in the snapshot.
+/// What a listing of a directory tells of one name, put in the snapshot.
 #[cycle(descent)]
-fn take_item<F: Folder>(
+pub(crate) fn take_item<F: Folder>(
     alloc: Global,
     folder: &mut F,
     dir: &Path,
@@ -411,43 +339,4 @@ fn take_all<F: Folder>(
         return Err(ImportErr::Special(dir.copy()?));
     }
     take_items(alloc, folder, dir, &items, snapshot)
-}
-
-fn root_entry(alloc: Global) -> Result<Snapshot, NoMemory>
-    ensures entry { IfOk result (λ s. s ≡ steps.root_entry) }
-    ensures whole { IfOk result IsWholeSnapshot }
-    ensures placed { IfOk result (λ s. tree.is_dir (get s text.root) ≡ true) }
-{
-    let mut snapshot = Snapshot::new(alloc);
-    snapshot.put(Path::root(alloc)?, Entry::Dir(DIR_MODE))?;
-    Ok(snapshot)
-}
-
-/// The files and directories outside `.rkr`, a file with the mode 0644 and a directory with 0755, by what is
-/// listed in the root. What is special, or out of its place in `.rkr`, is told where it is met.
-pub(crate) fn entries_listed<F: Folder>(
-    alloc: Global,
-    folder: &mut F,
-    items: &[Item],
-) -> Result<Snapshot, ImportErr>
-    requires { steps.ListsRoot (F.told folder.old) items.now }
-    ensures told { Tells (F.told folder.old) first_special (λ held s. s ≡ snapshot_of held) result }
-    ensures whole { IfOk result IsWholeSnapshot }
-    ensures cause { ReadCaused (F.read_faults folder.old) (F.read_faults folder.new) result }
-    ensures memory { MemoryCounted (F.memory_failures folder.old) (F.memory_failures folder.new) result }
-    ensures steady { ReadSteadily (F.steady folder.old) (F.steady folder.new) result }
-    ensures held { F.told folder.new ≡ F.told folder.old }
-    ensures writes { F.write_faults folder.new ≡ F.write_faults folder.old }
-    ensures reach { F.reach folder.new ≡ F.reach folder.old }
-    ensures looks { LooksInOrder (F.told folder.old) (λ held. flat_map (looks.item_looks (looks.looks_within (F.reach folder.old) held) text.root) items.now) (F.schedule folder.old) (F.schedule folder.new) }
-{
-    let root = Path::root(alloc)?;
-    if has_odd(items) {
-        return Err(ImportErr::Special(root));
-    }
-    let mut entries = root_entry(alloc)?;
-    match take_items(alloc, folder, &root, items, &mut entries) {
-        Ok(()) => Ok(entries),
-        Err(e) => Err(e),
-    }
 }

@@ -2,9 +2,11 @@
 #![tactic(auto)]
 
 mod attributes;
+mod entries;
 mod folder;
 mod held;
 mod hidden_files;
+mod hidden_listing;
 mod imported;
 mod importing;
 mod memory;
@@ -15,7 +17,9 @@ mod state_files;
 
 pub use attributes::{rows_apply, tree_of};
 pub use folder::{Folder, FolderCall, FolderErr, Got, Item, LONGEST_FILE, Standing};
-pub use hidden_files::{Hidden, State, attrs_file, db_file, hidden_dir};
+pub use hidden_files::{
+    Hidden, State, attrs_file, db_file, fresh_list_file, hidden_dir, install_file,
+};
 pub use imported::{Imported, import};
 pub use importing::ImportErr;
 pub use memory::MemFolder;

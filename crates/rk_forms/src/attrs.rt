@@ -3,10 +3,11 @@ use crate::spelling::{
     Came, Reader, bytes_of, damage_shown, each_change, each_change_sealed, each_prefix, sealed,
     spelling_shown,
 };
+use rk_attrs::{AttrRow, Attrs};
 use rk_base::{Bytes, NoMemory, Path};
 use rk_steps::{Subject, attrs_shown, behind, path_of, plain, row_of, text, word};
 use std::alloc::Global;
-use tr_codec::{AttrRow, Attrs, CodecErr, read_attrs, read_back_attrs, write_attrs};
+use tr_codec::{CodecErr, read_attrs, read_back_attrs, write_attrs};
 
 /// Rows that are put together, the attributes that were last made or read, and their bytes.
 #[derive(Drop)]

@@ -1,6 +1,7 @@
 // Steps that any folder takes, and a folder and a sink in memory.
 ghost use Rattle.rk_tree.specs.Entries.{IsWholeSnapshot};
 
+use rk_attrs::{AttrRow, Attrs};
 use rk_base::{Bytes, NoMemory, Path};
 use rk_build::attrs_of;
 use rk_folder::{
@@ -13,7 +14,6 @@ use rk_steps::{
 };
 use rk_tree::{Node, Snapshot, Tree};
 use std::alloc::Global;
-use tr_codec::{AttrRow, Attrs};
 
 fn push_marked(alloc: Global, out: &mut String, name: &[u8], mark: &str) -> Result<(), NoMemory> {
     out.push(' ')?;
@@ -134,6 +134,13 @@ fn state_shown(alloc: Global, rkr: bool, state: &State) -> Result<String, NoMemo
     push_file(alloc, &mut out, &state.attrs)?;
     out.push_str(" db ")?;
     push_file(alloc, &mut out, &state.db)?;
+    if state.install.is_some() {
+        out.push_str(" install ")?;
+        push_file(alloc, &mut out, &state.install)?;
+    }
+    if state.fresh_list {
+        out.push_str(" and a fresh list")?;
+    }
     Ok(out)
 }
 

@@ -21,6 +21,8 @@ fn nothing(alloc: Global) -> Holding {
         state: State {
             db: None,
             attrs: None,
+            install: None,
+            fresh_list: false,
         },
     }
 }

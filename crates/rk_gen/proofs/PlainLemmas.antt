@@ -3,9 +3,9 @@ use Rattle.std.proofs.Common.{◌≡◌, ℕ, List, [], ◌∷◌, Bool, true, f
 use Rattle.std.specs.List.{AllByRecursion}
 use Rattle.std.specs.FinMap.{empty, get-empty}
 use Rattle.rk_base.specs.Text.{Text, is_within, join, root, same_text, text_cmp}
-use Rattle.rk_folder.specs.Hidden.{hidden_dir, attrs_file, db_file}
+use Rattle.rk_folder.specs.Hidden.{hidden_dir}
 use Rattle.rk_folder.specs.Listing.{IsFirst}
-use Rattle.rk_folder.specs.Specials.{first_special, is_fault, is_hidden_fault, is_special}
+use Rattle.rk_folder.specs.Specials.{first_special, is_fault, is_hidden_fault, is_special, is_state_file}
 use Rattle.rk_folder.specs.Told.{Held, can_remove_file, can_write, is_dir, is_odd, root_alone, standing, with_standing, without}
 use Rattle.rk_folder.specs.declared.folder.Standing.{Standing}
 use Rattle.rk_folder.specs.declared.folder.Standing.TheVariants.{Dir, File as a_file}
@@ -102,7 +102,7 @@ neither : (x y : Bool) → x ≡ false → y ≡ false → (x || y) ≡ false
 neither x y h g = cc
 
 none_hidden : (q : Text) → is_hidden_fault q None ≡ false
-none_hidden q = neither _ _ (no_left (same_text q hidden_dir)) (no_left (same_text q attrs_file || same_text q db_file))
+none_hidden q = neither _ _ (no_left (same_text q hidden_dir)) (no_left (is_state_file q))
 
 root-visible : IsVisible root
 unfolding is_within join

@@ -2,20 +2,11 @@
 use Rattle.std.specs.Prelude.{ℕ, List, [], ◌∷◌, nat_lt, Bool, true, false, not, ◌&&◌, ◌||◌, ◌==◌, if◌then◌else◌}
 use Rattle.std.specs.List.{list_all}
 use Rattle.std.specs.Ordering.{is_lt}
-use Rattle.rk_base.specs.Text.{Text, text_cmp, same_text, root, join, hidden, is_root, is_within}
+use Rattle.rk_base.specs.Text.{Text, text_cmp, same_text, is_root, is_within}
 use Rattle.rk_base.specs.Canonical.{is_canonical}
+pub use Rattle.rk_folder.specs.Hidden.{hidden_dir, attrs_file, db_file}
 use Rattle.rk_seal.specs.declared.ops.Op.{Op}
 use Rattle.rk_seal.specs.declared.ops.Op.TheVariants.{RemoveFile, RemoveDir, MakeDir, Write}
-
-abbrev pub hidden_dir : Text
-hidden_dir = join root hidden
-
--- `attrs` and `db` in it
-abbrev pub attrs_file : Text
-attrs_file = join hidden_dir (97 ∷ 116 ∷ 116 ∷ 114 ∷ 115 ∷ [])
-
-abbrev pub db_file : Text
-db_file = join hidden_dir (100 ∷ 98 ∷ [])
 
 abbrev pub path_of : Op → Text
 path_of (RemoveFile path) = path

@@ -5,7 +5,6 @@ mod laws;
 mod ops;
 mod parts;
 mod reading;
-mod sealing;
 mod writing;
 
 pub use laws::{one_list, read_back, spell_back};

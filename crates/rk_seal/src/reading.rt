@@ -12,11 +12,10 @@ ghost use Rattle.rk_seal.specs.Reading.{Gives, written_at, op_from, op_at, calls
 
 use crate::ops::{InstallList, Op};
 use crate::parts::{byte_of, count_of, string_of};
-use crate::sealing::{is_same, open_seal};
 use crate::writing::list_body;
 use rk_base::{Bytes, NoMemory, Path, PathFault};
 use std::alloc::Global;
-use tr_codec::{CodecErr, Damage};
+use tr_codec::{CodecErr, Damage, is_same, open_seal};
 
 fn path_from(alloc: Global, text: &[u8]) -> Result<Option<Path>, NoMemory>
     ensures { IfOk result (λ path. path ≡ given (is_canonical text.now) text.now) }

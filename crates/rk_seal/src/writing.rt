@@ -1,30 +1,14 @@
 // The spelling of a list of calls.
 ghost use Rattle.std.specs.Prelude.{◌≡◌, ◌<◌, ◌^◌, ◌++◌, ◌∷◌, length, true, IfOk, OnOk};
 ghost use Rattle.std.specs.List.{flat_map};
-ghost use Rattle.tr_codec.specs.Piece.{num, string};
+ghost use Rattle.tr_codec.specs.Piece.{string};
 ghost use Rattle.rk_seal.specs.Ops.{are_calls};
 ghost use Rattle.rk_seal.specs.Spelling.{op_spelling, list_body, install_spelling};
 
 use crate::ops::{InstallList, Op};
-use crate::sealing::seal;
 use rk_base::{Bytes, NoMemory, Path};
 use std::alloc::Global;
-
-#[tactic(auto, unfolding(tr_codec::specs::Piece::num))]
-fn push_number(out: &mut Vec<u8>, n: u64) -> Result<(), NoMemory>
-    ensures { OnOk result (out.new.items ≡ out.old.items ++ num n) }
-{
-    out.extend_from_slice(&n.to_be_bytes())?;
-    Ok(())
-}
-
-fn push_string(out: &mut Vec<u8>, text: &[u8]) -> Result<(), NoMemory>
-    ensures { OnOk result (out.new.items ≡ out.old.items ++ string text.now) }
-{
-    push_number(out, text.len() as u64)?;
-    out.extend_from_slice(text)?;
-    Ok(())
-}
+use tr_codec::{push_number, push_string, seal};
 
 // The kind of a call, and its path.
 fn push_call(out: &mut Vec<u8>, kind: u8, path: &Path) -> Result<(), NoMemory>

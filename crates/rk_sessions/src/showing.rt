@@ -1,8 +1,9 @@
 // What came, as text.
+use rk_attrs::{AttrRow, Attrs};
 use rk_base::{Name, NoMemory, Path};
 use rk_folder::{Folder, FolderCall, Item, MemFolder, Standing};
 use std::alloc::Global;
-use tr_codec::{AttrRow, Attrs, read_attrs};
+use tr_codec::read_attrs;
 
 /// Bytes as text.
 pub(crate) fn shown(bytes: &[u8]) -> &str {

@@ -1,8 +1,8 @@
 // Rows of attributes as words.
 use crate::{mode, push_shown, text, word};
+use rk_attrs::{AttrRow, Attrs};
 use rk_base::{Bytes, NoMemory};
 use std::alloc::Global;
-use tr_codec::{AttrRow, Attrs};
 
 /// The row of `file MODE`, `dir MODE` or `link TEXT`.
 pub fn row_of(alloc: Global, words: &[Vec<u8>]) -> Result<AttrRow, NoMemory> {

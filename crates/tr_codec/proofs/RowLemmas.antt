@@ -8,20 +8,18 @@ use Rattle.sha2.specs.Sha256.{sha256}
 use Rattle.sha2.proofs.Facts256.{length-sha256}
 use Rattle.rk_base.specs.Text.{Text, root, join, hidden, is_within}
 use Rattle.rk_base.specs.Canonical.{is_canonical}
-use Rattle.tr_codec.specs.declared.rows.AttrRow.{AttrRow}
-use Rattle.tr_codec.specs.declared.rows.AttrRow.TheVariants.{FileMode, DirMode, Link}
+use Rattle.rk_attrs.specs.declared.rows.AttrRow.{AttrRow}
+use Rattle.rk_attrs.specs.declared.rows.AttrRow.TheVariants.{FileMode, DirMode, Link}
+use Rattle.rk_attrs.specs.Rows.{file_mode, dir_mode, is_mode, suits, is_row, are_rows}
+use Rattle.rk_attrs.proofs.RowLemmas.{both, row_parts, each_row}
 use Rattle.tr_codec.specs.Piece.{num, string}
 use Rattle.tr_codec.specs.Spelling.{sealed}
 use Rattle.tr_codec.specs.Reading.{◌>>=◌, given, number_at, byte_at, string_at, counted_at}
 use Rattle.tr_codec.specs.RowReading.{file_mode_at, dir_mode_at, link_at, attr_of, attr_at, path_at, attr_row_at, rows_at}
-use Rattle.tr_codec.specs.Attrs.{file_mode, dir_mode, is_mode, suits, is_row, ascend, are_rows, attr_spelling, row_spelling, attrs_magic, attrs_body, attrs_spelling}
+use Rattle.tr_codec.specs.Attrs.{attr_spelling, row_spelling, attrs_magic, attrs_body, attrs_spelling}
 use Rattle.tr_codec.proofs.AgainLemmas.{Again, again_bind, again_last, again_check, mode_again, byte_again, Items, again_counted}
 use Rattle.tr_codec.proofs.SealLemmas.{num_length, one_front}
 use Rattle.tr_codec.proofs.TableAgain.{string_again}
-
-both : (a b : Bool) → (a && b) ≡ true → (a ≡ true) × (b ≡ true)
-both true b h = (refl, h)
-both false b h = cc
 
 -- a mode has two bytes
 mode_small : (default mode : ℕ) → is_mode default mode ≡ true → mode < 2 ^ 16
@@ -41,13 +39,6 @@ path_again : (text : Text) → is_canonical text ≡ true → Again path_at (str
 unfolding path_at
 path_again text h = again_check string_at (λ (t : Text). given (is_canonical t) t) (λ (p : Text). p) (string text) text text (string_again text) (ap (λ b. given b text) h)
 
--- what is_row says
-pub row_parts : (row : Text × AttrRow) → is_row row ≡ true → (is_canonical row.0 ≡ true) × (not (is_within (join root hidden) row.0) ≡ true) × (suits row.0 row.1 ≡ true)
-row_parts row h =
-    let a = both (is_canonical row.0 && not (is_within (join root hidden) row.0)) (suits row.0 row.1) h in
-    let b = both (is_canonical row.0) (not (is_within (join root hidden) row.0)) a.0 in
-    (b.0, b.1, a.1)
-
 row_again : (row : Text × AttrRow) → is_row row ≡ true → Again attr_row_at (row_spelling row) row
 unfolding attr_row_at
 row_again row h =
@@ -66,18 +57,6 @@ row_items front (row ∷ rows) h =
     (row_again row p.0, row_length row, row_items (front ++ row ∷ []) rows p.1)
 
 -- ---- rows
-
-pub each_row : (rows : List (Text × AttrRow)) → are_rows rows ≡ true → list_all is_row rows ≡ true
-unfolding are_rows
-each_row rows h = (both (list_all is_row rows) (ascend rows) h).0
-
-pub rows_ascend : (rows : List (Text × AttrRow)) → are_rows rows ≡ true → ascend rows ≡ true
-unfolding are_rows
-rows_ascend rows h = (both (list_all is_row rows) (ascend rows) h).1
-
-pub rows_are : (rows : List (Text × AttrRow)) → list_all is_row rows ≡ true → ascend rows ≡ true → are_rows rows ≡ true
-unfolding are_rows
-rows_are rows each up = ap (λ (b : Bool). b && ascend rows) each ∙ up
 
 abbrev after_magic : List (Text × AttrRow) → List ℕ
 after_magic rows = num (length rows) ++ flat_map row_spelling rows

@@ -4,8 +4,9 @@ use Rattle.rk_base.specs.Text.{Text}
 use Rattle.tr_record.specs.declared.records.Record.{Record}
 use Rattle.tr_codec.specs.Spelling.{db_spelling}
 use Rattle.tr_codec.specs.Fits.{Fits}
-use Rattle.tr_codec.specs.declared.rows.AttrRow.{AttrRow}
-use Rattle.tr_codec.specs.Attrs.{are_rows, attrs_spelling}
+use Rattle.rk_attrs.specs.declared.rows.AttrRow.{AttrRow}
+use Rattle.rk_attrs.specs.Rows.{are_rows}
+use Rattle.tr_codec.specs.Attrs.{attrs_spelling}
 
 -- no two tables have one spelling (of fewer than 2^64 bytes, as all bytes in memory are)
 abbrev pub OneTable : Type 0

@@ -3,9 +3,9 @@ use Rattle.std.specs.Prelude.{ℕ, List, Option, Some, None, ◌==◌, if◌then
 use Rattle.std.specs.Int.{w16}
 use Rattle.rk_base.specs.Text.{Text}
 use Rattle.rk_base.specs.Canonical.{is_canonical}
-use Rattle.tr_codec.specs.declared.rows.AttrRow.{AttrRow}
-use Rattle.tr_codec.specs.declared.rows.AttrRow.TheVariants.{FileMode, DirMode, Link}
-use Rattle.tr_codec.specs.Attrs.{are_rows}
+use Rattle.rk_attrs.specs.declared.rows.AttrRow.{AttrRow}
+use Rattle.rk_attrs.specs.declared.rows.AttrRow.TheVariants.{FileMode, DirMode, Link}
+use Rattle.rk_attrs.specs.Rows.{are_rows}
 use Rattle.tr_codec.specs.Reading.{◌>>=◌, given, number_at, byte_at, string_at, counted_at}
 
 unfoldable pub file_mode_at : List ℕ → Option (AttrRow × List ℕ)

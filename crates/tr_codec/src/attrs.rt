@@ -3,8 +3,9 @@ ghost use Rattle.std.specs.Prelude.{◌≡◌, ◌≢◌, ◌<◌, ◌≤◌, �
 ghost use Rattle.std.specs.List.{flat_map};
 ghost use Rattle.sha2.specs.Sha256.{sha256};
 ghost use Rattle.rk_base.specs.Text.{Text};
-ghost use Rattle.tr_codec.specs.declared.rows.AttrRow.{AttrRow as Row};
-ghost use Rattle.tr_codec.specs.Attrs.{are_rows, attr_spelling, row_spelling, attrs_body, attrs_spelling};
+ghost use Rattle.rk_attrs.specs.declared.rows.AttrRow.{AttrRow as Row};
+ghost use Rattle.rk_attrs.specs.Rows.{are_rows};
+ghost use Rattle.tr_codec.specs.Attrs.{attr_spelling, row_spelling, attrs_body, attrs_spelling};
 ghost use Rattle.tr_codec.specs.Reading.{given, many_at, counted_at};
 ghost use Rattle.tr_codec.specs.RowReading.{attr_at, path_at, attr_row_at, rows_at};
 ghost use Rattle.tr_codec.specs.Reads.{Gives, Tells, Finds, FindsPart, front_of, seal_of};
@@ -12,9 +13,9 @@ ghost use Rattle.tr_codec.specs.Reads.{Gives, Tells, Finds, FindsPart, front_of,
 use crate::fault::{CodecErr, Damage, PartErr};
 use crate::keys::path_of;
 use crate::parts::{byte_of, count_of, mode_of, string_of};
-use crate::rows::{AttrRow, Attrs};
 use crate::sealing::{is_same, open_seal, seal};
 use crate::writer::{push_mode, push_number, push_string};
+use rk_attrs::{AttrRow, Attrs};
 use rk_base::{Bytes, NoMemory, Path};
 use std::alloc::Global;
 

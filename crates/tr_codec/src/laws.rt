@@ -6,8 +6,8 @@ ghost use Rattle.tr_codec.specs.Reads.{Finds};
 use crate::attrs::{read_attrs, write_attrs};
 use crate::fault::CodecErr;
 use crate::reading::read_db;
-use crate::rows::Attrs;
 use crate::writing::write_db;
+use rk_attrs::Attrs;
 use std::alloc::Global;
 use tr_record::Table;
 

@@ -7,8 +7,8 @@ use crate::fault::Damage;
 use rk_base::{Bytes, NoMemory};
 use sha2::{Digest, Sha256};
 
-/// Bytes, and their digest.
-pub(crate) fn seal(mut out: Vec<u8>) -> Result<Bytes, NoMemory>
+/// The bytes, and behind them their SHA-256 (FIPS 180-4). It fails for want of memory alone.
+pub fn seal(mut out: Vec<u8>) -> Result<Bytes, NoMemory>
     ensures bytes { IfOk result (λ bytes. bytes ≡ sealed out.items) }
     ensures memory { IfOk result (λ bytes. length bytes < 2 ^ 64) }
 {
@@ -38,7 +38,8 @@ pub(crate) fn seal_as(out: Vec<u8>, kept: &Bytes) -> Result<Bytes, NoMemory>
     }
 }
 
-pub(crate) fn is_same(a: &[u8], b: &[u8]) -> bool
+/// Whether both are the same bytes.
+pub fn is_same(a: &[u8], b: &[u8]) -> bool
     ensures { IsTrue result ↔ (a.now ≡ b.now) }
 {
     a == b
@@ -53,8 +54,9 @@ fn digest_of(bytes: &[u8]) -> [u8; 32]
     digest
 }
 
-/// What stands before the digest, where it is right.
-pub(crate) fn open_seal(bytes: &[u8], least: usize) -> Result<&[u8], Damage>
+/// What stands before the digest, where that is right; else `Short`, with the length, below the least one, or `Digest`, with
+/// both.
+pub fn open_seal(bytes: &[u8], least: usize) -> Result<&[u8], Damage>
     requires { 32 ≤ least }
     ensures { Opens least bytes.now result }
 {

@@ -98,8 +98,9 @@ fn number_in(
     Ok(n)
 }
 
+/// Eight bytes, the greatest first.
 #[tactic(auto, unfolding(crate::specs::Piece::num))]
-pub(crate) fn push_number(out: &mut Vec<u8>, n: u64) -> Result<(), NoMemory>
+pub fn push_number(out: &mut Vec<u8>, n: u64) -> Result<(), NoMemory>
     ensures { OnOk result (out.new.items ≡ out.old.items ++ num n) }
 {
     out.extend_from_slice(&n.to_be_bytes())?;
@@ -114,7 +115,8 @@ pub(crate) fn push_mode(out: &mut Vec<u8>, mode: u16) -> Result<(), NoMemory>
     Ok(())
 }
 
-pub(crate) fn push_string(out: &mut Vec<u8>, text: &[u8]) -> Result<(), NoMemory>
+/// The length of a text in eight bytes, and the text.
+pub fn push_string(out: &mut Vec<u8>, text: &[u8]) -> Result<(), NoMemory>
     ensures { OnOk result (out.new.items ≡ out.old.items ++ string text.now) }
 {
     push_number(out, text.len() as u64)?;

@@ -1,5 +1,5 @@
 use Rattle.std.proofs.Common.{◌∙◌, ap}
-use Rattle.tr_codec.specs.Attrs.{are_rows}
+use Rattle.rk_attrs.specs.Rows.{are_rows}
 use Rattle.rk_build.proofs.AttributesLemmas.{attrs_are, taken}
 use Rattle.rk_build.proofs.attributes.attrs_of.Goals as goal
 

@@ -1,4 +1,4 @@
-use Rattle.tr_codec.proofs.RowLemmas.{rows_ascend}
+use Rattle.rk_attrs.proofs.RowLemmas.{rows_ascend}
 use Rattle.rk_folder.proofs.AttributesLemmas.{get-with_rows}
 use Rattle.rk_folder.proofs.attributes.rows_apply.Goals as goal
 

@@ -1,6 +1,6 @@
 use Rattle.std.proofs.Common.{◌∙◌, sym, ap, subst}
 use Rattle.rk_tree.specs.Entries.{IsWholeSnapshot}
-use Rattle.tr_codec.proofs.RowLemmas.{each_row}
+use Rattle.rk_attrs.proofs.RowLemmas.{each_row}
 use Rattle.rk_folder.specs.Attributes.{with_rows}
 use Rattle.rk_folder.proofs.AttributesLemmas.{with_rows-whole}
 use Rattle.rk_folder.proofs.attributes.tree_of.Goals as goal

@@ -1,20 +1,23 @@
-use Rattle.std.proofs.Common.{◌≡◌, Some, sym, ap, refl, ◌∙◌}
-use Rattle.rk_folder.specs.Import.{has_database}
+use Rattle.std.proofs.Common.{◌≡◌, Option, Some, sym, ap, refl, ◌∙◌}
+use Rattle.rk_folder.specs.Steps.{hidden_listed, listed_in}
 use Rattle.rk_folder.specs.declared.folder.Item.{Item}
+use Rattle.rk_folder.specs.declared.hidden_listing.Listed.{Listed}
 use Rattle.rk_folder.proofs.ReadingLemmas.{told-hidden_dir, told-no_dir}
-use Rattle.rk_folder.proofs.ImportLemmas.{told-listed, told-no_hidden, told-lists_hidden_dir, told-looked}
+use Rattle.rk_folder.proofs.ImportLemmas.{told-listed, told-no_hidden, told-lists_hidden_dir, told-hidden_listed, told-hidden_failed}
 use Rattle.rk_folder.proofs.state_files.look_at_hidden.Goals as goal
 
 pub returns-in-None-clause-look : goal.returns-in-None-clause-look
 returns-in-None-clause-look g c = told-no_hidden _ c.args.items.now (g.met.F.Folder.whole c.args.folder.now) c.requires (sym c.in-None.ensures)
 
-pub database_listed-requires : goal.database_listed-requires
-database_listed-requires g c =
-    told-lists_hidden_dir _ (told-hidden_dir _ c.args.items.now c.in-Some-Dir.field-0-0 (g.met.F.Folder.whole c.args.folder.now) (told-listed _ c.args.items.now c.requires) (sym c.in-Some-Dir.ensures ∙ ap (λ (i : Item). Some i) c.in-Some-Dir.field-0-is))
+pub hidden_listed-requires : goal.hidden_listed-requires
+hidden_listed-requires g c = told-lists_hidden_dir _ (told-hidden_dir (g.F.Folder.told c.args.folder.now) c.args.items.now c.in-Some-Dir.field-0-0 (g.met.F.Folder.whole c.args.folder.now) (told-listed _ c.args.items.now c.requires) (sym c.in-Some-Dir.ensures ∙ ap (λ (i : Item). Some i) c.in-Some-Dir.field-0-is))
 
-pub returns-in-Some-Dir-clause-look : goal.returns-in-Some-Dir-clause-look
-returns-in-Some-Dir-clause-look g c =
-    told-looked _ (λ held stands. stands ≡ has_database held) c.database_listed.result (told-hidden_dir _ c.args.items.now c.in-Some-Dir.field-0-0 (g.met.F.Folder.whole c.args.folder.now) (told-listed _ c.args.items.now c.requires) (sym c.in-Some-Dir.ensures ∙ ap (λ (i : Item). Some i) c.in-Some-Dir.field-0-is)) c.database_listed.ensures.listed
+pub returns-in-Ok-clause-look : goal.returns-in-Ok-clause-look
+returns-in-Ok-clause-look g c = told-hidden_listed _ c.in-Ok.listed (told-hidden_dir (g.F.Folder.told c.args.folder.now) c.args.items.now c.in-Some-Dir.field-0-0 (g.met.F.Folder.whole c.args.folder.now) (told-listed _ c.args.items.now c.requires) (sym c.in-Some-Dir.ensures ∙ ap (λ (i : Item). Some i) c.in-Some-Dir.field-0-is)) c.in-Ok.ensures.listed
+
+pub returns-in-Err-clause-look : goal.returns-in-Err-clause-look
+returns-in-Err-clause-look g c =
+    told-hidden_failed {A = Listed} {B = Option Listed} _ (λ held it. it ≡ listed_in held) (λ held it. it ≡ hidden_listed held) c.in-Err.e (told-hidden_dir (g.F.Folder.told c.args.folder.now) c.args.items.now c.in-Some-Dir.field-0-0 (g.met.F.Folder.whole c.args.folder.now) (told-listed _ c.args.items.now c.requires) (sym c.in-Some-Dir.ensures ∙ ap (λ (i : Item). Some i) c.in-Some-Dir.field-0-is)) c.in-Err.ensures.listed
 
 pub returns-in_ok-hidden_dir-in-Some-File-clause-look :
     goal.returns-in_ok-hidden_dir-in-Some-File-clause-look

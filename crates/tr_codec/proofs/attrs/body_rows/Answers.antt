@@ -1,7 +1,7 @@
 use Rattle.std.proofs.Common.{◌≡◌, ◌∙◌, ◌<◌, ◌^◌, length, sym, ap, true, false, drop, List, Some, arith}
 use Rattle.std.proofs.lemmas.Result.{err_from_is_err_and}
 use Rattle.rk_base.specs.Text.{Text}
-use Rattle.tr_codec.specs.declared.rows.AttrRow.{AttrRow}
+use Rattle.rk_attrs.specs.declared.rows.AttrRow.{AttrRow}
 use Rattle.tr_codec.specs.Attrs.{attrs_body}
 use Rattle.tr_codec.specs.RowReading.{rows_at}
 use Rattle.tr_codec.proofs.RowLemmas.{parsed_rows}

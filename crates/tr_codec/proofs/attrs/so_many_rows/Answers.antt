@@ -1,7 +1,7 @@
 use Rattle.std.proofs.Common.{List, []}
 use Rattle.std.proofs.lemmas.Result.{err_from_is_err_and}
 use Rattle.rk_base.specs.Text.{Text}
-use Rattle.tr_codec.specs.declared.rows.AttrRow.{AttrRow}
+use Rattle.rk_attrs.specs.declared.rows.AttrRow.{AttrRow}
 use Rattle.tr_codec.specs.Reading.{many_at}
 use Rattle.tr_codec.specs.RowReading.{attr_row_at}
 use Rattle.tr_codec.proofs.LoopLemmas.{goes_on, ends, is_done}

@@ -1,6 +1,6 @@
 use Rattle.std.proofs.Common.{◌≡◌, ◌-◌, List, []}
 use Rattle.rk_base.specs.Text.{Text}
-use Rattle.tr_codec.specs.declared.rows.AttrRow.{AttrRow}
+use Rattle.rk_attrs.specs.declared.rows.AttrRow.{AttrRow}
 use Rattle.tr_codec.specs.Reading.{many_at}
 use Rattle.tr_codec.specs.RowReading.{attr_row_at}
 use Rattle.tr_codec.proofs.attrs.so_many_rows.Given as goal

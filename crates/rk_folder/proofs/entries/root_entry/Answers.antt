@@ -6,7 +6,7 @@ use Rattle.rk_tree.specs.Entries.{Entries, IsWholeSnapshot}
 use Rattle.rk_tree.specs.Node.{Dir}
 use Rattle.rk_folder.specs.Steps.{root_entry}
 use Rattle.rk_folder.proofs.SnapshotLemmas.{root_entry-whole, root_entry-dir}
-use Rattle.rk_folder.proofs.importing.root_entry.Goals as goal
+use Rattle.rk_folder.proofs.entries.root_entry.Goals as goal
 
 pub returns-clause-whole : goal.returns-clause-whole
 returns-clause-whole c =

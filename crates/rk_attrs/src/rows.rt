@@ -3,7 +3,7 @@ ghost use Rattle.std.specs.Prelude.{◌≡◌, ◌==◌, [], length, Some, None,
 ghost use Rattle.std.specs.List.{list_all, list_any};
 ghost use Rattle.std.specs.Ordering.{is_lt};
 ghost use Rattle.rk_base.specs.Text.{text_cmp, root, join, hidden, is_within};
-ghost use Rattle.tr_codec.specs.Attrs.{is_mode, is_link_text, suits, is_row, ascend_from, ascend, are_rows};
+ghost use Rattle.rk_attrs.specs.Rows.{is_mode, is_link_text, suits, is_row, ascend_from, ascend, are_rows};
 
 use rk_base::{Bytes, Path, has_nul};
 use std::alloc::Global;
@@ -32,8 +32,8 @@ pub struct Attrs {
 
 impl Model for Attrs {
     ghost use Rattle.std.specs.Prelude.{◌≡◌, List, ℕ, true};
-    ghost use Rattle.tr_codec.specs.declared.rows.AttrRow.{AttrRow};
-    ghost use Rattle.tr_codec.specs.Attrs.{are_rows};
+    ghost use Rattle.rk_attrs.specs.declared.rows.AttrRow.{AttrRow};
+    ghost use Rattle.rk_attrs.specs.Rows.{are_rows};
 
     ghost Value = { List (List ℕ × AttrRow) };
 
@@ -113,7 +113,7 @@ fn ascends(rows: &[(Path, AttrRow)]) -> bool
     }
 }
 
-#[tactic(auto, unfolding(crate::specs::Attrs::are_rows))]
+#[tactic(auto, unfolding(crate::specs::Rows::are_rows))]
 fn are_rows(rows: &[(Path, AttrRow)]) -> bool
     ensures { result ≡ are_rows rows.now }
 {
@@ -122,7 +122,7 @@ fn are_rows(rows: &[(Path, AttrRow)]) -> bool
 
 impl Attrs {
     /// No rows.
-    #[tactic(auto, unfolding(crate::specs::Attrs::are_rows))]
+    #[tactic(auto, unfolding(crate::specs::Rows::are_rows))]
     pub fn new(alloc: Global) -> Attrs
         ensures { result ≡ [] }
     {
