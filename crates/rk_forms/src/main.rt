@@ -1,22 +1,14 @@
-//! Carries out files of steps for records, attributes, the calls of installs and their spelling, folders, plans and made
-//! workloads, a step a line with what is wanted beside it, and prints for each file how many steps there were, and what came
-//! otherwise.
+//! Carries out files of steps for records, attributes, the calls of installs and their spelling, a step a line with what is wanted
+//! beside it, and prints for each file how many steps there were, and what came otherwise.
 #![tactic(auto)]
 
 mod attrs;
-mod folders;
 mod installs;
-mod made;
-mod plans;
-mod real;
 mod records;
 mod spelling;
 
 use crate::attrs::Attributes;
-use crate::folders::Held;
 use crate::installs::Installs;
-use crate::made::Made;
-use crate::real::Real;
 use crate::records::Records;
 use rk_base::NoMemory;
 use rk_steps::{Subjects, Told, run_files, steps_of, subject_of};
@@ -29,10 +21,7 @@ impl Subjects<HostRuntime> for Program {
         let alloc = rt.alloc();
         let told = match subject_of(text) {
             "attributes" => steps_of(alloc, name, text, Attributes::new(alloc))?,
-            "folder" => steps_of(alloc, name, text, Held::new(alloc))?,
             "install-lists" => steps_of(alloc, name, text, Installs::new(alloc))?,
-            "made" => steps_of(alloc, name, text, Made::new(alloc))?,
-            "real" => steps_of(alloc, name, text, Real::new(rt.clone()?))?,
             "records" => steps_of(alloc, name, text, Records::new(alloc))?,
             _ => return Ok(None),
         };
