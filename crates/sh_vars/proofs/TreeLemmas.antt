@@ -1,5 +1,5 @@
 -- Rows in order, on both sides of one of them.
-use Rattle.std.proofs.Common.{◌≡◌, List, [], ◌∷◌, ◌++◌, Bool, true, false, cond, Some, None, Global, refl, sym, ap, subst, ◌∙◌, append_assoc, ◌&&◌, not}
+use Rattle.std.proofs.Common.{◌≡◌, List, [], ◌∷◌, ◌++◌, Bool, true, false, cond, Option, Some, None, Global, refl, sym, ap, subst, ◌∙◌, append_assoc, ◌&&◌, not}
 use Rattle.std.specs.declared.rc.Rc.{Rc}
 use Rattle.std.specs.List.{filter_map}
 use Rattle.std.proofs.lemmas.List.Elements.{filter_map-append}
@@ -19,7 +19,8 @@ use Rattle.sh_vars.specs.declared.tree.Link.{Link}
 use Rattle.sh_vars.specs.declared.tree.Link.TheVariants.{To}
 use Rattle.sh_vars.specs.declared.tree.Node.{Node}
 use Rattle.sh_vars.specs.TreeRows.{rows, rows_of, row_of}
-use Rattle.sh_vars.specs.Tree.{Row, IsInOrder, without_row}
+use Rattle.std.specs.Option.{IfSome}
+use Rattle.sh_vars.specs.Tree.{Row, IsInOrder, Replaces, without_row}
 
 pub and_first : (a b : Bool) → T (a && b) → T a
 and_first true b h = tt
@@ -261,3 +262,28 @@ listed_at all node from own to before left here last f a b c l h r =
     ∙ ap (λ (vars : List Var). filter_map exported_var node.left ++ vars) (sym (filter_map-append exported_var (row_of node ∷ []) node.right))
     ∙ sym (filter_map-append exported_var node.left (row_of node ∷ node.right))
     ∙ ap (filter_map exported_var) (sym f.is))
+
+-- What is replaced in place.
+
+pub some_is : {A : Type 0} (P : A → Type 0) {r : Option A} {x : A} → r ≡ Some x → IfSome r P → P x
+some_is P e h = subst (λ r. IfSome r P) e h
+
+pub replaced_left : (q : Text) (v : Variable) (all : List Row) (node at : Node) (o : Ordering) (r : Option Variable) (left : List Row) → AtNode all node → at ≡ node → o ≡ text_cmp q at.name → o ≡ Less → Replaces q v at.left r left → Replaces q v all r (left ++ row_of at ∷ at.right)
+replaced_left q v all node at o None left f a side less is = put_at_left q v all node at at at left o f a side less a is a
+replaced_left q v all node at o (Some back) left f a side less is = (is.0, ap (λ (rows : List Row). rows ++ row_of at ∷ at.right) is.1 ∙ ap (λ (n : Node). rows_of n) a ∙ sym f.is)
+
+pub replaced_right : (q : Text) (v : Variable) (all : List Row) (node at : Node) (o : Ordering) (r : Option Variable) (right : List Row) → AtNode all node → at ≡ node → o ≡ text_cmp q at.name → o ≡ Greater → Replaces q v at.right r right → Replaces q v all r (at.left ++ row_of at ∷ right)
+replaced_right q v all node at o None right f a side more is = put_at_right q v all node at at at right o f a side more a is a
+replaced_right q v all node at o (Some back) right f a side more is = (is.0, ap (λ (rows : List Row). at.left ++ row_of at ∷ rows) is.1 ∙ ap (λ (n : Node). rows_of n) a ∙ sym f.is)
+
+pub in_order_replaced : (q : Text) (v : Variable) (old : List Row) (r : Option Variable) (new : List Row) → IsInOrder old → Replaces q v old r new → IsInOrder new
+in_order_replaced q v old None new h is = subst IsInOrder (sym is) (in_order_put q v old h)
+in_order_replaced q v old (Some back) new h is = subst IsInOrder (sym is.1) h
+
+pub replaced : (q : Text) (v : Variable) (old : List Row) (r : Option Variable) (new : List Row) → r ≡ None → Replaces q v old r new → new ≡ put text_cmp q v old
+replaced q v old r new e is = subst (λ (r : Option Variable). Replaces q v old r new) e is
+
+pub put_afterwards : (q : Text) (v back : Variable) (old : List Row) (r : Option Variable) (new last : List Row) → r ≡ Some back → Replaces q v old r new → last ≡ put text_cmp q back new → last ≡ put text_cmp q v old
+put_afterwards q v back old r new last e is put_is =
+    let came = subst (λ (r : Option Variable). Replaces q v old r new) e is in
+    put_is ∙ ap (λ (w : Variable). put text_cmp q w new) came.0 ∙ ap (put text_cmp q v) came.1

@@ -1,7 +1,7 @@
 -- Rows of variables, as a tree keeps them.
-use Rattle.std.specs.Prelude.{List, [], ◌∷◌, Option, Some, None, not}
+use Rattle.std.specs.Prelude.{◌≡◌, List, [], ◌∷◌, Option, Some, None, not}
 use Rattle.std.specs.Ordering.{eq_by_cmp}
-use Rattle.std.specs.FinMap.{is_sorted}
+use Rattle.std.specs.FinMap.{put, is_sorted}
 use Rattle.std.specs.FinMap.Entries.{where_key}
 use Rattle.rk_base.specs.Text.{Text, text_cmp}
 use Rattle.sh_vars.specs.declared.variable.Variable.{Variable}
@@ -21,3 +21,8 @@ without_row name rows = where_key text_cmp (λ key. not (eq_by_cmp text_cmp name
 abbrev pub first_row : List Row → Option Row
 first_row [] = None
 first_row (row ∷ rows) = Some row
+
+-- the name has the variable, in the place of what it had; or the variable has come back, and the rows are as they were
+abbrev pub Replaces : Text → Variable → List Row → Option Variable → List Row → Type 0
+Replaces name variable old None new = new ≡ put text_cmp name variable old
+Replaces name variable old (Some back) new = (back ≡ variable) × (new ≡ old)

@@ -44,7 +44,7 @@ impl Rows {
         self.tree.get(name)
     }
 
-    /// A name has this variable, in the place of what it had.
+    /// A name has this variable, in the place of what it had: in place where it had one that no copy shares.
     pub(crate) fn put(
         &mut self,
         alloc: Global,
@@ -54,9 +54,14 @@ impl Rows {
         ensures ok { OnOk result (self.new ≡ insert self.old name.now variable) }
         ensures err { OnErr result (self.new ≡ self.old) }
     {
-        let tree = self.tree.put(alloc, name, variable)?;
-        self.tree = tree;
-        Ok(())
+        match self.tree.replace(name, variable) {
+            None => Ok(()),
+            Some(variable) => {
+                let tree = self.tree.put(alloc, name, variable)?;
+                self.tree = tree;
+                Ok(())
+            }
+        }
     }
 
     pub(crate) fn take(&mut self, alloc: Global, name: &[u8]) -> Result<(), NoMemory>

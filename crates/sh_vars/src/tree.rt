@@ -4,7 +4,7 @@ ghost use Rattle.std.specs.FinMap.{find, put, is_sorted};
 ghost use Rattle.std.specs.List.{filter_map};
 ghost use Rattle.rk_base.specs.Text.{text_cmp};
 ghost use Rattle.sh_vars.specs.Held.{exported_var};
-ghost use Rattle.sh_vars.specs.Tree.{IsInOrder, without_row, first_row};
+ghost use Rattle.sh_vars.specs.Tree.{IsInOrder, Replaces, without_row, first_row};
 ghost use Rattle.sh_vars.specs.TreeRows.{row_of, rows_of};
 
 use crate::Variable;
@@ -15,8 +15,9 @@ use std::cmp::Ordering;
 use std::marker::Model;
 use std::rc::Rc;
 
-/// Variables in the order of their names, as an AVL tree. No node changes once it is made: what changes a tree makes the
-/// nodes on the way from its root anew, and shares all others. So a copy is a pointer's, whatever it holds.
+/// Variables in the order of their names, as an AVL tree. What changes a tree makes the nodes on the way from its root anew,
+/// and shares all others; only a variable that is set again where no tree shares its node is changed in place. So a copy is a
+/// pointer's, whatever it holds.
 #[cycle(tree)]
 #[derive(Drop)]
 pub(crate) struct Tree {
@@ -161,6 +162,28 @@ impl Tree {
                     let right = node.right.put(alloc, name, variable)?;
                     node.with_right(alloc, right)
                 }
+            },
+        }
+    }
+
+    /// A name that has a variable has this one, in place, where no copy shares the way to it; else the variable comes back,
+    /// and all is as it was.
+    // Depth: the height of the tree.
+    pub(crate) fn replace(&mut self, name: &[u8], variable: Variable) -> Option<Variable>
+        ensures { Replaces name.now variable self.old result self.new }
+    {
+        match &mut self.root {
+            Link::Leaf => Some(variable),
+            Link::To(node) => match Rc::get_mut(node) {
+                None => Some(variable),
+                Some(node) => match node.side_of(name) {
+                    Ordering::Less => node.left.replace(name, variable),
+                    Ordering::Equal => {
+                        node.variable = variable;
+                        None
+                    }
+                    Ordering::Greater => node.right.replace(name, variable),
+                },
             },
         }
     }
