@@ -7,7 +7,7 @@ use Rattle.rk_calls.specs.Talk.{Says, exits}
 use Rattle.sh_ast.specs.Commands.{CommandTree, simple, compound_with, function, pipeline, and_or, CommandsTree, no_commands, command_and, CompoundTree, group, subshell, for_each, case_of, if_one_of, loop, ForWords, positional, in_words, BranchesTree, no_branches, branch_and, CaseItemsTree, no_case_items, case_item_and, WordsTree, no_words, word_and, WordTree, word_of, BodiesTree, no_bodies, body_and, SimpleTree, simply, AssignmentsTree, no_assignments, assignment_and, RedirectsTree, no_redirects, redirect_and}
 use Rattle.sh_ast.specs.declared.command.LoopKind.{LoopKind}
 use Rattle.sh_ast.specs.declared.command.LoopKind.TheVariants.{While, Until}
-use Rattle.sh_tree.specs.Reads.{Reading, Script, Faulty}
+use Rattle.sh_script.specs.Reads.{Reading, Script, Faulty}
 use Rattle.sh_means.specs.declared.flow.Flow.TheVariants.{Exits}
 use Rattle.sh_means.specs.declared.flow.Place.{Place}
 use Rattle.sh_means.specs.State.{Shell}

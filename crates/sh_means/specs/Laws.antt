@@ -11,7 +11,7 @@ use Rattle.sh_means.specs.declared.flow.Place.{Place}
 use Rattle.sh_means.specs.State.{Shell}
 use Rattle.sh_means.specs.Flows.{Next, sh, ends}
 use Rattle.sh_means.specs.Simple.{Job, Round, Called, Reads, Meaning}
-use Rattle.sh_tree.specs.Reads.{Reading, Script, Faulty}
+use Rattle.sh_script.specs.Reads.{Reading, Script, Faulty}
 use Rattle.sh_means.specs.Eval.{is_until, command_in, commands_in, compound_in, for_in, branches_in, items_in, words_in, word_in, bodies_in, simple_in, assigns_in, redirects_in, whole_in, reading_means, job_in, Task, task_in, run, over}
 use Rattle.sh_means.specs.AlikeFlows.{Each, Below, SameMeans, all-down, tells-alike, ends-alike}
 use Rattle.sh_means.specs.AlikeWords.{SameWord, SameRedirect, SameAssign, word-down, words-down}

@@ -14,7 +14,7 @@ use Rattle.sh_special.specs.Lines.{usage_line}
 use Rattle.sh_means.specs.declared.flow.Flow.TheVariants.{Exits}
 use Rattle.sh_means.specs.Flows.{Next, sh, ends, outermost}
 use Rattle.sh_means.specs.Simple.{Meaning, Reads}
-use Rattle.sh_tree.specs.Reads.{Reading}
+use Rattle.sh_script.specs.Reads.{Reading}
 use Rattle.sh_means.specs.Eval.{run, over}
 use Rattle.sh_special.specs.Invocation.{Start, Misused, Given, Script, options}
 use Rattle.sh_means.specs.Starts.{first_shell, fails, script_read, script_opened, runs_script, is_directory, has_x, looked, runs_command, starts, by_argv, shell_says}

@@ -24,7 +24,7 @@ use Rattle.sh_special.specs.Invocation.{Start, Misused, Given, Script, options}
 use Rattle.sh_means.specs.State.{Shell}
 use Rattle.sh_means.specs.Flows.{Next, Go_on, asks, tells, sh, ends, outermost}
 use Rattle.sh_means.specs.Simple.{Meaning, Reads}
-use Rattle.sh_tree.specs.Reads.{Reading}
+use Rattle.sh_script.specs.Reads.{Reading}
 use Rattle.sh_means.specs.Eval.{run, over}
 
 -- Its state.

@@ -3,7 +3,7 @@ use Rattle.std.proofs.Common.{◌≡◌, ℕ, suc, ◌+◌, ◌==◌, ◌<◌, �
 use Rattle.std.proofs.Math.Seq.{drop-cons}
 use Rattle.std.proofs.lemmas.List.{drop_all}
 use Rattle.rk_base.specs.Text.{Text}
-use Rattle.sh_tree.specs.Reads.{newlines}
+use Rattle.sh_script.specs.Reads.{newlines}
 
 moved : (here : Bool) (n m : ℕ) → (if here then n + 1 else n) + m ≡ n + (if here then m + 1 else m)
 moved true n m = omega arith

@@ -14,8 +14,8 @@ use Rattle.sh_lex.specs.declared.taken.Taken.{Taken}
 use Rattle.sh_lex.specs.declared.cursor.TakeErr.TheVariants as lex_stop_is
 use Rattle.sh_token.proofs.Modes.{found_by_itself}
 use Rattle.sh_token.proofs.Sizes.{may_be_empty, Shrinks, shorter}
-use Rattle.sh_tree.specs.TextReader.{StandsThere}
-use Rattle.sh_tree.proofs.Turning.{lexed_there}
+use Rattle.sh_script.specs.TextReader.{StandsThere}
+use Rattle.sh_script.proofs.Turning.{lexed_there}
 use Rattle.sh_parse.specs.Tokens.{Took}
 use Rattle.sh_parse.specs.declared.source.ParseErr.TheVariants as stop
 

@@ -17,11 +17,11 @@ use Rattle.sh_token.specs.Lexemes.{look}
 use Rattle.sh_token.specs.Tokens.{Look}
 use Rattle.sh_token.specs.Steps.{token_of}
 use Rattle.sh_token.proofs.Sizes.{may_be_empty, Shrinks}
-use Rattle.sh_tree.specs.TextReader.{text_reader, StandsThere, NotOf, HaltsAt}
-use Rattle.sh_tree.specs.Owing.{Owes, Keeps, Fewer}
-use Rattle.sh_tree.proofs.Chosen.{chosen_part}
-use Rattle.sh_tree.proofs.Fewer.{chosen_fewer}
-use Rattle.sh_tree.proofs.Turning.{keeps_taken, fewer_taken, halts_deep, halts_want, keeps_chosen, halts_none, halts_unwanted, whole_stuck}
+use Rattle.sh_script.specs.TextReader.{text_reader, StandsThere, NotOf, HaltsAt}
+use Rattle.sh_script.specs.Owing.{Owes, Keeps, Fewer}
+use Rattle.sh_script.proofs.Chosen.{chosen_part}
+use Rattle.sh_script.proofs.Fewer.{chosen_fewer}
+use Rattle.sh_script.proofs.Turning.{keeps_taken, fewer_taken, halts_deep, halts_want, keeps_chosen, halts_none, halts_unwanted, whole_stuck}
 use Rattle.sh_parse.specs.Tokens.{Took}
 use Rattle.sh_parse.specs.Turns.{Halted, Turns, StopsBy}
 use Rattle.sh_parse.specs.declared.source.ParseErr.{ParseErr}

@@ -10,10 +10,10 @@ use Rattle.sh_token.specs.Places.{Place, begin}
 use Rattle.sh_token.specs.declared.fault.ScriptFault.{ScriptFault}
 use Rattle.sh_token.specs.Faults.{told, fault_of}
 use Rattle.sh_token.proofs.Modes.{modes_agree}
-use Rattle.sh_tree.specs.Folds.{script_marked}
-use Rattle.sh_tree.specs.Outcomes.{IsRead, IsStuck}
-use Rattle.sh_tree.specs.Scripts.{longest, IsScript, IsFaulty}
-use Rattle.sh_tree.proofs.Whole.{Agrees, one_script, one_fault, not_both, script_read, fault_read}
+use Rattle.sh_script.specs.Folds.{script_marked}
+use Rattle.sh_script.specs.Outcomes.{IsRead, IsStuck}
+use Rattle.sh_script.specs.Scripts.{longest, IsScript, IsFaulty}
+use Rattle.sh_script.proofs.Whole.{Agrees, one_script, one_fault, not_both, script_read, fault_read}
 use Rattle.sh_parse.specs.Turns.{StopsBy}
 use Rattle.sh_parse.specs.Answering.{Tells, IsAnswer, IsOnlyScript, IsOnlyFault}
 use Rattle.sh_parse.specs.declared.source.ParseErr.{ParseErr}

@@ -2,7 +2,7 @@
 use Rattle.std.specs.Prelude.{◌≡◌, ℕ, List, Result, Ok, Err}
 use Rattle.sh_ast.specs.Commands as c
 use Rattle.sh_token.specs.declared.fault.ScriptFault.{ScriptFault}
-use Rattle.sh_tree.specs.Scripts.{IsScript, IsFaulty}
+use Rattle.sh_script.specs.Scripts.{IsScript, IsFaulty}
 use Rattle.sh_parse.specs.declared.script.Script.{Script}
 use Rattle.sh_parse.specs.declared.script.ReadErr.{ReadErr}
 use Rattle.sh_parse.specs.declared.script.ReadErr.TheVariants as e

@@ -3,7 +3,7 @@ use Rattle.std.specs.Prelude.{◌≡◌, Option, Some, None}
 use Rattle.sh_rules.specs.declared.token_kind.Mode.{Mode}
 use Rattle.sh_token.specs.Places.{Place}
 use Rattle.sh_token.specs.Lexemes.{look}
-use Rattle.sh_tree.specs.TextReader.{StandsThere}
+use Rattle.sh_script.specs.TextReader.{StandsThere}
 use Rattle.sh_parse.specs.declared.ahead.Found.{Found}
 
 -- what was found before stands there, and is found there in its mode

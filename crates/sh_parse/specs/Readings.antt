@@ -2,7 +2,7 @@
 use Rattle.sh_ast.specs.Commands.{commands}
 use Rattle.sh_parse.specs.declared.reader.Read.{Read}
 use Rattle.sh_parse.specs.declared.reader.Read.TheVariants as read
-use Rattle.sh_tree.specs.Reads.{Reading, Script, Faulty}
+use Rattle.sh_script.specs.Reads.{Reading, Script, Faulty}
 
 abbrev pub reading_of : Read → Reading
 reading_of (read.Script cs) = Script (commands cs.value)

@@ -7,9 +7,9 @@ use Rattle.sh_rules.specs.Parts.{Part}
 use Rattle.sh_rules.specs.Rules.{Token}
 use Rattle.sh_grammar.specs.Marks.{Mark}
 use Rattle.sh_token.specs.Places.{Place}
-use Rattle.sh_tree.specs.TextReader.{HaltsAt}
-use Rattle.sh_tree.specs.Owing.{Keeps, Fewer}
-use Rattle.sh_tree.specs.Outcomes.{IsStuck}
+use Rattle.sh_script.specs.TextReader.{HaltsAt}
+use Rattle.sh_script.specs.Owing.{Keeps, Fewer}
+use Rattle.sh_script.specs.Outcomes.{IsStuck}
 use Rattle.sh_parse.specs.declared.source.ParseErr.{ParseErr}
 use Rattle.sh_parse.specs.declared.source.ParseErr.TheVariants as stop
 

@@ -3,7 +3,7 @@ ghost use Rattle.std.specs.Prelude.{◌≡◌, IfSome};
 ghost use Rattle.sh_rules.specs.LookAhead.{mode as mode_lem};
 ghost use Rattle.sh_grammar.specs.Named.{part_named};
 ghost use Rattle.sh_token.specs.Places.{Place};
-ghost use Rattle.sh_tree.specs.TextReader.{StandsThere};
+ghost use Rattle.sh_script.specs.TextReader.{StandsThere};
 ghost use Rattle.sh_parse.specs.Finding.{Ahead, IsFound};
 
 use crate::source::Source;

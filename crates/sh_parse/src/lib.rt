@@ -11,4 +11,4 @@ mod texts;
 mod todo;
 
 pub use reader::{Read, read_text};
-pub use script::{LONGEST, ReadErr, Script, one_script_or_fault, read_script};
+pub use script::{LONGEST, ReadErr, Script, read_script};

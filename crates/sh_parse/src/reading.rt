@@ -8,8 +8,8 @@ ghost use Rattle.sh_rules.specs.Parts as parts;
 ghost use Rattle.sh_rules.specs.Rules.{spelling as spelling_lem};
 ghost use Rattle.sh_grammar.specs.Named.{part_named, rule_named, symbol_named};
 ghost use Rattle.sh_grammar.specs.Marks.{node as node_mark, leaf as leaf_mark};
-ghost use Rattle.sh_tree.specs.TextReader.{StandsThere, NotOf, HaltsAt};
-ghost use Rattle.sh_tree.specs.Outcomes.{IsRead};
+ghost use Rattle.sh_script.specs.TextReader.{StandsThere, NotOf, HaltsAt};
+ghost use Rattle.sh_script.specs.Outcomes.{IsRead};
 ghost use Rattle.sh_parse.specs.Finding.{Ahead};
 ghost use Rattle.sh_parse.specs.Turns.{Turns, StopsBy};
 
@@ -145,7 +145,7 @@ fn turn<S: Source>(
 }
 
 /// Reads a script from where the source stands to the end of the text: its marks. On an error the source stands where reading stopped.
-#[tactic(auto, using(sh_tree::proofs::Owed::owed_first, crate::proofs::Turning::owes_on, crate::proofs::Turning::stops_there, sh_tree::proofs::Turning::whole_read))]
+#[tactic(auto, using(sh_script::proofs::Owed::owed_first, crate::proofs::Turning::owes_on, crate::proofs::Turning::stops_there, sh_script::proofs::Turning::whole_read))]
 pub fn read_marks<S: Source>(alloc: Global, s: &mut S) -> Result<Marks, ParseErr>
     ensures { MatchResult result (λ marks. IsRead (S.place s.old) (S.place s.new) marks) (λ e. StopsBy (S.place s.old) (S.place s.new) e) }
 {

@@ -1,9 +1,9 @@
 // Scripts.
-ghost use Rattle.std.specs.Prelude.{◌≡◌, ◌≤◌, ◌⊎◌, List, ℕ, length, IfOk, IfErr};
+ghost use Rattle.std.specs.Prelude.{◌≡◌, ◌≤◌, length, IfOk, IfErr};
 ghost use Rattle.sh_ast.specs.Commands as c;
 ghost use Rattle.sh_token.specs.declared.fault.ScriptFault as faults;
 ghost use Rattle.sh_token.specs.Faults.{told};
-ghost use Rattle.sh_tree.specs.Scripts.{IsScript, IsFaulty, longest};
+ghost use Rattle.sh_script.specs.Scripts.{IsScript, IsFaulty, longest};
 ghost use Rattle.sh_parse.specs.Answering.{IsAnswer, IsFaultTold, Tells, IsOnlyScript, IsOnlyFault};
 
 use crate::reading::read_marks;
@@ -95,11 +95,3 @@ pub fn read_script(alloc: Global, text: &[u8]) -> Result<Script, ReadErr>
 {
     answer(alloc, text)
 }
-
-/// A text is one script, or it has one fault.
-pub fn one_script_or_fault()
-    ensures some { (text : List ℕ) → ((s : c.CommandsTree) × IsScript text s) ⊎ ((f : faults.ScriptFault) × IsFaulty text f) }
-    ensures one_script { (text : List ℕ) (s t : c.CommandsTree) → IsScript text s → IsScript text t → s ≡ t }
-    ensures one_fault { (text : List ℕ) (f g : faults.ScriptFault) → IsFaulty text f → IsFaulty text g → f ≡ g }
-    ensures not_both { (text : List ℕ) (s : c.CommandsTree) (f : faults.ScriptFault) → IsScript text s → IsFaulty text f → ⊥ }
-{}

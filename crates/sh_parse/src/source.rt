@@ -3,7 +3,7 @@ ghost use Rattle.std.specs.Prelude.{◌≡◌, IfSome, OnOk};
 ghost use Rattle.sh_token.specs.Places.{Place, size};
 ghost use Rattle.sh_token.specs.Lexemes.{look as look_lem};
 ghost use Rattle.sh_token.proofs.Sizes.{may_be_empty, Shrinks};
-ghost use Rattle.sh_tree.specs.TextReader.{StandsThere};
+ghost use Rattle.sh_script.specs.TextReader.{StandsThere};
 ghost use Rattle.sh_parse.specs.Tokens.{Took};
 
 use rk_base::Bytes;

@@ -1,10 +1,2 @@
-pub mod FoldLemmas
 pub mod BuilderLemmas
 pub mod MadeLemmas
-pub mod Owed
-pub mod Fewer
-pub mod Chosen
-pub mod Turning
-pub mod Existing
-pub mod Whole
-pub mod ReadAs

@@ -13,7 +13,7 @@ use Rattle.sh_ast.specs.declared.command.Words.{roll-Words}
 use Rattle.sh_ast.proofs.Folding.{word_is, words_is}
 use Rattle.sh_ast.specs.Words as w
 use Rattle.sh_ast.specs.Commands as c
-use Rattle.sh_tree.specs.Acts.{piped, pipeline}
+use Rattle.sh_script.specs.Acts.{piped, pipeline}
 use Rattle.sh_tree.specs.Seen.{words_seen, bodies_seen}
 
 -- words

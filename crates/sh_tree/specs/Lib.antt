@@ -1,12 +1,1 @@
-pub mod Values
 pub mod Seen
-pub mod States
-pub mod Names
-pub mod Texts
-pub mod Acts
-pub mod Folds
-pub mod TextReader
-pub mod Owing
-pub mod Outcomes
-pub mod Scripts
-pub mod Reads

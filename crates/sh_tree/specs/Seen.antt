@@ -11,8 +11,8 @@ use Rattle.sh_ast.specs.Commands as c
 use Rattle.sh_tree.specs.declared.builder.Builder.{Builder}
 use Rattle.sh_tree.specs.declared.value.Value as d
 use Rattle.sh_tree.specs.declared.value.Value.TheVariants as v
-use Rattle.sh_tree.specs.States.{State}
-use Rattle.sh_tree.specs.Values.{Value, nothing, token, parts, word, words, redirects, pieces, commands, joined, compound, branches, items}
+use Rattle.sh_script.specs.States.{State}
+use Rattle.sh_script.specs.Values.{Value, nothing, token, parts, word, words, redirects, pieces, commands, joined, compound, branches, items}
 
 abbrev pub words_seen : List (Rc Word Global) → List c.WordTree
 words_seen ws = map (λ r. c.word r.value) ws

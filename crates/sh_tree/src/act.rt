@@ -3,9 +3,9 @@ ghost use Rattle.std.specs.Prelude.{◌≡◌, OnOk};
 ghost use Rattle.sh_ast.specs.declared.word.Quoting.TheVariants.{Unquoted};
 ghost use Rattle.sh_grammar.specs.Named.{rule_named};
 ghost use Rattle.sh_tree.specs.Seen.{state};
-ghost use Rattle.sh_tree.specs.Acts as act;
-ghost use Rattle.sh_tree.specs.States.{less, with};
-ghost use Rattle.sh_tree.specs.Values.{nothing as nothing_value};
+ghost use Rattle.sh_script.specs.Acts as act;
+ghost use Rattle.sh_script.specs.States.{less, with};
+ghost use Rattle.sh_script.specs.Values.{nothing as nothing_value};
 
 use crate::builder::Builder;
 use crate::compounds::{

@@ -2,7 +2,7 @@
 ghost use Rattle.std.specs.Prelude.{◌≡◌, IfOk, OnOk, map, length, option_map};
 ghost use Rattle.sh_ast.specs.Commands as c;
 ghost use Rattle.sh_tree.specs.Seen.{seen, state, bodies_seen};
-ghost use Rattle.sh_tree.specs.States as st;
+ghost use Rattle.sh_script.specs.States as st;
 
 use crate::empties::Empties;
 use crate::row::Row;
@@ -41,7 +41,7 @@ impl Builder {
     }
 
     /// Takes the value on top.
-    #[tactic(auto, unfolding(crate::specs::Seen::state, crate::specs::Seen::seen, crate::specs::States::top, crate::specs::States::less))]
+    #[tactic(auto, unfolding(crate::specs::Seen::state, crate::specs::Seen::seen, sh_script::specs::States::top, sh_script::specs::States::less))]
     pub fn pop(&mut self) -> Value
         ensures value { seen result ≡ st.top (state self.old) }
         ensures left { state self.new ≡ st.less (state self.old) }
@@ -64,7 +64,7 @@ impl Builder {
     }
 
     /// Puts a value on top.
-    #[tactic(auto, unfolding(crate::specs::Seen::state, crate::specs::States::with))]
+    #[tactic(auto, unfolding(crate::specs::Seen::state, sh_script::specs::States::with))]
     pub fn put(&mut self, value: Value) -> Result<(), NoMemory>
         ensures { OnOk result (state self.new ≡ st.with (seen value) (state self.old)) }
     {
@@ -83,7 +83,7 @@ impl Builder {
     }
 
     /// A word ends here.
-    #[tactic(auto, unfolding(crate::specs::Seen::state, crate::specs::States::word_opened))]
+    #[tactic(auto, unfolding(crate::specs::Seen::state, sh_script::specs::States::word_opened))]
     pub fn open_word(&mut self, alloc: Global) -> Result<(), NoMemory>
         ensures { OnOk result (state self.new ≡ st.word_opened (state self.old)) }
     {
@@ -92,7 +92,7 @@ impl Builder {
     }
 
     /// A word begins here: the bodies of its substitutions.
-    #[tactic(auto, unfolding(crate::specs::Seen::state, crate::specs::States::front, crate::specs::States::word_closed))]
+    #[tactic(auto, unfolding(crate::specs::Seen::state, sh_script::specs::States::front, sh_script::specs::States::word_closed))]
     pub fn close_word(&mut self, alloc: Global) -> Vec<Rc<CommandList>>
         ensures bodies { bodies_seen result.items ≡ st.front (state self.old).bodies }
         ensures left { state self.new ≡ st.word_closed (state self.old) }
@@ -104,7 +104,7 @@ impl Builder {
     }
 
     /// Adds the body of a substitution to its word, and answers its number there.
-    #[tactic(auto, unfolding(crate::specs::Seen::state, crate::specs::States::front, crate::specs::States::with_body), using(crate::proofs::BuilderLemmas::body_added))]
+    #[tactic(auto, unfolding(crate::specs::Seen::state, sh_script::specs::States::front, sh_script::specs::States::with_body), using(crate::proofs::BuilderLemmas::body_added))]
     pub fn add_body(&mut self, body: Rc<CommandList>) -> Result<u64, NoMemory>
         ensures number { IfOk result (λ n. n ≡ length (st.front (state self.old).bodies)) }
         ensures body { OnOk result (state self.new ≡ st.with_body (c.commands body.value) (state self.old)) }
@@ -121,7 +121,7 @@ impl Builder {
     }
 
     /// A here-document's body that is expanded ends here.
-    #[tactic(auto, unfolding(crate::specs::Seen::state, crate::specs::States::word_opened, crate::specs::States::body_opened))]
+    #[tactic(auto, unfolding(crate::specs::Seen::state, sh_script::specs::States::word_opened, sh_script::specs::States::body_opened))]
     pub fn open_body(&mut self, alloc: Global) -> Result<(), NoMemory>
         ensures { OnOk result (state self.new ≡ st.body_opened (state self.old)) }
     {
@@ -130,7 +130,7 @@ impl Builder {
     }
 
     /// It begins here: the bodies of its substitutions.
-    #[tactic(auto, unfolding(crate::specs::Seen::state, crate::specs::States::front, crate::specs::States::word_closed, crate::specs::States::body_closed))]
+    #[tactic(auto, unfolding(crate::specs::Seen::state, sh_script::specs::States::front, sh_script::specs::States::word_closed, sh_script::specs::States::body_closed))]
     pub fn close_body(&mut self, alloc: Global) -> Vec<Rc<CommandList>>
         ensures bodies { bodies_seen result.items ≡ st.front (state self.old).bodies }
         ensures left { state self.new ≡ st.body_closed (state self.old) }
@@ -140,7 +140,7 @@ impl Builder {
     }
 
     /// A here-document's body is met.
-    #[tactic(auto, unfolding(crate::specs::Seen::state, crate::specs::States::with_document))]
+    #[tactic(auto, unfolding(crate::specs::Seen::state, sh_script::specs::States::with_document))]
     pub fn add_document(&mut self, body: Rc<Word>) -> Result<(), NoMemory>
         ensures { OnOk result (state self.new ≡ st.with_document (c.word body.value) (state self.old)) }
     {
@@ -155,7 +155,7 @@ impl Builder {
     }
 
     /// Takes the last body that no operator has.
-    #[tactic(auto, unfolding(crate::specs::Seen::state, crate::specs::States::front, crate::specs::States::without_document), using(crate::proofs::BuilderLemmas::last_seen, crate::proofs::BuilderLemmas::but_last_seen))]
+    #[tactic(auto, unfolding(crate::specs::Seen::state, sh_script::specs::States::front, sh_script::specs::States::without_document), using(crate::proofs::BuilderLemmas::last_seen, crate::proofs::BuilderLemmas::but_last_seen))]
     pub fn take_document(&mut self) -> Result<Option<Rc<Word>>, NoMemory>
         ensures body { IfOk result (λ d. option_map (λ r. c.word r.value) d ≡ st.last (st.front (state self.old).documents)) }
         ensures left { OnOk result (state self.new ≡ st.without_document (state self.old)) }

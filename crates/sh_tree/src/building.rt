@@ -3,7 +3,7 @@ ghost use Rattle.std.specs.Prelude.{◌≡◌, IfOk, OnOk};
 ghost use Rattle.sh_ast.specs.Commands as c;
 ghost use Rattle.sh_grammar.specs.Marks.{mark_named};
 ghost use Rattle.sh_tree.specs.Seen.{state};
-ghost use Rattle.sh_tree.specs.Folds.{script_marked, marked};
+ghost use Rattle.sh_script.specs.Folds.{script_marked, marked};
 
 use crate::act::act;
 use crate::builder::Builder;
@@ -16,7 +16,7 @@ use std::alloc::Global;
 use std::rc::Rc;
 
 /// The commands of a script, by the marks that its reading leaves.
-#[tactic(auto, unfolding(crate::specs::Folds::marked_all, crate::specs::Folds::script_marked), using(crate::proofs::FoldLemmas::marked_pushed))]
+#[tactic(auto, unfolding(sh_script::specs::Folds::marked_all, sh_script::specs::Folds::script_marked), using(sh_script::proofs::FoldLemmas::marked_pushed))]
 pub fn build(alloc: Global, mut marks: Marks) -> Result<Rc<CommandList>, NoMemory>
     ensures { IfOk result (λ r. c.commands r.value ≡ script_marked marks) }
 {
@@ -28,7 +28,7 @@ pub fn build(alloc: Global, mut marks: Marks) -> Result<Rc<CommandList>, NoMemor
     Ok(list)
 }
 
-#[tactic(auto, unfolding(crate::specs::Seen::seen, crate::specs::Folds::marked))]
+#[tactic(auto, unfolding(crate::specs::Seen::seen, sh_script::specs::Folds::marked))]
 fn add(b: &mut Builder, alloc: Global, mark: Mark) -> Result<(), NoMemory>
     ensures { OnOk result (state b.new ≡ marked (mark_named mark) (state b.old)) }
 {

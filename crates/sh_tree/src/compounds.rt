@@ -3,8 +3,8 @@ ghost use Rattle.std.specs.Prelude.{◌≡◌, OnOk, IfOk};
 ghost use Rattle.sh_ast.specs.declared.word.Quoting.TheVariants.{Unquoted};
 ghost use Rattle.sh_ast.specs.Commands as c;
 ghost use Rattle.sh_tree.specs.Seen.{seen, for_words_seen, state};
-ghost use Rattle.sh_tree.specs.States.{less};
-ghost use Rattle.sh_tree.specs.Acts as act;
+ghost use Rattle.sh_script.specs.States.{less};
+ghost use Rattle.sh_script.specs.Acts as act;
 
 use crate::builder::Builder;
 use crate::row::Row;

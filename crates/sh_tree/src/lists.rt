@@ -1,10 +1,10 @@
 // Lists, AND-OR lists and pipelines (XCU 2.9.2, 2.9.3).
 ghost use Rattle.std.specs.Prelude.{◌≡◌, OnOk, map};
 ghost use Rattle.sh_ast.specs.Commands as c;
-ghost use Rattle.sh_tree.specs.States as st;
-ghost use Rattle.sh_tree.specs.States.{less};
+ghost use Rattle.sh_script.specs.States as st;
+ghost use Rattle.sh_script.specs.States.{less};
 ghost use Rattle.sh_tree.specs.Seen.{state};
-ghost use Rattle.sh_tree.specs.Acts as act;
+ghost use Rattle.sh_script.specs.Acts as act;
 
 use crate::builder::Builder;
 use crate::row::Row;

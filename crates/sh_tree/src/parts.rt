@@ -1,10 +1,10 @@
 // Parts of words (XCU 2.2, 2.6).
 ghost use Rattle.std.specs.Prelude.{◌≡◌, ◌∷◌, [], OnOk, IfOk, map};
 ghost use Rattle.sh_ast.specs.Words as w;
-ghost use Rattle.sh_tree.specs.Values as v;
+ghost use Rattle.sh_script.specs.Values as v;
 ghost use Rattle.sh_tree.specs.Seen.{operator_word_seen, state};
-ghost use Rattle.sh_tree.specs.States as st;
-ghost use Rattle.sh_tree.specs.Acts as act;
+ghost use Rattle.sh_script.specs.States as st;
+ghost use Rattle.sh_script.specs.Acts as act;
 
 use crate::builder::Builder;
 use crate::parameters::{

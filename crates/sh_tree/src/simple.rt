@@ -2,11 +2,11 @@
 ghost use Rattle.std.specs.Prelude.{◌≡◌, ◌∷◌, [], OnOk, IfOk, map};
 ghost use Rattle.sh_ast.specs.declared.word.Quoting.TheVariants.{Unquoted};
 ghost use Rattle.sh_ast.specs.Commands as c;
-ghost use Rattle.sh_tree.specs.Values as v;
+ghost use Rattle.sh_script.specs.Values as v;
 ghost use Rattle.sh_tree.specs.Seen.{words_seen, state};
-ghost use Rattle.sh_tree.specs.States as st;
-ghost use Rattle.sh_tree.specs.Texts as t;
-ghost use Rattle.sh_tree.specs.Acts as act;
+ghost use Rattle.sh_script.specs.States as st;
+ghost use Rattle.sh_script.specs.Texts as t;
+ghost use Rattle.sh_script.specs.Acts as act;
 
 use crate::builder::Builder;
 use crate::empties::Empties;

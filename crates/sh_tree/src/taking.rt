@@ -2,7 +2,7 @@
 ghost use Rattle.std.specs.Prelude.{◌≡◌, IfOk, map};
 ghost use Rattle.sh_ast.specs.Words as w;
 ghost use Rattle.sh_ast.specs.Commands as c;
-ghost use Rattle.sh_tree.specs.Values as v;
+ghost use Rattle.sh_script.specs.Values as v;
 ghost use Rattle.sh_tree.specs.Seen.{seen};
 
 use crate::row::Row;

@@ -3,10 +3,10 @@ ghost use Rattle.std.specs.Prelude.{◌≡◌, OnOk, IfOk};
 ghost use Rattle.sh_ast.specs.declared.word.Quoting.TheVariants.{Unquoted};
 ghost use Rattle.sh_ast.specs.Words as w;
 ghost use Rattle.sh_ast.specs.Commands as c;
-ghost use Rattle.sh_tree.specs.Values as v;
-ghost use Rattle.sh_tree.specs.States as st;
+ghost use Rattle.sh_script.specs.Values as v;
+ghost use Rattle.sh_script.specs.States as st;
 ghost use Rattle.sh_tree.specs.Seen.{state};
-ghost use Rattle.sh_tree.specs.Acts as act;
+ghost use Rattle.sh_script.specs.Acts as act;
 
 use crate::builder::Builder;
 use crate::parts::{join_parts, text_part};

@@ -1,5 +1,5 @@
 use Rattle.std.proofs.Common.{◌≡◌, ◌+◌, ◌≤◌, drop}
-use Rattle.sh_tree.specs.Reads as reads
+use Rattle.sh_script.specs.Reads as reads
 use Rattle.sh_parse.proofs.reader.newlines.Given as goal
 
 abbrev pub invariant-text : goal.invariant-text

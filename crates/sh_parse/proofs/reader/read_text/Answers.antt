@@ -2,8 +2,8 @@ use Rattle.std.proofs.Common.{◌∙◌, ap, subst}
 use Rattle.sh_ast.specs.Commands.{commands}
 use Rattle.sh_parse.specs.declared.script.ReadErr.{ReadErr}
 use Rattle.sh_parse.specs.Answering.{IsFaultTold}
-use Rattle.sh_tree.specs.Reads.{Faulty}
-use Rattle.sh_tree.proofs.ReadAs.{script_read, fault_read}
+use Rattle.sh_script.specs.Reads.{Faulty}
+use Rattle.sh_script.proofs.ReadAs.{script_read, fault_read}
 use Rattle.sh_parse.proofs.reader.read_text.Goals as goal
 
 pub returns-in-Ok : goal.returns-in-Ok

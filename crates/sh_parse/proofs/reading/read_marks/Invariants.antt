@@ -1,6 +1,6 @@
 use Rattle.sh_token.specs.Places.{size}
-use Rattle.sh_tree.specs.TextReader.{text_reader}
-use Rattle.sh_tree.specs.Owing.{Owes, turns_left}
+use Rattle.sh_script.specs.TextReader.{text_reader}
+use Rattle.sh_script.specs.Owing.{Owes, turns_left}
 use Rattle.sh_parse.specs.Finding.{Ahead}
 use Rattle.sh_parse.proofs.reading.read_marks.Given as goal
 

@@ -1,4 +1,4 @@
-use Rattle.sh_tree.proofs.Whole.{too_long}
+use Rattle.sh_script.proofs.Whole.{too_long}
 use Rattle.sh_parse.proofs.script.answer.Goals as goal
 
 pub returns-then-text-gt-LONGEST : goal.returns-then-text-gt-LONGEST

@@ -1,7 +1,7 @@
 use Rattle.std.proofs.Common.{◌≡◌, length}
 use Rattle.sh_tree.specs.Seen.{state}
-use Rattle.sh_tree.specs.States.{start}
-use Rattle.sh_tree.specs.Folds.{marked_all}
+use Rattle.sh_script.specs.States.{start}
+use Rattle.sh_script.specs.Folds.{marked_all}
 use Rattle.sh_tree.proofs.building.build.Given as goal
 
 -- what is left over what was built is the whole

@@ -1,6 +1,6 @@
 use Rattle.std.proofs.Common.{◌≡◌, ◌+◌, ◌-◌, ◌≤◌, drop, length}
 use Rattle.std.specs.Char.{is_ascii_digit}
-use Rattle.sh_tree.specs.Names.{count_of}
+use Rattle.sh_script.specs.Names.{count_of}
 use Rattle.sh_tree.proofs.parameters.digit_run.Given as goal
 
 -- so many went by

@@ -1,5 +1,5 @@
 use Rattle.std.proofs.Common.{◌≡◌, ◌+◌, ◌-◌, ◌≤◌, drop, length}
-use Rattle.sh_tree.specs.Names.{count_of, in_name}
+use Rattle.sh_script.specs.Names.{count_of, in_name}
 use Rattle.sh_tree.proofs.parameters.name_run.Given as goal
 
 -- so many went by

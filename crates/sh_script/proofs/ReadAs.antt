@@ -3,9 +3,9 @@ use Rattle.std.proofs.Common.{◌≡◌, ap, inl, inr}
 use Rattle.rk_base.specs.Text.{Text}
 use Rattle.sh_ast.specs.Commands.{CommandsTree}
 use Rattle.sh_token.specs.declared.fault.ScriptFault.{ScriptFault}
-use Rattle.sh_tree.specs.Scripts.{IsScript, IsFaulty}
-use Rattle.sh_tree.specs.Reads.{Reading, Script, Faulty, fault_words, One_of, read_as}
-use Rattle.sh_tree.proofs.Whole.{some, one_script_there, one_fault_there, not_both_there}
+use Rattle.sh_script.specs.Scripts.{IsScript, IsFaulty}
+use Rattle.sh_script.specs.Reads.{Reading, Script, Faulty, fault_words, One_of, read_as}
+use Rattle.sh_script.proofs.Whole.{some, one_script_there, one_fault_there, not_both_there}
 
 -- a text is one script or has one fault, and no other
 unfoldable pub reads : Text → Reading

@@ -5,7 +5,7 @@ use Rattle.sh_rules.specs.Reading.{ReadsAll, Halt, Stops, StuckAll}
 use Rattle.sh_rules.specs.Rules.{Rule, Token, shell, script}
 use Rattle.sh_grammar.specs.Marks.{Mark, flat_all}
 use Rattle.sh_token.specs.Places.{Place}
-use Rattle.sh_tree.specs.TextReader.{text_reader}
+use Rattle.sh_script.specs.TextReader.{text_reader}
 
 -- THE WHOLE: the marks are those of the tree that is read, or it stops
 unfoldable pub IsRead : Place → Place → List Mark → Type 0

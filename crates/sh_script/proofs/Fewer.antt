@@ -7,7 +7,7 @@ use Rattle.sh_rules.specs.Parts.{Part}
 use Rattle.sh_rules.specs.Rules as r
 use Rattle.sh_rules.specs.Rules.{Rule, spelling, part_of}
 use Rattle.sh_token.proofs.Sizes.{may_be_empty, Shrinks}
-use Rattle.sh_tree.specs.Owing.{rank, token_rank, symbol_rank, first_rank, weights, turns_left}
+use Rattle.sh_script.specs.Owing.{rank, token_rank, symbol_rank, first_rank, weights, turns_left}
 
 -- a rule's symbols, as long as it has any, weigh less than its part; a part that may be empty has the highest rank
 Lighter : Rule → List (Symbol TokenKind Part) → Type 0

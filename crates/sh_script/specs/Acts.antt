@@ -15,9 +15,9 @@ use Rattle.sh_ast.specs.Commands as c
 use Rattle.sh_ast.specs.Commands.{CommandTree, CommandsTree, WordTree, RedirectTree, commands_of, words_of, bodies_of, assignments_of, redirects_of, branches_of, case_items_of}
 use Rattle.sh_rules.specs.Rules as r
 use Rattle.sh_rules.specs.Rules.{Rule}
-use Rattle.sh_tree.specs.Values.{Value, nothing, parts, word, words, redirects, pieces, commands, joined, compound, branches, items, text_in, parts_in, word_in, words_in, redirects_in, assignments_in, arguments_in, redirections_in, commands_in, connectors_in, pipelines_in, compound_in, branches_in, otherwise_in, items_in}
-use Rattle.sh_tree.specs.States.{State, top, less, with, second, third, fourth, fifth, sixth, for_one, for_two, for_three, for_four, for_five, for_six, one_command, front, word_opened, word_closed, with_body, body_opened, body_closed, with_document, last, without_document}
-use Rattle.sh_tree.specs.Texts.{plain_parameter, braced_parameter, operand, operator, condition_of, substitute_of, removal_of, descriptor_of, numberless, operator_of}
+use Rattle.sh_script.specs.Values.{Value, nothing, parts, word, words, redirects, pieces, commands, joined, compound, branches, items, text_in, parts_in, word_in, words_in, redirects_in, assignments_in, arguments_in, redirections_in, commands_in, connectors_in, pipelines_in, compound_in, branches_in, otherwise_in, items_in}
+use Rattle.sh_script.specs.States.{State, top, less, with, second, third, fourth, fifth, sixth, for_one, for_two, for_three, for_four, for_five, for_six, one_command, front, word_opened, word_closed, with_body, body_opened, body_closed, with_document, last, without_document}
+use Rattle.sh_script.specs.Texts.{plain_parameter, braced_parameter, operand, operator, condition_of, substitute_of, removal_of, descriptor_of, numberless, operator_of}
 
 -- PARTS OF WORDS (XCU 2.2, 2.6)
 

@@ -14,7 +14,7 @@ use Rattle.sh_ast.specs.declared.command.RedirectOperator.{RedirectOperator}
 use Rattle.sh_ast.specs.declared.command.RedirectOperator.TheVariants as o
 use Rattle.sh_ast.specs.Words.{PartTree, value_of, length_of}
 use Rattle.std.specs.Char.{is_ascii_digit}
-use Rattle.sh_tree.specs.Names.{begins_name, parameter_length}
+use Rattle.sh_script.specs.Names.{begins_name, parameter_length}
 
 -- the parameter that some bytes are
 unfoldable pub parameter_of : Text → Parameter

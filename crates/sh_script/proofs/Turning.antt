@@ -14,11 +14,11 @@ use Rattle.sh_token.specs.Tokens.{Look}
 use Rattle.sh_token.specs.Effects.{effect_of}
 use Rattle.sh_token.specs.Steps.{lex, lexed, over, after, token_of}
 use Rattle.sh_token.proofs.Sizes.{may_be_empty, Shrinks}
-use Rattle.sh_tree.specs.TextReader.{text_reader, StandsThere, NotOf, HaltsAt}
-use Rattle.sh_tree.specs.Owing.{Owes, Keeps, Fewer}
-use Rattle.sh_tree.specs.Outcomes.{IsRead, IsStuck}
-use Rattle.sh_tree.proofs.Owed.{owed_taken, owed_chosen, owed_stops, owed_nothing}
-use Rattle.sh_tree.proofs.Fewer.{taken_fewer}
+use Rattle.sh_script.specs.TextReader.{text_reader, StandsThere, NotOf, HaltsAt}
+use Rattle.sh_script.specs.Owing.{Owes, Keeps, Fewer}
+use Rattle.sh_script.specs.Outcomes.{IsRead, IsStuck}
+use Rattle.sh_script.proofs.Owed.{owed_taken, owed_chosen, owed_stops, owed_nothing}
+use Rattle.sh_script.proofs.Fewer.{taken_fewer}
 
 -- what is looked at is the token there
 pub lexed_there : (m : Mode) (kind : TokenKind) (n : ℕ) (p : Place) → look m p ≡ Some (kind, n) → lex m p ≡ Some (token_of kind n p, after (effect_of kind) n p)

@@ -1,7 +1,7 @@
 -- What is built, from the end of a text to its beginning.
 use Rattle.std.specs.Prelude.{List, [], ◌∷◌, ◌++◌, Option, Some, None}
 use Rattle.sh_ast.specs.Commands.{CommandTree, CommandsTree, WordTree}
-use Rattle.sh_tree.specs.Values.{Value, nothing, commands}
+use Rattle.sh_script.specs.Values.{Value, nothing, commands}
 
 -- The values of what was read, that of the first symbol in front; for each word that is being read, and then the one around
 -- it, the bodies of its substitutions from the last to the first of the text; and for each here-document's body that is being

@@ -1,5 +1,5 @@
-use Rattle.sh_tree.proofs.Whole.{some, one_script_there, one_fault_there, not_both_there}
-use Rattle.sh_parse.proofs.script.one_script_or_fault.Goals as goal
+use Rattle.sh_script.proofs.Whole.{some, one_script_there, one_fault_there, not_both_there}
+use Rattle.sh_script.proofs.law.one_script_or_fault.Goals as goal
 
 pub returns-clause-some : goal.returns-clause-some
 returns-clause-some c = some

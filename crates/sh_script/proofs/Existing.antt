@@ -17,13 +17,13 @@ use Rattle.sh_token.specs.Tokens.{Look}
 use Rattle.sh_token.specs.Effects.{effect_of}
 use Rattle.sh_token.specs.Steps.{lex, over, after, token_of}
 use Rattle.sh_token.proofs.Sizes.{may_be_empty, Shrinks}
-use Rattle.sh_tree.specs.TextReader.{text_reader, NotOf, HaltsAt}
-use Rattle.sh_tree.specs.Owing.{Owes, Keeps, turns_left}
-use Rattle.sh_tree.specs.Outcomes.{IsRead, IsStuck}
-use Rattle.sh_tree.proofs.Owed.{owed_first}
-use Rattle.sh_tree.proofs.Fewer.{chosen_fewer}
-use Rattle.sh_tree.proofs.Chosen.{chosen_part}
-use Rattle.sh_tree.proofs.Turning.{lexed_there, keeps_taken, fewer_taken, halts_deep, halts_want, keeps_chosen, halts_none, halts_unwanted, whole_read, whole_stuck}
+use Rattle.sh_script.specs.TextReader.{text_reader, NotOf, HaltsAt}
+use Rattle.sh_script.specs.Owing.{Owes, Keeps, turns_left}
+use Rattle.sh_script.specs.Outcomes.{IsRead, IsStuck}
+use Rattle.sh_script.proofs.Owed.{owed_first}
+use Rattle.sh_script.proofs.Fewer.{chosen_fewer}
+use Rattle.sh_script.proofs.Chosen.{chosen_part}
+use Rattle.sh_script.proofs.Turning.{lexed_there, keeps_taken, fewer_taken, halts_deep, halts_want, keeps_chosen, halts_none, halts_unwanted, whole_read, whole_stuck}
 
 -- a token leaves a smaller place
 abbrev pub Shortens : Type 0

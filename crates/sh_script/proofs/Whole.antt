@@ -25,12 +25,12 @@ use Rattle.sh_token.specs.declared.fault.Why.TheVariants.{Long}
 use Rattle.sh_token.specs.Faults.{fault, fault_of}
 use Rattle.sh_token.proofs.Modes.{modes_agree}
 use Rattle.sh_token.proofs.Sizes.{shorter}
-use Rattle.sh_tree.specs.TextReader.{text_reader}
-use Rattle.sh_tree.specs.Outcomes.{IsRead, IsStuck}
-use Rattle.sh_tree.specs.Folds.{script_of, script_marked}
-use Rattle.sh_tree.specs.Scripts.{longest, Spells, StopsAt, IsScript, IsFaulty}
-use Rattle.sh_tree.proofs.FoldLemmas.{script_by_marks}
-use Rattle.sh_tree.proofs.Existing.{Shortens, ComesToAnEnd, each_ends}
+use Rattle.sh_script.specs.TextReader.{text_reader}
+use Rattle.sh_script.specs.Outcomes.{IsRead, IsStuck}
+use Rattle.sh_script.specs.Folds.{script_of, script_marked}
+use Rattle.sh_script.specs.Scripts.{longest, Spells, StopsAt, IsScript, IsFaulty}
+use Rattle.sh_script.proofs.FoldLemmas.{script_by_marks}
+use Rattle.sh_script.proofs.Existing.{Shortens, ComesToAnEnd, each_ends}
 
 -- All that is asked of the lexer.
 abbrev pub Agrees : Type 0

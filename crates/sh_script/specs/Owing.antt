@@ -10,7 +10,7 @@ use Rattle.sh_rules.specs.Rules.{Rule, Token, shell, script}
 use Rattle.sh_grammar.specs.Marks.{Mark, flat_all}
 use Rattle.sh_token.specs.Places.{Place, size}
 use Rattle.sh_token.proofs.Sizes.{may_be_empty}
-use Rattle.sh_tree.specs.TextReader.{text_reader}
+use Rattle.sh_script.specs.TextReader.{text_reader}
 
 -- Whatever reading of the symbols from here comes to, reading of a script from its start comes to: the marks that were left,
 -- and those that are still to come, are of one tree; and where it stops, reading of the script stops.

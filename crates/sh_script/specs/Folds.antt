@@ -4,9 +4,9 @@ use Rattle.sh_ast.specs.Commands.{CommandsTree, commands_of}
 use Rattle.sh_rules.specs.Grammar.{Parse, Leaf, Node, Parses, no_parses, parse_and}
 use Rattle.sh_rules.specs.Rules.{Rule, Token}
 use Rattle.sh_grammar.specs.Marks.{Mark, node, leaf}
-use Rattle.sh_tree.specs.Values.{token, commands_in}
-use Rattle.sh_tree.specs.States.{State, start, top, with}
-use Rattle.sh_tree.specs.Acts.{acted}
+use Rattle.sh_script.specs.Values.{token, commands_in}
+use Rattle.sh_script.specs.States.{State, start, top, with}
+use Rattle.sh_script.specs.Acts.{acted}
 
 unfoldable mutual
   pub built : Parse Rule Token → State → State

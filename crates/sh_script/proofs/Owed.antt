@@ -7,7 +7,7 @@ use Rattle.sh_rules.specs.declared.token_kind.Mode.{Mode}
 use Rattle.sh_rules.specs.Parts.{Part}
 use Rattle.sh_rules.specs.Rules.{Rule, Token, shell, script, spelling, part_of}
 use Rattle.sh_grammar.specs.Marks.{Mark, node, leaf, flat, flat_all}
-use Rattle.sh_tree.specs.Owing.{Owes}
+use Rattle.sh_script.specs.Owing.{Owes}
 
 module _ {P : Type 0} (l : Reader TokenKind Part Rule Token Mode P) where
   -- some symbols and others, read one after another

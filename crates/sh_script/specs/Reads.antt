@@ -7,7 +7,7 @@ use Rattle.sh_ast.specs.Commands.{CommandsTree}
 use Rattle.sh_token.specs.declared.fault.ScriptFault.{ScriptFault}
 use Rattle.sh_token.specs.declared.fault.Why.{Why}
 use Rattle.sh_token.specs.declared.fault.Why.TheVariants.{Syntax, Unclosed, Deep, Long, NotInProfile}
-use Rattle.sh_tree.specs.Scripts.{IsScript, IsFaulty}
+use Rattle.sh_script.specs.Scripts.{IsScript, IsFaulty}
 
 -- What a text reads as: commands, or the words that tell its fault.
 pub data Reading : Type 0 where

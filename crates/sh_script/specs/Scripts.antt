@@ -8,8 +8,8 @@ use Rattle.sh_token.specs.Places.{Place, begin}
 use Rattle.sh_token.specs.declared.fault.Why.TheVariants.{Long}
 use Rattle.sh_token.specs.declared.fault.ScriptFault.{ScriptFault}
 use Rattle.sh_token.specs.Faults.{fault, fault_of}
-use Rattle.sh_tree.specs.Folds.{script_of}
-use Rattle.sh_tree.specs.TextReader.{text_reader}
+use Rattle.sh_script.specs.Folds.{script_of}
+use Rattle.sh_script.specs.TextReader.{text_reader}
 
 -- the most bytes that a script may have
 abbrev pub longest : ℕ

@@ -4,10 +4,10 @@ use Rattle.sh_ast.specs.Commands.{commands_of}
 use Rattle.sh_rules.specs.Grammar.{Parse, Leaf, Node, Parses, no_parses, parse_and}
 use Rattle.sh_rules.specs.Rules.{Rule, Token}
 use Rattle.sh_grammar.specs.Marks.{Mark, flat, flat_all}
-use Rattle.sh_tree.specs.Values.{commands_in}
-use Rattle.sh_tree.specs.States.{State, start, top}
-use Rattle.sh_tree.specs.Acts.{acted}
-use Rattle.sh_tree.specs.Folds.{built, built_all, marked, marked_all, script_of, script_marked}
+use Rattle.sh_script.specs.Values.{commands_in}
+use Rattle.sh_script.specs.States.{State, start, top}
+use Rattle.sh_script.specs.Acts.{acted}
+use Rattle.sh_script.specs.Folds.{built, built_all, marked, marked_all, script_of, script_marked}
 
 marked_append : (ms ns : List Mark) (s : State) → marked_all (ms ++ ns) s ≡ marked_all ms (marked_all ns s)
 unfolding marked_all
