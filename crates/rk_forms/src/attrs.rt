@@ -1,8 +1,5 @@
 // Steps of the attributes of paths, and of their spelling.
-use crate::spelling::{
-    Came, Reader, bytes_of, damage_shown, each_change, each_change_sealed, each_prefix, sealed,
-    spelling_shown,
-};
+use crate::spelling::{Came, Spelt, bytes_step, came_of, not_read, spelling_shown};
 use rk_attrs::{AttrRow, Attrs};
 use rk_base::{Bytes, NoMemory, Path};
 use rk_steps::{Subject, attrs_shown, behind, path_of, plain, row_of, text, word};
@@ -16,29 +13,6 @@ pub(crate) struct Attributes {
     rows: Vec<(Path, AttrRow)>,
     attrs: Attrs,
     bytes: Bytes,
-}
-
-/// What reads attributes.
-#[derive(Drop)]
-struct Files {
-    alloc: Global,
-}
-
-impl Reader for Files {
-    fn came(&self, bytes: &[u8]) -> Result<Came, NoMemory> {
-        match read_attrs(self.alloc, bytes) {
-            Ok(attrs) => {
-                let again = write_attrs(self.alloc, &attrs)?;
-                Ok(if again.as_slice() == bytes {
-                    Came::Spelt
-                } else {
-                    Came::Otherwise
-                })
-            }
-            Err(CodecErr::Damaged(damage)) => Ok(Came::Damaged(damage)),
-            Err(CodecErr::NoMemory) => Err(NoMemory),
-        }
-    }
 }
 
 impl Attributes {
@@ -80,9 +54,23 @@ impl Attributes {
     fn back(&self) -> Result<String, NoMemory> {
         match read_back_attrs(self.alloc, &self.attrs) {
             Ok(attrs) => attrs_shown(self.alloc, &attrs),
-            Err(CodecErr::Damaged(damage)) => damage_shown(self.alloc, damage),
-            Err(CodecErr::NoMemory) => Err(NoMemory),
+            Err(e) => not_read(self.alloc, e),
         }
+    }
+
+    // What bytes are written as again.
+    fn again(&self, bytes: &[u8]) -> Result<Bytes, CodecErr> {
+        let attrs = read_attrs(self.alloc, bytes)?;
+        match write_attrs(self.alloc, &attrs) {
+            Ok(again) => Ok(again),
+            Err(NoMemory) => Err(CodecErr::NoMemory),
+        }
+    }
+}
+
+impl Spelt for Attributes {
+    fn bytes(&self) -> &[u8] {
+        self.bytes.as_slice()
     }
 
     fn read(&mut self, bytes: Vec<u8>) -> Result<String, NoMemory> {
@@ -92,14 +80,12 @@ impl Attributes {
                 self.attrs = attrs;
                 attrs_shown(self.alloc, &self.attrs)
             }
-            Err(CodecErr::Damaged(damage)) => damage_shown(self.alloc, damage),
-            Err(CodecErr::NoMemory) => Err(NoMemory),
+            Err(e) => not_read(self.alloc, e),
         }
     }
 
-    fn read_sealed(&mut self, body: &[u8]) -> Result<String, NoMemory> {
-        let bytes = sealed(self.alloc, body)?;
-        self.read(bytes)
+    fn came(&self, bytes: &[u8]) -> Result<Came, NoMemory> {
+        came_of(self.again(bytes), bytes)
     }
 }
 
@@ -110,19 +96,12 @@ impl Subject for Attributes {
     }
 
     fn step(&mut self, words: &[Vec<u8>]) -> Result<String, NoMemory> {
-        let alloc = self.alloc;
-        let files = Files { alloc };
         match text(words, 0) {
             "put" => self.put(behind(words)),
             "made" => self.made(),
             "spell" => self.spell(),
             "back" => self.back(),
-            "bytes" => self.read(bytes_of(alloc, behind(words))?),
-            "sealed" => self.read_sealed(&bytes_of(alloc, behind(words))?),
-            "each-prefix" => each_prefix(alloc, &files, self.bytes.as_slice()),
-            "each-change" => each_change(alloc, &files, self.bytes.as_slice()),
-            "each-change-sealed" => each_change_sealed(alloc, &files, self.bytes.as_slice()),
-            _ => plain(alloc, "unknown step"),
+            _ => bytes_step(self.alloc, self, words),
         }
     }
 }

@@ -1,13 +1,9 @@
 // Steps of the lists of an install's calls, and of their spelling.
-use crate::spelling::{
-    Came, Reader, bytes_of, damage_shown, each_change, each_change_sealed, each_prefix, sealed,
-    spelling_shown,
-};
+use crate::spelling::{Came, Spelt, bytes_step, came_of, not_read, spelling_shown};
 use rk_base::{Bytes, NoMemory, Path};
 use rk_seal::{InstallList, Op, decode, encode, read_back, spell_back};
 use rk_steps::{Subject, behind, path_of, plain, push_shown, text, word};
 use std::alloc::Global;
-use tr_codec::CodecErr;
 
 /// Calls that are put together, the list that was last made or read, and its bytes.
 #[derive(Drop)]
@@ -16,26 +12,6 @@ pub(crate) struct Installs {
     ops: Vec<Op>,
     list: Option<InstallList>,
     bytes: Bytes,
-}
-
-/// What reads lists.
-#[derive(Drop)]
-struct Files {
-    alloc: Global,
-}
-
-impl Reader for Files {
-    fn came(&self, bytes: &[u8]) -> Result<Came, NoMemory> {
-        match spell_back(self.alloc, bytes) {
-            Ok(again) => Ok(if again.as_slice() == bytes {
-                Came::Spelt
-            } else {
-                Came::Otherwise
-            }),
-            Err(CodecErr::Damaged(damage)) => Ok(Came::Damaged(damage)),
-            Err(CodecErr::NoMemory) => Err(NoMemory),
-        }
-    }
 }
 
 fn op_of(kind: &str, path: Path, bytes: Bytes) -> Option<Op> {
@@ -133,9 +109,14 @@ impl Installs {
         };
         match read_back(self.alloc, list) {
             Ok(list) => list_shown(self.alloc, &list),
-            Err(CodecErr::Damaged(damage)) => damage_shown(self.alloc, damage),
-            Err(CodecErr::NoMemory) => Err(NoMemory),
+            Err(e) => not_read(self.alloc, e),
         }
+    }
+}
+
+impl Spelt for Installs {
+    fn bytes(&self) -> &[u8] {
+        self.bytes.as_slice()
     }
 
     fn read(&mut self, bytes: Vec<u8>) -> Result<String, NoMemory> {
@@ -145,14 +126,12 @@ impl Installs {
                 self.list = Some(list);
                 self.shown()
             }
-            Err(CodecErr::Damaged(damage)) => damage_shown(self.alloc, damage),
-            Err(CodecErr::NoMemory) => Err(NoMemory),
+            Err(e) => not_read(self.alloc, e),
         }
     }
 
-    fn read_sealed(&mut self, body: &[u8]) -> Result<String, NoMemory> {
-        let bytes = sealed(self.alloc, body)?;
-        self.read(bytes)
+    fn came(&self, bytes: &[u8]) -> Result<Came, NoMemory> {
+        came_of(spell_back(self.alloc, bytes), bytes)
     }
 }
 
@@ -163,19 +142,12 @@ impl Subject for Installs {
     }
 
     fn step(&mut self, words: &[Vec<u8>]) -> Result<String, NoMemory> {
-        let alloc = self.alloc;
-        let files = Files { alloc };
         match text(words, 0) {
             "put" => self.put(behind(words)),
             "made" => self.made(),
             "spell" => self.spell(),
             "back" => self.back(),
-            "bytes" => self.read(bytes_of(alloc, behind(words))?),
-            "sealed" => self.read_sealed(&bytes_of(alloc, behind(words))?),
-            "each-prefix" => each_prefix(alloc, &files, self.bytes.as_slice()),
-            "each-change" => each_change(alloc, &files, self.bytes.as_slice()),
-            "each-change-sealed" => each_change_sealed(alloc, &files, self.bytes.as_slice()),
-            _ => plain(alloc, "unknown step"),
+            _ => bytes_step(self.alloc, self, words),
         }
     }
 }

@@ -1,8 +1,5 @@
 // Steps of the table of records, and of its spelling.
-use crate::spelling::{
-    Came, Reader, body_of, bytes_of, changed, damage_shown, each_change, each_change_sealed,
-    each_prefix, sealed, spelling_shown,
-};
+use crate::spelling::{Came, Spelt, bytes_step, came_of, not_read, spelling_shown};
 use rk_base::{Bytes, NoMemory};
 use rk_calls::Key;
 use rk_steps::{
@@ -20,29 +17,6 @@ pub(crate) struct Records {
     table: Table,
     bytes: Bytes,
     seen: Seen,
-}
-
-/// What reads databases.
-#[derive(Drop)]
-struct Databases {
-    alloc: Global,
-}
-
-impl Reader for Databases {
-    fn came(&self, bytes: &[u8]) -> Result<Came, NoMemory> {
-        match read_db(self.alloc, bytes) {
-            Ok(table) => {
-                let again = write_db(self.alloc, &table)?;
-                Ok(if again.as_slice() == bytes {
-                    Came::Spelt
-                } else {
-                    Came::Otherwise
-                })
-            }
-            Err(CodecErr::Damaged(damage)) => Ok(Came::Damaged(damage)),
-            Err(CodecErr::NoMemory) => Err(NoMemory),
-        }
-    }
 }
 
 fn step_line(alloc: Global, cost: u32, call: &str, answer: &str) -> Result<String, NoMemory> {
@@ -199,9 +173,23 @@ impl Records {
     fn back(&self) -> Result<String, NoMemory> {
         match read_back(self.alloc, &self.table) {
             Ok(table) => table_shown(self.alloc, &table),
-            Err(CodecErr::Damaged(damage)) => damage_shown(self.alloc, damage),
-            Err(CodecErr::NoMemory) => Err(NoMemory),
+            Err(e) => not_read(self.alloc, e),
         }
+    }
+
+    // What bytes are written as again.
+    fn again(&self, bytes: &[u8]) -> Result<Bytes, CodecErr> {
+        let table = read_db(self.alloc, bytes)?;
+        match write_db(self.alloc, &table) {
+            Ok(again) => Ok(again),
+            Err(NoMemory) => Err(CodecErr::NoMemory),
+        }
+    }
+}
+
+impl Spelt for Records {
+    fn bytes(&self) -> &[u8] {
+        self.bytes.as_slice()
     }
 
     // The table that bytes spell is the one that steps speak of then.
@@ -212,31 +200,12 @@ impl Records {
                 self.table = table;
                 table_shown(self.alloc, &self.table)
             }
-            Err(CodecErr::Damaged(damage)) => damage_shown(self.alloc, damage),
-            Err(CodecErr::NoMemory) => Err(NoMemory),
+            Err(e) => not_read(self.alloc, e),
         }
     }
 
-    fn read_sealed(&mut self, body: &[u8]) -> Result<String, NoMemory> {
-        let bytes = sealed(self.alloc, body)?;
-        self.read(bytes)
-    }
-
-    // The bytes with the last bit of one before the digest changed, under a new digest.
-    fn read_changed(&mut self, place: u64) -> Result<String, NoMemory> {
-        let body = changed(self.alloc, body_of(self.bytes.as_slice()), place as usize)?;
-        self.read_sealed(&body)
-    }
-
-    fn all_damages(&self, words: &[Vec<u8>]) -> Result<String, NoMemory> {
-        let alloc = self.alloc;
-        let databases = Databases { alloc };
-        match text(words, 0) {
-            "each-prefix" => each_prefix(alloc, &databases, self.bytes.as_slice()),
-            "each-change" => each_change(alloc, &databases, self.bytes.as_slice()),
-            "each-change-sealed" => each_change_sealed(alloc, &databases, self.bytes.as_slice()),
-            _ => plain(alloc, "unknown step"),
-        }
+    fn came(&self, bytes: &[u8]) -> Result<Came, NoMemory> {
+        came_of(self.again(bytes), bytes)
     }
 }
 
@@ -258,10 +227,7 @@ impl Subject for Records {
             "table" => table_shown(alloc, &self.table),
             "spell" => self.spell(),
             "back" => self.back(),
-            "bytes" => self.read(bytes_of(alloc, behind(words))?),
-            "sealed" => self.read_sealed(&bytes_of(alloc, behind(words))?),
-            "changed" => self.read_changed(number(words, 1)),
-            _ => self.all_damages(words),
+            _ => bytes_step(alloc, self, words),
         }
     }
 }
