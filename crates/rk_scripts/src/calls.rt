@@ -3,7 +3,7 @@ ghost use Rattle.std.specs.Prelude.{◌≡◌, ◌<◌};
 
 use rk_base::Steps;
 use rk_folder::{MemFolder, MemSink};
-use rk_sessions::{Built, End, Program};
+use rk_runner::{Built, End, Program};
 use rk_top::{Commands, Outcome, Request, build_in, exit_code, rkr};
 use std::alloc::Global;
 use std::marker::Brand;

@@ -6,7 +6,7 @@ mod calls;
 
 use crate::calls::Rkr;
 use rk_base::NoMemory;
-use rk_sessions::{Session, carried_out, made};
+use rk_runner::{Session, carried_out, made};
 use std::process::ExitCode;
 use std::{env, fs, io};
 

@@ -7,7 +7,7 @@ use tr_codec::{read_db, write_db};
 use tr_record::{Record, Step, StepList, Table};
 
 /// The first bytes, so many of them.
-pub(crate) fn cut(alloc: Global, bytes: &[u8], most: usize) -> Result<Vec<u8>, NoMemory> {
+pub fn cut(alloc: Global, bytes: &[u8], most: usize) -> Result<Vec<u8>, NoMemory> {
     let mut front = Vec::new(alloc);
     'bytes: for byte in bytes {
         if front.len() < most {
@@ -18,7 +18,7 @@ pub(crate) fn cut(alloc: Global, bytes: &[u8], most: usize) -> Result<Vec<u8>, N
 }
 
 /// The bytes, with the lowest bit of the byte of this number turned, from 0 on.
-pub(crate) fn turned(alloc: Global, bytes: &[u8], at: usize) -> Result<Vec<u8>, NoMemory> {
+pub fn turned(alloc: Global, bytes: &[u8], at: usize) -> Result<Vec<u8>, NoMemory> {
     let mut other = Vec::new(alloc);
     'bytes: for byte in bytes {
         let is_it = other.len() == at;
@@ -28,7 +28,7 @@ pub(crate) fn turned(alloc: Global, bytes: &[u8], at: usize) -> Result<Vec<u8>, 
 }
 
 /// The bytes of hexadecimal digits in lines; none where they are no such digits.
-pub(crate) fn bytes_of(alloc: Global, text: &str) -> Result<Vec<u8>, NoMemory> {
+pub fn bytes_of(alloc: Global, text: &str) -> Result<Vec<u8>, NoMemory> {
     let mut bytes = Vec::new(alloc);
     'lines: for line in text.lines() {
         if let Ok(some) = hex::decode(alloc, line.as_bytes()) {
@@ -136,7 +136,7 @@ fn table_with(alloc: Global, table: &Table, change: &Change<'_>) -> Result<Table
 }
 
 /// The database with the change that a line names, and its digest made anew. It is as before where it is damaged.
-pub(crate) fn altered(alloc: Global, db: &[u8], line: &str) -> Result<Bytes, NoMemory> {
+pub fn altered(alloc: Global, db: &[u8], line: &str) -> Result<Bytes, NoMemory> {
     match read_db(alloc, db) {
         Ok(table) => {
             let other = table_with(alloc, &table, &change_of(line))?;

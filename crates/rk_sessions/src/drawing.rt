@@ -4,18 +4,18 @@ use std::alloc::Global;
 
 /// Numbers that follow from a seed.
 #[derive(Drop)]
-pub(crate) struct Draws {
+pub struct Draws {
     state: u64,
 }
 
 impl Draws {
     /// Those of this seed.
-    pub(crate) fn new(seed: u64) -> Draws {
+    pub fn new(seed: u64) -> Draws {
         Draws { state: seed }
     }
 
     /// A number below this one; 0 where it is 0.
-    pub(crate) fn draw(&mut self, below: u64) -> u64 {
+    pub fn draw(&mut self, below: u64) -> u64 {
         self.state = self
             .state
             .wrapping_mul(6364136223846793005)
@@ -25,7 +25,7 @@ impl Draws {
 }
 
 /// How many sources there are.
-pub(crate) const SOURCES: u64 = 6;
+pub const SOURCES: u64 = 6;
 
 // Lines of scripts, in which `%A` and `%B` stand for the numbers of two sources, and `%O` for a file that is made of them.
 const LINES: [&str; 14] = [
@@ -114,7 +114,7 @@ fn word(alloc: Global, letter: &str, number: u64) -> Result<String, NoMemory> {
 }
 
 /// The text of a source.
-pub(crate) fn source(alloc: Global, draws: &mut Draws) -> Result<String, NoMemory> {
+pub fn source(alloc: Global, draws: &mut Draws) -> Result<String, NoMemory> {
     let mut text = String::new(alloc);
     'lines: for _ in 0..draws.draw(5) {
         let letter = if draws.draw(2) == 0 { "x" } else { "y" };
@@ -124,12 +124,7 @@ pub(crate) fn source(alloc: Global, draws: &mut Draws) -> Result<String, NoMemor
 }
 
 /// The text of the script of a number, of so many lines.
-pub(crate) fn script(
-    alloc: Global,
-    draws: &mut Draws,
-    j: u64,
-    lines: u64,
-) -> Result<String, NoMemory> {
+pub fn script(alloc: Global, draws: &mut Draws, j: u64, lines: u64) -> Result<String, NoMemory> {
     let mut text = String::new(alloc);
     'lines: for i in 0..lines {
         draw_line(alloc, &mut text, draws, j, i)?;

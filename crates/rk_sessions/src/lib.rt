@@ -1,17 +1,20 @@
-//! Sessions of edits and builds over folders in memory: the steps of their files, how they are carried out by the builds of
-//! a program, and what came otherwise than it is wanted.
+//! What sessions of builds are made of: the steps of their files, records as text, bytes that are altered, what came as text,
+//! and what is drawn for made ones.
 #![tactic(auto)]
 
 mod altering;
 mod drawing;
 mod numbers;
-mod program;
-mod session;
 mod showing;
 mod steps;
 mod talks;
-mod workload;
 
-pub use program::{Built, End, Program};
-pub use session::{Session, carried_out};
-pub use workload::made;
+pub use altering::{altered, bytes_of, cut, turned};
+pub use drawing::{Draws, SOURCES, script, source};
+pub use numbers::{number, size, status, turns};
+pub use showing::{
+    asks_change, calls_shown, changes_shown, contents, has_line, has_numbered, kind_at, ran,
+    rows_at, shown, text_at, unexplained,
+};
+pub use steps::{Step, StepKind, steps_of};
+pub use talks::db_of;

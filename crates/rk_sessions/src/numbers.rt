@@ -1,21 +1,21 @@
 // Numbers in steps; each is 0 where the text is none, or too great.
 
 /// A number of 64 bits.
-pub(crate) fn number(text: &str) -> u64 {
+pub fn number(text: &str) -> u64 {
     text.parse::<u64>().unwrap_or(0)
 }
 
 /// How many turns.
-pub(crate) fn turns(text: &str) -> u32 {
+pub fn turns(text: &str) -> u32 {
     u32::try_from(number(text)).unwrap_or(0)
 }
 
 /// An exit status.
-pub(crate) fn status(text: &str) -> u8 {
+pub fn status(text: &str) -> u8 {
     u8::try_from(number(text)).unwrap_or(0)
 }
 
 /// How many bytes or things there are, or the place of one.
-pub(crate) fn size(text: &str) -> usize {
+pub fn size(text: &str) -> usize {
     number(text) as usize
 }

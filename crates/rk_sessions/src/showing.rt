@@ -6,7 +6,7 @@ use std::alloc::Global;
 use tr_codec::read_attrs;
 
 /// Bytes as text.
-pub(crate) fn shown(bytes: &[u8]) -> &str {
+pub fn shown(bytes: &[u8]) -> &str {
     str::from_utf8(bytes).unwrap_or("not text")
 }
 
@@ -33,14 +33,14 @@ fn launched(explained: &str) -> &str {
 }
 
 /// How many commands were launched, and behind it the words of those that ran.
-pub(crate) fn ran(alloc: Global, explained: &str) -> Result<String, NoMemory> {
+pub fn ran(alloc: Global, explained: &str) -> Result<String, NoMemory> {
     let mut text = String::from_str(alloc, launched(explained))?;
     text.push_str(commands(alloc, explained)?.as_str())?;
     Ok(text)
 }
 
 /// Whether a text has this line.
-pub(crate) fn has_line(text: &str, wanted: &str) -> bool {
+pub fn has_line(text: &str, wanted: &str) -> bool {
     'lines: for line in text.lines() {
         if line == wanted {
             return true;
@@ -50,7 +50,7 @@ pub(crate) fn has_line(text: &str, wanted: &str) -> bool {
 }
 
 /// Whether a line has a number, a blank and this text.
-pub(crate) fn has_numbered(text: &str, wanted: &str) -> bool {
+pub fn has_numbered(text: &str, wanted: &str) -> bool {
     'lines: for line in text.lines() {
         let (_, rest) = line.split_once(' ').unwrap_or((line, ""));
         if rest == wanted {
@@ -61,7 +61,7 @@ pub(crate) fn has_numbered(text: &str, wanted: &str) -> bool {
 }
 
 /// What stands before an explanation.
-pub(crate) fn unexplained(errors: &str) -> &str {
+pub fn unexplained(errors: &str) -> &str {
     match errors.split_once("rkr: ran ") {
         Some((text, _)) => text,
         None => match errors.split_once("rkr: launched ") {
@@ -110,7 +110,7 @@ fn rows_shown(alloc: Global, bytes: &[u8]) -> Result<String, NoMemory> {
 }
 
 /// What kind of thing stands at a path.
-pub(crate) fn kind_at(folder: &MemFolder, place: &Path) -> &'static str {
+pub fn kind_at(folder: &MemFolder, place: &Path) -> &'static str {
     match folder.at(place) {
         Some(Standing::File(_)) => "file",
         Some(Standing::Dir) => "directory",
@@ -120,7 +120,7 @@ pub(crate) fn kind_at(folder: &MemFolder, place: &Path) -> &'static str {
 }
 
 /// The bytes of the file at a path, or none where there is no file.
-pub(crate) fn text_at(alloc: Global, folder: &MemFolder, place: &Path) -> Result<String, NoMemory> {
+pub fn text_at(alloc: Global, folder: &MemFolder, place: &Path) -> Result<String, NoMemory> {
     let text = match folder.at(place) {
         Some(Standing::File(bytes)) => shown(bytes.as_slice()),
         _ => "",
@@ -130,7 +130,7 @@ pub(crate) fn text_at(alloc: Global, folder: &MemFolder, place: &Path) -> Result
 }
 
 /// The rows of the attrs that stand at a path.
-pub(crate) fn rows_at(alloc: Global, folder: &MemFolder, place: &Path) -> Result<String, NoMemory> {
+pub fn rows_at(alloc: Global, folder: &MemFolder, place: &Path) -> Result<String, NoMemory> {
     match folder.at(place) {
         Some(Standing::File(bytes)) => rows_shown(alloc, bytes.as_slice()),
         _ => Ok(String::new(alloc)),
@@ -251,7 +251,7 @@ fn push_dirs(
 }
 
 /// What a folder holds in its root and in the directories there, but for the database.
-pub(crate) fn contents(alloc: Global, folder: &mut MemFolder) -> Result<String, NoMemory> {
+pub fn contents(alloc: Global, folder: &mut MemFolder) -> Result<String, NoMemory> {
     let root = Path::root(alloc)?;
     let mut text = files(alloc, folder, &root)?;
     push_dirs(alloc, &mut text, folder, &root)?;
@@ -288,7 +288,7 @@ fn push_next(text: &mut String, call: &FolderCall) -> Result<(), NoMemory> {
 }
 
 /// The calls that were made.
-pub(crate) fn calls_shown(alloc: Global, asked: &[FolderCall]) -> Result<String, NoMemory> {
+pub fn calls_shown(alloc: Global, asked: &[FolderCall]) -> Result<String, NoMemory> {
     let mut text = String::new(alloc);
     'calls: for call in asked {
         push_next(&mut text, call)?;
@@ -297,7 +297,7 @@ pub(crate) fn calls_shown(alloc: Global, asked: &[FolderCall]) -> Result<String,
 }
 
 /// Those of them that are to change the folder.
-pub(crate) fn changes_shown(alloc: Global, asked: &[FolderCall]) -> Result<String, NoMemory> {
+pub fn changes_shown(alloc: Global, asked: &[FolderCall]) -> Result<String, NoMemory> {
     let mut text = String::new(alloc);
     'calls: for call in asked {
         if call.is_change() {
@@ -308,6 +308,6 @@ pub(crate) fn changes_shown(alloc: Global, asked: &[FolderCall]) -> Result<Strin
 }
 
 /// Whether a call was to change the folder.
-pub(crate) fn asks_change(asked: &[FolderCall]) -> bool {
+pub fn asks_change(asked: &[FolderCall]) -> bool {
     asked.iter().any(|call| call.is_change())
 }

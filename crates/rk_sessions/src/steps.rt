@@ -4,7 +4,7 @@ use std::alloc::Global;
 
 /// What is done with a folder, or looked at in it.
 #[derive(Clone, Copy)]
-pub(crate) enum StepKind {
+pub enum StepKind {
     /// A fresh folder with the text as its script, and nothing else.
     Fresh,
     /// Another script.
@@ -81,14 +81,14 @@ pub(crate) enum StepKind {
 
 /// A step: its kind, what stands behind its word, and the texts below it.
 #[derive(Drop)]
-pub(crate) struct Step {
-    pub(crate) kind: StepKind,
+pub struct Step {
+    pub kind: StepKind,
     /// What stands behind its word.
-    pub(crate) rest: String,
+    pub rest: String,
     /// The text below it.
-    pub(crate) text: String,
+    pub text: String,
     /// The error text below it.
-    pub(crate) errors: String,
+    pub errors: String,
 }
 
 fn kind_of(word: &str) -> StepKind {
@@ -187,7 +187,7 @@ fn is_comment(line: &str) -> bool {
 
 /// The steps of a file: a line for each, with its texts in the lines below it. Empty lines, and those that begin with `#`,
 /// say nothing.
-pub(crate) fn steps_of(alloc: Global, text: &str) -> Result<Vec<Step>, NoMemory> {
+pub fn steps_of(alloc: Global, text: &str) -> Result<Vec<Step>, NoMemory> {
     let mut steps: Vec<Step> = Vec::new(alloc);
     'lines: for line in text.lines() {
         if is_text(line) {

@@ -30,7 +30,7 @@ fn bytes(alloc: Global, text: &str) -> Result<Bytes, NoMemory> {
 }
 
 /// The call of a word and what stands behind it.
-pub(crate) fn call_of(alloc: Global, word: &str, rest: &str) -> Result<Call, NoMemory> {
+pub fn call_of(alloc: Global, word: &str, rest: &str) -> Result<Call, NoMemory> {
     let path = bytes(alloc, rest)?;
     match word {
         "open" => Ok(Call::Open(path, How::Read)),
@@ -116,7 +116,7 @@ fn path(alloc: Global, text: &str) -> Result<Path, NoMemory> {
 }
 
 /// The answer of a text: a word with what stands behind it, or the words of a refusal.
-pub(crate) fn answer_of(alloc: Global, text: &str) -> Result<Answer, NoMemory> {
+pub fn answer_of(alloc: Global, text: &str) -> Result<Answer, NoMemory> {
     let (word, rest) = text.split_once(' ').unwrap_or((text, ""));
     match word {
         "done" => Ok(Answer::Done),
@@ -180,6 +180,6 @@ fn table_of(alloc: Global, words: &str, text: &str) -> Result<Table, NoMemory> {
 }
 
 /// The database of one record: a command's words, and lines of what it asks and is answered.
-pub(crate) fn db_of(alloc: Global, words: &str, text: &str) -> Result<Bytes, NoMemory> {
+pub fn db_of(alloc: Global, words: &str, text: &str) -> Result<Bytes, NoMemory> {
     write_db(alloc, &table_of(alloc, words, text)?)
 }

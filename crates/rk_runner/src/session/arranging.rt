@@ -1,10 +1,9 @@
 // What is arranged in a session: bytes, damage, changed records, special entries, and calls that fail.
 use super::{Session, at};
-use crate::altering::{altered, cut, turned};
-use crate::numbers::{number, size};
 use crate::program::Program;
 use rk_base::{Bytes, NoMemory};
 use rk_folder::Standing;
+use rk_sessions::{altered, cut, number, size, turned};
 
 impl<P: Program> Session<P> {
     pub(crate) fn put_bytes(&mut self, path: &str, bytes: &[u8]) -> Result<(), NoMemory> {

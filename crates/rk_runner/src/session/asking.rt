@@ -1,10 +1,9 @@
 // What is asked in a session, what the program told, and what it did to the folder.
 use super::{Session, at, digits, status_shown};
 use crate::program::{ENOUGH, End, Program, WHOLE, ask_in};
-use crate::showing::{asks_change, calls_shown, changes_shown, has_numbered, shown};
-use crate::talks::db_of;
 use rk_base::NoMemory;
 use rk_folder::MemFolder;
+use rk_sessions::{asks_change, calls_shown, changes_shown, db_of, has_numbered, shown};
 
 const USAGE: &str =
     "usage: rkr build [--steps N] [--explain] [--fresh] [--check] | check | trace [--json] | forget | gen SEED\n";

@@ -1,8 +1,8 @@
 // A made workload: after each edit a build over the records comes to what a first one does.
-use crate::drawing::{Draws, SOURCES, script, source};
 use crate::program::Program;
 use crate::session::Session;
 use rk_base::NoMemory;
+use rk_sessions::{Draws, SOURCES, script, source};
 use std::alloc::Global;
 
 const SCRIPTS: u64 = 4;

@@ -2,15 +2,13 @@
 mod arranging;
 mod asking;
 
-use crate::altering::bytes_of;
-use crate::numbers::{number, size, turns};
 use crate::program::{Built, Cut, ENOUGH, End, Program, WHOLE, build_within};
-use crate::showing::{
-    asks_change, contents, has_line, kind_at, ran, rows_at, shown, text_at, unexplained,
-};
-use crate::steps::{Step, StepKind, steps_of};
 use rk_base::{NoMemory, Path};
 use rk_folder::{Folder, FolderErr, MemFolder};
+use rk_sessions::{
+    Step, StepKind, asks_change, bytes_of, contents, has_line, kind_at, number, ran, rows_at,
+    shown, size, steps_of, text_at, turns, unexplained,
+};
 use std::alloc::Global;
 
 /// A folder, what was built in it last, and what wasn't as it was wanted.
