@@ -16,5 +16,5 @@ pub use showing::{
     asks_change, calls_shown, changes_shown, contents, has_line, has_numbered, kind_at, ran,
     rows_at, shown, text_at, unexplained,
 };
-pub use steps::{Step, StepKind, steps_of};
+pub use steps::{SessionStep, StepKind, steps_of};
 pub use talks::db_of;

@@ -81,7 +81,7 @@ pub enum StepKind {
 
 /// A step: its kind, what stands behind its word, and the texts below it.
 #[derive(Drop)]
-pub struct Step {
+pub struct SessionStep {
     pub kind: StepKind,
     /// What stands behind its word.
     pub rest: String,
@@ -150,11 +150,11 @@ fn push_line(text: &mut String, more: &str) -> Result<(), NoMemory> {
     Ok(())
 }
 
-impl Step {
+impl SessionStep {
     // The step of a line, without the texts below it.
-    fn new(alloc: Global, line: &str) -> Result<Step, NoMemory> {
+    fn new(alloc: Global, line: &str) -> Result<SessionStep, NoMemory> {
         let (word, rest) = line.split_once(' ').unwrap_or((line, ""));
-        Ok(Step {
+        Ok(SessionStep {
             kind: kind_of(word),
             rest: String::from_str(alloc, rest)?,
             text: String::new(alloc),
@@ -187,15 +187,15 @@ fn is_comment(line: &str) -> bool {
 
 /// The steps of a file: a line for each, with its texts in the lines below it. Empty lines, and those that begin with `#`,
 /// say nothing.
-pub fn steps_of(alloc: Global, text: &str) -> Result<Vec<Step>, NoMemory> {
-    let mut steps: Vec<Step> = Vec::new(alloc);
+pub fn steps_of(alloc: Global, text: &str) -> Result<Vec<SessionStep>, NoMemory> {
+    let mut steps: Vec<SessionStep> = Vec::new(alloc);
     'lines: for line in text.lines() {
         if is_text(line) {
             if let Some(step) = steps.last_mut() {
                 step.add(line)?;
             }
         } else if !is_comment(line) {
-            steps.push(Step::new(alloc, line)?)?;
+            steps.push(SessionStep::new(alloc, line)?)?;
         }
     }
     Ok(steps)

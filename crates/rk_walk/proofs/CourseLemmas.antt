@@ -8,7 +8,7 @@ use Rattle.rk_walk.specs.Course.{is_after, IsFirst, again_by, following, is_mark
 use Rattle.rk_walk.specs.Walk.{Spot, parts, parts_from, closed, walk, at_part, leads, start, as_spot}
 use Rattle.rk_walk.specs.declared.place.Here.{Here}
 use Rattle.rk_walk.specs.declared.place.Place.TheVariants.{Found}
-use Rattle.rk_walk.specs.declared.step.Step.{Step}
+use Rattle.rk_walk.specs.declared.step.WalkStep.{WalkStep}
 use Rattle.rk_base.specs.declared.errno.Errno.TheVariants.{Loops}
 use Rattle.rk_walk.proofs.PartLemmas.{after-append}
 
@@ -113,7 +113,7 @@ popped tree follow old new ahead marks none is was kept =
     })
 
 -- what the component means there
-pub met : (tree : Hierarchy) (follow : Bool) (course : Course) (name rest : Text) (slash last : Bool) (step : Step) (at : ℕ) → at ≡ course.here.node → IsCourse course → IsFirst course.ahead name rest → slash ≡ (not (is_empty rest) || not (is_empty course.marks)) → last ≡ (only_slashes rest && list_all only_slashes course.marks)
+pub met : (tree : Hierarchy) (follow : Bool) (course : Course) (name rest : Text) (slash last : Bool) (step : WalkStep) (at : ℕ) → at ≡ course.here.node → IsCourse course → IsFirst course.ahead name rest → slash ≡ (not (is_empty rest) || not (is_empty course.marks)) → last ≡ (only_slashes rest && list_all only_slashes course.marks)
     → ((again : Text → Text → Spot) (on : Here → Spot) (after : Text) → not (is_empty after) ≡ slash → at_part as_spot tree follow again on at (record { name = name; after = after }) last ≡ step_means again on after step)
     → course_leads tree follow course ≡ step_means (again_by course.links tree follow course.here.node) (λ on. walk as_spot tree follow (again_by course.links tree follow) on (parts (rest ++ following course.marks))) (rest ++ following course.marks) step
 met tree follow course name rest slash last step at is_at kept first is_slashed is_final does =

@@ -7,8 +7,8 @@ use Rattle.rk_base.specs.declared.errno.Errno.TheVariants.{Loops}
 use Rattle.rk_tree.specs.Hierarchy.{Hierarchy}
 use Rattle.rk_walk.specs.Walk.{Spot, as_spot, walk, leads, parts}
 use Rattle.rk_walk.specs.declared.place.Here.{Here}
-use Rattle.rk_walk.specs.declared.step.Step.{Step}
-use Rattle.rk_walk.specs.declared.step.Step.TheVariants.{On, Follow, Ends, Fails}
+use Rattle.rk_walk.specs.declared.step.WalkStep.{WalkStep}
+use Rattle.rk_walk.specs.declared.step.WalkStep.TheVariants.{On, Follow, Ends, Fails}
 
 -- A text that is cut.
 
@@ -45,7 +45,7 @@ again_by zero tree follow at text after = Err Loops
 again_by (suc links) tree follow at text after = leads as_spot links tree follow at text after
 
 -- what a step of the code means
-abbrev pub step_means : (Text → Text → Spot) → (Here → Spot) → Text → Step → Spot
+abbrev pub step_means : (Text → Text → Spot) → (Here → Spot) → Text → WalkStep → Spot
 step_means again on after (On here) = on here
 step_means again on after (Follow text) = again text after
 step_means again on after (Ends place) = Ok place

@@ -7,7 +7,7 @@ ghost use Rattle.rk_walk.specs.Course.{step_means};
 ghost use Rattle.rk_walk.specs.Walk.{Spot, as_spot, at_child, at_part};
 ghost use Rattle.rk_walk.specs.declared.place.Here.{Here as Standing};
 ghost use Rattle.rk_walk.specs.declared.place.Place.TheVariants.{Found};
-ghost use Rattle.rk_walk.specs.declared.step.Step.TheVariants.{Ends};
+ghost use Rattle.rk_walk.specs.declared.step.WalkStep.TheVariants.{Ends};
 
 use crate::{Here, Label, Place};
 use rk_base::{Errno, FileType, is_name};
@@ -44,7 +44,7 @@ impl<'a> LinkText<'a> {
 
 // What a component does.
 #[derive(Drop)]
-pub(crate) enum Step<'a> {
+pub(crate) enum WalkStep<'a> {
     On(Here<'a>),
     Follow(LinkText<'a>),
     Ends(Place<'a>),
@@ -59,38 +59,38 @@ fn at_name<'a>(
     name: &'a [u8],
     slash: bool,
     last: bool,
-) -> Step<'a>
+) -> WalkStep<'a>
     requires dir { is_dir (hierarchy.node tree.now at) ≡ true }
     requires name { is_name name.now ≡ true }
     ensures { (again : List ℕ → List ℕ → Spot) (on : Standing → Spot) (after : List ℕ) → not (is_empty after) ≡ slash → at_child as_spot tree.now follow again on at (record { name = name.now; after = after }) last (hierarchy.child tree.now at name.now) ≡ step_means again on after result }
 {
     let Some(n) = tree.child(at, name) else {
         return if last {
-            Step::Ends(Place::Absent {
+            WalkStep::Ends(Place::Absent {
                 dir: at,
                 name: Label::new(name),
                 slash,
             })
         } else {
-            Step::Fails(Errno::NoEntry)
+            WalkStep::Fails(Errno::NoEntry)
         };
     };
     match tree.kind(n) {
-        FileType::Dir => Step::On(Here {
+        FileType::Dir => WalkStep::On(Here {
             node: n,
             up: Some((at, Label::new(name))),
             slash,
         }),
         FileType::File => {
             if slash {
-                Step::Fails(Errno::NotDir)
+                WalkStep::Fails(Errno::NotDir)
             } else {
                 found(n, at, name)
             }
         }
         FileType::Link => {
             if slash || follow {
-                Step::Follow(LinkText::new(tree.link_text(n)))
+                WalkStep::Follow(LinkText::new(tree.link_text(n)))
             } else {
                 found(n, at, name)
             }
@@ -98,11 +98,11 @@ fn at_name<'a>(
     }
 }
 
-fn found<'a>(node: NodeId, at: NodeId, name: &'a [u8]) -> Step<'a>
+fn found<'a>(node: NodeId, at: NodeId, name: &'a [u8]) -> WalkStep<'a>
     requires { is_name name.now ≡ true }
     ensures { result ≡ Ends (Found (record { node = node; up = Some (at, name.now); slash = false })) }
 {
-    Step::Ends(Place::Found(Here {
+    WalkStep::Ends(Place::Found(Here {
         node,
         up: Some((at, Label::new(name))),
         slash: false,
@@ -117,17 +117,17 @@ pub(crate) fn component<'a>(
     name: &'a [u8],
     slash: bool,
     last: bool,
-) -> Step<'a>
+) -> WalkStep<'a>
     ensures { (again : List ℕ → List ℕ → Spot) (on : Standing → Spot) (after : List ℕ) → not (is_empty after) ≡ slash → at_part as_spot tree.now follow again on at (record { name = name.now; after = after }) last ≡ step_means again on after result }
 {
     if !tree.is_dir(at) {
-        return Step::Fails(Errno::NotDir);
+        return WalkStep::Fails(Errno::NotDir);
     }
     if !has_x(tree.mode(at)) {
-        return Step::Fails(Errno::Denied);
+        return WalkStep::Fails(Errno::Denied);
     }
     if name == b".".as_slice() {
-        return Step::On(Here {
+        return WalkStep::On(Here {
             node: at,
             up: None,
             slash,
@@ -135,8 +135,8 @@ pub(crate) fn component<'a>(
     }
     if name == b"..".as_slice() {
         return match tree.parent(at) {
-            None => Step::Fails(Errno::NoEntry),
-            Some(up) => Step::On(Here {
+            None => WalkStep::Fails(Errno::NoEntry),
+            Some(up) => WalkStep::On(Here {
                 node: up,
                 up: None,
                 slash,
@@ -144,10 +144,10 @@ pub(crate) fn component<'a>(
         };
     }
     if !is_name(name) {
-        return Step::Fails(Errno::Invalid);
+        return WalkStep::Fails(Errno::Invalid);
     }
     if at.is_root() && name == b".rkr".as_slice() {
-        return Step::Fails(Errno::Denied);
+        return WalkStep::Fails(Errno::Denied);
     }
     at_name(tree, follow, at, name, slash, last)
 }

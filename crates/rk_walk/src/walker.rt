@@ -11,7 +11,7 @@ ghost use Rattle.rk_walk.specs.declared.place.Place.TheVariants.{Found};
 ghost use Rattle.rk_base.specs.declared.errno.Errno.TheVariants.{Loops};
 
 use crate::marks::{Marks, only_slashes};
-use crate::step::{Step, component};
+use crate::step::{WalkStep, component};
 use crate::text::first_part;
 use crate::{Here, Label, Place};
 use rk_base::{Errno, has_nul};
@@ -150,13 +150,13 @@ impl<'a> Walker<'a> {
         let slash = self.ends(rest);
         let last = self.is_last(rest);
         match component(tree, follow, self.node(), name, slash, last) {
-            Step::On(next) => {
+            WalkStep::On(next) => {
                 self.goes_on(next, rest);
                 None
             }
-            Step::Follow(text) => self.links_to(text.bytes(), rest),
-            Step::Ends(place) => Some(Ok(place)),
-            Step::Fails(e) => Some(Err(e)),
+            WalkStep::Follow(text) => self.links_to(text.bytes(), rest),
+            WalkStep::Ends(place) => Some(Ok(place)),
+            WalkStep::Fails(e) => Some(Err(e)),
         }
     }
 

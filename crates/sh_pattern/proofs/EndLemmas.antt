@@ -6,8 +6,8 @@ use Rattle.std.proofs.lemmas.Bool.{cases_lt}
 use Rattle.rk_base.specs.Text.{Text}
 use Rattle.sh_pattern.specs.Parts.{Part, Star, One, parts}
 use Rattle.sh_pattern.specs.Walking.{Ends, Along, Walked, NoEnd, NoneAfter, Found, WalksTo, Best, TellsEnd, IsFarther, Alike, is_stop}
-use Rattle.sh_pattern.specs.declared.walk.Stop.{Stop}
-use Rattle.sh_pattern.specs.declared.walk.Stop.TheVariants as stop
+use Rattle.sh_pattern.specs.declared.walk.SegmentEnd.{SegmentEnd}
+use Rattle.sh_pattern.specs.declared.walk.SegmentEnd.TheVariants as stop
 use Rattle.sh_pattern.proofs.WalkLemmas.{walked-back, along-ends}
 
 -- parts of one byte each up to the end hold no star
@@ -60,12 +60,12 @@ latest-best ps text left n none w =
     far : (other : Text) → (j : ℕ) × (j ≤ length text) × Ends ps (drop j text) other → length left ≤ length other
     far other (j, h, e) = elim (cases_lt n j) [ inl k ↦ absurd (none j k h other e) | inr k ↦ farther ps text left w.size n j w.along w.is_left k other e ]
 
-pub latest-stops : (m : ℕ) (ps : List Part) (text here : Text) (n : ℕ) (s : Stop) (qs : List Part) (left : Text) → Along m ps [] → here ≡ drop n text → NoneAfter ps text n → is_stop s ≡ true → WalksTo ps here s qs left → Best true (Star ∷ ps) text (length left)
+pub latest-stops : (m : ℕ) (ps : List Part) (text here : Text) (n : ℕ) (s : SegmentEnd) (qs : List Part) (left : Text) → Along m ps [] → here ≡ drop n text → NoneAfter ps text n → is_stop s ≡ true → WalksTo ps here s qs left → Best true (Star ∷ ps) text (length left)
 latest-stops m ps text here n stop.End qs left a h b f w = latest-best ps text left n b (subst (λ x. Walked ps x [] left) h w)
 latest-stops m ps text here n stop.Star qs left a h b f w = absurd (no_star m w.size ps qs a w.along)
 latest-stops m ps text here n stop.Fails qs left a h b f w = absurd (cc)
 
-pub latest-fails : (ps : List Part) (text here : Text) (n : ℕ) (s : Stop) (qs : List Part) (left : Text) → here ≡ drop n text → NoneAfter ps text n → is_stop s ≡ false → WalksTo ps here s qs left → (j : ℕ) → n ≤ j → j ≤ length text → NoEnd ps (drop j text)
+pub latest-fails : (ps : List Part) (text here : Text) (n : ℕ) (s : SegmentEnd) (qs : List Part) (left : Text) → here ≡ drop n text → NoneAfter ps text n → is_stop s ≡ false → WalksTo ps here s qs left → (j : ℕ) → n ≤ j → j ≤ length text → NoEnd ps (drop j text)
 latest-fails ps text here n stop.End qs left h b f w j k l = absurd (cc)
 latest-fails ps text here n stop.Star qs left h b f w j k l = absurd (cc)
 latest-fails ps text here n stop.Fails qs left h b f w j k l = elim (cases_lt n j) [ inl lt ↦ b j lt l | inr le ↦ subst (λ x. NoEnd ps (drop x text)) (let e : n ≡ j = omega arith in e) (subst (NoEnd ps) h w) ]
@@ -132,7 +132,7 @@ starred longest p p' t t' qs left r e f w tells = alike-tells longest (parts p) 
 pub found_as : (p p' : Text) (t t' : Text) (qs : List Part) (left : Text) → p' ≡ p → t' ≡ t → Found (parts p') t' qs left → Found (parts p) t qs left
 found_as p p' t t' qs left e f w = subst (λ x. Found (parts p) x qs left) f (subst (λ (x : Text). Found (parts x) t' qs left) e w)
 
-pub walks_as : (p p' : Text) (t : Text) (s : Stop) (qs : List Part) (left : Text) → p' ≡ p → WalksTo (parts p') t s qs left → WalksTo (parts p) t s qs left
+pub walks_as : (p p' : Text) (t : Text) (s : SegmentEnd) (qs : List Part) (left : Text) → p' ≡ p → WalksTo (parts p') t s qs left → WalksTo (parts p) t s qs left
 walks_as p p' t s qs left e w = subst (λ (x : Text). WalksTo (parts x) t s qs left) e w
 
 pub found-shorter : (ps : List Part) (text : Text) (qs : List Part) (left : Text) → Found ps text (Star ∷ qs) left → length qs < length ps

@@ -6,8 +6,8 @@ use Rattle.rk_base.specs.Text.{Text}
 use Rattle.sh_pattern.specs.Parts.{Part, Star, One}
 use Rattle.sh_pattern.specs.Walking.{Ends, Along, Walked, NoEnd, NoneBefore, Advances, WalksTo, FindsTo, is_stop}
 use Rattle.std.specs.Prelude.{Some, None}
-use Rattle.sh_pattern.specs.declared.walk.Stop.{Stop}
-use Rattle.sh_pattern.specs.declared.walk.Stop.TheVariants as stop
+use Rattle.sh_pattern.specs.declared.walk.SegmentEnd.{SegmentEnd}
+use Rattle.sh_pattern.specs.declared.walk.SegmentEnd.TheVariants as stop
 
 -- parts of one byte each end just so far on
 pub along-ends : (m : ℕ) (ps qs : List Part) (x rest : Text) → Along m ps qs → Ends ps x rest → Ends qs (drop m x) rest
@@ -47,7 +47,7 @@ walked-one ps text qs rs left after w (meets, b, q, t, m) =
 pub walked-fails : (ps : List Part) (text : Text) (qs : List Part) (left : Text) → Walked ps text qs left → NoEnd qs left → NoEnd ps text
 walked-fails ps text qs left w none rest e = none rest (walked-back ps text qs left w 0 rest e)
 
-pub walked-stop : (ps : List Part) (text : Text) (qs rs : List Part) (left after : Text) (s : Stop) → Walked ps text qs left → Advances qs left (Some s) rs after → WalksTo ps text s rs after
+pub walked-stop : (ps : List Part) (text : Text) (qs rs : List Part) (left after : Text) (s : SegmentEnd) → Walked ps text qs left → Advances qs left (Some s) rs after → WalksTo ps text s rs after
 walked-stop ps text qs rs left after stop.End w (q, t) = subst (λ x. Walked ps text [] x) (sym t) (subst (λ x. Walked ps text x left) q w)
 walked-stop ps text qs rs left after stop.Star w (q, t) = subst (λ x. Walked ps text (Star ∷ rs) x) (sym t) (subst (λ x. Walked ps text x left) q w)
 walked-stop ps text qs rs left after stop.Fails w none = walked-fails ps text qs left w none
@@ -55,12 +55,12 @@ walked-stop ps text qs rs left after stop.Fails w none = walked-fails ps text qs
 pub shorter : (ps : List Part) (text : Text) (qs : List Part) (after : Text) → Advances ps text None qs after → length qs < length ps
 shorter ps text qs after (meets, b, q, t, m) = let e : length ps ≡ suc (length qs) = ap length q in omega arith
 
-pub search-fails : (ps : List Part) (text here : Text) (n : ℕ) (s : Stop) (qs : List Part) (left : Text) → here ≡ drop n text → NoneBefore ps text n → is_stop s ≡ false → WalksTo ps here s qs left → NoneBefore ps text (n + 1)
+pub search-fails : (ps : List Part) (text here : Text) (n : ℕ) (s : SegmentEnd) (qs : List Part) (left : Text) → here ≡ drop n text → NoneBefore ps text n → is_stop s ≡ false → WalksTo ps here s qs left → NoneBefore ps text (n + 1)
 search-fails ps text here n stop.End qs left h b f w = absurd (cc)
 search-fails ps text here n stop.Star qs left h b f w = absurd (cc)
 search-fails ps text here n stop.Fails qs left h b f w = below_more (λ j. NoEnd ps (drop j text)) n b (subst (NoEnd ps) h w)
 
-pub search-stops : (ps : List Part) (text here : Text) (n : ℕ) (s : Stop) (qs : List Part) (left : Text) → here ≡ drop n text → NoneBefore ps text n → is_stop s ≡ true → WalksTo ps here s qs left → FindsTo ps text s qs left
+pub search-stops : (ps : List Part) (text here : Text) (n : ℕ) (s : SegmentEnd) (qs : List Part) (left : Text) → here ≡ drop n text → NoneBefore ps text n → is_stop s ≡ true → WalksTo ps here s qs left → FindsTo ps text s qs left
 search-stops ps text here n stop.End qs left h b f w = record { place = n; walked = subst (λ x. Walked ps x [] left) h w; none_before = b }
 search-stops ps text here n stop.Star qs left h b f w = record { place = n; walked = subst (λ x. Walked ps x (Star ∷ qs) left) h w; none_before = b }
 search-stops ps text here n stop.Fails qs left h b f w = absurd (cc)

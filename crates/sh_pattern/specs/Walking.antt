@@ -3,8 +3,8 @@ use Rattle.std.specs.Prelude.{◌≡◌, ◌↔◌, ℕ, zero, suc, ◌+◌, ◌
 use Rattle.rk_base.specs.Text.{Text}
 use Rattle.sh_pattern.specs.Parts.{Part, Star, One}
 use Rattle.sh_pattern.specs.Matching.{MatchesParts}
-use Rattle.sh_pattern.specs.declared.walk.Stop.{Stop}
-use Rattle.sh_pattern.specs.declared.walk.Stop.TheVariants as stop
+use Rattle.sh_pattern.specs.declared.walk.SegmentEnd.{SegmentEnd}
+use Rattle.sh_pattern.specs.declared.walk.SegmentEnd.TheVariants as stop
 
 -- the parts match the front of a text, up to this rest
 abbrev pub Ends : List Part → Text → Text → Type 0
@@ -13,7 +13,7 @@ Ends (Star ∷ ps) text rest = (n : ℕ) × Ends ps (drop n text) rest
 Ends (One meets ∷ ps) [] rest = ⊥
 Ends (One meets ∷ ps) (b ∷ bs) rest = (meets b ≡ true) × Ends ps bs rest
 
-abbrev pub is_stop : Stop → Bool
+abbrev pub is_stop : SegmentEnd → Bool
 is_stop stop.End = true
 is_stop stop.Star = true
 is_stop stop.Fails = false
@@ -38,14 +38,14 @@ abbrev pub NoEnd : List Part → Text → Type 0
 NoEnd ps text = (rest : Text) → Ends ps text rest → ⊥
 
 -- what one part does
-abbrev pub Advances : List Part → Text → Option Stop → List Part → Text → Type 0
+abbrev pub Advances : List Part → Text → Option SegmentEnd → List Part → Text → Type 0
 Advances ps text None qs left = (meets : ℕ → Bool) × (b : ℕ) × (ps ≡ One meets ∷ qs) × (text ≡ b ∷ left) × (meets b ≡ true)
 Advances ps text (Some stop.End) qs left = (ps ≡ []) × (left ≡ text)
 Advances ps text (Some stop.Star) qs left = (ps ≡ Star ∷ qs) × (left ≡ text)
 Advances ps text (Some stop.Fails) qs left = NoEnd ps text
 
 -- the parts up to the next star, or to the end
-abbrev pub WalksTo : List Part → Text → Stop → List Part → Text → Type 0
+abbrev pub WalksTo : List Part → Text → SegmentEnd → List Part → Text → Type 0
 WalksTo ps text stop.End qs left = Walked ps text [] left
 WalksTo ps text stop.Star qs left = Walked ps text (Star ∷ qs) left
 WalksTo ps text stop.Fails qs left = NoEnd ps text
@@ -60,7 +60,7 @@ pub record Found (ps : List Part) (text : Text) (qs : List Part) (left : Text) :
   pub walked : Walked ps (drop place text) qs left
   pub none_before : NoneBefore ps text place
 
-abbrev pub FindsTo : List Part → Text → Stop → List Part → Text → Type 0
+abbrev pub FindsTo : List Part → Text → SegmentEnd → List Part → Text → Type 0
 FindsTo ps text stop.End qs left = Found ps text [] left
 FindsTo ps text stop.Star qs left = Found ps text (Star ∷ qs) left
 FindsTo ps text stop.Fails qs left = (n : ℕ) → NoEnd ps (drop n text)

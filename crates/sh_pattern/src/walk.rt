@@ -9,7 +9,7 @@ use crate::part::{Part, Pattern};
 
 /// Why a pattern goes no further along a text: it is at its end, it went past a star, or a part fails.
 #[derive(Clone, Copy, Debug)]
-pub(crate) enum Stop {
+pub(crate) enum SegmentEnd {
     End,
     Star,
     Fails,
@@ -22,15 +22,15 @@ struct Span {
     high: usize,
 }
 
-impl Stop {
+impl SegmentEnd {
     // Whether all parts went by.
     fn is_stop(self) -> bool
         ensures { result ≡ is_stop self }
     {
         match self {
-            Stop::End => true,
-            Stop::Star => true,
-            Stop::Fails => false,
+            SegmentEnd::End => true,
+            SegmentEnd::Star => true,
+            SegmentEnd::Fails => false,
         }
     }
 }
@@ -64,25 +64,25 @@ impl<'p, 't> Place<'p, 't> {
     }
 
     // The next part; it is told why, where it doesn't go by.
-    fn advance(&mut self) -> Option<Stop>
+    fn advance(&mut self) -> Option<SegmentEnd>
         ensures { Advances (parts self.old.pattern) self.old.text.now result (parts self.new.pattern) self.new.text.now }
     {
         match front(self.text) {
             None => match self.pattern.first(0) {
-                None => Some(Stop::End),
+                None => Some(SegmentEnd::End),
                 Some((Part::Star, rest)) => {
                     self.pattern = rest;
-                    Some(Stop::Star)
+                    Some(SegmentEnd::Star)
                 }
-                Some((Part::One(_), _)) => Some(Stop::Fails),
+                Some((Part::One(_), _)) => Some(SegmentEnd::Fails),
             },
             Some((b, after)) => match self.pattern.first(b) {
-                None => Some(Stop::End),
+                None => Some(SegmentEnd::End),
                 Some((Part::Star, rest)) => {
                     self.pattern = rest;
-                    Some(Stop::Star)
+                    Some(SegmentEnd::Star)
                 }
-                Some((Part::One(false), _)) => Some(Stop::Fails),
+                Some((Part::One(false), _)) => Some(SegmentEnd::Fails),
                 Some((Part::One(true), rest)) => {
                     self.pattern = rest;
                     self.text = after;
@@ -93,7 +93,7 @@ impl<'p, 't> Place<'p, 't> {
     }
 
     // All parts up to the next star, or to the end.
-    fn segment(&mut self) -> Stop
+    fn segment(&mut self) -> SegmentEnd
         ensures { WalksTo (parts self.old.pattern) self.old.text.now result (parts self.new.pattern) self.new.text.now }
     {
         'parts: loop {
@@ -104,7 +104,7 @@ impl<'p, 't> Place<'p, 't> {
     }
 
     // The same, from the first place where they go by.
-    fn earliest(&mut self) -> Stop
+    fn earliest(&mut self) -> SegmentEnd
         ensures { FindsTo (parts self.old.pattern) self.old.text.now result (parts self.new.pattern) self.new.text.now }
     {
         'places: loop {
@@ -116,7 +116,7 @@ impl<'p, 't> Place<'p, 't> {
                 return stop;
             }
             match front(self.text) {
-                None => return Stop::Fails,
+                None => return SegmentEnd::Fails,
                 Some((_, after)) => self.text = after,
             }
         }
@@ -152,15 +152,15 @@ impl<'p, 't> Place<'p, 't> {
         'stars: loop {
             let mut here = place.copy();
             match here.earliest() {
-                Stop::Fails => return None,
-                Stop::End => {
+                SegmentEnd::Fails => return None,
+                SegmentEnd::End => {
                     return if longest {
                         place.latest()
                     } else {
                         Some(here.text.len())
                     };
                 }
-                Stop::Star => place = here,
+                SegmentEnd::Star => place = here,
             }
         }
     }
@@ -171,9 +171,9 @@ impl<'p, 't> Place<'p, 't> {
     {
         let mut here = self.copy();
         match here.segment() {
-            Stop::Fails => None,
-            Stop::End => Some(here.text.len()),
-            Stop::Star => here.end_after_star(longest),
+            SegmentEnd::Fails => None,
+            SegmentEnd::End => Some(here.text.len()),
+            SegmentEnd::Star => here.end_after_star(longest),
         }
     }
 
@@ -279,9 +279,9 @@ impl<'p, 't> Place<'p, 't> {
             text: self.text.split_at(n).1,
         };
         match here.segment() {
-            Stop::Fails => false,
-            Stop::End => here.text.is_empty(),
-            Stop::Star => match least {
+            SegmentEnd::Fails => false,
+            SegmentEnd::End => here.text.is_empty(),
+            SegmentEnd::Star => match least {
                 None => false,
                 Some(least) => least <= here.text.len(),
             },

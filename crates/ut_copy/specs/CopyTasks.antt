@@ -14,7 +14,7 @@ use Rattle.ut_copy.specs.Copying.{found_source, found_there, compared, opened_so
 use Rattle.ut_copy.specs.Deep.{parent, walked_source, walked_parent, listed, made_target, read_link}
 use Rattle.ut_copy.specs.Moving.{found_target}
 use Rattle.ut_files.specs.declared.manner.Manner.{Manner}
-use Rattle.ut_files.specs.declared.step.Step.{Step}
+use Rattle.ut_files.specs.declared.step.WorkItem.{WorkItem}
 use Rattle.ut_files.specs.Answers.{refusal, found, names_in, text_in, place_in, same_in}
 use Rattle.ut_files.specs.Complaints.{refused}
 use Rattle.ut_files.specs.Modes.{bits}
@@ -46,7 +46,7 @@ opens (OpenTarget pair mode made bytes) = true
 opens task = false
 
 -- what an answer brings
-abbrev pub brings : Manner → ℕ → CopyTask → Answer → List (Step CopyTask)
+abbrev pub brings : Manner → ℕ → CopyTask → Answer → List (WorkItem CopyTask)
 brings m number (FindTarget utility sources target) a = found_target m utility sources target (aim_at sources (found a))
 brings m number (Move pair) a = refused m pair.source (refusal a)
 brings m number (LookSource pair stands alone) a = found_source m pair stands alone (found a)

@@ -7,8 +7,8 @@ use Rattle.ut_copy.specs.declared.pair.Pair.{Pair}
 use Rattle.ut_copy.specs.declared.utility.Utility.{Utility}
 use Rattle.ut_copy.specs.declared.utility.Utility.TheVariants.{Cp, Mv}
 use Rattle.ut_files.specs.declared.manner.Manner.{Manner}
-use Rattle.ut_files.specs.declared.step.Step.{Step}
-use Rattle.ut_files.specs.declared.step.Step.TheVariants.{Do}
+use Rattle.ut_files.specs.declared.step.WorkItem.{WorkItem}
+use Rattle.ut_files.specs.declared.step.WorkItem.TheVariants.{Do}
 use Rattle.ut_files.specs.declared.targets.Aim.{Aim}
 use Rattle.ut_files.specs.declared.targets.Aim.TheVariants.{Inside, Itself, Nowhere}
 use Rattle.ut_files.specs.Complaints.{complaint}
@@ -21,16 +21,16 @@ known (Itself stands) = Some stands
 known (Nowhere errno) = None
 
 -- how a source begins
-abbrev pub taking : Utility → Aim → Pair → Step CopyTask
+abbrev pub taking : Utility → Aim → Pair → WorkItem CopyTask
 taking Mv at pair = Do (Move pair)
 taking Cp at pair = Do (LookSource pair (known at) true)
 
 -- each source in turn
-abbrev pub takes : Utility → Aim → Text → List Text → List (Step CopyTask)
+abbrev pub takes : Utility → Aim → Text → List Text → List (WorkItem CopyTask)
 takes utility at target [] = []
 takes utility at target (source ∷ sources) = taking utility at (record { source = source; target = goal at target source }) ∷ takes utility at target sources
 
-abbrev pub found_target : Manner → Utility → List Text → Text → Aim → List (Step CopyTask)
+abbrev pub found_target : Manner → Utility → List Text → Text → Aim → List (WorkItem CopyTask)
 found_target m utility sources target Inside = takes utility Inside target sources
 found_target m utility sources target (Itself stands) = takes utility (Itself stands) target sources
 found_target m utility sources target (Nowhere errno) = complaint m target errno ∷ []

@@ -14,8 +14,8 @@ use Rattle.ut_copy.specs.declared.utility.Utility.{Utility}
 use Rattle.ut_copy.specs.declared.utility.Utility.TheVariants.{Cp, Mv}
 use Rattle.ut_copy.specs.CopyTasks.{copy_rules}
 use Rattle.ut_files.specs.declared.manner.Manner.{Manner}
-use Rattle.ut_files.specs.declared.step.Step.{Step}
-use Rattle.ut_files.specs.declared.step.Step.TheVariants.{Do}
+use Rattle.ut_files.specs.declared.step.WorkItem.{WorkItem}
+use Rattle.ut_files.specs.declared.step.WorkItem.TheVariants.{Do}
 use Rattle.ut_files.specs.Beginnings.{Beginning, first_word, by_name, talk-by_name}
 use Rattle.ut_files.specs.Targets.{with_target}
 use Rattle.ut_files.specs.declared.worker.Worker.{Worker}
@@ -40,10 +40,10 @@ manner_of utility wd given =
       symbolic = false;
     }
 
-abbrev pub finding : Utility → List Text → Text → Step CopyTask
+abbrev pub finding : Utility → List Text → Text → WorkItem CopyTask
 finding utility sources target = Do (FindTarget utility sources target)
 
-abbrev pub first_steps : Utility → Manner → List Text → List (Step CopyTask)
+abbrev pub first_steps : Utility → Manner → List Text → List (WorkItem CopyTask)
 first_steps utility m operands = with_target m (finding utility) operands
 
 abbrev pub beginning : Utility → Beginning CopyTask

@@ -13,7 +13,7 @@ use crate::utility::Utility;
 use rk_base::{Bytes, FileType, NameList, NoMemory, Path, WordList};
 use rk_calls::{Answer, Call, How};
 use std::alloc::Global;
-use ut_files::{Manner, Step, Task, bits, refused};
+use ut_files::{Manner, Task, WorkItem, bits, refused};
 
 /// A task of `mv` or `cp`. A mode is that of the source; `made` says that nothing stood at the target.
 #[derive(Drop)]
@@ -138,7 +138,7 @@ impl Task for CopyTask {
         manner: &Manner,
         number: u64,
         answer: Answer,
-    ) -> Result<Vec<Step<CopyTask>>, NoMemory> {
+    ) -> Result<Vec<WorkItem<CopyTask>>, NoMemory> {
         match self {
             CopyTask::FindTarget(utility, sources, target) => {
                 found_target(alloc, manner, utility, sources, target, &answer)

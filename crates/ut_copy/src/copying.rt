@@ -9,19 +9,19 @@ use crate::pair::Pair;
 use rk_base::{Bytes, Errno, FileType, NoMemory};
 use rk_calls::{Answer, brought};
 use std::alloc::Global;
-use ut_files::{Manner, Step, alone, complain, found, refusal, same_in};
+use ut_files::{Manner, WorkItem, alone, complain, found, refusal, same_in};
 
 fn copies_file(
     alloc: Global,
     pair: Pair,
     mode: u16,
     made: bool,
-) -> Result<Vec<Step<CopyTask>>, NoMemory>
+) -> Result<Vec<WorkItem<CopyTask>>, NoMemory>
     ensures { IfOk result (λ steps. steps.items ≡ copies_file pair mode made) }
 {
     match made {
-        true => alone(alloc, Step::Do(CopyTask::OpenSource(pair, mode, true))),
-        false => alone(alloc, Step::Do(CopyTask::Compare(pair, mode))),
+        true => alone(alloc, WorkItem::Do(CopyTask::OpenSource(pair, mode, true))),
+        false => alone(alloc, WorkItem::Do(CopyTask::Compare(pair, mode))),
     }
 }
 
@@ -32,16 +32,16 @@ fn copies_dir(
     mode: u16,
     made: bool,
     operand: bool,
-) -> Result<Vec<Step<CopyTask>>, NoMemory>
+) -> Result<Vec<WorkItem<CopyTask>>, NoMemory>
     ensures { IfOk result (λ steps. steps.items ≡ copies_dir manner.now pair mode made operand) }
 {
     if !manner.recursive {
         return complain(alloc, manner, pair.source.as_slice(), Errno::IsDir);
     }
     if operand {
-        return alone(alloc, Step::Do(CopyTask::WalkSource(pair, mode, made)));
+        return alone(alloc, WorkItem::Do(CopyTask::WalkSource(pair, mode, made)));
     }
-    alone(alloc, Step::Do(CopyTask::ListSource(pair, mode, made)))
+    alone(alloc, WorkItem::Do(CopyTask::ListSource(pair, mode, made)))
 }
 
 fn copies(
@@ -52,13 +52,13 @@ fn copies(
     mode: u16,
     made: bool,
     operand: bool,
-) -> Result<Vec<Step<CopyTask>>, NoMemory>
+) -> Result<Vec<WorkItem<CopyTask>>, NoMemory>
     ensures { IfOk result (λ steps. steps.items ≡ copies manner.now pair kind mode made operand) }
 {
     match kind {
         FileType::File => copies_file(alloc, pair, mode, made),
         FileType::Dir => copies_dir(alloc, manner, pair, mode, made, operand),
-        FileType::Link => alone(alloc, Step::Do(CopyTask::ReadLink(pair))),
+        FileType::Link => alone(alloc, WorkItem::Do(CopyTask::ReadLink(pair))),
     }
 }
 
@@ -70,13 +70,13 @@ fn looks(
     mode: u16,
     stands: Option<bool>,
     operand: bool,
-) -> Result<Vec<Step<CopyTask>>, NoMemory>
+) -> Result<Vec<WorkItem<CopyTask>>, NoMemory>
     ensures { IfOk result (λ steps. steps.items ≡ looks manner.now pair kind mode stands operand) }
 {
     match stands {
         None => alone(
             alloc,
-            Step::Do(CopyTask::LookTarget(pair, kind, mode, operand)),
+            WorkItem::Do(CopyTask::LookTarget(pair, kind, mode, operand)),
         ),
         Some(stands) => copies(alloc, manner, pair, kind, mode, !stands, operand),
     }
@@ -90,7 +90,7 @@ pub(crate) fn found_source(
     stands: Option<bool>,
     operand: bool,
     answer: &Answer,
-) -> Result<Vec<Step<CopyTask>>, NoMemory>
+) -> Result<Vec<WorkItem<CopyTask>>, NoMemory>
     ensures { IfOk result (λ steps. steps.items ≡ found_source manner.now pair stands operand (found answer.now)) }
 {
     match found(answer) {
@@ -108,7 +108,7 @@ pub(crate) fn found_there(
     mode: u16,
     operand: bool,
     answer: &Answer,
-) -> Result<Vec<Step<CopyTask>>, NoMemory>
+) -> Result<Vec<WorkItem<CopyTask>>, NoMemory>
     ensures { IfOk result (λ steps. steps.items ≡ found_there manner.now pair kind mode operand (refusal answer.now)) }
 {
     match refusal(answer) {
@@ -123,12 +123,12 @@ fn told_same(
     pair: Pair,
     mode: u16,
     same: bool,
-) -> Result<Vec<Step<CopyTask>>, NoMemory>
+) -> Result<Vec<WorkItem<CopyTask>>, NoMemory>
     ensures { IfOk result (λ steps. steps.items ≡ compared manner.now pair mode (Ok same)) }
 {
     match same {
         true => complain(alloc, manner, pair.source.as_slice(), Errno::Invalid),
-        false => alone(alloc, Step::Do(CopyTask::OpenSource(pair, mode, false))),
+        false => alone(alloc, WorkItem::Do(CopyTask::OpenSource(pair, mode, false))),
     }
 }
 
@@ -139,7 +139,7 @@ pub(crate) fn compared(
     pair: Pair,
     mode: u16,
     answer: &Answer,
-) -> Result<Vec<Step<CopyTask>>, NoMemory>
+) -> Result<Vec<WorkItem<CopyTask>>, NoMemory>
     ensures { IfOk result (λ steps. steps.items ≡ compared manner.now pair mode (same_in answer.now)) }
 {
     match same_in(answer) {
@@ -157,13 +157,13 @@ pub(crate) fn opened_source(
     made: bool,
     number: u64,
     answer: &Answer,
-) -> Result<Vec<Step<CopyTask>>, NoMemory>
+) -> Result<Vec<WorkItem<CopyTask>>, NoMemory>
     ensures { IfOk result (λ steps. steps.items ≡ opened_source manner.now pair mode made number (refusal answer.now)) }
 {
     match refusal(answer) {
         None => alone(
             alloc,
-            Step::Do(CopyTask::ReadSource(pair, mode, made, number)),
+            WorkItem::Do(CopyTask::ReadSource(pair, mode, made, number)),
         ),
         Some(errno) => complain(alloc, manner, pair.source.as_slice(), errno),
     }
@@ -177,13 +177,13 @@ pub(crate) fn read_source(
     mode: u16,
     made: bool,
     answer: Answer,
-) -> Result<Vec<Step<CopyTask>>, NoMemory>
+) -> Result<Vec<WorkItem<CopyTask>>, NoMemory>
     ensures { IfOk result (λ steps. steps.items ≡ read_source manner.now pair mode made (brought answer)) }
 {
     match brought(alloc, answer)? {
         Ok(bytes) => alone(
             alloc,
-            Step::Do(CopyTask::OpenTarget(pair, mode, made, bytes)),
+            WorkItem::Do(CopyTask::OpenTarget(pair, mode, made, bytes)),
         ),
         Err(errno) => complain(alloc, manner, pair.source.as_slice(), errno),
     }
@@ -196,7 +196,7 @@ pub(crate) fn carries(
     mode: u16,
     default: u16,
     made: bool,
-) -> Result<Vec<Step<CopyTask>>, NoMemory>
+) -> Result<Vec<WorkItem<CopyTask>>, NoMemory>
     ensures { IfOk result (λ steps. steps.items ≡ carries pair mode default made) }
 {
     if !made {
@@ -205,7 +205,7 @@ pub(crate) fn carries(
     if mode == default {
         return Ok(Vec::new(alloc));
     }
-    alone(alloc, Step::Do(CopyTask::SetMode(pair, mode)))
+    alone(alloc, WorkItem::Do(CopyTask::SetMode(pair, mode)))
 }
 
 fn file_done(
@@ -213,7 +213,7 @@ fn file_done(
     pair: Pair,
     mode: u16,
     made: bool,
-) -> Result<Vec<Step<CopyTask>>, NoMemory>
+) -> Result<Vec<WorkItem<CopyTask>>, NoMemory>
     ensures { IfOk result (λ steps. steps.items ≡ file_done pair mode made) }
 {
     carries(alloc, pair, mode, 0o644, made)
@@ -226,7 +226,7 @@ fn writes(
     made: bool,
     bytes: Bytes,
     number: u64,
-) -> Result<Vec<Step<CopyTask>>, NoMemory>
+) -> Result<Vec<WorkItem<CopyTask>>, NoMemory>
     ensures { IfOk result (λ steps. steps.items ≡ writes pair mode made bytes number) }
 {
     if bytes.is_empty() {
@@ -234,7 +234,7 @@ fn writes(
     }
     alone(
         alloc,
-        Step::Do(CopyTask::WriteTarget(pair, mode, made, bytes, number)),
+        WorkItem::Do(CopyTask::WriteTarget(pair, mode, made, bytes, number)),
     )
 }
 
@@ -248,7 +248,7 @@ pub(crate) fn opened_target(
     bytes: Bytes,
     number: u64,
     answer: &Answer,
-) -> Result<Vec<Step<CopyTask>>, NoMemory>
+) -> Result<Vec<WorkItem<CopyTask>>, NoMemory>
     ensures { IfOk result (λ steps. steps.items ≡ opened_target manner.now pair mode made bytes number (refusal answer.now)) }
 {
     match refusal(answer) {
@@ -265,7 +265,7 @@ pub(crate) fn written(
     mode: u16,
     made: bool,
     answer: &Answer,
-) -> Result<Vec<Step<CopyTask>>, NoMemory>
+) -> Result<Vec<WorkItem<CopyTask>>, NoMemory>
     ensures { IfOk result (λ steps. steps.items ≡ written manner.now pair mode made (refusal answer.now)) }
 {
     match refusal(answer) {

@@ -11,7 +11,7 @@ use crate::place::is_within;
 use rk_base::{Errno, Name, NameList, NoMemory, Path};
 use rk_calls::Answer;
 use std::alloc::Global;
-use ut_files::{Manner, Step, alone, below, complain, names_in, place_in, refusal, text_in};
+use ut_files::{Manner, WorkItem, alone, below, complain, names_in, place_in, refusal, text_in};
 
 /// After it was looked where a directory is.
 pub(crate) fn walked_source(
@@ -21,13 +21,13 @@ pub(crate) fn walked_source(
     mode: u16,
     made: bool,
     answer: Answer,
-) -> Result<Vec<Step<CopyTask>>, NoMemory>
+) -> Result<Vec<WorkItem<CopyTask>>, NoMemory>
     ensures { IfOk result (λ steps. steps.items ≡ walked_source manner.now pair mode made (place_in answer)) }
 {
     match place_in(alloc, answer)? {
         Ok(place) => alone(
             alloc,
-            Step::Do(CopyTask::WalkParent(pair, mode, made, place)),
+            WorkItem::Do(CopyTask::WalkParent(pair, mode, made, place)),
         ),
         Err(errno) => complain(alloc, manner, pair.source.as_slice(), errno),
     }
@@ -41,14 +41,14 @@ fn goes_into(
     made: bool,
     place: &Path,
     into: &Path,
-) -> Result<Vec<Step<CopyTask>>, NoMemory>
+) -> Result<Vec<WorkItem<CopyTask>>, NoMemory>
     ensures { IfOk result (λ steps. steps.items ≡ goes_into manner.now pair mode made place.now into.now) }
 {
     let within = is_within(alloc, place, into)?;
     if within {
         return complain(alloc, manner, pair.source.as_slice(), Errno::Invalid);
     }
-    alone(alloc, Step::Do(CopyTask::ListSource(pair, mode, made)))
+    alone(alloc, WorkItem::Do(CopyTask::ListSource(pair, mode, made)))
 }
 
 /// After it was looked where a directory goes.
@@ -60,7 +60,7 @@ pub(crate) fn walked_parent(
     made: bool,
     place: Path,
     answer: Answer,
-) -> Result<Vec<Step<CopyTask>>, NoMemory>
+) -> Result<Vec<WorkItem<CopyTask>>, NoMemory>
     ensures { IfOk result (λ steps. steps.items ≡ walked_parent manner.now pair mode made place (place_in answer)) }
 {
     match place_in(alloc, answer)? {
@@ -78,13 +78,13 @@ fn inside(alloc: Global, pair: &Pair, name: &[u8]) -> Result<Pair, NoMemory>
 }
 
 // Each name by the same rule.
-fn entries(alloc: Global, pair: &Pair, names: &[Name]) -> Result<Vec<Step<CopyTask>>, NoMemory>
+fn entries(alloc: Global, pair: &Pair, names: &[Name]) -> Result<Vec<WorkItem<CopyTask>>, NoMemory>
     ensures { IfOk result (λ steps. steps.items ≡ entries pair.now names.now) }
 {
     let mut steps = Vec::new(alloc);
     'names: for name in names {
         let it = inside(alloc, pair, name.as_slice())?;
-        steps.push(Step::Do(CopyTask::LookSource(it, None, false)))?;
+        steps.push(WorkItem::Do(CopyTask::LookSource(it, None, false)))?;
     }
     Ok(steps)
 }
@@ -95,11 +95,11 @@ fn listed_names(
     mode: u16,
     made: bool,
     names: NameList,
-) -> Result<Vec<Step<CopyTask>>, NoMemory>
+) -> Result<Vec<WorkItem<CopyTask>>, NoMemory>
     ensures { IfOk result (λ steps. steps.items ≡ listed_names pair mode made names) }
 {
     match made {
-        true => alone(alloc, Step::Do(CopyTask::MakeTarget(pair, mode, names))),
+        true => alone(alloc, WorkItem::Do(CopyTask::MakeTarget(pair, mode, names))),
         false => entries(alloc, &pair, names.as_slice()),
     }
 }
@@ -112,7 +112,7 @@ pub(crate) fn listed(
     mode: u16,
     made: bool,
     answer: Answer,
-) -> Result<Vec<Step<CopyTask>>, NoMemory>
+) -> Result<Vec<WorkItem<CopyTask>>, NoMemory>
     ensures { IfOk result (λ steps. steps.items ≡ listed manner.now pair mode made (names_in answer)) }
 {
     match names_in(alloc, answer)? {
@@ -126,7 +126,7 @@ fn fill(
     pair: Pair,
     mode: u16,
     names: &NameList,
-) -> Result<Vec<Step<CopyTask>>, NoMemory>
+) -> Result<Vec<WorkItem<CopyTask>>, NoMemory>
     ensures { IfOk result (λ steps. steps.items ≡ entries pair names.now ++ carries pair mode 493 true) }
 {
     let mut steps = entries(alloc, &pair, names.as_slice())?;
@@ -143,7 +143,7 @@ pub(crate) fn made_target(
     mode: u16,
     names: NameList,
     answer: &Answer,
-) -> Result<Vec<Step<CopyTask>>, NoMemory>
+) -> Result<Vec<WorkItem<CopyTask>>, NoMemory>
     ensures { IfOk result (λ steps. steps.items ≡ made_target manner.now pair mode names (refusal answer.now)) }
 {
     match refusal(answer) {
@@ -158,11 +158,11 @@ pub(crate) fn read_link(
     manner: &Manner,
     pair: Pair,
     answer: Answer,
-) -> Result<Vec<Step<CopyTask>>, NoMemory>
+) -> Result<Vec<WorkItem<CopyTask>>, NoMemory>
     ensures { IfOk result (λ steps. steps.items ≡ read_link manner.now pair (text_in answer)) }
 {
     match text_in(alloc, answer)? {
-        Ok(text) => alone(alloc, Step::Do(CopyTask::MakeLink(pair, text))),
+        Ok(text) => alone(alloc, WorkItem::Do(CopyTask::MakeLink(pair, text))),
         Err(errno) => complain(alloc, manner, pair.source.as_slice(), errno),
     }
 }

@@ -10,7 +10,7 @@ use crate::utility::Utility;
 use rk_base::{Bytes, NoMemory, WordList};
 use rk_calls::Answer;
 use std::alloc::Global;
-use ut_files::{Aim, Manner, Step, aim_at, complain, found, goal};
+use ut_files::{Aim, Manner, WorkItem, aim_at, complain, found, goal};
 
 fn known(aim: Aim) -> Option<bool>
     ensures { result ≡ known aim }
@@ -22,12 +22,12 @@ fn known(aim: Aim) -> Option<bool>
     }
 }
 
-fn taking(utility: Utility, aim: Aim, pair: Pair) -> Step<CopyTask>
+fn taking(utility: Utility, aim: Aim, pair: Pair) -> WorkItem<CopyTask>
     ensures { result ≡ taking utility aim pair }
 {
     match utility {
-        Utility::Mv => Step::Do(CopyTask::Move(pair)),
-        Utility::Cp => Step::Do(CopyTask::LookSource(pair, known(aim), true)),
+        Utility::Mv => WorkItem::Do(CopyTask::Move(pair)),
+        Utility::Cp => WorkItem::Do(CopyTask::LookSource(pair, known(aim), true)),
     }
 }
 
@@ -38,7 +38,7 @@ fn takes(
     aim: Aim,
     target: &[u8],
     sources: &[Bytes],
-) -> Result<Vec<Step<CopyTask>>, NoMemory>
+) -> Result<Vec<WorkItem<CopyTask>>, NoMemory>
     ensures { IfOk result (λ steps. steps.items ≡ takes utility aim target.now sources.now) }
 {
     let mut steps = Vec::new(alloc);
@@ -60,7 +60,7 @@ fn aimed(
     sources: &[Bytes],
     target: &[u8],
     aim: Aim,
-) -> Result<Vec<Step<CopyTask>>, NoMemory>
+) -> Result<Vec<WorkItem<CopyTask>>, NoMemory>
     ensures { IfOk result (λ steps. steps.items ≡ found_target manner.now utility sources.now target.now aim) }
 {
     match aim {
@@ -78,7 +78,7 @@ pub(crate) fn found_target(
     sources: WordList,
     target: Bytes,
     answer: &Answer,
-) -> Result<Vec<Step<CopyTask>>, NoMemory>
+) -> Result<Vec<WorkItem<CopyTask>>, NoMemory>
     ensures { IfOk result (λ steps. steps.items ≡ found_target manner.now utility sources target (aim_at sources (found answer.now))) }
 {
     let aim = aim_at(sources.as_slice(), found(answer));

@@ -8,7 +8,7 @@ use rk_base::{Bytes, NoMemory, Path, WordList};
 use std::alloc::Global;
 use ut_args::{Form, Opt, OptList};
 use ut_files::{
-    Manner, Step, Tasked, Worker, alone, begin_found, first_word, sources_of, target_of,
+    Manner, Tasked, WorkItem, Worker, alone, begin_found, first_word, sources_of, target_of,
     the_target, usage,
 };
 
@@ -62,7 +62,7 @@ fn first_steps(
     utility: Utility,
     manner: &Manner,
     operands: &[Bytes],
-) -> Result<Vec<Step<CopyTask>>, NoMemory>
+) -> Result<Vec<WorkItem<CopyTask>>, NoMemory>
     ensures { IfOk result (λ steps. steps.items ≡ first_steps utility manner.now operands.now) }
 {
     let sources = sources_of(alloc, operands)?;
@@ -70,7 +70,7 @@ fn first_steps(
         None => usage(alloc, manner),
         Some(target) => alone(
             alloc,
-            Step::Do(CopyTask::FindTarget(utility, sources, target.copy()?)),
+            WorkItem::Do(CopyTask::FindTarget(utility, sources, target.copy()?)),
         ),
     }
 }
@@ -107,7 +107,7 @@ impl Tasked for Utility {
         manner: &Manner,
         _given: &OptList,
         operands: &[Bytes],
-    ) -> Result<Vec<Step<CopyTask>>, NoMemory> {
+    ) -> Result<Vec<WorkItem<CopyTask>>, NoMemory> {
         first_steps(alloc, *self, manner, operands)
     }
 }

@@ -11,34 +11,34 @@ use Rattle.rk_calls.specs.declared.call.Call.TheVariants.{Write}
 use Rattle.rk_calls.specs.Talk.{Says, ask, exits, after}
 use Rattle.rk_calls.specs.Turns.{turns}
 use Rattle.ut_files.specs.declared.manner.Manner.{Manner}
-use Rattle.ut_files.specs.declared.step.Step.{Step}
-use Rattle.ut_files.specs.declared.step.Step.TheVariants.{Tell, Do}
+use Rattle.ut_files.specs.declared.step.WorkItem.{WorkItem}
+use Rattle.ut_files.specs.declared.step.WorkItem.TheVariants.{Tell, Do}
 use Rattle.ut_files.specs.declared.worker.Worker.{Worker}
 use Rattle.ut_files.specs.Works.{Rules, Work, works, works-is, steps, cost, status, answered}
 use Rattle.ut_files.specs.Working.{work_of, worker_talk}
 
-pub work-ends : {T : Type 0} (rules : Rules T) (failed : Bool) (left : List (Step T)) (n : ℕ) → left ≡ [] → n ≡ status failed → (next p : ℕ) → works rules (work_of failed next left) p ≡ exits n 0 p
+pub work-ends : {T : Type 0} (rules : Rules T) (failed : Bool) (left : List (WorkItem T)) (n : ℕ) → left ≡ [] → n ≡ status failed → (next p : ℕ) → works rules (work_of failed next left) p ≡ exits n 0 p
 work-ends rules failed left n e k next p =
     works-is rules (work_of failed next left) p ∙ (ap (λ l. steps rules (works rules) (work_of failed next left) l p) e ∙ ap (λ s. exits s 0 p) (sym k))
 
-pub work-tells : {T : Type 0} (rules : Rules T) (failed : Bool) (left rest : List (Step T)) (step : Step T) (line : Text) (n : ℕ) → left ≡ step ∷ rest → step ≡ Tell line → n ≡ turns line → (next p : ℕ) → works rules (work_of failed next left) p ≡ ask (Write 2 line) (1 + n) (λ a. works rules (work_of true next rest)) p
+pub work-tells : {T : Type 0} (rules : Rules T) (failed : Bool) (left rest : List (WorkItem T)) (step : WorkItem T) (line : Text) (n : ℕ) → left ≡ step ∷ rest → step ≡ Tell line → n ≡ turns line → (next p : ℕ) → works rules (work_of failed next left) p ≡ ask (Write 2 line) (1 + n) (λ a. works rules (work_of true next rest)) p
 work-tells rules failed left rest step line n e is k next p =
     works-is rules (work_of failed next left) p
     ∙ (ap (λ l. steps rules (works rules) (work_of failed next left) l p) (e ∙ ap (λ s. s ∷ rest) is) ∙ ap (λ m. ask (Write 2 line) (1 + m) (λ a. works rules (work_of true next rest)) p) (sym k))
 
-pub work-asks : {T : Type 0} (rules : Rules T) (failed : Bool) (left rest : List (Step T)) (step : Step T) (task : T) (call : Call) (n : ℕ) → left ≡ step ∷ rest → step ≡ Do task → call ≡ rules.asks task → n ≡ cost call → (next p : ℕ) → works rules (work_of failed next left) p ≡ ask call n (λ a. works rules (answered rules task a (work_of failed next rest))) p
+pub work-asks : {T : Type 0} (rules : Rules T) (failed : Bool) (left rest : List (WorkItem T)) (step : WorkItem T) (task : T) (call : Call) (n : ℕ) → left ≡ step ∷ rest → step ≡ Do task → call ≡ rules.asks task → n ≡ cost call → (next p : ℕ) → works rules (work_of failed next left) p ≡ ask call n (λ a. works rules (answered rules task a (work_of failed next rest))) p
 work-asks rules failed left rest step task call n e is said k next p =
     works-is rules (work_of failed next left) p
     ∙ (ap (λ l. steps rules (works rules) (work_of failed next left) l p) (e ∙ ap (λ s. s ∷ rest) is)
     ∙ (ap (λ c. ask c (cost c) (λ a. works rules (answered rules task a (work_of failed next rest))) p) (sym said) ∙ ap (λ m. ask call m (λ a. works rules (answered rules task a (work_of failed next rest))) p) (sym k)))
 
 -- A turn that comes of what was settled, whatever the next number is.
-pub resumed : {T : Type 0} (rules : Rules T) (before : Work T) (failed : Bool) (next : ℕ) (left : List (Step T)) (talk : ℕ → Answer → Says) (r : Result Turn NoMemory) → before ≡ work_of failed next left → IfOk r (λ turn. (n p : ℕ) → works rules (work_of failed n left) p ≡ after turn (talk n) p) → IfOk r (λ turn. (p : ℕ) → works rules before p ≡ after turn (talk next) p)
+pub resumed : {T : Type 0} (rules : Rules T) (before : Work T) (failed : Bool) (next : ℕ) (left : List (WorkItem T)) (talk : ℕ → Answer → Says) (r : Result Turn NoMemory) → before ≡ work_of failed next left → IfOk r (λ turn. (n p : ℕ) → works rules (work_of failed n left) p ≡ after turn (talk n) p) → IfOk r (λ turn. (p : ℕ) → works rules before p ≡ after turn (talk next) p)
 resumed rules before failed next left talk (Ok turn) e h = λ p. ap (λ w. works rules w p) e ∙ h next p
 resumed rules before failed next left talk (Err want) e h = tt
 
 -- What a new worker says, by its manner and its steps.
-pub newly : {T : Type 0} (rules : Manner → Rules T) (r : Result (Worker T) NoMemory) (m m' : Manner) (first first' : List (Step T)) → m ≡ m' → first ≡ first' → IfOk r (λ w. worker_talk rules w Go ≡ works (rules m) (work_of false 10 first)) → IfOk r (λ w. worker_talk rules w Go ≡ works (rules m') (work_of false 10 first'))
+pub newly : {T : Type 0} (rules : Manner → Rules T) (r : Result (Worker T) NoMemory) (m m' : Manner) (first first' : List (WorkItem T)) → m ≡ m' → first ≡ first' → IfOk r (λ w. worker_talk rules w Go ≡ works (rules m) (work_of false 10 first)) → IfOk r (λ w. worker_talk rules w Go ≡ works (rules m') (work_of false 10 first'))
 newly rules (Ok w) m m' first first' e k h = h ∙ (ap (λ n. works (rules n) (work_of false 10 first)) e ∙ ap (λ s. works (rules m') (work_of false 10 s)) k)
 newly rules (Err want) m m' first first' e k h = tt
 

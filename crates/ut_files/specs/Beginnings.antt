@@ -8,7 +8,7 @@ use Rattle.ut_args.specs.declared.opts.Given.{Given}
 use Rattle.ut_args.specs.Opts.{ArgsValue}
 use Rattle.ut_args.specs.Words.{options}
 use Rattle.ut_files.specs.declared.manner.Manner.{Manner}
-use Rattle.ut_files.specs.declared.step.Step.{Step}
+use Rattle.ut_files.specs.declared.step.WorkItem.{WorkItem}
 use Rattle.ut_files.specs.Complaints.{bad_option}
 use Rattle.ut_files.specs.Working.{work_of}
 use Rattle.ut_files.specs.Works.{Rules, works, talk-works}
@@ -17,9 +17,9 @@ use Rattle.ut_files.specs.Works.{Rules, works, talk-works}
 pub record Beginning (T : Type 0) : Type 0 where
   pub table : List Opt
   pub manner : Text → List Given → Manner
-  pub first : Manner → List Given → List Text → List (Step T)
+  pub first : Manner → List Given → List Text → List (WorkItem T)
 
-abbrev pub begun : {T : Type 0} → (Manner → Rules T) → Manner → List (Step T) → Says
+abbrev pub begun : {T : Type 0} → (Manner → Rules T) → Manner → List (WorkItem T) → Says
 begun rules m first = works (rules m) (work_of false 10 first)
 
 abbrev pub begins : {T : Type 0} → (Manner → Rules T) → Beginning T → Text → List Given → List Text → Says

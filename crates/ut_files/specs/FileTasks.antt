@@ -11,7 +11,7 @@ use Rattle.rk_calls.specs.Proper.{IsProper}
 use Rattle.ut_files.specs.declared.file_task.FileTask.{FileTask}
 use Rattle.ut_files.specs.declared.file_task.FileTask.TheVariants.{RemoveDir, MakeDir, MakePrefix, WalkPrefix, SetMode, LookAt, MakeFile, LookInto, ListDir, UnlinkName, FindTarget, CompareTarget, UnlinkTarget, MakeLink}
 use Rattle.ut_files.specs.declared.manner.Manner.{Manner}
-use Rattle.ut_files.specs.declared.step.Step.{Step}
+use Rattle.ut_files.specs.declared.step.WorkItem.{WorkItem}
 use Rattle.ut_files.specs.Answers.{refusal, found, names_in, same_in}
 use Rattle.ut_files.specs.Complaints.{refused}
 use Rattle.ut_files.specs.Linking.{link_call, found_target, compared, unlinked}
@@ -43,7 +43,7 @@ opens (MakeFile operand) = true
 opens task = false
 
 -- what an answer brings
-abbrev pub brings : Manner → ℕ → FileTask → Answer → List (Step FileTask)
+abbrev pub brings : Manner → ℕ → FileTask → Answer → List (WorkItem FileTask)
 brings m number (RemoveDir operand) a = removed m operand (refusal a)
 brings m number (MakeDir operand mode) a = refused m operand (refusal a)
 brings m number (MakePrefix operand end mode) a = made_prefix m operand end mode (refusal a)

@@ -9,8 +9,8 @@ use Rattle.ut_files.specs.declared.file_task.FileTask.TheVariants as task
 use Rattle.ut_files.specs.declared.first.Deed.{Deed}
 use Rattle.ut_files.specs.declared.first.Deed.TheVariants.{RemoveDir, MakeDir, MakePath, SetMode, Touch as Touching, Remove}
 use Rattle.ut_files.specs.declared.manner.Manner.{Manner}
-use Rattle.ut_files.specs.declared.step.Step.{Step}
-use Rattle.ut_files.specs.declared.step.Step.TheVariants.{Do}
+use Rattle.ut_files.specs.declared.step.WorkItem.{WorkItem}
+use Rattle.ut_files.specs.declared.step.WorkItem.TheVariants.{Do}
 use Rattle.ut_files.specs.declared.utility.Utility.{Utility}
 use Rattle.ut_files.specs.declared.utility.Utility.TheVariants.{Chmod, Ln, Mkdir, Rm, Rmdir, Touch}
 use Rattle.ut_files.specs.Complaints.{usage}
@@ -20,7 +20,7 @@ use Rattle.ut_files.specs.Removing.{removal}
 use Rattle.ut_files.specs.Targets.{with_target}
 
 -- how an operand begins
-abbrev pub doing : Manner → Deed → Text → Step FileTask
+abbrev pub doing : Manner → Deed → Text → WorkItem FileTask
 doing m RemoveDir operand = Do (task.RemoveDir operand)
 doing m (MakeDir mode) operand = Do (task.MakeDir operand mode)
 doing m (MakePath mode) operand = Do (task.MakePrefix operand (longer operand 0) mode)
@@ -29,16 +29,16 @@ doing m Touching operand = Do (task.LookAt operand)
 doing m Remove operand = removal m operand
 
 -- each operand in turn
-abbrev pub each : Manner → Deed → List Text → List (Step FileTask)
+abbrev pub each : Manner → Deed → List Text → List (WorkItem FileTask)
 each m deed [] = []
 each m deed (operand ∷ operands) = doing m deed operand ∷ each m deed operands
 
-abbrev pub one_or_more : Manner → Deed → List Text → List (Step FileTask)
+abbrev pub one_or_more : Manner → Deed → List Text → List (WorkItem FileTask)
 one_or_more m deed [] = usage m
 one_or_more m deed (operand ∷ operands) = each m deed (operand ∷ operands)
 
 -- `chmod`: the first operand is the mode of the others
-abbrev pub moding : Manner → List Text → List (Step FileTask)
+abbrev pub moding : Manner → List Text → List (WorkItem FileTask)
 moding m [] = usage m
 moding m (mode ∷ operands) = if is_mode mode then one_or_more m (SetMode (octal mode)) operands else usage m
 
@@ -47,17 +47,17 @@ abbrev pub making : List Given → Deed
 making given = if has 112 given then MakePath (mode_given 493 given) else MakeDir (mode_given 493 given)
 
 -- `rm`: with `-f` no operand is fine
-abbrev pub removing : Manner → List Text → List (Step FileTask)
+abbrev pub removing : Manner → List Text → List (WorkItem FileTask)
 removing m operands = if m.force then each m Remove operands else one_or_more m Remove operands
 
-abbrev pub finding : List Text → Text → Step FileTask
+abbrev pub finding : List Text → Text → WorkItem FileTask
 finding sources target = Do (task.FindTarget sources target)
 
 -- `ln`
-abbrev pub linking_all : Manner → List Text → List (Step FileTask)
+abbrev pub linking_all : Manner → List Text → List (WorkItem FileTask)
 linking_all m operands = with_target m finding operands
 
-abbrev pub first_steps : Utility → Manner → List Given → List Text → List (Step FileTask)
+abbrev pub first_steps : Utility → Manner → List Given → List Text → List (WorkItem FileTask)
 first_steps Chmod m given operands = moding m operands
 first_steps Ln m given operands = linking_all m operands
 first_steps Mkdir m given operands = one_or_more m (making given) operands

@@ -7,7 +7,7 @@ use Rattle.rk_base.specs.declared.file_type.FileType.{FileType}
 use Rattle.rk_base.specs.declared.file_type.FileType.TheVariants.{File, Dir, Link}
 use Rattle.ut_files.specs.declared.answers.Stood.{Stood}
 use Rattle.ut_files.specs.declared.manner.Manner.{Manner}
-use Rattle.ut_files.specs.declared.step.Step.{Step}
+use Rattle.ut_files.specs.declared.step.WorkItem.{WorkItem}
 use Rattle.ut_files.specs.declared.targets.Aim.{Aim}
 use Rattle.ut_files.specs.declared.targets.Aim.TheVariants.{Inside, Itself, Nowhere}
 use Rattle.ut_files.specs.Complaints.{usage}
@@ -45,7 +45,7 @@ abbrev pub the_target : List Text → List Text → Option Text
 the_target [] rest = None
 the_target (source ∷ more) rest = only rest
 
-abbrev pub by_target : {T : Type 0} → Manner → (List Text → Text → Step T) → List Text → Option Text → List (Step T)
+abbrev pub by_target : {T : Type 0} → Manner → (List Text → Text → WorkItem T) → List Text → Option Text → List (WorkItem T)
 by_target m find sources None = usage m
 by_target m find sources (Some target) = find sources target ∷ []
 
@@ -56,5 +56,5 @@ abbrev pub target_of : List Text → List Text
 target_of operands = drop (length operands - 1) operands
 
 -- with the last operand and with those before it, of which there is one at least
-abbrev pub with_target : {T : Type 0} → Manner → (List Text → Text → Step T) → List Text → List (Step T)
+abbrev pub with_target : {T : Type 0} → Manner → (List Text → Text → WorkItem T) → List Text → List (WorkItem T)
 with_target m find operands = by_target m find (sources_of operands) (the_target (sources_of operands) (target_of operands))

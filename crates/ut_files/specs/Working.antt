@@ -3,11 +3,11 @@ use Rattle.std.specs.Prelude.{ℕ, Bool, List, Option, Some, None}
 use Rattle.rk_calls.specs.declared.answer.Answer.{Answer}
 use Rattle.rk_calls.specs.Talk.{Says}
 use Rattle.ut_files.specs.declared.manner.Manner.{Manner}
-use Rattle.ut_files.specs.declared.step.Step.{Step}
+use Rattle.ut_files.specs.declared.step.WorkItem.{WorkItem}
 use Rattle.ut_files.specs.declared.worker.Worker.{Worker}
 use Rattle.ut_files.specs.Works.{Rules, Work, works, answered}
 
-abbrev pub work_of : {T : Type 0} → Bool → ℕ → List (Step T) → Work T
+abbrev pub work_of : {T : Type 0} → Bool → ℕ → List (WorkItem T) → Work T
 work_of failed next left = record { failed = failed; next = next; left = left }
 
 -- once the task that was asked, where there is one, was answered

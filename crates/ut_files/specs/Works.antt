@@ -10,8 +10,8 @@ use Rattle.rk_calls.specs.Proper.{IsProper}
 use Rattle.rk_calls.specs.Talk.{Says, ask, exits}
 use Rattle.rk_calls.specs.Turns.{turns}
 use Rattle.rk_calls.specs.Views.{View, Alike, IsCommandTalk, alike-exits, alike-ask}
-use Rattle.ut_files.specs.declared.step.Step.{Step}
-use Rattle.ut_files.specs.declared.step.Step.TheVariants.{Tell, Do}
+use Rattle.ut_files.specs.declared.step.WorkItem.{WorkItem}
+use Rattle.ut_files.specs.declared.step.WorkItem.TheVariants.{Tell, Do}
 
 -- a call costs one turn, and a Write its bytes
 abbrev pub cost : Call → ℕ
@@ -28,13 +28,13 @@ pub record Rules (T : Type 0) : Type 0 where
   pub asks : T → Call
   pub proper : (task : T) → IsProper (asks task)
   pub opens : T → Bool
-  pub brings : ℕ → T → Answer → List (Step T)
+  pub brings : ℕ → T → Answer → List (WorkItem T)
 
 -- whether a line was told, the number of the next file that is opened, and what is left to do
 pub record Work (T : Type 0) : Type 0 where
   pub failed : Bool
   pub next : ℕ
-  pub left : List (Step T)
+  pub left : List (WorkItem T)
 
 -- a line that was told is a failure
 abbrev pub status : Bool → ℕ
@@ -53,14 +53,14 @@ answered rules task a work =
       left = rules.brings work.next task a ++ work.left;
     }
 
-abbrev pub told : {T : Type 0} → Work T → List (Step T) → Work T
+abbrev pub told : {T : Type 0} → Work T → List (WorkItem T) → Work T
 told work left = record { failed = true; next = work.next; left = left }
 
-abbrev pub with_left : {T : Type 0} → Work T → List (Step T) → Work T
+abbrev pub with_left : {T : Type 0} → Work T → List (WorkItem T) → Work T
 with_left work left = record { failed = work.failed; next = work.next; left = left }
 
 -- One step, and how it goes on. A line is written to the error text at once, whether that is refused or not.
-abbrev pub steps : {T : Type 0} → Rules T → (Work T → Says) → Work T → List (Step T) → Says
+abbrev pub steps : {T : Type 0} → Rules T → (Work T → Says) → Work T → List (WorkItem T) → Says
 steps rules again work [] = exits (status work.failed) 0
 steps rules again work (Tell line ∷ left) = ask (Write 2 line) (1 + turns line) (λ a. again (told work left))
 steps rules again work (Do task ∷ left) = ask (rules.asks task) (cost (rules.asks task)) (λ a. again (answered rules task a (with_left work left)))
@@ -98,7 +98,7 @@ cost-costs (Chmod p m) = omega arith
 cost-costs Pipe = omega arith
 cost-costs (Launch k m) = omega arith
 
-step-pays : {T : Type 0} (rules : Rules T) (v : View) (P : ℕ) (x y : Work T → Says) → AlikeBelow v (SameWork v) P x y → (work : Work T) (left : List (Step T)) (p : ℕ) → p < suc P → Alike v p (steps rules x work left) (steps rules y work left)
+step-pays : {T : Type 0} (rules : Rules T) (v : View) (P : ℕ) (x y : Work T → Says) → AlikeBelow v (SameWork v) P x y → (work : Work T) (left : List (WorkItem T)) (p : ℕ) → p < suc P → Alike v p (steps rules x work left) (steps rules y work left)
 step-pays rules v P x y h work [] p lt = alike-exits v p (status work.failed) 0
 step-pays rules v P x y h work (Tell line ∷ left) p lt = alike-ask v p (Write 2 line) (1 + turns line) _ _ tt (λ le a. h (told work left) (told work left) (p - (1 + turns line)) (omega arith) refl)
 step-pays rules v P x y h work (Do task ∷ left) p lt =

@@ -6,7 +6,7 @@ ghost use Rattle.ut_files.specs.Working.{worker_talk};
 
 use crate::complaints::bad_option;
 use crate::manner::Manner;
-use crate::step::Step;
+use crate::step::WorkItem;
 use crate::task::Task;
 use crate::worker::Worker;
 use rk_base::{Bytes, NoMemory, Path, WordList};
@@ -36,7 +36,7 @@ pub trait Tasked: Drop {
         manner: &Manner,
         given: &OptList,
         operands: &[Bytes],
-    ) -> Result<Vec<Step<Self::Task>>, NoMemory>
+    ) -> Result<Vec<WorkItem<Self::Task>>, NoMemory>
         ensures { IfOk result (λ steps. steps.items ≡ (beginning self.now).first manner.now given.now operands.now) };
 }
 

@@ -5,13 +5,13 @@ ghost use Rattle.ut_files.specs.Complaints.{complaint, refused, usage_line, usag
 
 use crate::answers::refusal;
 use crate::manner::Manner;
-use crate::step::Step;
+use crate::step::WorkItem;
 use rk_base::{Bytes, Errno, NoMemory};
 use rk_calls::{Answer, error_line};
 use std::alloc::Global;
 
 /// This step alone.
-pub fn alone<T: Drop>(alloc: Global, step: Step<T>) -> Result<Vec<Step<T>>, NoMemory>
+pub fn alone<T: Drop>(alloc: Global, step: WorkItem<T>) -> Result<Vec<WorkItem<T>>, NoMemory>
     ensures { IfOk result (λ steps. steps.items ≡ step ∷ []) }
 {
     let mut steps = Vec::new(alloc);
@@ -25,7 +25,7 @@ pub fn complaint<T: Drop>(
     manner: &Manner,
     operand: &[u8],
     errno: Errno,
-) -> Result<Step<T>, NoMemory>
+) -> Result<WorkItem<T>, NoMemory>
     ensures { IfOk result (λ step. step ≡ complaint manner.now operand.now errno) }
 {
     let line = error_line(
@@ -34,7 +34,7 @@ pub fn complaint<T: Drop>(
         operand,
         errno.word().as_bytes(),
     )?;
-    Ok(Step::Tell(line))
+    Ok(WorkItem::Tell(line))
 }
 
 /// That line alone.
@@ -43,7 +43,7 @@ pub fn complain<T: Drop>(
     manner: &Manner,
     operand: &[u8],
     errno: Errno,
-) -> Result<Vec<Step<T>>, NoMemory>
+) -> Result<Vec<WorkItem<T>>, NoMemory>
     ensures { IfOk result (λ steps. steps.items ≡ complaint manner.now operand.now errno ∷ []) }
 {
     let step = complaint(alloc, manner, operand, errno)?;
@@ -56,7 +56,7 @@ pub fn refused<T: Drop>(
     manner: &Manner,
     operand: &[u8],
     answer: &Answer,
-) -> Result<Vec<Step<T>>, NoMemory>
+) -> Result<Vec<WorkItem<T>>, NoMemory>
     ensures { IfOk result (λ steps. steps.items ≡ refused manner.now operand.now (refusal answer.now)) }
 {
     match refusal(answer) {
@@ -75,11 +75,11 @@ fn usage_line(alloc: Global, name: &[u8]) -> Result<Bytes, NoMemory>
 }
 
 /// The line `NAME: usage` alone.
-pub fn usage<T: Drop>(alloc: Global, manner: &Manner) -> Result<Vec<Step<T>>, NoMemory>
+pub fn usage<T: Drop>(alloc: Global, manner: &Manner) -> Result<Vec<WorkItem<T>>, NoMemory>
     ensures { IfOk result (λ steps. steps.items ≡ usage manner.now) }
 {
     let line = usage_line(alloc, manner.name.as_slice())?;
-    alone(alloc, Step::Tell(line))
+    alone(alloc, WorkItem::Tell(line))
 }
 
 /// The line `NAME: OPTION: usage` alone.
@@ -87,9 +87,9 @@ pub fn bad_option<T: Drop>(
     alloc: Global,
     manner: &Manner,
     option: &[u8],
-) -> Result<Vec<Step<T>>, NoMemory>
+) -> Result<Vec<WorkItem<T>>, NoMemory>
     ensures { IfOk result (λ steps. steps.items ≡ bad_option manner.now option.now) }
 {
     let line = error_line(alloc, manner.name.as_slice(), option, b"usage")?;
-    alone(alloc, Step::Tell(line))
+    alone(alloc, WorkItem::Tell(line))
 }

@@ -9,7 +9,7 @@ use crate::manner::Manner;
 use crate::modes::bits;
 use crate::operands::front;
 use crate::removing::{listed, looked, removed};
-use crate::step::Step;
+use crate::step::WorkItem;
 use crate::task::Task;
 use rk_base::{Bytes, NoMemory, WordList};
 use rk_calls::{Answer, Call, How, absolute};
@@ -127,7 +127,7 @@ impl Task for FileTask {
         manner: &Manner,
         _number: u64,
         answer: Answer,
-    ) -> Result<Vec<Step<FileTask>>, NoMemory> {
+    ) -> Result<Vec<WorkItem<FileTask>>, NoMemory> {
         match self {
             FileTask::RemoveDir(operand) => removed(alloc, manner, operand.as_slice(), &answer),
             FileTask::MakeDir(operand, _) => refused(alloc, manner, operand.as_slice(), &answer),

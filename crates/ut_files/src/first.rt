@@ -8,7 +8,7 @@ use crate::manner::Manner;
 use crate::modes::{is_mode, mode_given, octal};
 use crate::operands::longer;
 use crate::removing::removal;
-use crate::step::Step;
+use crate::step::WorkItem;
 use crate::targets::{sources_of, target_of, the_target};
 use crate::utility::Utility;
 use rk_base::{Bytes, NoMemory};
@@ -31,18 +31,18 @@ fn doing(
     manner: &Manner,
     deed: Deed,
     operand: Bytes,
-) -> Result<Step<FileTask>, NoMemory>
+) -> Result<WorkItem<FileTask>, NoMemory>
     ensures { IfOk result (λ step. step ≡ doing manner.now deed operand) }
 {
     match deed {
-        Deed::RemoveDir => Ok(Step::Do(FileTask::RemoveDir(operand))),
-        Deed::MakeDir(mode) => Ok(Step::Do(FileTask::MakeDir(operand, mode))),
+        Deed::RemoveDir => Ok(WorkItem::Do(FileTask::RemoveDir(operand))),
+        Deed::MakeDir(mode) => Ok(WorkItem::Do(FileTask::MakeDir(operand, mode))),
         Deed::MakePath(mode) => {
             let end = longer(operand.as_slice(), 0);
-            Ok(Step::Do(FileTask::MakePrefix(operand, end, mode)))
+            Ok(WorkItem::Do(FileTask::MakePrefix(operand, end, mode)))
         }
-        Deed::SetMode(mode) => Ok(Step::Do(FileTask::SetMode(operand, mode))),
-        Deed::Touch => Ok(Step::Do(FileTask::LookAt(operand))),
+        Deed::SetMode(mode) => Ok(WorkItem::Do(FileTask::SetMode(operand, mode))),
+        Deed::Touch => Ok(WorkItem::Do(FileTask::LookAt(operand))),
         Deed::Remove => removal(alloc, manner, operand),
     }
 }
@@ -52,7 +52,7 @@ fn each(
     manner: &Manner,
     deed: Deed,
     operands: &[Bytes],
-) -> Result<Vec<Step<FileTask>>, NoMemory>
+) -> Result<Vec<WorkItem<FileTask>>, NoMemory>
     ensures { IfOk result (λ steps. steps.items ≡ each manner.now deed operands.now) }
 {
     let mut steps = Vec::new(alloc);
@@ -68,7 +68,7 @@ fn one_or_more(
     manner: &Manner,
     deed: Deed,
     operands: &[Bytes],
-) -> Result<Vec<Step<FileTask>>, NoMemory>
+) -> Result<Vec<WorkItem<FileTask>>, NoMemory>
     ensures { IfOk result (λ steps. steps.items ≡ one_or_more manner.now deed operands.now) }
 {
     match operands {
@@ -81,7 +81,7 @@ fn moding(
     alloc: Global,
     manner: &Manner,
     operands: &[Bytes],
-) -> Result<Vec<Step<FileTask>>, NoMemory>
+) -> Result<Vec<WorkItem<FileTask>>, NoMemory>
     ensures { IfOk result (λ steps. steps.items ≡ moding manner.now operands.now) }
 {
     match operands {
@@ -109,7 +109,7 @@ fn removing(
     alloc: Global,
     manner: &Manner,
     operands: &[Bytes],
-) -> Result<Vec<Step<FileTask>>, NoMemory>
+) -> Result<Vec<WorkItem<FileTask>>, NoMemory>
     ensures { IfOk result (λ steps. steps.items ≡ removing manner.now operands.now) }
 {
     if manner.force {
@@ -122,7 +122,7 @@ fn linking_all(
     alloc: Global,
     manner: &Manner,
     operands: &[Bytes],
-) -> Result<Vec<Step<FileTask>>, NoMemory>
+) -> Result<Vec<WorkItem<FileTask>>, NoMemory>
     ensures { IfOk result (λ steps. steps.items ≡ linking_all manner.now operands.now) }
 {
     let sources = sources_of(alloc, operands)?;
@@ -130,7 +130,7 @@ fn linking_all(
         None => usage(alloc, manner),
         Some(target) => alone(
             alloc,
-            Step::Do(FileTask::FindTarget(sources, target.copy()?)),
+            WorkItem::Do(FileTask::FindTarget(sources, target.copy()?)),
         ),
     }
 }
@@ -142,7 +142,7 @@ pub(crate) fn first_steps(
     manner: &Manner,
     given: &OptList,
     operands: &[Bytes],
-) -> Result<Vec<Step<FileTask>>, NoMemory>
+) -> Result<Vec<WorkItem<FileTask>>, NoMemory>
     ensures { IfOk result (λ steps. steps.items ≡ first_steps utility manner.now given.now operands.now) }
 {
     match utility {

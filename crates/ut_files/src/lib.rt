@@ -28,7 +28,7 @@ pub use file_task::FileTask;
 pub use manner::Manner;
 pub use modes::bits;
 pub use operands::{basename, below, dirname};
-pub use step::Step;
+pub use step::WorkItem;
 pub use targets::{Aim, aim_at, goal, sources_of, target_of, the_target};
 pub use task::Task;
 pub use utility::{FileUtility, Utility, start};

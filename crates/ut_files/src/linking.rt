@@ -8,28 +8,28 @@ use crate::answers::{found, is_no_entry, refusal, same_in};
 use crate::complaints::{alone, complain};
 use crate::file_task::FileTask;
 use crate::manner::Manner;
-use crate::step::Step;
+use crate::step::WorkItem;
 use crate::targets::{Aim, aim_at, goal};
 use rk_base::{Bytes, Errno, NoMemory, WordList};
 use rk_calls::Answer;
 use std::alloc::Global;
 
-fn first_way(manner: &Manner, source: Bytes, target: Bytes) -> Step<FileTask>
+fn first_way(manner: &Manner, source: Bytes, target: Bytes) -> WorkItem<FileTask>
     ensures { result ≡ first_way manner.now source target }
 {
     if manner.symbolic {
-        return Step::Do(FileTask::UnlinkTarget(source, target));
+        return WorkItem::Do(FileTask::UnlinkTarget(source, target));
     }
-    Step::Do(FileTask::CompareTarget(source, target))
+    WorkItem::Do(FileTask::CompareTarget(source, target))
 }
 
-fn linking(manner: &Manner, source: Bytes, target: Bytes) -> Step<FileTask>
+fn linking(manner: &Manner, source: Bytes, target: Bytes) -> WorkItem<FileTask>
     ensures { result ≡ linking manner.now source target }
 {
     if manner.force {
         return first_way(manner, source, target);
     }
-    Step::Do(FileTask::MakeLink(source, target))
+    WorkItem::Do(FileTask::MakeLink(source, target))
 }
 
 // Each source in turn.
@@ -39,7 +39,7 @@ fn links(
     aim: Aim,
     target: &[u8],
     sources: &[Bytes],
-) -> Result<Vec<Step<FileTask>>, NoMemory>
+) -> Result<Vec<WorkItem<FileTask>>, NoMemory>
     ensures { IfOk result (λ steps. steps.items ≡ links manner.now aim target.now sources.now) }
 {
     let mut steps = Vec::new(alloc);
@@ -57,7 +57,7 @@ fn aimed(
     sources: &[Bytes],
     target: &[u8],
     aim: Aim,
-) -> Result<Vec<Step<FileTask>>, NoMemory>
+) -> Result<Vec<WorkItem<FileTask>>, NoMemory>
     ensures { IfOk result (λ steps. steps.items ≡ found_target manner.now sources.now target.now aim) }
 {
     match aim {
@@ -74,7 +74,7 @@ pub(crate) fn found_target(
     sources: WordList,
     target: Bytes,
     answer: &Answer,
-) -> Result<Vec<Step<FileTask>>, NoMemory>
+) -> Result<Vec<WorkItem<FileTask>>, NoMemory>
     ensures { IfOk result (λ steps. steps.items ≡ found_target manner.now sources target (aim_at sources (found answer.now))) }
 {
     let aim = aim_at(sources.as_slice(), found(answer));
@@ -87,11 +87,11 @@ fn uncompared(
     source: Bytes,
     target: Bytes,
     errno: Errno,
-) -> Result<Vec<Step<FileTask>>, NoMemory>
+) -> Result<Vec<WorkItem<FileTask>>, NoMemory>
     ensures { IfOk result (λ steps. steps.items ≡ uncompared manner.now source target errno) }
 {
     if is_no_entry(errno) {
-        return alone(alloc, Step::Do(FileTask::UnlinkTarget(source, target)));
+        return alone(alloc, WorkItem::Do(FileTask::UnlinkTarget(source, target)));
     }
     complain(alloc, manner, source.as_slice(), errno)
 }
@@ -102,12 +102,12 @@ fn told_same(
     source: Bytes,
     target: Bytes,
     same: bool,
-) -> Result<Vec<Step<FileTask>>, NoMemory>
+) -> Result<Vec<WorkItem<FileTask>>, NoMemory>
     ensures { IfOk result (λ steps. steps.items ≡ compared manner.now source target (Ok same)) }
 {
     match same {
         true => complain(alloc, manner, source.as_slice(), Errno::Exists),
-        false => alone(alloc, Step::Do(FileTask::UnlinkTarget(source, target))),
+        false => alone(alloc, WorkItem::Do(FileTask::UnlinkTarget(source, target))),
     }
 }
 
@@ -118,7 +118,7 @@ pub(crate) fn compared(
     source: Bytes,
     target: Bytes,
     answer: &Answer,
-) -> Result<Vec<Step<FileTask>>, NoMemory>
+) -> Result<Vec<WorkItem<FileTask>>, NoMemory>
     ensures { IfOk result (λ steps. steps.items ≡ compared manner.now source target (same_in answer.now)) }
 {
     match same_in(answer) {
@@ -133,11 +133,11 @@ fn not_unlinked(
     source: Bytes,
     target: Bytes,
     errno: Errno,
-) -> Result<Vec<Step<FileTask>>, NoMemory>
+) -> Result<Vec<WorkItem<FileTask>>, NoMemory>
     ensures { IfOk result (λ steps. steps.items ≡ not_unlinked manner.now source target errno) }
 {
     if is_no_entry(errno) {
-        return alone(alloc, Step::Do(FileTask::MakeLink(source, target)));
+        return alone(alloc, WorkItem::Do(FileTask::MakeLink(source, target)));
     }
     complain(alloc, manner, target.as_slice(), errno)
 }
@@ -149,11 +149,11 @@ pub(crate) fn unlinked(
     source: Bytes,
     target: Bytes,
     answer: &Answer,
-) -> Result<Vec<Step<FileTask>>, NoMemory>
+) -> Result<Vec<WorkItem<FileTask>>, NoMemory>
     ensures { IfOk result (λ steps. steps.items ≡ unlinked manner.now source target (refusal answer.now)) }
 {
     match refusal(answer) {
-        None => alone(alloc, Step::Do(FileTask::MakeLink(source, target))),
+        None => alone(alloc, WorkItem::Do(FileTask::MakeLink(source, target))),
         Some(errno) => not_unlinked(alloc, manner, source, target, errno),
     }
 }

@@ -9,7 +9,7 @@ use crate::file_task::FileTask;
 use crate::manner::Manner;
 use crate::modes::bits;
 use crate::operands::longer;
-use crate::step::Step;
+use crate::step::WorkItem;
 use rk_base::{Bytes, Errno, NoMemory};
 use rk_calls::Answer;
 use std::alloc::Global;
@@ -36,14 +36,17 @@ fn next_prefix(
     operand: Bytes,
     end: usize,
     mode: u16,
-) -> Result<Vec<Step<FileTask>>, NoMemory>
+) -> Result<Vec<WorkItem<FileTask>>, NoMemory>
     ensures { IfOk result (λ steps. steps.items ≡ next_prefix operand end mode) }
 {
     if is_whole(operand.as_slice(), end) {
         return Ok(Vec::new(alloc));
     }
     let end = longer(operand.as_slice(), end);
-    alone(alloc, Step::Do(FileTask::MakePrefix(operand, end, mode)))
+    alone(
+        alloc,
+        WorkItem::Do(FileTask::MakePrefix(operand, end, mode)),
+    )
 }
 
 fn prefix_refused(
@@ -53,11 +56,14 @@ fn prefix_refused(
     end: usize,
     mode: u16,
     errno: Errno,
-) -> Result<Vec<Step<FileTask>>, NoMemory>
+) -> Result<Vec<WorkItem<FileTask>>, NoMemory>
     ensures { IfOk result (λ steps. steps.items ≡ prefix_refused manner.now operand end mode errno) }
 {
     if is_exists(errno) {
-        return alone(alloc, Step::Do(FileTask::WalkPrefix(operand, end, mode)));
+        return alone(
+            alloc,
+            WorkItem::Do(FileTask::WalkPrefix(operand, end, mode)),
+        );
     }
     complain(alloc, manner, operand.as_slice(), errno)
 }
@@ -70,7 +76,7 @@ pub(crate) fn made_prefix(
     end: usize,
     mode: u16,
     answer: &Answer,
-) -> Result<Vec<Step<FileTask>>, NoMemory>
+) -> Result<Vec<WorkItem<FileTask>>, NoMemory>
     ensures { IfOk result (λ steps. steps.items ≡ made_prefix manner.now operand end mode (refusal answer.now)) }
 {
     match refusal(answer) {
@@ -87,7 +93,7 @@ pub(crate) fn walked(
     end: usize,
     mode: u16,
     answer: &Answer,
-) -> Result<Vec<Step<FileTask>>, NoMemory>
+) -> Result<Vec<WorkItem<FileTask>>, NoMemory>
     ensures { IfOk result (λ steps. steps.items ≡ walked manner.now operand end mode (refusal answer.now)) }
 {
     match refusal(answer) {
@@ -101,11 +107,11 @@ fn untouched(
     manner: &Manner,
     operand: Bytes,
     errno: Errno,
-) -> Result<Vec<Step<FileTask>>, NoMemory>
+) -> Result<Vec<WorkItem<FileTask>>, NoMemory>
     ensures { IfOk result (λ steps. steps.items ≡ untouched manner.now operand errno) }
 {
     if is_no_entry(errno) {
-        return alone(alloc, Step::Do(FileTask::MakeFile(operand)));
+        return alone(alloc, WorkItem::Do(FileTask::MakeFile(operand)));
     }
     complain(alloc, manner, operand.as_slice(), errno)
 }
@@ -116,7 +122,7 @@ pub(crate) fn looked_at(
     manner: &Manner,
     operand: Bytes,
     answer: &Answer,
-) -> Result<Vec<Step<FileTask>>, NoMemory>
+) -> Result<Vec<WorkItem<FileTask>>, NoMemory>
     ensures { IfOk result (λ steps. steps.items ≡ looked_at manner.now operand (refusal answer.now)) }
 {
     match refusal(answer) {

@@ -8,7 +8,7 @@ use crate::complaints::{alone, complain, complaint};
 use crate::file_task::FileTask;
 use crate::manner::Manner;
 use crate::operands::{below, is_fixed};
-use crate::step::Step;
+use crate::step::WorkItem;
 use rk_base::{Bytes, Errno, FileType, Name, NoMemory};
 use rk_calls::Answer;
 use std::alloc::Global;
@@ -18,13 +18,13 @@ pub(crate) fn removal(
     alloc: Global,
     manner: &Manner,
     operand: Bytes,
-) -> Result<Step<FileTask>, NoMemory>
+) -> Result<WorkItem<FileTask>, NoMemory>
     ensures { IfOk result (λ step. step ≡ removal manner.now operand) }
 {
     if is_fixed(operand.as_slice()) {
         return complaint(alloc, manner, operand.as_slice(), Errno::Invalid);
     }
-    Ok(Step::Do(FileTask::LookInto(operand)))
+    Ok(WorkItem::Do(FileTask::LookInto(operand)))
 }
 
 fn is_passed(manner: &Manner, errno: Errno) -> bool
@@ -38,7 +38,7 @@ fn removal_refused(
     manner: &Manner,
     operand: &[u8],
     errno: Errno,
-) -> Result<Vec<Step<FileTask>>, NoMemory>
+) -> Result<Vec<WorkItem<FileTask>>, NoMemory>
     ensures { IfOk result (λ steps. steps.items ≡ removal_refused manner.now operand.now errno) }
 {
     if is_passed(manner, errno) {
@@ -53,7 +53,7 @@ pub(crate) fn removed(
     manner: &Manner,
     operand: &[u8],
     answer: &Answer,
-) -> Result<Vec<Step<FileTask>>, NoMemory>
+) -> Result<Vec<WorkItem<FileTask>>, NoMemory>
     ensures { IfOk result (λ steps. steps.items ≡ removed manner.now operand.now (refusal answer.now)) }
 {
     match refusal(answer) {
@@ -66,11 +66,11 @@ fn remove_dir(
     alloc: Global,
     manner: &Manner,
     operand: Bytes,
-) -> Result<Vec<Step<FileTask>>, NoMemory>
+) -> Result<Vec<WorkItem<FileTask>>, NoMemory>
     ensures { IfOk result (λ steps. steps.items ≡ by_kind manner.now operand FileType.Dir) }
 {
     if manner.recursive {
-        return alone(alloc, Step::Do(FileTask::ListDir(operand)));
+        return alone(alloc, WorkItem::Do(FileTask::ListDir(operand)));
     }
     complain(alloc, manner, operand.as_slice(), Errno::IsDir)
 }
@@ -80,13 +80,13 @@ fn by_kind(
     manner: &Manner,
     operand: Bytes,
     kind: FileType,
-) -> Result<Vec<Step<FileTask>>, NoMemory>
+) -> Result<Vec<WorkItem<FileTask>>, NoMemory>
     ensures { IfOk result (λ steps. steps.items ≡ by_kind manner.now operand kind) }
 {
     match kind {
         FileType::Dir => remove_dir(alloc, manner, operand),
-        FileType::File => alone(alloc, Step::Do(FileTask::UnlinkName(operand))),
-        FileType::Link => alone(alloc, Step::Do(FileTask::UnlinkName(operand))),
+        FileType::File => alone(alloc, WorkItem::Do(FileTask::UnlinkName(operand))),
+        FileType::Link => alone(alloc, WorkItem::Do(FileTask::UnlinkName(operand))),
     }
 }
 
@@ -96,7 +96,7 @@ pub(crate) fn looked(
     manner: &Manner,
     operand: Bytes,
     answer: &Answer,
-) -> Result<Vec<Step<FileTask>>, NoMemory>
+) -> Result<Vec<WorkItem<FileTask>>, NoMemory>
     ensures { IfOk result (λ steps. steps.items ≡ looked manner.now operand (found answer.now)) }
 {
     match found(answer) {
@@ -111,7 +111,7 @@ fn entries(
     manner: &Manner,
     operand: &Bytes,
     names: &[Name],
-) -> Result<Vec<Step<FileTask>>, NoMemory>
+) -> Result<Vec<WorkItem<FileTask>>, NoMemory>
     ensures { IfOk result (λ steps. steps.items ≡ entries manner.now operand.now names.now) }
 {
     let mut steps = Vec::new(alloc);
@@ -120,7 +120,7 @@ fn entries(
         let step = removal(alloc, manner, path)?;
         steps.push(step)?;
     }
-    steps.push(Step::Do(FileTask::RemoveDir(operand.copy()?)))?;
+    steps.push(WorkItem::Do(FileTask::RemoveDir(operand.copy()?)))?;
     Ok(steps)
 }
 
@@ -130,7 +130,7 @@ pub(crate) fn listed(
     manner: &Manner,
     operand: Bytes,
     answer: Answer,
-) -> Result<Vec<Step<FileTask>>, NoMemory>
+) -> Result<Vec<WorkItem<FileTask>>, NoMemory>
     ensures { IfOk result (λ steps. steps.items ≡ listed manner.now operand (names_in answer)) }
 {
     match names_in(alloc, answer)? {

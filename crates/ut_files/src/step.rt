@@ -3,7 +3,7 @@ use rk_base::Bytes;
 
 /// What a utility does next: it tells a line of error text, or does a task.
 #[derive(Drop)]
-pub enum Step<T> {
+pub enum WorkItem<T> {
     Tell(Bytes),
     Do(T),
 }

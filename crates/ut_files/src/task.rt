@@ -2,7 +2,7 @@
 ghost use Rattle.std.specs.Prelude.{◌≡◌, IfOk};
 
 use crate::manner::Manner;
-use crate::step::Step;
+use crate::step::WorkItem;
 use rk_base::NoMemory;
 use rk_calls::{Answer, Call};
 use std::alloc::Global;
@@ -29,6 +29,6 @@ pub trait Task: Drop {
         manner: &Manner,
         number: u64,
         answer: Answer,
-    ) -> Result<Vec<Step<Self>>, NoMemory>
+    ) -> Result<Vec<WorkItem<Self>>, NoMemory>
         ensures { IfOk result (λ steps. steps.items ≡ (rules manner.now).brings number self answer) };
 }

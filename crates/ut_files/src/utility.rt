@@ -7,7 +7,7 @@ use crate::beginning::{Tasked, begin_found, first_word};
 use crate::file_task::FileTask;
 use crate::first::first_steps;
 use crate::manner::Manner;
-use crate::step::Step;
+use crate::step::WorkItem;
 use crate::worker::Worker;
 use rk_base::{Bytes, NoMemory, Path, WordList};
 use std::alloc::Global;
@@ -139,7 +139,7 @@ impl Tasked for Utility {
         manner: &Manner,
         given: &OptList,
         operands: &[Bytes],
-    ) -> Result<Vec<Step<FileTask>>, NoMemory> {
+    ) -> Result<Vec<WorkItem<FileTask>>, NoMemory> {
         first_steps(alloc, *self, manner, given, operands)
     }
 }

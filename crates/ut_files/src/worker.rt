@@ -7,7 +7,7 @@ ghost use Rattle.ut_files.specs.Working.{work_of, settled, worker_talk};
 
 use crate::cost::{cost, is_given};
 use crate::manner::Manner;
-use crate::step::Step;
+use crate::step::WorkItem;
 use crate::task::Task;
 use rk_base::NoMemory;
 use rk_calls::{Answer, Call, Machine, Turn, turns};
@@ -16,8 +16,8 @@ use std::collections::VecDeque;
 
 // Puts steps before those that are left.
 fn put_before<T: Drop>(
-    mut steps: Vec<Step<T>>,
-    left: &mut VecDeque<Step<T>>,
+    mut steps: Vec<WorkItem<T>>,
+    left: &mut VecDeque<WorkItem<T>>,
 ) -> Result<(), NoMemory>
     ensures { OnOk result (left.new.items ≡ steps.items ++ left.old.items) }
 {
@@ -51,7 +51,7 @@ fn settle<T: Task>(
     alloc: Global,
     manner: &Manner,
     next: &mut u64,
-    left: &mut VecDeque<Step<T>>,
+    left: &mut VecDeque<WorkItem<T>>,
     task: T,
     answer: Answer,
 ) -> Result<(), NoMemory>
@@ -69,7 +69,7 @@ fn settle_asked<T: Task>(
     alloc: Global,
     manner: &Manner,
     next: &mut u64,
-    left: &mut VecDeque<Step<T>>,
+    left: &mut VecDeque<WorkItem<T>>,
     asked: Option<T>,
     answer: Answer,
 ) -> Result<(), NoMemory>
@@ -95,7 +95,7 @@ fn ask_next<T: Task>(
     alloc: Global,
     manner: &Manner,
     failed: &mut bool,
-    left: &mut VecDeque<Step<T>>,
+    left: &mut VecDeque<WorkItem<T>>,
     asked: &mut Option<T>,
 ) -> Result<Turn, NoMemory>
     ensures talk { IfOk result (λ turn. (next p : ℕ) → works (T.rules manner.now) (work_of failed.old next left.old.items) p ≡ after turn (λ a. works (T.rules manner.now) (settled (T.rules manner.now) asked.new a (work_of failed.new next left.new.items))) p) }
@@ -106,13 +106,13 @@ fn ask_next<T: Task>(
             *asked = None;
             Ok(Turn::Exit(status(*failed), 0))
         }
-        Some(Step::Tell(line)) => {
+        Some(WorkItem::Tell(line)) => {
             *asked = None;
             *failed = true;
             let cost = 1 + turns(line.as_slice());
             Ok(Turn::Ask(Call::Write(2, line), cost))
         }
-        Some(Step::Do(task)) => {
+        Some(WorkItem::Do(task)) => {
             let call = task.call(alloc, manner)?;
             let cost = cost(&call);
             *asked = Some(task);
@@ -128,13 +128,17 @@ pub struct Worker<T: Task> {
     manner: Manner,
     failed: bool,
     next: u64,
-    left: VecDeque<Step<T>>,
+    left: VecDeque<WorkItem<T>>,
     asked: Option<T>,
 }
 
 impl<T: Task> Worker<T> {
     /// What does these steps.
-    pub fn new(alloc: Global, manner: Manner, steps: Vec<Step<T>>) -> Result<Worker<T>, NoMemory>
+    pub fn new(
+        alloc: Global,
+        manner: Manner,
+        steps: Vec<WorkItem<T>>,
+    ) -> Result<Worker<T>, NoMemory>
         ensures { IfOk result (λ w. worker_talk T.rules w Answer.Go ≡ works (T.rules manner) (work_of false 10 steps.items)) }
     {
         let mut left = VecDeque::new(alloc);

@@ -167,20 +167,20 @@ command_or_none [] = Some (None, [])
 command_or_none (b ∷ rest) = if is_separator b then Some (None, b ∷ rest) else some_command (command_at (b ∷ rest))
 
 -- How a script goes on behind a command: it is none, it ends, or more comes behind a separator.
-pub data Step : Type 0 where
-  wrong : Step
-  ends : (commands : List CommandValue) → Step
-  goes : (commands : List CommandValue) (rest : Text) → Step
+pub data ReadStep : Type 0 where
+  wrong : ReadStep
+  ends : (commands : List CommandValue) → ReadStep
+  goes : (commands : List CommandValue) (rest : Text) → ReadStep
 
-abbrev pub separated : List CommandValue → Text → Step
+abbrev pub separated : List CommandValue → Text → ReadStep
 separated commands [] = ends commands
 separated commands (b ∷ rest) = if is_separator b then goes commands rest else wrong
 
-abbrev pub step_with : List CommandValue → Option (Option CommandValue × Text) → Step
+abbrev pub step_with : List CommandValue → Option (Option CommandValue × Text) → ReadStep
 step_with commands None = wrong
 step_with commands (Some c) = separated (commands ++ option_to_list c.0) (skipped c.1)
 
-abbrev pub step : List CommandValue → Text → Step
+abbrev pub step : List CommandValue → Text → ReadStep
 step commands text = step_with commands (command_or_none (skipped text))
 
 -- the commands of a script behind others; so many of its commands at most

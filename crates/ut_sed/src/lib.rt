@@ -24,7 +24,7 @@ pub use command::{Act, Command, Part, Substitution};
 pub use edit::{Ends, Space};
 pub use gatherer::{Gathered, Gatherer, Source, Waits};
 pub use laws::{s_replaces_each_match, sed_says_what_commands_may};
-pub use reader::{Addresses, Flags, Step};
+pub use reader::{Addresses, Flags, ReadStep};
 pub use scan::{Piece, Scan};
 pub use sed::Sed;
 pub use select::Selected;

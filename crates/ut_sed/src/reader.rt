@@ -37,7 +37,7 @@ pub struct Addresses {
 
 /// How a script goes on behind a command.
 #[derive(Clone, Copy, Debug, Drop)]
-pub enum Step {
+pub enum ReadStep {
     Wrong,
     Ends,
     Goes,
@@ -208,28 +208,28 @@ impl<'t> Reader<'t> {
     }
 
     // The separator behind a command.
-    fn separated(&mut self) -> Step
+    fn separated(&mut self) -> ReadStep
         ensures { (commands : List CommandValue) → IsStep (separated commands self.old.rest.now) result commands self.new.rest.now }
     {
         match self.rest {
-            [] => Step::Ends,
+            [] => ReadStep::Ends,
             [b, more @ ..] => {
                 if is_separator(*b) {
                     self.rest = more;
-                    return Step::Goes;
+                    return ReadStep::Goes;
                 }
-                Step::Wrong
+                ReadStep::Wrong
             }
         }
     }
 
     // A command, which is put behind others, and what stands behind it.
-    fn step(&mut self, commands: &mut Vec<Command>) -> Result<Step, NoMemory>
+    fn step(&mut self, commands: &mut Vec<Command>) -> Result<ReadStep, NoMemory>
         ensures { IfOk result (λ s. IsStep (step (commands_of commands.old.items) self.old.rest.now) s (commands_of commands.new.items) self.new.rest.now) }
     {
         self.skip_blanks();
         match self.command_or_none()? {
-            None => return Ok(Step::Wrong),
+            None => return Ok(ReadStep::Wrong),
             Some(command) => put_command(command, commands)?,
         }
         self.skip_blanks();
@@ -263,9 +263,9 @@ pub(crate) fn read_script(
     'commands: while left > 0 {
         left -= 1;
         match reader.step(commands)? {
-            Step::Wrong => return Ok(false),
-            Step::Ends => return Ok(true),
-            Step::Goes => {}
+            ReadStep::Wrong => return Ok(false),
+            ReadStep::Ends => return Ok(true),
+            ReadStep::Goes => {}
         }
     }
     Ok(false)

@@ -1,4 +1,4 @@
-use Rattle.rk_walk.specs.declared.step.Step.TheVariants.{On, Follow, Ends, Fails}
+use Rattle.rk_walk.specs.declared.step.WalkStep.TheVariants.{On, Follow, Ends, Fails}
 use Rattle.rk_walk.proofs.CourseLemmas.{met, went_on, linked}
 use Rattle.rk_walk.proofs.walker.Walker.meets.Goals as goal
 
