@@ -16,4 +16,4 @@ pub use form::{Form, Opt, unsigned};
 pub use numbers::{number, number_or};
 pub use opts::{Given, OptList};
 pub use usage::begin;
-pub use words::options;
+pub use words::{copies, first_word, options};

@@ -91,7 +91,8 @@ fn judge(
     }
 }
 
-fn first_word(words: &[Bytes]) -> Option<(&Bytes, &[Bytes])>
+/// The first of these words, and those after it.
+pub fn first_word(words: &[Bytes]) -> Option<(&Bytes, &[Bytes])>
     ensures cut { MatchOption result (words.now ≡ []) (λ r. words.now ≡ r.0.now ∷ r.1.now) }
     ensures length { IfSome result (λ r. length words.now ≡ length r.1.now + 1) }
 {
@@ -101,7 +102,8 @@ fn first_word(words: &[Bytes]) -> Option<(&Bytes, &[Bytes])>
     }
 }
 
-fn copies(alloc: Global, words: &[Bytes]) -> Result<WordList, NoMemory>
+/// Copies of words.
+pub fn copies(alloc: Global, words: &[Bytes]) -> Result<WordList, NoMemory>
     ensures { IfOk result (λ v. v ≡ words.now) }
 {
     let mut copies = Vec::new(alloc);

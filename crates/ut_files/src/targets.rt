@@ -6,6 +6,7 @@ use crate::answers::Stood;
 use crate::operands::{basename, below};
 use rk_base::{Bytes, Errno, FileType, NoMemory, WordList};
 use std::alloc::Global;
+use ut_args::copies;
 
 /// Where sources go.
 #[derive(Clone, Copy, Debug)]
@@ -57,17 +58,6 @@ pub fn goal(alloc: Global, aim: Aim, target: &[u8], source: &[u8]) -> Result<Byt
         Aim::Itself(_) => Bytes::from_slice(alloc, target),
         Aim::Nowhere(_) => Bytes::from_slice(alloc, target),
     }
-}
-
-fn copies(alloc: Global, words: &[Bytes]) -> Result<WordList, NoMemory>
-    ensures { IfOk result (λ list. list ≡ words.now) }
-{
-    let mut copies = Vec::new(alloc);
-    for word in words {
-        let word = word.copy()?;
-        copies.push(word)?;
-    }
-    Ok(WordList::new(copies))
 }
 
 /// All operands but the last.

@@ -7,7 +7,7 @@ ghost use Rattle.ut_filter.specs.Filters.{Job, Seen, refused, told, emptied, wri
 ghost use Rattle.ut_filter.specs.Machine.{filter_talk};
 ghost use Rattle.ut_filter.specs.Stages.{IsSaidBy, stage_talk};
 
-use crate::inputs::copies;
+use crate::inputs::queue_of;
 use crate::made::Made;
 use crate::reader::Reader;
 use crate::stage::{Move, Stage};
@@ -211,7 +211,7 @@ impl<W: Work> Filter<W> {
     ) -> Result<Filter<W>, NoMemory>
         ensures { IfOk result (λ f. filter_talk W.job f Answer.Go ≡ filters_from next (W.job work) wd.now inputs.now) }
     {
-        let operands = copies(alloc, inputs.as_slice())?;
+        let operands = queue_of(alloc, inputs.as_slice())?;
         let wd = wd.copy()?;
         Ok(Filter {
             alloc,

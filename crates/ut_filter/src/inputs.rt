@@ -6,16 +6,16 @@ use rk_base::{Bytes, NoMemory, WordList};
 use std::alloc::Global;
 use std::collections::VecDeque;
 
-/// Copies of words.
-pub(crate) fn copies(alloc: Global, words: &[Bytes]) -> Result<VecDeque<Bytes>, NoMemory>
+/// Words as a queue, the first in front.
+pub fn queue_of(alloc: Global, words: &[Bytes]) -> Result<VecDeque<Bytes>, NoMemory>
     ensures { IfOk result (λ q. q.items ≡ words.now) }
 {
-    let mut copies = VecDeque::new(alloc);
+    let mut queue = VecDeque::new(alloc);
     for word in words {
         let word = word.copy()?;
-        copies.push_back(word)?;
+        queue.push_back(word)?;
     }
-    Ok(copies)
+    Ok(queue)
 }
 
 /// The operands, or `-`, the standard input, where there is none.

@@ -15,7 +15,7 @@ mod telling;
 mod work;
 
 pub use filter::Filter;
-pub use inputs::or_dash;
+pub use inputs::{or_dash, queue_of};
 pub use laws::filters_say_what_commands_may;
 pub use lines::{front_line, lines_without};
 pub use made::{Input, InputList, Made};

@@ -73,8 +73,7 @@ fn refuse(alloc: Global, file: &Bytes, errno: Errno) -> Result<Move, NoMemory>
 {
     let word = errno.word().as_bytes();
     let complaint = Complaint::of_operand(alloc, b"grep", file.as_slice(), word, 2)?;
-    let next_move = complain(complaint, Answer::Go)?;
-    Ok(next_move)
+    complain(complaint, Answer::Go)
 }
 
 // A text is no pattern: nothing else is asked.
@@ -83,8 +82,7 @@ fn refuse_pattern(alloc: Global, text: &Bytes) -> Result<Move, NoMemory>
     ensures costly { IfOk result (λ move. IsCostly move.turn) }
 {
     let complaint = Complaint::of_operand(alloc, b"grep", text.as_slice(), b"not valid", 2)?;
-    let next_move = complain(complaint, Answer::Go)?;
-    Ok(next_move)
+    complain(complaint, Answer::Go)
 }
 
 // All texts of patterns are there.
@@ -99,8 +97,7 @@ fn seek(gathered: Gathered) -> Result<Move, NoMemory>
             let grep = Grep::new(patterns, gathered.manner);
             let inputs = or_dash(alloc, gathered.operands)?;
             let machine = Filter::from_number(alloc, &gathered.wd, grep, &inputs, gathered.next)?;
-            let next_move = filter(machine, Answer::Go)?;
-            Ok(next_move)
+            filter(machine, Answer::Go)
         }
     }
 }

@@ -15,6 +15,7 @@ use rk_base::{Bytes, Errno, NoMemory, Path};
 use rk_calls::{Answer, Call, How, Turn, absolute, brought, error_line, turns};
 use std::alloc::Global;
 use std::collections::VecDeque;
+use ut_filter::queue_of;
 
 /// What `tee` waits for, or does next.
 #[derive(Drop)]
@@ -137,8 +138,7 @@ fn write_text(teeing: Teeing, text: Bytes) -> Result<Move, NoMemory>
         return end(teeing);
     }
     let target = output(teeing.alloc)?;
-    let next_move = write(teeing, text, target)?;
-    Ok(next_move)
+    write(teeing, text, target)
 }
 
 fn refuse_input(mut teeing: Teeing, errno: Errno) -> Result<Move, NoMemory>
@@ -222,16 +222,6 @@ fn use_opened(mut teeing: Teeing, file: Bytes, answer: Answer) -> Result<Move, N
     }
 }
 
-fn queue(alloc: Global, words: &[Bytes]) -> Result<VecDeque<Bytes>, NoMemory>
-    ensures { IfOk result (λ q. q.items ≡ words.now) }
-{
-    let mut queue = VecDeque::new(alloc);
-    for word in words {
-        queue.push_back(word.copy()?)?;
-    }
-    Ok(queue)
-}
-
 impl Tee {
     /// `tee` of these files, which are emptied, or written at their ends.
     pub(crate) fn new(
@@ -242,7 +232,7 @@ impl Tee {
     ) -> Result<Tee, NoMemory>
         ensures { IfOk result (λ t. tee_talk t Answer.Go ≡ tees wd.now appends files.now) }
     {
-        let files = queue(alloc, files)?;
+        let files = queue_of(alloc, files)?;
         let wd = wd.copy()?;
         let errors = Bytes::new(alloc, Vec::new(alloc))?;
         Ok(Tee {

@@ -67,8 +67,7 @@ fn refuse(alloc: Global, file: &Bytes, errno: Errno) -> Result<Move, NoMemory>
 {
     let word = errno.word().as_bytes();
     let complaint = Complaint::of_operand(alloc, b"sed", file.as_slice(), word, 1)?;
-    let next_move = complain(complaint, Answer::Go)?;
-    Ok(next_move)
+    complain(complaint, Answer::Go)
 }
 
 // A script isn't valid.
@@ -77,8 +76,7 @@ fn refuse_script(alloc: Global, script: &Bytes) -> Result<Move, NoMemory>
     ensures costly { IfOk result (λ move. IsCostly move.turn) }
 {
     let complaint = Complaint::of_operand(alloc, b"sed", script.as_slice(), b"not valid", 1)?;
-    let next_move = complain(complaint, Answer::Go)?;
-    Ok(next_move)
+    complain(complaint, Answer::Go)
 }
 
 // All commands are there.
@@ -93,8 +91,7 @@ fn edit(gathered: Gathered) -> Result<Move, NoMemory>
     };
     let inputs = or_dash(alloc, gathered.operands)?;
     let machine = Filter::from_number(alloc, &gathered.wd, sed, &inputs, gathered.next)?;
-    let next_move = filter(machine, Answer::Go)?;
-    Ok(next_move)
+    filter(machine, Answer::Go)
 }
 
 fn read(gathered: Gathered, file: Bytes) -> Result<Move, NoMemory>

@@ -1,5 +1,5 @@
 // How `sed` begins.
-ghost use Rattle.std.specs.Prelude.{◌≡◌, ◌∷◌, ◌++◌, [], codes, Some, IfOk, OnOk, MatchOption, option_map};
+ghost use Rattle.std.specs.Prelude.{◌≡◌, ◌∷◌, ◌++◌, [], codes, Some, IfOk, OnOk, option_map};
 ghost use Rattle.ut_args.specs.Usage.{misuses};
 ghost use Rattle.ut_sed.specs.Starts.{gathers, argued_source, source_of, sources_of, sed_first, sed_with, sed_by, sed_options, seds, named, sed_utility};
 ghost use Rattle.ut_sed.specs.Utilities.{sed_talk};
@@ -10,7 +10,7 @@ use rk_base::{Bytes, NoMemory, Path, WordList};
 use rk_calls::Answer;
 use std::alloc::Global;
 use std::collections::VecDeque;
-use ut_args::{Args, Complaint, Form, Given, Opt, begin};
+use ut_args::{Args, Complaint, Form, Given, Opt, begin, copies, first_word};
 
 fn misused(alloc: Global) -> Result<SedUtility, NoMemory>
     ensures { IfOk result (λ u. sed_talk u Answer.Go ≡ misuses (codes "sed") 1) }
@@ -77,25 +77,6 @@ fn sources_of(alloc: Global, given: &[Given]) -> Result<VecDeque<Source>, NoMemo
     Ok(sources)
 }
 
-fn front_word(words: &[Bytes]) -> Option<(&Bytes, &[Bytes])>
-    ensures { MatchOption result (words.now ≡ []) (λ r. words.now ≡ r.0.now ∷ r.1.now) }
-{
-    match words {
-        [] => None,
-        [word, rest @ ..] => Some((word, rest)),
-    }
-}
-
-fn copies(alloc: Global, words: &[Bytes]) -> Result<WordList, NoMemory>
-    ensures { IfOk result (λ list. list ≡ words.now) }
-{
-    let mut list = WordList::new(Vec::new(alloc));
-    for word in words {
-        list.push(word.copy()?)?;
-    }
-    Ok(list)
-}
-
 fn one_source(alloc: Global, script: &Bytes) -> Result<VecDeque<Source>, NoMemory>
     ensures { IfOk result (λ s. s.items ≡ Source.Script script.now ∷ []) }
 {
@@ -114,7 +95,7 @@ fn sed_first(
 ) -> Result<SedUtility, NoMemory>
     ensures { IfOk result (λ u. sed_talk u Answer.Go ≡ sed_first wd.now quiet operands.now) }
 {
-    match front_word(operands) {
+    match first_word(operands) {
         None => misused(alloc),
         Some((script, rest)) => {
             let sources = one_source(alloc, script)?;

@@ -88,8 +88,7 @@ impl Substitution {
         if !name_groups(self.parts.as_slice()) {
             return Ok(GroupList::new(*self.parts.allocator()));
         }
-        let groups = self.expression.groups_in(text, span, marks)?;
-        Ok(groups)
+        self.expression.groups_in(text, span, marks)
     }
 
     // What stands before a match, and the match, which is replaced where none is to be passed over.

@@ -162,14 +162,8 @@ pub(crate) fn tr_of(alloc: Global, args: &Args) -> Result<Option<Tr>, NoMemory>
 {
     match args.operands.as_slice() {
         [] => Ok(None),
-        [a] => {
-            let tr = tr_by_one(alloc, args, a.as_slice())?;
-            Ok(tr)
-        }
-        [a, b] => {
-            let tr = tr_by_two(alloc, args, a.as_slice(), b.as_slice())?;
-            Ok(tr)
-        }
+        [a] => tr_by_one(alloc, args, a.as_slice()),
+        [a, b] => tr_by_two(alloc, args, a.as_slice(), b.as_slice()),
         [_, _, _, ..] => Ok(None),
     }
 }

@@ -156,8 +156,7 @@ fn filter_runs(
 {
     let uniq = uniq_of(args, out);
     let inputs = one(alloc, input)?;
-    let utility = filter_inputs(alloc, wd, TextWork::Uniqs(uniq), &inputs)?;
-    Ok(utility)
+    filter_inputs(alloc, wd, TextWork::Uniqs(uniq), &inputs)
 }
 
 fn filter_runs_into(
@@ -170,8 +169,7 @@ fn filter_runs_into(
     ensures { IfOk result (λ u. text_talk u Answer.Go ≡ filters_runs wd.now args.now input.now (Some out.now)) }
 {
     let out = out.copy()?;
-    let utility = filter_runs(alloc, wd, args, input, Some(out))?;
-    Ok(utility)
+    filter_runs(alloc, wd, args, input, Some(out))
 }
 
 fn uniq_operands(alloc: Global, wd: &Path, args: &Args) -> Result<TextUtility, NoMemory>
@@ -179,14 +177,8 @@ fn uniq_operands(alloc: Global, wd: &Path, args: &Args) -> Result<TextUtility, N
 {
     match args.operands.as_slice() {
         [] => filter_runs(alloc, wd, args, b"-", None),
-        [input] => {
-            let utility = filter_runs(alloc, wd, args, input.as_slice(), None)?;
-            Ok(utility)
-        }
-        [input, out] => {
-            let utility = filter_runs_into(alloc, wd, args, input.as_slice(), out)?;
-            Ok(utility)
-        }
+        [input] => filter_runs(alloc, wd, args, input.as_slice(), None),
+        [input, out] => filter_runs_into(alloc, wd, args, input.as_slice(), out),
         [_, _, _, ..] => misused(alloc, b"uniq", 1),
     }
 }
@@ -224,8 +216,7 @@ fn compare(
     ensures { IfOk result (λ u. text_talk u Answer.Go ≡ filters (cmp_job cmp) wd.now (a.now ∷ b.now ∷ [])) }
 {
     let inputs = two(alloc, a, b)?;
-    let utility = filter_inputs(alloc, wd, TextWork::Cmps(cmp), &inputs)?;
-    Ok(utility)
+    filter_inputs(alloc, wd, TextWork::Cmps(cmp), &inputs)
 }
 
 fn cmp_operands(
@@ -239,10 +230,7 @@ fn cmp_operands(
     match operands.as_slice() {
         [] => misused(alloc, b"cmp", 2),
         [_] => misused(alloc, b"cmp", 2),
-        [a, b] => {
-            let utility = compare(alloc, wd, cmp, a, b)?;
-            Ok(utility)
-        }
+        [a, b] => compare(alloc, wd, cmp, a, b),
         [_, _, _, ..] => misused(alloc, b"cmp", 2),
     }
 }
