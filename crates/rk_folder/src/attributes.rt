@@ -63,15 +63,9 @@ fn put_by(row: &AttrRow, in_dir: bool, it: Option<&Node>) -> Result<Option<Entry
     ensures { IfOk result (λ e. option_map node_of e ≡ put_by row.now in_dir (option_copied it.entry)) }
 {
     match row {
-        AttrRow::FileMode(mode) => {
-            let it = file_with(*mode, it)?;
-            Ok(it)
-        }
+        AttrRow::FileMode(mode) => file_with(*mode, it),
         AttrRow::DirMode(mode) => Ok(dir_with(*mode, it)),
-        AttrRow::Link(text) => {
-            let it = link_in(text, in_dir, it)?;
-            Ok(it)
-        }
+        AttrRow::Link(text) => link_in(text, in_dir, it),
     }
 }
 

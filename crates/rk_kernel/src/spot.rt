@@ -47,10 +47,7 @@ pub(crate) fn spot_at(
     match rk_walk::resolve(tree, path, follow) {
         Err(e) => Ok(Spot::Fails(e)),
         Ok(place) => match place {
-            Place::Found(here) => {
-                let spot = found(alloc, &here)?;
-                Ok(spot)
-            }
+            Place::Found(here) => found(alloc, &here),
             Place::Absent { dir, name, slash } => {
                 let name = name.to_name(alloc)?;
                 Ok(Spot::Absent(dir, name, slash))

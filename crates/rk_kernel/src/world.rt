@@ -86,8 +86,7 @@ impl World {
         ensures snapshot { IfOk result (λ s. s ≡ snapshot_of self.now.tree) }
         ensures whole { IfOk result IsWholeSnapshot }
     {
-        let snapshot = self.tree.snapshot()?;
-        Ok(snapshot)
+        self.tree.snapshot()
     }
 
     fn allocator(&self) -> Global {

@@ -74,9 +74,6 @@ pub(crate) fn hear<K: Maker>(
             let spoke = advance(machine, answer, purse)?;
             Ok(spoke)
         }
-        Activity::Replays(rec, at) => {
-            let spoke = hear_record(maker, old, *rec, *at, purse)?;
-            Ok(spoke)
-        }
+        Activity::Replays(rec, at) => hear_record(maker, old, *rec, *at, purse),
     }
 }

@@ -6,8 +6,8 @@ use crate::program::{Built, Cut, ENOUGH, End, Program, WHOLE, build_within};
 use rk_base::{NoMemory, Path};
 use rk_folder::{Folder, FolderErr, MemFolder};
 use rk_sessions::{
-    Step, StepKind, asks_change, bytes_of, contents, has_line, kind_at, number, ran, rows_at,
-    shown, size, steps_of, text_at, turns, unexplained,
+    SessionStep, StepKind, asks_change, bytes_of, contents, has_line, kind_at, number, ran,
+    rows_at, shown, size, steps_of, text_at, turns, unexplained,
 };
 use std::alloc::Global;
 
@@ -292,7 +292,7 @@ impl<P: Program> Session<P> {
         self.tell("twin", twin.as_str(), wanted)
     }
 
-    fn take(&mut self, step: &Step) -> Result<(), NoMemory> {
+    fn take(&mut self, step: &SessionStep) -> Result<(), NoMemory> {
         let rest = step.rest.as_str();
         let text = step.text.as_str();
         match step.kind {
@@ -321,7 +321,7 @@ impl<P: Program> Session<P> {
     }
 
     // What a folder, its state files and the sinks have to bear.
-    fn bear(&mut self, step: &Step) -> Result<(), NoMemory> {
+    fn bear(&mut self, step: &SessionStep) -> Result<(), NoMemory> {
         let rest = step.rest.as_str();
         let text = step.text.as_str();
         match step.kind {

@@ -4,7 +4,7 @@ use crate::talks::{answer_of, call_of};
 use rk_base::{Bytes, NoMemory};
 use std::alloc::Global;
 use tr_codec::{read_db, write_db};
-use tr_record::{Record, SessionStep, StepList, Table};
+use tr_record::{Record, Step, StepList, Table};
 
 /// The first bytes, so many of them.
 pub fn cut(alloc: Global, bytes: &[u8], most: usize) -> Result<Vec<u8>, NoMemory> {
@@ -61,11 +61,7 @@ fn change_of(line: &str) -> Change<'_> {
 }
 
 // A step with this change.
-fn changed(
-    alloc: Global,
-    step: &SessionStep,
-    change: &Change<'_>,
-) -> Result<SessionStep, NoMemory> {
+fn changed(alloc: Global, step: &Step, change: &Change<'_>) -> Result<Step, NoMemory> {
     let mut copy = step.copy()?;
     match change.part {
         "cost" => copy.cost = turns(change.value),

@@ -4,7 +4,7 @@ use rk_base::{Bytes, Errno, FileType, Name, NameList, NoMemory, Path, VarList, W
 use rk_calls::{Answer, Call, How, Key};
 use std::alloc::Global;
 use tr_codec::write_db;
-use tr_record::{SessionStep, StepList, Table};
+use tr_record::{Step, StepList, Table};
 
 // The mode of octal digits.
 fn mode(text: &str) -> u16 {
@@ -136,11 +136,11 @@ pub fn answer_of(alloc: Global, text: &str) -> Result<Answer, NoMemory> {
 }
 
 // The step of a line: its cost, its call, and its answer behind ` -> `.
-fn step_of(alloc: Global, line: &str) -> Result<SessionStep, NoMemory> {
+fn step_of(alloc: Global, line: &str) -> Result<Step, NoMemory> {
     let (asked, answer) = line.split_once(" -> ").unwrap_or((line, ""));
     let (cost, call) = asked.split_once(' ').unwrap_or((asked, ""));
     let (word, rest) = call.split_once(' ').unwrap_or((call, ""));
-    Ok(SessionStep {
+    Ok(Step {
         cost: turns(cost),
         call: call_of(alloc, word, rest)?,
         answer: answer_of(alloc, answer)?,

@@ -100,8 +100,7 @@ pub(crate) fn leave(
         Then::Assign(quoted, name, outer) => {
             let text = text_of(alloc, marks.as_slice())?;
             *marks = outer.into_vec();
-            let left = assign(alloc, quoted, name, text.as_slice(), marks, env)?;
-            Ok(left)
+            assign(alloc, quoted, name, text.as_slice(), marks, env)
         }
         Then::Message(parameter) => {
             let message = text_of(alloc, marks.as_slice())?;
@@ -124,8 +123,7 @@ pub(crate) fn leave(
         Then::Compute(quoted, outer) => {
             let text = text_of(alloc, marks.as_slice())?;
             *marks = outer.into_vec();
-            let left = compute(alloc, quoted, text.as_slice(), marks, env)?;
-            Ok(left)
+            compute(alloc, quoted, text.as_slice(), marks, env)
         }
     }
 }

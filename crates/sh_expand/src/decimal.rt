@@ -47,6 +47,5 @@ pub(crate) fn digits(alloc: Global, n: u64) -> Result<Bytes, NoMemory>
     ensures { IfOk result (λ text. text ≡ decimal n) }
 {
     let digits = format!(in alloc; "{n}")?;
-    let digits = Bytes::from_slice(alloc, digits.as_bytes())?;
-    Ok(digits)
+    Bytes::from_slice(alloc, digits.as_bytes())
 }

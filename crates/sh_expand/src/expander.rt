@@ -164,8 +164,7 @@ fn finish(
     match mode {
         Mode::Fields => {
             let names = cut(alloc, env, marks)?;
-            let turn = run(alloc, env, names)?;
-            Ok(turn)
+            run(alloc, env, names)
         }
         Mode::Value => {
             let text = text_of(alloc, marks)?;

@@ -113,10 +113,7 @@ fn parts_in(alloc: Global, word: &Option<Rc<Parts>>) -> Result<Rc<Parts>, NoMemo
             )?;
             Ok(none)
         }
-        Some(word) => {
-            let word = share(word)?;
-            Ok(word)
-        }
+        Some(word) => share(word),
     }
 }
 
@@ -137,8 +134,7 @@ impl<'a> ParameterUse<'a> {
         ensures does { IfOk result (Does (λ body ms k fail e. unset self.now.env.now.nounset self.now.quoted self.now.parameter.now ms k fail e) self.now.env.now marks.old.items marks.new.items) }
     {
         if self.env.nounset {
-            let acted = fault(self.alloc, self.parameter, b"not set")?;
-            return Ok(acted);
+            return fault(self.alloc, self.parameter, b"not set");
         }
         put_given(self.quoted, b"", marks)?;
         Ok(Acted::Put)
@@ -173,8 +169,7 @@ impl<'a> ParameterUse<'a> {
         ensures does { IfOk result (Does (λ body ms k fail e. unmeasured self.now.env.now.nounset self.now.quoted self.now.parameter.now ms k fail e) self.now.env.now marks.old.items marks.new.items) }
     {
         if self.env.nounset {
-            let acted = fault(self.alloc, self.parameter, b"not set")?;
-            return Ok(acted);
+            return fault(self.alloc, self.parameter, b"not set");
         }
         put_given(self.quoted, b"0", marks)?;
         Ok(Acted::Put)
@@ -273,22 +268,10 @@ impl<'a> ParameterUse<'a> {
         ensures does { IfOk result (Does (used_by by true self.now.splits self.now.quoted self.now.parameter.now (word_of word.now)) self.now.env.now marks.old.items marks.new.items) }
     {
         match by {
-            Substitute::Default => {
-                let acted = self.put_values(marks)?;
-                Ok(acted)
-            }
-            Substitute::Assign => {
-                let acted = self.put_values(marks)?;
-                Ok(acted)
-            }
-            Substitute::Fault => {
-                let acted = self.put_values(marks)?;
-                Ok(acted)
-            }
-            Substitute::Alternative => {
-                let acted = put_word(self.splits, self.quoted, word, marks)?;
-                Ok(acted)
-            }
+            Substitute::Default => self.put_values(marks),
+            Substitute::Assign => self.put_values(marks),
+            Substitute::Fault => self.put_values(marks),
+            Substitute::Alternative => put_word(self.splits, self.quoted, word, marks),
         }
     }
 
@@ -303,18 +286,9 @@ impl<'a> ParameterUse<'a> {
         ensures does { IfOk result (λ acted. (e : Env) → Does (used_by by false self.now.splits self.now.quoted self.now.parameter.now (word_of word.now)) e marks.old.items marks.new.items acted) }
     {
         match by {
-            Substitute::Default => {
-                let acted = put_word(self.splits, self.quoted, word, marks)?;
-                Ok(acted)
-            }
-            Substitute::Assign => {
-                let acted = self.assign_word(word, marks)?;
-                Ok(acted)
-            }
-            Substitute::Fault => {
-                let acted = self.fail_with(word, marks)?;
-                Ok(acted)
-            }
+            Substitute::Default => put_word(self.splits, self.quoted, word, marks),
+            Substitute::Assign => self.assign_word(word, marks),
+            Substitute::Fault => self.fail_with(word, marks),
             Substitute::Alternative => {
                 put_given(self.quoted, b"", marks)?;
                 Ok(Acted::Put)
@@ -335,11 +309,9 @@ impl<'a> ParameterUse<'a> {
     {
         let text = value(self.alloc, self.env, self.parameter)?;
         if counts(condition, text.as_ref()) {
-            let acted = self.use_set(by, word, marks)?;
-            return Ok(acted);
+            return self.use_set(by, word, marks);
         }
-        let acted = self.use_unset(by, word, marks)?;
-        Ok(acted)
+        self.use_unset(by, word, marks)
     }
 }
 

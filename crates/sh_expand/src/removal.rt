@@ -42,8 +42,7 @@ fn kept<'a>(removal: Removal, pattern: &[u8], text: &'a [u8]) -> &'a [u8]
 fn removed(alloc: Global, removal: Removal, pattern: &[u8], text: &[u8]) -> Result<Bytes, NoMemory>
     ensures { IfOk result (λ value. value ≡ removed removal pattern.now text.now) }
 {
-    let value = Bytes::from_slice(alloc, kept(removal, pattern, text))?;
-    Ok(value)
+    Bytes::from_slice(alloc, kept(removal, pattern, text))
 }
 
 /// The same of each word.

@@ -82,8 +82,7 @@ fn words_of(alloc: Global, text: &[u8], fault: &ScriptFault) -> Result<Bytes, No
     words.extend_from_slice(digits.as_bytes())?;
     words.extend_from_slice(b": ")?;
     push_why(&mut words, &fault.why)?;
-    let words = Bytes::new(alloc, words)?;
-    Ok(words)
+    Bytes::new(alloc, words)
 }
 
 /// The commands of a text, or the words of its fault.

@@ -157,6 +157,5 @@ pub fn captured(alloc: Global, text: &[u8]) -> Result<Bytes, NoMemory>
 {
     let kept = without_nuls(alloc, text)?;
     let end = length_without_newlines(kept.as_slice());
-    let text = Bytes::from_slice(alloc, kept.as_slice().split_at(end).0)?;
-    Ok(text)
+    Bytes::from_slice(alloc, kept.as_slice().split_at(end).0)
 }

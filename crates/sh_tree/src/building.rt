@@ -24,8 +24,7 @@ pub fn build(alloc: Global, mut marks: Marks) -> Result<Rc<CommandList>, NoMemor
     'marks: while let Some(mark) = marks.pop() {
         add(&mut b, alloc, mark)?;
     }
-    let list = list_in(alloc, b.pop())?;
-    Ok(list)
+    list_in(alloc, b.pop())
 }
 
 #[tactic(auto, unfolding(crate::specs::Seen::seen, sh_script::specs::Folds::marked))]

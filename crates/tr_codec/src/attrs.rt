@@ -159,8 +159,7 @@ fn rows_of(alloc: Global, bytes: &[u8]) -> Result<Attrs, PartErr>
     ensures { Gives (λ a. a) result (rows_at bytes.now) }
 {
     let (rows, _) = counted_rows(alloc, bytes)?;
-    let attrs = attrs_from(rows)?;
-    Ok(attrs)
+    attrs_from(rows)
 }
 
 // What a body may spell. The four bytes at its front are not looked at.

@@ -88,7 +88,8 @@ impl Substitution {
         if !name_groups(self.parts.as_slice()) {
             return Ok(GroupList::new(*self.parts.allocator()));
         }
-        self.expression.groups_in(text, span, marks)
+        let groups = self.expression.groups_in(text, span, marks)?;
+        Ok(groups)
     }
 
     // What stands before a match, and the match, which is replaced where none is to be passed over.

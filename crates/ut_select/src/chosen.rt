@@ -75,8 +75,7 @@ fn first_set(alloc: Global, args: &Args, a: &[u8]) -> Result<Vec<u8>, NoMemory>
 {
     let set = set_of(alloc, a)?;
     if args.given.has(b'c') {
-        let others = complement(alloc, set.as_slice())?;
-        return Ok(others);
+        return complement(alloc, set.as_slice());
     }
     Ok(set)
 }

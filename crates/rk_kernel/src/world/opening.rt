@@ -115,8 +115,7 @@ impl World {
             return Ok(Answer::No(Errno::Denied));
         }
         self.empties(how, n)?;
-        let answer = self.opens(refs, how, n)?;
-        Ok(answer)
+        self.opens(refs, how, n)
     }
 
     /// Opens a file.
@@ -131,14 +130,8 @@ impl World {
         let spot = strict_spot_at(self.allocator(), &self.tree, path.as_slice(), true)?;
         match spot {
             Spot::Fails(e) => Ok(Answer::No(e)),
-            Spot::Absent(dir, name, slash) => {
-                let answer = self.open_absent(refs, how, dir, name, slash)?;
-                Ok(answer)
-            }
-            Spot::Found(n, up, slash) => {
-                let answer = self.open_found(refs, how, n, up, slash)?;
-                Ok(answer)
-            }
+            Spot::Absent(dir, name, slash) => self.open_absent(refs, how, dir, name, slash),
+            Spot::Found(n, up, slash) => self.open_found(refs, how, n, up, slash),
         }
     }
 }
