@@ -7,3 +7,4 @@ pub mod Modes
 pub mod Sizes
 pub mod Walking
 pub mod Lines
+pub mod FirstBytes

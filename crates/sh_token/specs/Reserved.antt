@@ -1,13 +1,17 @@
 -- Reserved words (XCU 2.4).
 use Rattle.std.specs.Prelude.{ℕ, ◌==◌, List, [], ◌∷◌, drop, slice_index, codes, Bool, if◌then◌else◌, None}
 use Rattle.sh_rules.specs.declared.token_kind.TokenKind.TheVariants as k
-use Rattle.sh_token.specs.Bytes.{◌also◌, is_end}
+use Rattle.sh_token.specs.Bytes.{◌or◌, ◌also◌, is_end}
 use Rattle.sh_token.specs.Tokens.{Look, token}
 
 -- a word is what a text begins with, and ends there
 abbrev pub is_word : List ℕ → List ℕ → Bool
 is_word [] text = is_end (slice_index text 0)
 is_word (w ∷ ws) text = (slice_index text 0 == w) also is_word ws (drop 1 text)
+
+-- the first bytes of those that begin a command
+abbrev pub may_open : ℕ → Bool
+may_open c = c == 33 or (c == 123 or (c == 105 or (c == 102 or (c == 99 or (c == 119 or c == 117)))))
 
 -- those that begin a command
 unfoldable pub opener : List ℕ → Look
@@ -20,6 +24,10 @@ opener text =
     else if is_word (codes "while") text then token k.While 5
     else if is_word (codes "until") text then token k.Until 5
     else None
+
+-- the first bytes of those that close a compound command, or go on with it
+abbrev pub may_close : ℕ → Bool
+may_close c = c == 125 or (c == 116 or (c == 101 or (c == 102 or c == 100)))
 
 -- those that close a compound command, or go on with it, but esac
 unfoldable pub closer : List ℕ → Look

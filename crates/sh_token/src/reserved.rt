@@ -1,7 +1,7 @@
 // Reserved words (XCU 2.4).
 ghost use Rattle.std.specs.Prelude.{◌≡◌};
 ghost use Rattle.sh_token.specs.Folded.{folded};
-ghost use Rattle.sh_token.specs.Reserved.{is_word as word_lem, opener as opener_lem, closer as closer_lem};
+ghost use Rattle.sh_token.specs.Reserved.{is_word as word_lem, opener as opener_lem, closer as closer_lem, may_open as may_open_lem, may_close as may_close_lem};
 
 use crate::bytes::is_end;
 use crate::folded::{first, rest};
@@ -21,9 +21,15 @@ pub fn is_word(word: &[u8], text: &[u8]) -> bool
     is_end(first(left))
 }
 
-/// The reserved word that a text begins with, of those that begin a command.
+// A reserved word that begins a command begins with this byte.
+fn may_open(c: u8) -> bool
+    ensures { result ≡ may_open_lem c }
+{
+    c == b'!' || c == b'{' || c == b'i' || c == b'f' || c == b'c' || c == b'w' || c == b'u'
+}
+
 #[tactic(auto, unfolding(crate::specs::Reserved::opener))]
-pub fn opener(text: &[u8]) -> Option<(TokenKind, usize)>
+fn opener_of(text: &[u8]) -> Option<(TokenKind, usize)>
     ensures { result ≡ opener_lem (folded text.now) }
 {
     if is_word(b"!", text) {
@@ -45,9 +51,26 @@ pub fn opener(text: &[u8]) -> Option<(TokenKind, usize)>
     }
 }
 
-/// The reserved word that a text begins with, of those but `esac` that close a compound command or go on with it.
+/// The reserved word that a text begins with, of those that begin a command.
+pub fn opener(text: &[u8]) -> Option<(TokenKind, usize)>
+    ensures { result ≡ opener_lem (folded text.now) }
+{
+    if may_open(first(text)) {
+        opener_of(text)
+    } else {
+        None
+    }
+}
+
+// One that closes a compound command, or goes on with it, begins with this byte.
+fn may_close(c: u8) -> bool
+    ensures { result ≡ may_close_lem c }
+{
+    c == b'}' || c == b't' || c == b'e' || c == b'f' || c == b'd'
+}
+
 #[tactic(auto, unfolding(crate::specs::Reserved::closer))]
-pub fn closer(text: &[u8]) -> Option<(TokenKind, usize)>
+fn closer_of(text: &[u8]) -> Option<(TokenKind, usize)>
     ensures { result ≡ closer_lem (folded text.now) }
 {
     if is_word(b"}", text) {
@@ -64,6 +87,17 @@ pub fn closer(text: &[u8]) -> Option<(TokenKind, usize)>
         Some((TokenKind::Do, 2))
     } else if is_word(b"done", text) {
         Some((TokenKind::Done, 4))
+    } else {
+        None
+    }
+}
+
+/// The reserved word that a text begins with, of those but `esac` that close a compound command or go on with it.
+pub fn closer(text: &[u8]) -> Option<(TokenKind, usize)>
+    ensures { result ≡ closer_lem (folded text.now) }
+{
+    if may_close(first(text)) {
+        closer_of(text)
     } else {
         None
     }
