@@ -34,7 +34,7 @@ pub struct Built {
 /// The program whose builds the sessions are of.
 pub trait Program: Drop {
     /// What these words ask for, of which the first is the program's name.
-    fn call(
+    fn invoke(
         &self,
         alloc: Global,
         words: &[String],
@@ -43,8 +43,8 @@ pub trait Program: Drop {
         err: MemSink,
     ) -> Built;
 
-    /// How many commands a build starts, which checks the records or doesn't, within so many turns.
-    fn started(&self, alloc: Global, turns: u32, check: bool, folder: &mut MemFolder) -> u64;
+    /// How many commands a build starts, which checks the records or doesn't.
+    fn started(&self, alloc: Global, check: bool, folder: &mut MemFolder) -> u64;
 }
 
 /// The put that is to fail, from 1 on, and how many bytes go out before; none where its number is 0.
@@ -77,7 +77,7 @@ pub(crate) fn build_within<P: Program>(
     words.push(format!(in alloc; "{turns}")?)?;
     let out = MemSink::new(alloc);
     let err = MemSink::new(alloc);
-    Ok(program.call(alloc, &words, folder, out, err))
+    Ok(program.invoke(alloc, &words, folder, out, err))
 }
 
 // The words of a line, of which `''` is the empty one; none where the line is empty.
@@ -105,5 +105,5 @@ pub(crate) fn ask_in<P: Program>(
     let (output, errors) = cuts;
     let out = sink(alloc, output)?;
     let err = sink(alloc, errors)?;
-    Ok(program.call(alloc, &words, folder, out, err))
+    Ok(program.invoke(alloc, &words, folder, out, err))
 }

@@ -9,6 +9,9 @@ use std::alloc::Global;
 use std::marker::Brand;
 use std::sync::ledger::{Blank, Ledger};
 
+// More turns than a session needs.
+const ENOUGH: u32 = 1_000_000;
+
 /// The program itself.
 #[derive(Clone, Copy)]
 pub(crate) struct Rkr;
@@ -29,7 +32,7 @@ fn end_of(outcome: &Outcome) -> End {
     }
 }
 
-fn call<L: Ledger>(
+fn invoke<L: Ledger>(
     alloc: Global,
     words: &[String],
     folder: &mut MemFolder,
@@ -53,22 +56,13 @@ fn call<L: Ledger>(
     }
 }
 
-fn started<L: Ledger>(
-    alloc: Global,
-    steps: u32,
-    check: bool,
-    folder: &mut MemFolder,
-    blank: Blank,
-) -> u64
+fn started<L: Ledger>(alloc: Global, check: bool, folder: &mut MemFolder, blank: Blank) -> u64
     requires name { blank.name ≡ L.name }
     requires parts { blank.parts ≡ L.parts }
     requires some { 0 < L.parts }
 {
-    if steps == 0 {
-        return 0;
-    }
     let request = Request::Build {
-        steps,
+        steps: ENOUGH,
         explain: false,
         fresh: false,
         check,
@@ -84,7 +78,7 @@ fn started<L: Ledger>(
 }
 
 impl Program for Rkr {
-    fn call(
+    fn invoke(
         &self,
         alloc: Global,
         words: &[String],
@@ -92,10 +86,10 @@ impl Program for Rkr {
         out: MemSink,
         err: MemSink,
     ) -> Built {
-        call::<Brand>(alloc, words, folder, out, err, Blank::new(1))
+        invoke::<Brand>(alloc, words, folder, out, err, Blank::new(1))
     }
 
-    fn started(&self, alloc: Global, turns: u32, check: bool, folder: &mut MemFolder) -> u64 {
-        started::<Brand>(alloc, turns, check, folder, Blank::new(1))
+    fn started(&self, alloc: Global, check: bool, folder: &mut MemFolder) -> u64 {
+        started::<Brand>(alloc, check, folder, Blank::new(1))
     }
 }

@@ -1,6 +1,6 @@
 // What is asked in a session, what the program told, and what it did to the folder.
 use super::{Session, at, digits, status_shown};
-use crate::program::{ENOUGH, End, Program, WHOLE, ask_in};
+use crate::program::{End, Program, WHOLE, ask_in};
 use rk_base::NoMemory;
 use rk_folder::MemFolder;
 use rk_sessions::{asks_change, calls_shown, changes_shown, db_of, has_numbered, shown};
@@ -89,7 +89,7 @@ impl<P: Program> Session<P> {
         let is_checked = flag == "--check";
         let count = self
             .program
-            .started(self.alloc, ENOUGH, is_checked, &mut self.folder);
+            .started(self.alloc, is_checked, &mut self.folder);
         let came = digits(self.alloc, count)?;
         self.tell("starts", came.as_str(), wanted)
     }
