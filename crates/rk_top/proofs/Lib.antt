@@ -1,5 +1,3 @@
 pub mod AskLemmas
-pub mod GeneratedLemmas
-pub mod OneLineLemmas
 pub mod QueryLemmas
 pub mod ServeLemmas

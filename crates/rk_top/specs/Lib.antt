@@ -4,6 +4,5 @@ pub mod Running
 pub mod UnknownTalk
 pub mod Asks
 pub mod Queries
-pub mod Generated
 pub mod Outside
 pub mod Serves

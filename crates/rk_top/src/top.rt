@@ -4,12 +4,12 @@ ghost use Rattle.rk_request.specs.Asked.{turns, IfBuild};
 ghost use Rattle.rk_top.specs.Serves.{Serves, Works};
 
 use crate::commands::Commands;
-use crate::generate::tell_workload;
 use crate::queries::{check_records, forget_records, show_records};
 use rk_base::Steps;
 use rk_build::{Outcome, build_in, tell};
 use rk_folder::{Folder, Sink};
 use rk_request::{Request, RequestErr, request};
+use rk_workload::tell_workload;
 use std::alloc::Global;
 use std::sync::ledger::Ledger;
 
@@ -58,7 +58,10 @@ fn work<F: Folder, O: Sink, E: Sink, L: Ledger>(
         Request::Check => check_records(alloc, folder, out),
         Request::Trace { json } => show_records(alloc, *json, folder, out),
         Request::Forget => forget_records(alloc, folder, out),
-        Request::Gen(seed) => tell_workload(alloc, *seed, out, live),
+        Request::Gen(seed) => {
+            let mut maker = Commands::new(alloc);
+            tell_workload(alloc, &mut maker, *seed, out, live)
+        }
     }
 }
 

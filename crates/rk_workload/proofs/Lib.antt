@@ -1,0 +1,2 @@
+pub mod GeneratedLemmas
+pub mod OneLineLemmas
