@@ -94,6 +94,7 @@ impl<P: Program> Session<P> {
         self.told.as_str()
     }
 
+    /// How many builds and requests were looked at.
     pub fn builds(&self) -> u64 {
         self.builds
     }
