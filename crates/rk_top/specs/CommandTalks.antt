@@ -15,7 +15,7 @@ use Rattle.ut_select.specs.Starts.{select_utility}
 use Rattle.ut_sort.specs.Starts.{sort_utility}
 use Rattle.ut_text.specs.Starts.{text_utility}
 use Rattle.sh_builtin.specs.Laws.{talk-builtin_command}
-use Rattle.sh_script.proofs.ReadAs.{reads}
+use Rattle.sh_script.specs.Reads.{reads}
 use Rattle.sh_means.specs.StartLaws.{shell-talk}
 use Rattle.ut_args.specs.Usage.{talk-complains}
 use Rattle.ut_copy.specs.Utilities.{copy_utility, talk-copy_utility}

@@ -5,7 +5,7 @@ use Rattle.rk_calls.specs.Keys.{KeyValue, takes_variables}
 use Rattle.rk_calls.specs.Talk.{Says, pay}
 use Rattle.rk_top.specs.UnknownTalk.{is_unknown}
 use Rattle.sh_builtin.specs.Commands.{builtin_command}
-use Rattle.sh_script.proofs.ReadAs.{reads}
+use Rattle.sh_script.specs.Reads.{reads}
 use Rattle.sh_means.specs.Starts.{shell_says}
 use Rattle.ut_copy.specs.Utilities.{copy_utility}
 use Rattle.ut_files.specs.Utilities.{file_utility}

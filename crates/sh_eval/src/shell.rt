@@ -4,7 +4,7 @@ ghost use Rattle.rk_base.specs.Text.{Text};
 ghost use Rattle.sh_vars.specs.Held.{assigned, given};
 ghost use Rattle.sh_means.specs.Eval.{over};
 ghost use Rattle.sh_eval.specs.Machine.{evaluator_says};
-ghost use Rattle.sh_script.proofs.ReadAs.{reads};
+ghost use Rattle.sh_script.specs.Reads.{reads};
 ghost use Rattle.sh_means.specs.Run.{run};
 ghost use Rattle.sh_eval.specs.Starting.{NoneReadonly, shell_talk};
 ghost use Rattle.sh_special.specs.Invocation.{start_of};

@@ -19,7 +19,7 @@ use Rattle.sh_means.specs.declared.flow.Place.{Place}
 use Rattle.sh_means.specs.declared.state.Callee.{Callee}
 use Rattle.sh_means.specs.Compound.{compound_means}
 use Rattle.sh_script.specs.Reads.{Reading, Script, Faulty}
-use Rattle.sh_script.proofs.ReadAs.{reads}
+use Rattle.sh_script.specs.Reads.{reads}
 use Rattle.sh_means.specs.Eval.{reading_means, compound_in, redirects_in}
 use Rattle.sh_means.specs.Flows.{Next, in_function, in_script, ignoring, deeper, tells, ends, sh}
 use Rattle.sh_means.specs.Laws.{run-is}

@@ -1,7 +1,7 @@
 // Texts as scripts, and their faults in words (XCU 2.10).
 ghost use Rattle.std.specs.Prelude.{◌≡◌, ◌++◌, ◌+◌, ◌^◌, ◌<◌, ◌≤◌, ◌==◌, if◌then◌else◌, length, take, IfOk, OnOk};
 ghost use Rattle.sh_script.specs.Reads.{newlines, line_of, why_words, fault_words};
-ghost use Rattle.sh_script.proofs.ReadAs.{reads};
+ghost use Rattle.sh_script.specs.Reads.{reads};
 ghost use Rattle.sh_parse.specs.Readings.{reading_of};
 
 use crate::script::{ReadErr, read_script};

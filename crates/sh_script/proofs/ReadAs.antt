@@ -1,30 +1,26 @@
--- What a text reads as, by the proof that it is a script or faulty, so no file of specs can have it.
-use Rattle.std.proofs.Common.{◌≡◌, ap, inl, inr}
+-- What a text reads as is the script that it is, or the words of its fault.
+use Rattle.std.proofs.Common.{◌≡◌, ap, sym, ◌∙◌}
 use Rattle.rk_base.specs.Text.{Text}
 use Rattle.sh_ast.specs.Commands.{CommandsTree}
 use Rattle.sh_token.specs.declared.fault.ScriptFault.{ScriptFault}
 use Rattle.sh_script.specs.Scripts.{IsScript, IsFaulty}
-use Rattle.sh_script.specs.Reads.{Reading, Script, Faulty, fault_words, One_of, read_as}
-use Rattle.sh_script.proofs.Whole.{some, one_script_there, one_fault_there, not_both_there}
+use Rattle.sh_script.specs.Reads.{Reading, Script, Faulty, fault_words, reads}
+use Rattle.sh_script.proofs.Whole.{ReadsSo, reads_so_there, one_script_there, one_fault_there, not_both_there}
 
--- a text is one script or has one fault, and no other
-unfoldable pub reads : Text → Reading
-reads text = read_as text (some text)
+as_script : (text : Text) (s : CommandsTree) (r : Reading) → ReadsSo text r → IsScript text s → Script s ≡ r
+unfolding ReadsSo
+as_script text s (Script t) so is = ap Script (one_script_there text s t is so)
+as_script text s (Faulty words) so is = absurd (not_both_there text s so.0 is so.1)
 
-as_script : (text : Text) (s : CommandsTree) (one : One_of text) → IsScript text s → Script s ≡ read_as text one
-as_script text s (inl t) is = ap Script (one_script_there text s t.0 is t.1)
-as_script text s (inr f) is = absurd (not_both_there text s f.0 is f.1)
-
-as_fault : (text : Text) (f : ScriptFault) (one : One_of text) → IsFaulty text f → Faulty (fault_words text f) ≡ read_as text one
-as_fault text f (inl s) is = absurd (not_both_there text s.0 f s.1 is)
-as_fault text f (inr g) is = ap (λ (f : ScriptFault). Faulty (fault_words text f)) (one_fault_there text f g.0 is g.1)
+as_fault : (text : Text) (f : ScriptFault) (r : Reading) → ReadsSo text r → IsFaulty text f → Faulty (fault_words text f) ≡ r
+unfolding ReadsSo
+as_fault text f (Script s) so is = absurd (not_both_there text s f so is)
+as_fault text f (Faulty words) so is = ap (λ (g : ScriptFault). Faulty (fault_words text g)) (one_fault_there text f so.0 is so.1) ∙ ap Faulty (sym so.2)
 
 -- a script that the text is
 pub script_read : (text : Text) (s : CommandsTree) → IsScript text s → Script s ≡ reads text
-unfolding reads
-script_read text s is = as_script text s (some text) is
+script_read text s is = as_script text s (reads text) (reads_so_there text) is
 
 -- the words of its fault
 pub fault_read : (text : Text) (f : ScriptFault) → IsFaulty text f → Faulty (fault_words text f) ≡ reads text
-unfolding reads
-fault_read text f is = as_fault text f (some text) is
+fault_read text f is = as_fault text f (reads text) (reads_so_there text) is

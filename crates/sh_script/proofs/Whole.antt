@@ -1,6 +1,8 @@
 -- From what is read to scripts and faults.
-use Rattle.std.proofs.Common.{arith, ◌≡◌, ◌<◌, ◌≤◌, ℕ, List, [], ◌∷◌, true, refl, sym, ap, ◌∙◌, subst, ◌⊎◌, inl, inr, append-nil, length}
-use Rattle.std.proofs.lemmas.Bool.{cases_lt}
+use Rattle.std.proofs.Common.{arith, ◌≡◌, ◌<◌, ◌≤◌, ℕ, List, [], ◌∷◌, Bool, true, false, refl, sym, ap, ◌∙◌, subst, ◌⊎◌, inl, inr, append-nil, length}
+use Rattle.std.specs.Prelude.{nat_lt, if◌then◌else◌}
+use Rattle.std.proofs.lemmas.Bool.{ltb-true, ltb-false}
+use Rattle.rk_base.specs.Text.{Text}
 use Rattle.sh_rules.specs.Grammar.{Want, Parses, no_parses, leaves_all}
 use Rattle.sh_rules.specs.Reading.{ReadsAll, Halt}
 use Rattle.sh_rules.specs.Checked.{FirstAll, Checked, ModesAgree}
@@ -30,7 +32,9 @@ use Rattle.sh_script.specs.Outcomes.{IsRead, IsStuck}
 use Rattle.sh_script.specs.Folds.{script_of, script_marked}
 use Rattle.sh_script.specs.Scripts.{longest, Spells, StopsAt, IsScript, IsFaulty}
 use Rattle.sh_script.proofs.FoldLemmas.{script_by_marks}
-use Rattle.sh_script.proofs.Existing.{Shortens, ComesToAnEnd, each_ends}
+use Rattle.sh_script.specs.Predicting.{End, Read, Stuck, end_of}
+use Rattle.sh_script.specs.Reads.{Reading, Script, Faulty, fault_words, reading_of, reads}
+use Rattle.sh_script.proofs.Existing.{Shortens, EndsSo, each_ends}
 
 -- All that is asked of the lexer.
 abbrev pub Agrees : Type 0
@@ -65,12 +69,12 @@ pub no_both : Agrees → (qs : Parses Rule Token) (a b m : Place) (h : Halt Toke
 unfolding StopsAt Spells
 no_both agree qs a b m h s x = whole_stops_not TokenKind Part Rule Token Mode Place shell text_reader sets ok agree productive script a (leaves_all qs) b m h (consistent agree) s.1 (qs, s.0, refl) x
 
-reads : Agrees → (qs : Parses Rule Token) (a b : Place) → Spells qs a b → ReadsAll shell text_reader qs script a b
+reads_all_of : Agrees → (qs : Parses Rule Token) (a b : Place) → Spells qs a b → ReadsAll shell text_reader qs script a b
 unfolding Spells
-reads agree qs a b h = reads_all TokenKind Part Rule Token Mode Place shell text_reader sets ok agree qs script no_parses [] a b b h.0 tt (consistent agree) h.1 refl
+reads_all_of agree qs a b h = reads_all TokenKind Part Rule Token Mode Place shell text_reader sets ok agree qs script no_parses [] a b b h.0 tt (consistent agree) h.1 refl
 
 one_tree : Agrees → (qs xs : Parses Rule Token) (a b c : Place) → Spells qs a b → Spells xs a c → qs ≡ xs
-one_tree agree qs xs a b c h k = (once_all TokenKind Part Rule Token Mode Place shell text_reader sets ok agree qs xs script a b c (reads agree qs a b h) (reads agree xs a c k)).0
+one_tree agree qs xs a b c h k = (once_all TokenKind Part Rule Token Mode Place shell text_reader sets ok agree qs xs script a b c (reads_all_of agree qs a b h) (reads_all_of agree xs a c k)).0
 
 not_both_lengths : (n m : ℕ) → n ≤ m → m < n → ⊥
 not_both_lengths n m a b = omega (arith, a, b)
@@ -109,22 +113,35 @@ pub too_long : (text : List ℕ) → longest < length text → IsFaulty text (fa
 unfolding IsFaulty
 too_long text l = inl (l, refl)
 
--- EACH TEXT IS A SCRIPT OR FAULTY
-pub some_answer : Agrees → Shortens → (text : List ℕ) → ((s : CommandsTree) × IsScript text s) ⊎ ((f : ScriptFault) × IsFaulty text f)
-unfolding ComesToAnEnd
-some_answer agree short text = by_length (cases_lt longest (length text))
-  where
-    by_end : length text ≤ longest → ((q : Place) × (marks : List Mark) × IsRead (begin text) q marks) ⊎ ((m : Place) × (h : Halt Token) × IsStuck (begin text) m h) → ((s : CommandsTree) × IsScript text s) ⊎ ((f : ScriptFault) × IsFaulty text f)
-    by_end l (inl x) = inl (script_marked x.1, script_read agree text x.0 x.1 (script_marked x.1) l x.2 refl)
-    by_end l (inr x) = inr (fault_of x.0 x.1, fault_read agree text x.0 x.1 (fault_of x.0 x.1) l x.2 refl)
+-- the text is the script that it reads as, or it has the fault whose words it reads as
+unfoldable pub ReadsSo : Text → Reading → Type 0
+ReadsSo text (Script s) = IsScript text s
+ReadsSo text (Faulty words) = (f : ScriptFault) × IsFaulty text f × (words ≡ fault_words text f)
 
-    by_length : (longest < length text) ⊎ (length text ≤ longest) → ((s : CommandsTree) × IsScript text s) ⊎ ((f : ScriptFault) × IsFaulty text f)
-    by_length (inr l) = by_end l (each_ends short (begin text))
-    by_length (inl l) = inr (fault longest Long, too_long text l)
+reads_so : Agrees → Shortens → (text : Text) → ReadsSo text (reads text)
+unfolding EndsSo ReadsSo reads
+reads_so agree short text = by_length (nat_lt longest (length text)) refl
+  where
+    by_end : length text ≤ longest → (e : End) → EndsSo (begin text) e → ReadsSo text (reading_of text e)
+    by_end l (Read marks) x = script_read agree text x.0 marks (script_marked marks) l x.1 refl
+    by_end l (Stuck m h) x = (fault_of m h, fault_read agree text m h (fault_of m h) l x refl, refl)
+
+    by_length : (b : Bool) → nat_lt longest (length text) ≡ b → ReadsSo text (if b then Faulty (fault_words text (fault longest Long)) else reading_of text (end_of text))
+    by_length true e = (fault longest Long, too_long text (ltb-true longest (length text) e), refl)
+    by_length false e = by_end (ltb-false longest (length text) e) (end_of text) (each_ends short text)
 
 -- THE LEXER AGREES, so nothing is left to ask
-pub some : (text : List ℕ) → ((s : CommandsTree) × IsScript text s) ⊎ ((f : ScriptFault) × IsFaulty text f)
-some text = some_answer modes_agree shorter text
+pub reads_so_there : (text : Text) → ReadsSo text (reads text)
+reads_so_there = reads_so modes_agree shorter
+
+-- EACH TEXT IS A SCRIPT OR FAULTY
+some_answer : (text : Text) (r : Reading) → ReadsSo text r → ((s : CommandsTree) × IsScript text s) ⊎ ((f : ScriptFault) × IsFaulty text f)
+unfolding ReadsSo
+some_answer text (Script s) x = inl (s, x)
+some_answer text (Faulty words) x = inr (x.0, x.1)
+
+pub some : (text : Text) → ((s : CommandsTree) × IsScript text s) ⊎ ((f : ScriptFault) × IsFaulty text f)
+some text = some_answer text (reads text) (reads_so_there text)
 
 pub one_script_there : (text : List ℕ) (s t : CommandsTree) → IsScript text s → IsScript text t → s ≡ t
 one_script_there = one_script modes_agree

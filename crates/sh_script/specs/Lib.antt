@@ -8,4 +8,5 @@ pub mod TextReader
 pub mod Owing
 pub mod Outcomes
 pub mod Scripts
+pub mod Predicting
 pub mod Reads

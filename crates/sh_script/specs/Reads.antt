@@ -1,13 +1,15 @@
 -- What a text reads as (XCU 2.10): the script that it is, or its fault in words.
-use Rattle.std.specs.Prelude.{ℕ, ◌+◌, ◌==◌, [], ◌∷◌, ◌++◌, take, codes, if◌then◌else◌, ◌⊎◌}
-use Rattle.std.proofs.Common.{inl, inr}
+use Rattle.std.specs.Prelude.{ℕ, ◌+◌, ◌==◌, nat_lt, [], ◌∷◌, ◌++◌, length, take, codes, if◌then◌else◌}
 use Rattle.std.specs.Fmt.{decimal}
 use Rattle.rk_base.specs.Text.{Text}
 use Rattle.sh_ast.specs.Commands.{CommandsTree}
 use Rattle.sh_token.specs.declared.fault.ScriptFault.{ScriptFault}
 use Rattle.sh_token.specs.declared.fault.Why.{Why}
 use Rattle.sh_token.specs.declared.fault.Why.TheVariants.{Syntax, Unclosed, Deep, Long, NotInProfile}
-use Rattle.sh_script.specs.Scripts.{IsScript, IsFaulty}
+use Rattle.sh_token.specs.Faults.{fault, fault_of}
+use Rattle.sh_script.specs.Folds.{script_marked}
+use Rattle.sh_script.specs.Predicting.{End, Read, Stuck, end_of}
+use Rattle.sh_script.specs.Scripts.{longest}
 
 -- What a text reads as: commands, or the words that tell its fault.
 pub data Reading : Type 0 where
@@ -33,9 +35,11 @@ why_words (NotInProfile token) = token ++ codes " is not in this profile"
 abbrev pub fault_words : Text → ScriptFault → Text
 fault_words text f = ((codes "line " ++ decimal (line_of text f.at)) ++ codes ": ") ++ why_words f.why
 
-abbrev pub One_of : Text → Type 0
-One_of text = ((s : CommandsTree) × IsScript text s) ⊎ ((f : ScriptFault) × IsFaulty text f)
+-- what reading comes to, in words
+abbrev pub reading_of : Text → End → Reading
+reading_of text (Read marks) = Script (script_marked marks)
+reading_of text (Stuck at halt) = Faulty (fault_words text (fault_of at halt))
 
-abbrev pub read_as : (text : Text) → One_of text → Reading
-read_as text (inl s) = Script s.0
-read_as text (inr f) = Faulty (fault_words text f.0)
+-- WHAT A TEXT READS AS: one that is too long is faulty; else it is read, symbol by symbol.
+unfoldable pub reads : Text → Reading
+reads text = if nat_lt longest (length text) then Faulty (fault_words text (fault longest Long)) else reading_of text (end_of text)

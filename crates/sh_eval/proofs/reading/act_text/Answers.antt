@@ -1,6 +1,6 @@
 use Rattle.std.proofs.Common.{refl, ap, sym, ◌∙◌, arith}
 use Rattle.sh_ast.specs.Commands as tree
-use Rattle.sh_script.proofs.ReadAs.{reads}
+use Rattle.sh_script.specs.Reads.{reads}
 use Rattle.rk_calls.specs.Lines.{error_line}
 use Rattle.sh_parse.specs.Readings.{reading_of}
 use Rattle.sh_means.specs.declared.flow.Flow.TheVariants.{Exits}
