@@ -14,9 +14,9 @@ use Rattle.ut_sed.specs.Starts.{sed_utility}
 use Rattle.ut_select.specs.Starts.{select_utility}
 use Rattle.ut_sort.specs.Starts.{sort_utility}
 use Rattle.ut_text.specs.Starts.{text_utility}
-use Rattle.sh_builtin.specs.Laws.{talk-builtin_command}
+use Rattle.sh_builtin.proofs.LawLemmas.{talk-builtin_command}
 use Rattle.sh_script.specs.Reads.{reads}
-use Rattle.sh_means.specs.StartLaws.{shell-talk}
+use Rattle.sh_means.proofs.StartLemmas.{shell-talk}
 use Rattle.ut_args.specs.Usage.{talk-complains}
 use Rattle.ut_copy.specs.Utilities.{copy_utility, talk-copy_utility}
 use Rattle.ut_files.specs.Utilities.{file_utility, talk-file_utility}

@@ -2,7 +2,7 @@
 use Rattle.std.proofs.Common.{◌≡◌, ℕ, sym}
 use Rattle.rk_calls.specs.Talk.{Says, pay}
 use Rattle.rk_calls.specs.Views.{pay-nothing}
-use Rattle.sh_builtin.specs.ReadLaws.{reads-is}
+use Rattle.sh_builtin.proofs.ReadLemmas.{reads-is}
 
 pub over : (x : Says) (p : ℕ) → x p ≡ pay 0 x p
 over x p = sym (pay-nothing x p)

@@ -1,4 +1,3 @@
-pub mod Alike
 pub mod Builtins
 pub mod Cds
 pub mod Commands
@@ -9,7 +8,6 @@ pub mod Laws
 pub mod Lines
 pub mod Names
 pub mod Prints
-pub mod ReadLaws
 pub mod Reads
 pub mod Stages
 pub mod Telling

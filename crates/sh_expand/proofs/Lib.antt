@@ -5,3 +5,4 @@ pub mod Bodies
 pub mod NumberLemmas
 pub mod PartLemmas
 pub mod PlainLemmas
+pub mod AlikeLemmas

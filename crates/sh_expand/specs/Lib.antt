@@ -1,5 +1,4 @@
 pub mod Acting
-pub mod Alike
 pub mod Arithmetic
 pub mod Expands
 pub mod Fields

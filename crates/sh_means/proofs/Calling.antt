@@ -22,7 +22,7 @@ use Rattle.sh_script.specs.Reads.{Reading, Script, Faulty}
 use Rattle.sh_script.specs.Reads.{reads}
 use Rattle.sh_means.specs.Eval.{reading_means, compound_in, redirects_in}
 use Rattle.sh_means.specs.Flows.{Next, in_function, in_script, ignoring, deeper, tells, ends, sh}
-use Rattle.sh_means.specs.Laws.{run-is}
+use Rattle.sh_means.proofs.LawLemmas.{run-is}
 use Rattle.sh_means.specs.Run.{run}
 use Rattle.sh_means.specs.Simple.{Called, Round, Reads, calls, behind_first, dot_read}
 use Rattle.sh_means.specs.Stack.{undone, continued, resumed, whole, looping}

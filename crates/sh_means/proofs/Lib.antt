@@ -13,3 +13,9 @@ pub mod Undone
 pub mod Bounds
 pub mod Launching
 pub mod Loops
+pub mod AlikeFlows
+pub mod AlikeWords
+pub mod AlikeSimple
+pub mod AlikeCompound
+pub mod LawLemmas
+pub mod StartLemmas

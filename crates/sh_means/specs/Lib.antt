@@ -5,13 +5,7 @@ pub mod Words
 pub mod Simple
 pub mod Compound
 pub mod Eval
-pub mod AlikeFlows
-pub mod AlikeWords
-pub mod AlikeSimple
-pub mod AlikeCompound
-pub mod Laws
 pub mod Starts
-pub mod StartLaws
 pub mod Run
 pub mod Views
 pub mod Stack
@@ -19,3 +13,4 @@ pub mod Weights
 pub mod Trees
 pub mod Begins
 pub mod Launchable
+pub mod Laws

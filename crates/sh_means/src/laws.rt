@@ -1,7 +1,6 @@
 // Laws over the definitions alone.
-ghost use Rattle.sh_means.specs.Laws.{EachIsCommandTalk, EachMeansItsJob};
+ghost use Rattle.sh_means.specs.Laws.{EachIsCommandTalk, EachMeansItsJob, EachShellIsACommand};
 ghost use Rattle.sh_means.specs.Loops.{EachCounts, EachLeaves};
-ghost use Rattle.sh_means.specs.StartLaws.{EachShellIsACommand};
 
 /// Fewer turns only cut what a script says, and a mode in a call that it asks is at most 0777: from any state, at any place,
 /// and however texts read.

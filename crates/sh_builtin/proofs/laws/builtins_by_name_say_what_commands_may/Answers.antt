@@ -1,4 +1,4 @@
-use Rattle.sh_builtin.specs.Laws.{talk-builtin_command}
+use Rattle.sh_builtin.proofs.LawLemmas.{talk-builtin_command}
 use Rattle.sh_builtin.proofs.laws.builtins_by_name_say_what_commands_may.Goals as goal
 
 pub returns : goal.returns

@@ -15,9 +15,9 @@ use Rattle.sh_means.specs.Flows.{Next, Go_on, Means, ends, and_then, by_status, 
 use Rattle.sh_means.specs.Words.{WordMeant, RedirectMeant, value_of, named, redirect_all, unredirected}
 use Rattle.sh_means.specs.Simple.{Meaning, Round}
 use Rattle.sh_means.specs.Compound.{seq_all, whole_of, place_before, takes, links_mean, and_or_means, stages_mean, piped_means, pipeline_means, define_means, subshell_means, BranchMeant, if_means, turns_round, next_round, after_body, after_condition, round_means, for_each, for_fields, ForMeant, Parameters, Among, for_means, CaseMeant, case_patterns, case_items, case_means, made_compound, refused_compound, compound_means}
-use Rattle.sh_means.specs.AlikeFlows.{Each, Below, Goes, SameMeans, lower, means-down, all-down, ends-alike, and_then-alike, by_status-alike, in_loop-alike, watched-alike, inverted-alike}
-use Rattle.sh_means.specs.AlikeWords.{SameWord, SameRedirect, expand_word-alike, expand_words-alike, redirect_all-alike, unredirected-alike, named-same, assigns-alike, word-down, words-down, redirects-down}
-use Rattle.sh_means.specs.AlikeSimple.{SameAgain}
+use Rattle.sh_means.proofs.AlikeFlows.{Each, Below, Goes, SameMeans, lower, means-down, all-down, ends-alike, and_then-alike, by_status-alike, in_loop-alike, watched-alike, inverted-alike}
+use Rattle.sh_means.proofs.AlikeWords.{SameWord, SameRedirect, expand_word-alike, expand_words-alike, redirect_all-alike, unredirected-alike, named-same, assigns-alike, word-down, words-down, redirects-down}
+use Rattle.sh_means.proofs.AlikeSimple.{SameAgain}
 
 module _ (v : View) where
   -- Lists.

@@ -8,19 +8,19 @@ use Rattle.sh_vars.specs.Held.{Held, is_readonly}
 use Rattle.sh_expand.specs.declared.mode.Mode.{Mode}
 use Rattle.sh_expand.specs.declared.mode.Mode.TheVariants as mode
 use Rattle.sh_expand.specs.declared.mode.Expanded.{Expanded}
-use Rattle.sh_expand.specs.Alike as expansion
+use Rattle.sh_expand.proofs.AlikeLemmas as expansion
 use Rattle.sh_expand.specs.Means.{expand_in}
 use Rattle.sh_redirect.specs.declared.descriptors.DescriptorTable.{DescriptorTable}
 use Rattle.sh_redirect.specs.declared.kind.Redirect.{Redirect}
 use Rattle.sh_redirect.specs.DescriptorTable.{put_back}
-use Rattle.sh_redirect.specs.Laws.{alike-redirects}
+use Rattle.sh_redirect.proofs.LawLemmas.{alike-redirects}
 use Rattle.sh_redirect.specs.Redirects.{After}
 use Rattle.sh_means.specs.declared.flow.Flow.TheVariants.{Normal, Exits}
 use Rattle.sh_means.specs.declared.flow.Place.{Place}
 use Rattle.sh_means.specs.State.{Shell, with_env, with_status, with_held, back_env, took, set_variable, put_back_variables}
 use Rattle.sh_means.specs.Flows.{Next, Go_on, Means, sh, ends}
 use Rattle.sh_means.specs.Words.{WordMeant, nothing, body_at, bodies_at, faults, expand_word, fields_of, value_of, expand_words, RedirectMeant, named, moved, redirect_to, redirect_all, unredirected, AssignMeant, names, assigns, assign_all, unassigned}
-use Rattle.sh_means.specs.AlikeFlows.{Each, Below, Goes, SameMeans, all-down, tells-alike, ends-alike}
+use Rattle.sh_means.proofs.AlikeFlows.{Each, Below, Goes, SameMeans, all-down, tells-alike, ends-alike}
 
 module _ (v : View) where
   abbrev pub SameWord : ℕ → WordMeant → WordMeant → Type 0

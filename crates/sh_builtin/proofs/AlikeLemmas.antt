@@ -13,17 +13,7 @@ use Rattle.rk_calls.specs.Views.{View, Alike, alike-ask, alike-pay}
 use Rattle.sh_vars.specs.declared.env.Env.{Env}
 use Rattle.sh_builtin.specs.Doing.{Slots, Ended, Doing, heard, at_slot, ends, pays, asks}
 use Rattle.sh_builtin.specs.Telling.{tells}
-
--- what comes after, wherever at most p turns are left
-abbrev pub EndsAlike : View → ℕ → Ended → Ended → Type 0
-EndsAlike v p k k' = (status : ℕ) (env : Env) (q : ℕ) → q ≤ p → Alike v q (k status env) (k' status env)
-
--- two doings, where p turns are left
-abbrev pub BothAlike : View → ℕ → Doing → Doing → Type 0
-BothAlike v p x y = (slots : Slots) (k k' : Ended) (env : Env) → EndsAlike v p k k' → Alike v p (x slots k env) (y slots k' env)
-
-abbrev pub IsAlike : Doing → Type 0
-IsAlike x = (v : View) (p : ℕ) → BothAlike v p x x
+use Rattle.sh_builtin.specs.Laws.{EndsAlike, BothAlike, IsAlike}
 
 pub lower : (v : View) (p q : ℕ) (k k' : Ended) → q ≤ p → EndsAlike v p k k' → EndsAlike v q k k'
 lower v p q k k' le h status env r le' = h status env r (omega arith)

@@ -18,9 +18,9 @@ use Rattle.sh_script.specs.Reads.{Reading}
 use Rattle.sh_means.specs.Eval.{run, over}
 use Rattle.sh_special.specs.Invocation.{Start, Misused, Given, Script, options}
 use Rattle.sh_means.specs.Starts.{first_shell, fails, script_read, script_opened, runs_script, is_directory, has_x, looked, runs_command, starts, by_argv, shell_says}
-use Rattle.sh_means.specs.AlikeFlows.{Below, Goes, lower, asks-alike, tells-alike, ends-alike}
-use Rattle.sh_means.specs.AlikeSimple.{SameAgain}
-use Rattle.sh_means.specs.Laws.{run-alike, over-alike}
+use Rattle.sh_means.proofs.AlikeFlows.{Below, Goes, lower, asks-alike, tells-alike, ends-alike}
+use Rattle.sh_means.proofs.AlikeSimple.{SameAgain}
+use Rattle.sh_means.proofs.LawLemmas.{run-alike, over-alike}
 
 module _ (v : View) (P : ℕ) (g h : Meaning) (same : SameAgain v P g h) where
   fails-alike : (Q : ℕ) (file what : Text) (status : ℕ) (k k' : Next) → Below v Q k k' → Goes v Q (fails file what status k) (fails file what status k')
@@ -73,6 +73,3 @@ argv-talk read (w ∷ ws) vars wd v p =
 -- fewer turns only cut what the shell of a key says, and its calls are proper
 pub shell-talk : (read : Text → Reading) (key : KeyValue) → IsCommandTalk (shell_says read key)
 shell-talk read key = argv-talk read key.argv key.vars key.wd
-
-abbrev pub EachShellIsACommand : Type 0
-EachShellIsACommand = (read : Text → Reading) (key : KeyValue) → IsCommandTalk (shell_says read key)

@@ -17,7 +17,8 @@ use Rattle.sh_builtin.specs.declared.line.End.{End}
 use Rattle.sh_builtin.specs.declared.line.End.TheVariants.{Whole, Short, Continued}
 use Rattle.sh_builtin.specs.declared.name.Name.{Name}
 use Rattle.sh_builtin.specs.declared.name.Name.TheVariants as name
-use Rattle.sh_builtin.specs.Alike.{EndsAlike, BothAlike, IsAlike, lower, alike-ends, alike-choice, alike-at_slot, alike-tells}
+use Rattle.sh_builtin.specs.Laws.{EndsAlike, BothAlike, IsAlike}
+use Rattle.sh_builtin.proofs.AlikeLemmas.{lower, alike-ends, alike-choice, alike-at_slot, alike-tells}
 use Rattle.sh_builtin.specs.Cds.{sets, with_value}
 use Rattle.sh_builtin.specs.Doing.{Slots, Ended, Doing, heard}
 use Rattle.sh_builtin.specs.Fields.{values}

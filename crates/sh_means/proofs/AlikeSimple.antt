@@ -9,7 +9,7 @@ use Rattle.rk_calls.specs.Views.{View, Alike, alike-if, alike-pay}
 use Rattle.sh_vars.specs.Held.{Held}
 use Rattle.sh_redirect.specs.declared.descriptors.DescriptorTable.{DescriptorTable}
 use Rattle.sh_redirect.specs.DescriptorTable.{slot}
-use Rattle.sh_builtin.specs.Laws.{alike-does}
+use Rattle.sh_builtin.proofs.LawLemmas.{alike-does}
 use Rattle.sh_special.specs.declared.order.Order.{Order}
 use Rattle.sh_special.specs.declared.order.Order.TheVariants as order
 use Rattle.sh_special.specs.Changes.{Changed, declare_all, unset_all, has_shift, shifted}
@@ -19,8 +19,8 @@ use Rattle.sh_means.specs.State.{FunctionTree, Shell, with_env, with_status, wit
 use Rattle.sh_means.specs.Flows.{Next, Go_on, sh, ends, returned, watched, in_function, in_script}
 use Rattle.sh_means.specs.Words.{WordMeant, RedirectMeant, AssignMeant, named, redirect_all, unredirected, names, assign_all}
 use Rattle.sh_means.specs.Simple.{Job, Called, Reads, Meaning, CommandKind, Bare, Special, Calls, Builtin, Launches, kind_of, launches, calls, builds_in, errs, unless_barred, changes, shifts, dot_read, dot_opened, dots, obeys, works, is_plain, exports, for_its_time, assigns_and_works, keeps, unless_kept, refusal_flow, made_simple, refused_simple, redirects_and_works, simple_means}
-use Rattle.sh_means.specs.AlikeFlows.{Each, Below, Goes, SameMeans, lower, asks-alike, tells-alike, ends-alike, returned-alike, watched-alike}
-use Rattle.sh_means.specs.AlikeWords.{SameWord, SameRedirect, SameAssign, expand_words-alike, redirect_all-alike, unredirected-alike, named-same, assign_all-alike, unassigned-alike, names-same, words-down, redirects-down, assigns-down}
+use Rattle.sh_means.proofs.AlikeFlows.{Each, Below, Goes, SameMeans, lower, asks-alike, tells-alike, ends-alike, returned-alike, watched-alike}
+use Rattle.sh_means.proofs.AlikeWords.{SameWord, SameRedirect, SameAssign, expand_words-alike, redirect_all-alike, unredirected-alike, named-same, assign_all-alike, unassigned-alike, names-same, words-down, redirects-down, assigns-down}
 
 module _ (v : View) where
   -- what is evaluated again, wherever fewer than P turns are left
