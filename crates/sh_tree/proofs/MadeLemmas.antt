@@ -1,32 +1,22 @@
--- Trees, by what they are made of.
-use Rattle.std.proofs.Common.{rules, ◌≡◌, List, [], ◌∷◌, ◌++◌, map, false, refl, ◌∙◌}
-use Rattle.std.specs.declared.rc.Rc.{Rc}
-use Rattle.std.specs.declared.vec.Vec.{Vec}
-use Rattle.std.specs.declared.alloc.Global.{Global}
-use Rattle.sh_ast.specs.declared.word.Part.{Part}
-use Rattle.sh_ast.specs.declared.word.Part.TheFolds as part_folds
-use Rattle.sh_ast.specs.declared.word.Parts.{Parts, roll-Parts}
-use Rattle.sh_ast.specs.declared.command.Command.TheFolds.{the_lemmas}
-use Rattle.sh_ast.specs.declared.command.CommandList.{CommandList}
-use Rattle.sh_ast.specs.declared.command.Word.{Word, roll-Word}
-use Rattle.sh_ast.specs.declared.command.Words.{roll-Words}
-use Rattle.sh_ast.proofs.Folding.{word_is, words_is}
-use Rattle.sh_ast.specs.Words as w
+-- Values that are made in another way than their definitions say them.
+use Rattle.std.proofs.Common.{◌≡◌, List, [], ◌∷◌, ◌++◌, map, false, refl}
+use Rattle.sh_ast.specs.declared.command.Connector.{Connector}
 use Rattle.sh_ast.specs.Commands as c
-use Rattle.sh_script.specs.Acts.{piped, pipeline}
-use Rattle.sh_tree.specs.Seen.{words_seen, bodies_seen}
-
--- words
-pub parts_made : (ps : Vec Part Global) → w.parts (roll-Parts record { items = ps }) ≡ w.parts_of (map w.part ps.items)
-parts_made ps = search (rules, part_folds.the_lemmas)
-
-pub word_made : (ps : Rc Parts Global) (bs : Vec (Rc CommandList Global) Global) → c.word (roll-Word record { parts = ps; bodies = bs }) ≡ c.word_of (w.parts ps.value) (c.bodies_of (bodies_seen bs.items))
-word_made ps bs = word_is (roll-Word record { parts = ps; bodies = bs }) ∙ search (rules, the_lemmas)
-
-pub words_made : (ws : Vec (Rc Word Global) Global) → c.words (roll-Words record { items = ws }) ≡ c.words_of (words_seen ws.items)
-words_made ws = words_is (roll-Words record { items = ws }) ∙ search (rules, the_lemmas)
+use Rattle.sh_script.specs.Values.{word_in, assignments_in, arguments_in, redirections_in}
+use Rattle.sh_script.specs.States.{State, top, less, with, second, for_two, one_command}
+use Rattle.sh_script.specs.Acts.{piped, pipeline, chain, argument, simple_begun}
 
 -- a pipeline of several commands
 pub piped_some : {A : Type 0} (f : A → c.CommandTree) (cs : List c.CommandTree) (xs : List A) → (xs ≡ [] → ⊥) → piped cs (map f xs) ≡ pipeline false (cs ++ map f xs)
 piped_some f cs [] some = absurd (some refl)
 piped_some f cs (x ∷ xs) some = refl
+
+-- an AND-OR list of several pipelines
+pub chained_some : (cs ps : List c.CommandTree) (bs : List Connector) → (bs ≡ [] → ⊥) → chain cs bs ps ≡ one_command (c.and_or (c.commands_of (cs ++ ps)) bs)
+chained_some cs ps [] some = absurd (some refl)
+chained_some cs ps (by ∷ more) some = refl
+
+-- a simple command, by its name and what stands behind it
+pub named : (s : State) → simple_begun (argument s) ≡ for_two (one_command (c.simple (c.simply (c.assignments_of (assignments_in (second s))) (c.words_of (word_in (top s) ∷ arguments_in (second s))) (c.redirects_of (redirections_in (second s)))))) s
+unfolding top less with
+named s = refl

@@ -1,21 +1,17 @@
 -- A value without addresses.
-use Rattle.std.specs.Prelude.{List, map, reverse, Option, Some, None}
+use Rattle.std.specs.Prelude.{map, reverse, Option, Some, None}
 use Rattle.std.specs.declared.rc.Rc.{Rc}
 use Rattle.std.specs.declared.alloc.Global.{Global}
 use Rattle.sh_ast.specs.declared.word.Parts.{Parts}
-use Rattle.sh_ast.specs.declared.command.Word.{Word}
 use Rattle.sh_ast.specs.declared.command.Words.{Words}
-use Rattle.sh_ast.specs.declared.command.CommandList.{CommandList}
 use Rattle.sh_ast.specs.Words as w
 use Rattle.sh_ast.specs.Commands as c
+use Rattle.sh_nodes.specs.Nodes.{words_seen, bodies_seen, word_told}
 use Rattle.sh_tree.specs.declared.builder.Builder.{Builder}
 use Rattle.sh_tree.specs.declared.value.Value as d
 use Rattle.sh_tree.specs.declared.value.Value.TheVariants as v
 use Rattle.sh_script.specs.States.{State}
 use Rattle.sh_script.specs.Values.{Value, nothing, token, parts, word, words, redirects, pieces, commands, joined, compound, branches, items}
-
-abbrev pub words_seen : List (Rc Word Global) → List c.WordTree
-words_seen ws = map (λ r. c.word r.value) ws
 
 -- what an optional pointer leads to: the word of an operator, the words of a for
 abbrev pub operator_word_seen : Option (Rc Parts Global) → w.OperatorWord
@@ -30,7 +26,7 @@ unfoldable pub seen : d.Value → Value
 seen v.Nothing = nothing
 seen (v.Text text) = token text
 seen (v.Parts ps) = parts (map w.part ps)
-seen (v.Word x) = word (c.word x.value)
+seen (v.Word x) = word (word_told x)
 seen (v.Words ws) = words (words_seen ws)
 seen (v.Redirects rs) = redirects (map c.redirect rs)
 seen (v.Simple xs ws rs) = pieces (map c.assignment xs) (words_seen ws) (map c.redirect rs)
@@ -41,9 +37,6 @@ seen (v.Branches bs cs) = branches (map c.branch bs) (map c.command cs)
 seen (v.Items is) = items (map c.case_item is)
 
 -- what a builder has
-abbrev pub bodies_seen : List (Rc CommandList Global) → List c.CommandsTree
-bodies_seen rs = map (λ r. c.commands r.value) rs
-
 unfoldable pub state : Builder → State
 state b = record {
   values = reverse (map seen b.values.items);

@@ -19,8 +19,8 @@ use crate::parts::{
     single, text_part,
 };
 use crate::simple::{
-    argument, assigned, here, more_redirects, name_quoted, name_text, no_redirects, nothing_simple,
-    redirected, simple_begun, to_file,
+    argument, assigned, command_named, here, more_redirects, name_quoted, name_text, no_redirects,
+    nothing_simple, redirected, simple_begun, to_file,
 };
 use crate::value::Value;
 use crate::words::{
@@ -98,15 +98,15 @@ fn redirected_command(b: &mut Builder, alloc: Global) -> Result<(), NoMemory>
 fn named_command(b: &mut Builder, alloc: Global) -> Result<(), NoMemory>
     ensures { OnOk result (state b.new ≡ act.simple_begun (act.argument (act.word_begun (act.text_part Unquoted (state b.old))))) }
 {
-    name_text(b, alloc)?;
-    simple_begun(b, alloc)
+    word_text(b, alloc)?;
+    command_named(b, alloc)
 }
 
 fn quoted_command(b: &mut Builder, alloc: Global) -> Result<(), NoMemory>
     ensures { OnOk result (state b.new ≡ act.simple_begun (act.argument (act.word_begun (act.join_parts (state b.old))))) }
 {
-    name_quoted(b, alloc)?;
-    simple_begun(b, alloc)
+    word_quoted(b, alloc)?;
+    command_named(b, alloc)
 }
 
 /// Puts the value of a rule in place of those of its symbols.

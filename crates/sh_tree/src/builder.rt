@@ -1,27 +1,29 @@
 // What is built, from the end of a text to its beginning.
-ghost use Rattle.std.specs.Prelude.{◌≡◌, IfOk, OnOk, map, length, option_map};
+ghost use Rattle.std.specs.Prelude.{◌≡◌, ◌∷◌, IfOk, OnOk, map, length, option_map};
 ghost use Rattle.sh_ast.specs.Commands as c;
-ghost use Rattle.sh_tree.specs.Seen.{seen, state, bodies_seen};
+ghost use Rattle.sh_nodes.specs.Nodes.{bodies_seen, word_told, words_seen};
+ghost use Rattle.sh_tree.specs.Seen.{seen, state};
 ghost use Rattle.sh_script.specs.States as st;
+ghost use Rattle.sh_script.specs.Values as v;
 
-use crate::empties::Empties;
-use crate::row::Row;
+use crate::taking::word_in;
 use crate::value::Value;
 use rk_base::NoMemory;
-use sh_ast::{Command, CommandList, Word};
+use sh_ast::{Assignment, Command, CommandList, Redirect, SimpleCommand, Word};
+use sh_nodes::{NewWord, Row, Shared};
 use std::alloc::Global;
 use std::collections::VecDeque;
 use std::rc::Rc;
 
 /// The values of what was read, that of the first symbol on top; for each word that is being read, and the one around it,
 /// the bodies of its substitutions; for the text, and each body of a here-document around what is read, the
-/// here-documents' bodies that no operator has yet; and what most commands have none of.
+/// here-documents' bodies that no operator has yet; and what nodes share.
 #[derive(Drop)]
 pub struct Builder {
     pub(crate) values: Vec<Value>,
     pub(crate) bodies: Vec<Vec<Rc<CommandList>>>,
     pub(crate) documents: Vec<VecDeque<Rc<Word>>>,
-    pub(crate) empties: Empties,
+    pub(crate) shared: Shared,
 }
 
 impl Builder {
@@ -36,7 +38,7 @@ impl Builder {
             values: Vec::new(alloc),
             bodies: Vec::new(alloc),
             documents,
-            empties: Empties::new(alloc)?,
+            shared: Shared::new(alloc)?,
         })
     }
 
@@ -80,6 +82,42 @@ impl Builder {
         let mut commands = Row::new(alloc);
         commands.add(command)?;
         self.put(Value::Commands(commands))
+    }
+
+    // A word as a node; a literal is shared where it came lately.
+    #[tactic(auto, unfolding(crate::specs::Seen::state))]
+    fn word(&mut self, alloc: Global, word: NewWord) -> Result<Rc<Word>, NoMemory>
+        ensures word { IfOk result (λ r. c.word r.value ≡ word_told word) }
+        ensures left { state self.new ≡ state self.old }
+    {
+        self.shared.word(alloc, word)
+    }
+
+    /// Takes the word on top, as a node.
+    pub fn pop_word(&mut self, alloc: Global) -> Result<Rc<Word>, NoMemory>
+        ensures word { IfOk result (λ r. c.word r.value ≡ v.word_in (st.top (state self.old))) }
+        ensures left { OnOk result (state self.new ≡ st.less (state self.old)) }
+    {
+        let word = word_in(alloc, self.pop())?;
+        self.word(alloc, word)
+    }
+
+    /// A simple command, out of its first word and of what else it is made of; one that is a literal alone is shared where
+    /// it came lately.
+    #[tactic(auto, unfolding(crate::specs::Seen::state))]
+    pub fn named(
+        &mut self,
+        alloc: Global,
+        name: NewWord,
+        assignments: Row<Assignment>,
+        words: Row<Rc<Word>>,
+        redirects: Row<Redirect>,
+    ) -> Result<Rc<SimpleCommand>, NoMemory>
+        ensures command { IfOk result (λ r. c.simple_command r.value ≡ c.simply (c.assignments_of (map c.assignment assignments)) (c.words_of (word_told name ∷ words_seen words)) (c.redirects_of (map c.redirect redirects))) }
+        ensures left { state self.new ≡ state self.old }
+    {
+        self.shared
+            .named(alloc, name, assignments, words, redirects)
     }
 
     /// A word ends here.

@@ -7,16 +7,14 @@ ghost use Rattle.sh_script.specs.States.{less};
 ghost use Rattle.sh_script.specs.Acts as act;
 
 use crate::builder::Builder;
-use crate::row::Row;
-use crate::simple::{redirects_of, words_of};
 use crate::taking::{
-    branches_in, commands_in, compound_in, items_in, list_in, list_of, redirects_in, text_in,
-    word_in, words_in,
+    branches_in, commands_in, compound_in, items_in, list_in, redirects_in, text_in, words_in,
 };
 use crate::value::Value;
 use crate::words::{word_quoted, word_text};
 use rk_base::NoMemory;
-use sh_ast::{Branch, Branches, CaseItem, CaseItems, Command, Compound, LoopKind, Word, Words};
+use sh_ast::{Branch, CaseItem, Command, Compound, LoopKind, Words};
+use sh_nodes::{Row, branches_of, case_items_of, list_of, words_of};
 use std::alloc::Global;
 use std::rc::Rc;
 
@@ -27,7 +25,7 @@ pub fn compound(b: &mut Builder, alloc: Global) -> Result<(), NoMemory>
     let body = compound_in(alloc, b.pop())?;
     let redirects = redirects_in(alloc, b.pop());
     let body = Rc::new(alloc, body)?;
-    let redirects = redirects_of(alloc, &b.empties, redirects)?;
+    let redirects = b.shared.redirects(alloc, redirects)?;
     b.put_command(alloc, Command::Compound(body, redirects))
 }
 
@@ -42,7 +40,7 @@ pub fn function(b: &mut Builder, alloc: Global) -> Result<(), NoMemory>
     let body = compound_in(alloc, b.pop())?;
     let redirects = redirects_in(alloc, b.pop());
     let body = Rc::new(alloc, body)?;
-    let redirects = redirects_of(alloc, &b.empties, redirects)?;
+    let redirects = b.shared.redirects(alloc, redirects)?;
     b.put_command(alloc, Command::Function(name, body, redirects))
 }
 
@@ -122,12 +120,7 @@ pub fn if_command(b: &mut Builder, alloc: Global) -> Result<(), NoMemory>
 {
     branch(b, alloc)?;
     let (branches, otherwise) = branches_in(alloc, b.pop());
-    let branches = Rc::new(
-        alloc,
-        Branches {
-            items: branches.into_items(),
-        },
-    )?;
+    let branches = branches_of(alloc, branches)?;
     let otherwise = list_of(alloc, otherwise)?;
     b.put(Value::Compound(Compound::If(branches, otherwise)))
 }
@@ -166,15 +159,10 @@ pub fn case_command(b: &mut Builder, alloc: Global) -> Result<(), NoMemory>
     ensures { OnOk result (state b.new ≡ act.case_command (state b.old)) }
 {
     b.skip();
-    let word = word_in(alloc, b.pop())?;
+    let word = b.pop_word(alloc)?;
     b.skip();
     let items = items_in(alloc, b.pop());
-    let items = Rc::new(
-        alloc,
-        CaseItems {
-            items: items.into_items(),
-        },
-    )?;
+    let items = case_items_of(alloc, items)?;
     b.put(Value::Compound(Compound::Case(word, items)))
 }
 
@@ -201,7 +189,7 @@ pub fn no_patterns(b: &mut Builder, alloc: Global) -> Result<(), NoMemory>
 pub fn item(b: &mut Builder, alloc: Global) -> Result<(), NoMemory>
     ensures { OnOk result (state b.new ≡ act.item (state b.old)) }
 {
-    let pattern = word_in(alloc, b.pop())?;
+    let pattern = b.pop_word(alloc)?;
     let mut patterns = words_in(alloc, b.pop());
     let body = list_in(alloc, b.pop())?;
     let mut items = items_in(alloc, b.pop());

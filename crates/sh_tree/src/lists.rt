@@ -7,13 +7,12 @@ ghost use Rattle.sh_tree.specs.Seen.{state};
 ghost use Rattle.sh_script.specs.Acts as act;
 
 use crate::builder::Builder;
-use crate::row::Row;
-use crate::taking::{commands_in, joined_in, list_of};
+use crate::taking::{commands_in, joined_in};
 use crate::value::Value;
 use rk_base::NoMemory;
-use sh_ast::{Command, Connector, Connectors};
+use sh_ast::{Command, Connector};
+use sh_nodes::{Row, connectors_of, list_of};
 use std::alloc::Global;
-use std::rc::Rc;
 
 /// No commands.
 #[tactic(auto, unfolding(crate::specs::Seen::seen))]
@@ -115,21 +114,32 @@ pub fn joined(b: &mut Builder, alloc: Global, connector: Connector) -> Result<()
     b.put(Value::Joined(connectors, pipelines))
 }
 
-/// An AND-OR list; a pipeline alone is itself.
-#[tactic(auto, unfolding(crate::specs::Seen::seen))]
-pub fn and_or(b: &mut Builder, alloc: Global) -> Result<(), NoMemory>
-    ensures { OnOk result (state b.new ≡ act.and_or (state b.old)) }
+// Pipelines in front of pipelines, as an AND-OR list; where nothing connects them, those in front.
+#[tactic(auto, unfolding(crate::specs::Seen::seen), using(crate::proofs::MadeLemmas::chained_some))]
+fn chained(
+    b: &mut Builder,
+    alloc: Global,
+    front: Row<Command>,
+    connectors: Row<Connector>,
+    mut pipelines: Row<Command>,
+) -> Result<(), NoMemory>
+    ensures { OnOk result (state b.new ≡ st.with (act.chain (map c.command front) connectors (map c.command pipelines)) (state b.old)) }
 {
-    let front = commands_in(alloc, b.pop());
-    let (connectors, mut pipelines) = joined_in(alloc, b.pop());
     if connectors.is_empty() {
         return b.put(Value::Commands(front));
     }
     pipelines.add_all(front)?;
     let pipelines = list_of(alloc, pipelines)?;
-    let connectors = Connectors {
-        items: connectors.into_items(),
-    };
-    let connectors = Rc::new(alloc, connectors)?;
-    b.put_command(alloc, Command::AndOr(pipelines, connectors))
+    let connectors = connectors_of(alloc, connectors)?;
+    b.put_command(alloc, Command::AndOr(pipelines, connectors))?;
+    Ok(())
+}
+
+/// An AND-OR list; a pipeline alone is itself.
+pub fn and_or(b: &mut Builder, alloc: Global) -> Result<(), NoMemory>
+    ensures { OnOk result (state b.new ≡ act.and_or (state b.old)) }
+{
+    let front = commands_in(alloc, b.pop());
+    let (connectors, pipelines) = joined_in(alloc, b.pop());
+    chained(b, alloc, front, connectors, pipelines)
 }

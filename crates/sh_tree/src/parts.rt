@@ -10,11 +10,11 @@ use crate::builder::Builder;
 use crate::parameters::{
     braced_parameter, operation, plain_parameter, removal, without_ends, without_first,
 };
-use crate::row::Row;
 use crate::taking::{list_in, parts_in, text_in};
 use crate::value::Value;
 use rk_base::{Bytes, NoMemory};
 use sh_ast::{Part, Parts, Quoting};
+use sh_nodes::{Row, parts_of};
 use std::alloc::Global;
 use std::rc::Rc;
 
@@ -175,12 +175,7 @@ fn operator_word(alloc: Global, parts: Row<Part>) -> Result<Option<Rc<Parts>>, N
     if parts.is_empty() {
         return Ok(None);
     }
-    let parts = Rc::new(
-        alloc,
-        Parts {
-            items: parts.into_items(),
-        },
-    )?;
+    let parts = parts_of(alloc, parts)?;
     Ok(Some(parts))
 }
 
@@ -256,12 +251,7 @@ pub fn pattern_braces(b: &mut Builder, alloc: Global) -> Result<(), NoMemory>
     let text = text_in(alloc, b.pop())?;
     let parts = parts_in(alloc, b.pop());
     let (parameter, removal) = removal(alloc, text.as_slice())?;
-    let pattern = Rc::new(
-        alloc,
-        Parts {
-            items: parts.into_items(),
-        },
-    )?;
+    let pattern = parts_of(alloc, parts)?;
     let part = Part::Remove(Quoting::Unquoted, parameter, removal, pattern);
     put_part(b, alloc, part)
 }
@@ -272,11 +262,6 @@ pub fn arithmetic(b: &mut Builder, alloc: Global) -> Result<(), NoMemory>
 {
     b.skip();
     let parts = parts_in(alloc, b.pop());
-    let expression = Rc::new(
-        alloc,
-        Parts {
-            items: parts.into_items(),
-        },
-    )?;
+    let expression = parts_of(alloc, parts)?;
     put_part(b, alloc, Part::Arithmetic(Quoting::Unquoted, expression))
 }

@@ -1,25 +1,21 @@
 // Redirections (XCU 2.7) and simple commands (XCU 2.9.1).
-ghost use Rattle.std.specs.Prelude.{◌≡◌, ◌∷◌, [], OnOk, IfOk, map};
+ghost use Rattle.std.specs.Prelude.{◌≡◌, ◌∷◌, [], OnOk, IfOk};
 ghost use Rattle.sh_ast.specs.declared.word.Quoting.TheVariants.{Unquoted};
 ghost use Rattle.sh_ast.specs.Commands as c;
 ghost use Rattle.sh_script.specs.Values as v;
-ghost use Rattle.sh_tree.specs.Seen.{words_seen, state};
+ghost use Rattle.sh_tree.specs.Seen.{state};
 ghost use Rattle.sh_script.specs.States as st;
 ghost use Rattle.sh_script.specs.Texts as t;
 ghost use Rattle.sh_script.specs.Acts as act;
 
 use crate::builder::Builder;
-use crate::empties::Empties;
 use crate::parameters::{byte_at, descriptor_of, without_last};
-use crate::row::Row;
-use crate::taking::{redirects_in, simple_in, text_in, word_in, word_of};
+use crate::taking::{redirects_in, simple_in, text_in, word_in};
 use crate::value::Value;
 use crate::words::{word_quoted, word_text};
 use rk_base::NoMemory;
-use sh_ast::{
-    Assignment, Assignments, Command, Redirect, RedirectOperator, Redirects, SimpleCommand, Word,
-    Words,
-};
+use sh_ast::{Assignment, Command, Redirect, RedirectOperator, Word};
+use sh_nodes::{Row, word_of};
 use std::alloc::Global;
 use std::rc::Rc;
 
@@ -52,7 +48,7 @@ pub fn to_file(b: &mut Builder, alloc: Global) -> Result<(), NoMemory>
     ensures { OnOk result (state b.new ≡ act.to_file (state b.old)) }
 {
     let text = text_in(alloc, b.pop())?;
-    let operand = word_in(alloc, b.pop())?;
+    let operand = b.pop_word(alloc)?;
     let (descriptor, operator) = descriptor_of(text.as_slice());
     let redirect = Redirect {
         descriptor,
@@ -121,7 +117,7 @@ pub fn assigned(b: &mut Builder, alloc: Global) -> Result<(), NoMemory>
     ensures { OnOk result (state b.new ≡ act.assigned (state b.old)) }
 {
     let text = text_in(alloc, b.pop())?;
-    let value = word_in(alloc, b.pop())?;
+    let value = b.pop_word(alloc)?;
     let (mut assignments, words, redirects) = simple_in(alloc, b.pop());
     let name = without_last(alloc, text.as_slice())?;
     assignments.add(Assignment { name, value })?;
@@ -144,7 +140,7 @@ pub fn redirected(b: &mut Builder, alloc: Global) -> Result<(), NoMemory>
 pub fn argument(b: &mut Builder, alloc: Global) -> Result<(), NoMemory>
     ensures { OnOk result (state b.new ≡ act.argument (state b.old)) }
 {
-    let word = word_in(alloc, b.pop())?;
+    let word = b.pop_word(alloc)?;
     let (assignments, mut words, redirects) = simple_in(alloc, b.pop());
     words.add(word)?;
     b.put(Value::Simple(assignments, words, redirects))
@@ -166,85 +162,30 @@ pub fn name_quoted(b: &mut Builder, alloc: Global) -> Result<(), NoMemory>
     argument(b, alloc)
 }
 
-/// The redirections of a command.
-pub fn redirects_of(
-    alloc: Global,
-    empties: &Empties,
-    redirects: Row<Redirect>,
-) -> Result<Rc<Redirects>, NoMemory>
-    ensures { IfOk result (λ r. c.redirects r.value ≡ c.redirects_of (map c.redirect redirects)) }
-{
-    if redirects.is_empty() {
-        return empties.redirects();
-    }
-    let redirects = Rc::new(
-        alloc,
-        Redirects {
-            items: redirects.into_items(),
-        },
-    )?;
-    Ok(redirects)
-}
-
-/// Words, one after another.
-pub fn words_of(alloc: Global, words: Row<Rc<Word>>) -> Result<Rc<Words>, NoMemory>
-    ensures { IfOk result (λ r. c.words r.value ≡ c.words_of (words_seen words)) }
-{
-    let words = Rc::new(
-        alloc,
-        Words {
-            items: words.into_items(),
-        },
-    )?;
-    Ok(words)
-}
-
-// The assignments of a command.
-fn assignments_of(
-    alloc: Global,
-    empties: &Empties,
-    assignments: Row<Assignment>,
-) -> Result<Rc<Assignments>, NoMemory>
-    ensures { IfOk result (λ r. c.assignments r.value ≡ c.assignments_of (map c.assignment assignments)) }
-{
-    if assignments.is_empty() {
-        return empties.assignments();
-    }
-    let assignments = Rc::new(
-        alloc,
-        Assignments {
-            items: assignments.into_items(),
-        },
-    )?;
-    Ok(assignments)
-}
-
-fn simple_of(
-    alloc: Global,
-    empties: &Empties,
-    assignments: Row<Assignment>,
-    words: Row<Rc<Word>>,
-    redirects: Row<Redirect>,
-) -> Result<Command, NoMemory>
-    ensures { IfOk result (λ x. c.command x ≡ c.simple (c.simply (c.assignments_of (map c.assignment assignments)) (c.words_of (words_seen words)) (c.redirects_of (map c.redirect redirects)))) }
-{
-    let assignments = assignments_of(alloc, empties, assignments)?;
-    let words = words_of(alloc, words)?;
-    let redirects = redirects_of(alloc, empties, redirects)?;
-    let command = SimpleCommand {
-        assignments,
-        words,
-        redirects,
-    };
-    let command = Rc::new(alloc, command)?;
-    Ok(Command::Simple(command))
-}
-
 /// The simple command that begins here.
 pub fn simple_begun(b: &mut Builder, alloc: Global) -> Result<(), NoMemory>
     ensures { OnOk result (state b.new ≡ act.simple_begun (state b.old)) }
 {
     let (assignments, words, redirects) = simple_in(alloc, b.pop());
-    let command = simple_of(alloc, &b.empties, assignments, words, redirects)?;
-    b.put_command(alloc, command)
+    let command = b.shared.simple(alloc, assignments, words, redirects)?;
+    b.put_command(alloc, Command::Simple(command))
+}
+
+// The simple command of the word in front and what stands behind it.
+fn put_named(b: &mut Builder, alloc: Global) -> Result<(), NoMemory>
+    ensures { OnOk result (state b.new ≡ st.for_two (st.one_command (c.simple (c.simply (c.assignments_of (v.assignments_in (st.second (state b.old)))) (c.words_of (v.word_in (st.top (state b.old)) ∷ v.arguments_in (st.second (state b.old)))) (c.redirects_of (v.redirections_in (st.second (state b.old))))))) (state b.old)) }
+{
+    let name = word_in(alloc, b.pop())?;
+    let (assignments, words, redirects) = simple_in(alloc, b.pop());
+    let command = b.named(alloc, name, assignments, words, redirects)?;
+    b.put_command(alloc, Command::Simple(command))
+}
+
+/// The simple command whose name is in front.
+#[tactic(auto, using(crate::proofs::MadeLemmas::named))]
+pub fn command_named(b: &mut Builder, alloc: Global) -> Result<(), NoMemory>
+    ensures { OnOk result (state b.new ≡ act.simple_begun (act.argument (state b.old))) }
+{
+    put_named(b, alloc)?;
+    Ok(())
 }

@@ -3,15 +3,15 @@ ghost use Rattle.std.specs.Prelude.{◌≡◌, IfOk, map};
 ghost use Rattle.sh_ast.specs.Words as w;
 ghost use Rattle.sh_ast.specs.Commands as c;
 ghost use Rattle.sh_script.specs.Values as v;
+ghost use Rattle.sh_nodes.specs.Nodes.{word_told};
 ghost use Rattle.sh_tree.specs.Seen.{seen};
 
-use crate::row::Row;
 use crate::value::Value;
 use rk_base::{Bytes, NoMemory};
 use sh_ast::{
-    Assignment, Branch, CaseItem, Command, CommandList, Compound, Connector, Part, Parts, Redirect,
-    Word,
+    Assignment, Branch, CaseItem, Command, CommandList, Compound, Connector, Part, Redirect, Word,
 };
+use sh_nodes::{NewWord, Row, list_of, new_word};
 use std::alloc::Global;
 use std::rc::Rc;
 
@@ -37,32 +37,14 @@ pub fn parts_in(alloc: Global, value: Value) -> Row<Part>
     }
 }
 
-/// A word, out of its parts and the bodies of its substitutions.
-pub fn word_of(
-    alloc: Global,
-    parts: Row<Part>,
-    bodies: Vec<Rc<CommandList>>,
-) -> Result<Rc<Word>, NoMemory>
-    ensures { IfOk result (λ r. c.word r.value ≡ c.word_of (w.parts_of (map w.part parts)) (c.bodies_of (map (λ r. c.commands r.value) bodies.items))) }
-{
-    let parts = Rc::new(
-        alloc,
-        Parts {
-            items: parts.into_items(),
-        },
-    )?;
-    let word = Rc::new(alloc, Word { parts, bodies })?;
-    Ok(word)
-}
-
 /// The word that a value holds.
 #[tactic(auto, unfolding(crate::specs::Seen::seen))]
-pub fn word_in(alloc: Global, value: Value) -> Result<Rc<Word>, NoMemory>
-    ensures { IfOk result (λ r. c.word r.value ≡ v.word_in (seen value)) }
+pub fn word_in(alloc: Global, value: Value) -> Result<NewWord, NoMemory>
+    ensures { IfOk result (λ x. word_told x ≡ v.word_in (seen value)) }
 {
     match value {
         Value::Word(word) => Ok(word),
-        _ => word_of(alloc, Row::new(alloc), Vec::new(alloc)),
+        _ => new_word(alloc, Row::new(alloc), Vec::new(alloc)),
     }
 }
 
@@ -122,19 +104,6 @@ pub fn joined_in(alloc: Global, value: Value) -> (Row<Connector>, Row<Command>)
         Value::Joined(connectors, pipelines) => (connectors, pipelines),
         _ => (Row::new(alloc), Row::new(alloc)),
     }
-}
-
-/// The commands of a list.
-pub fn list_of(alloc: Global, commands: Row<Command>) -> Result<Rc<CommandList>, NoMemory>
-    ensures { IfOk result (λ r. c.commands r.value ≡ c.commands_of (map c.command commands)) }
-{
-    let list = Rc::new(
-        alloc,
-        CommandList {
-            items: commands.into_items(),
-        },
-    )?;
-    Ok(list)
 }
 
 /// The commands that a value holds, as a list.

@@ -1,7 +1,7 @@
 // What the parts of the syntax come to.
-use crate::row::Row;
 use rk_base::Bytes;
 use sh_ast::{Assignment, Branch, CaseItem, Command, Compound, Connector, Part, Redirect, Word};
+use sh_nodes::{NewWord, Row};
 use std::rc::Rc;
 
 /// What a token or a part of the syntax comes to.
@@ -12,7 +12,7 @@ pub enum Value {
     Text(Bytes),
     /// Parts of a word.
     Parts(Row<Part>),
-    Word(Rc<Word>),
+    Word(NewWord),
     Words(Row<Rc<Word>>),
     Redirects(Row<Redirect>),
     /// Of a simple command: assignments, words and redirections.

@@ -5,18 +5,18 @@ ghost use Rattle.sh_ast.specs.Words as w;
 ghost use Rattle.sh_ast.specs.Commands as c;
 ghost use Rattle.sh_script.specs.Values as v;
 ghost use Rattle.sh_script.specs.States as st;
+ghost use Rattle.sh_nodes.specs.Nodes.{word_told};
 ghost use Rattle.sh_tree.specs.Seen.{state};
 ghost use Rattle.sh_script.specs.Acts as act;
 
 use crate::builder::Builder;
 use crate::parts::{join_parts, text_part};
-use crate::row::Row;
-use crate::taking::{parts_in, text_in, word_in, word_of, words_in};
+use crate::taking::{parts_in, text_in, words_in};
 use crate::value::Value;
 use rk_base::NoMemory;
-use sh_ast::{Part, Quoting, Word};
+use sh_ast::{Part, Quoting};
+use sh_nodes::{NewWord, Row, new_word, word_of};
 use std::alloc::Global;
-use std::rc::Rc;
 
 /// A word's end.
 #[tactic(auto, unfolding(crate::specs::Seen::seen))]
@@ -29,13 +29,13 @@ pub fn end_of_word(b: &mut Builder, alloc: Global) -> Result<(), NoMemory>
 }
 
 // The word that begins here.
-fn begun(b: &mut Builder, alloc: Global) -> Result<Rc<Word>, NoMemory>
-    ensures word { IfOk result (λ r. c.word r.value ≡ c.word_of (w.parts_of (v.parts_in (st.top (state b.old)))) (c.bodies_of (st.front (state b.old).bodies))) }
+fn begun(b: &mut Builder, alloc: Global) -> Result<NewWord, NoMemory>
+    ensures word { IfOk result (λ x. word_told x ≡ c.word_of (w.parts_of (v.parts_in (st.top (state b.old)))) (c.bodies_of (st.front (state b.old).bodies))) }
     ensures left { OnOk result (state b.new ≡ st.word_closed (st.less (state b.old))) }
 {
     let parts = parts_in(alloc, b.pop());
     let bodies = b.close_word(alloc);
-    word_of(alloc, parts, bodies)
+    new_word(alloc, parts, bodies)
 }
 
 /// The word that begins with a token's text, or with what quotes or expands.
@@ -84,7 +84,7 @@ pub fn no_words(b: &mut Builder, alloc: Global) -> Result<(), NoMemory>
 pub fn more_words(b: &mut Builder, alloc: Global) -> Result<(), NoMemory>
     ensures { OnOk result (state b.new ≡ act.more_words (state b.old)) }
 {
-    let word = word_in(alloc, b.pop())?;
+    let word = b.pop_word(alloc)?;
     let mut words = words_in(alloc, b.pop());
     words.add(word)?;
     b.put(Value::Words(words))

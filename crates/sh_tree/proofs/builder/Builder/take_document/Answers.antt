@@ -2,7 +2,8 @@ use Rattle.std.proofs.Common.{◌≡◌, ℕ, ◌+◌, ◌-◌, List, [], take, 
 use Rattle.std.proofs.lemmas.Option.{MatchOption-at_none}
 use Rattle.std.specs.VecDeque.{deque_len}
 use Rattle.sh_ast.specs.Commands as t
-use Rattle.sh_tree.specs.Seen.{state, words_seen}
+use Rattle.sh_nodes.specs.Nodes.{words_seen}
+use Rattle.sh_tree.specs.Seen.{state}
 use Rattle.sh_script.specs.States.{State, last, but_last, without_document}
 use Rattle.sh_tree.proofs.BuilderLemmas.{last_seen, but_last_seen, front_seen, taken_seen}
 use Rattle.sh_tree.proofs.builder.Builder.take_document.Goals as goal

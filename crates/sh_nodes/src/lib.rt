@@ -1,0 +1,17 @@
+//! The nodes of a script's syntax tree, as they are made: lists in no more room than they take, and what comes again shared.
+#![tactic(auto)]
+
+mod empties;
+mod lists;
+mod literals;
+mod places;
+mod row;
+mod shared;
+mod simple;
+mod words;
+
+pub use lists::{branches_of, case_items_of, connectors_of, list_of, parts_of, words_of};
+pub use places::{PLACES, place_of};
+pub use row::Row;
+pub use shared::Shared;
+pub use words::{NewWord, new_word, word_of};
