@@ -2,3 +2,4 @@ mod Turning
 mod Whole
 mod Sourced
 mod Lines
+mod Pushed

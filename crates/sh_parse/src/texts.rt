@@ -4,30 +4,17 @@ ghost use Rattle.sh_lex.specs.Takes.{read_of};
 
 use rk_base::{Bytes, NoMemory};
 use sh_lex::Taken;
+use sh_nodes::{PLACES, place_of};
 use std::alloc::Global;
 
-// How many texts are kept of a script, of a short one none: it has few tokens.
-const KEPT: usize = 256;
-
+// The bytes of a script of which no text is kept: it has few tokens.
 const SHORT: usize = 1024;
-
-// The most bytes that a kept text has.
-const LONGEST_KEPT: usize = 32;
 
 /// Texts of tokens that were taken lately: one that is among them again, as an operator or a command's name, shares its bytes.
 #[derive(Drop)]
 pub struct Texts {
-    // Each in a place that its bytes tell, which the last one that has it takes.
+    // Each in the place that its bytes tell, which the last one that has it takes.
     kept: Vec<Bytes>,
-}
-
-// A number that the bytes of a text tell.
-fn sum_of(text: &[u8]) -> usize {
-    let mut sum: usize = 0;
-    for byte in text {
-        sum = sum.wrapping_mul(31).wrapping_add(usize::from(*byte));
-    }
-    sum
 }
 
 impl Texts {
@@ -36,8 +23,8 @@ impl Texts {
         let mut kept = Vec::new(alloc);
         if length > SHORT {
             let none = Bytes::new(alloc, Vec::new(alloc))?;
-            kept.reserve_exact(KEPT)?;
-            for _ in 0..KEPT {
+            kept.reserve_exact(PLACES)?;
+            for _ in 0..PLACES {
                 kept.push(none.copy()?)?;
             }
         }
@@ -48,10 +35,7 @@ impl Texts {
     fn shared(&mut self, alloc: Global, text: &[u8]) -> Result<Bytes, NoMemory>
         ensures { IfOk result (λ b. b ≡ text.now) }
     {
-        if text.len() > LONGEST_KEPT {
-            return Bytes::from_slice(alloc, text);
-        }
-        match self.kept.get_mut(sum_of(text) % KEPT) {
+        match self.kept.get_mut(place_of(text)) {
             None => Bytes::from_slice(alloc, text),
             Some(kept) => {
                 if kept.as_slice() != text {

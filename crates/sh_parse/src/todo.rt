@@ -54,15 +54,15 @@ impl Todo {
     }
 }
 
-/// Puts symbols on top, the first of them uppermost. It calls itself once for each of a rule's symbols.
+/// Puts symbols on top, the first of them uppermost.
+#[tactic(auto, using(crate::proofs::Pushed::last_pushed))]
 pub fn push_all(todo: &mut Todo, symbols: &[Symbol]) -> Result<(), NoMemory>
     ensures { OnOk result (todo.new ≡ map symbol_named symbols.now ++ todo.old) }
 {
-    match symbols.split_first() {
-        None => Ok(()),
-        Some((first, rest)) => {
-            push_all(todo, rest)?;
-            todo.push(*first)
-        }
+    let mut left = symbols;
+    'symbols: while let Some((last, front)) = left.split_last() {
+        todo.push(*last)?;
+        left = front;
     }
+    Ok(())
 }
