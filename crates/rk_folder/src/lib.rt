@@ -10,7 +10,6 @@ mod hidden_listing;
 mod imported;
 mod importing;
 mod memory;
-mod real;
 mod sink;
 mod specials;
 mod state_files;
@@ -23,7 +22,6 @@ pub use hidden_files::{
 pub use imported::{Imported, import};
 pub use importing::ImportErr;
 pub use memory::MemFolder;
-pub use real::RealFolder;
-pub use sink::{MemSink, RealSink, Sink, SinkErr};
+pub use sink::{MemSink, Sink, SinkErr};
 pub use specials::special_is_first;
 pub use state_files::{has_database, state};

@@ -4,7 +4,7 @@
 ghost use Rattle.std.specs.Prelude.{◌≡◌, ◌<◌};
 
 use rk_base::Steps;
-use rk_folder::{RealFolder, RealSink};
+use rk_real::{RealFolder, RealSink};
 use rk_top::{exit_code, rkr};
 use std::marker::Brand;
 use std::process::ExitCode;

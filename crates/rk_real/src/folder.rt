@@ -3,8 +3,8 @@ ghost use Rattle.std.specs.Prelude.{◌≡◌, ◌≤◌, None, OnOk, IsOk, true
 ghost use Rattle.rk_base.specs.Text.{depth};
 ghost use Rattle.rk_folder.specs.Calls.{Caused, MemoryCaused};
 
-use crate::{Folder, FolderErr, Got, Item, LONGEST_FILE};
 use rk_base::{Bytes, Name, Path, PathFault};
+use rk_folder::{Folder, FolderErr, Got, Item, LONGEST_FILE};
 use std::alloc::Global;
 use std::fs::{File, Files, Permissions};
 use std::io::{ErrorKind, Read, Write};

@@ -1,0 +1,8 @@
+//! A directory of the machine as a folder, and its streams as sinks.
+#![tactic(auto)]
+
+mod folder;
+mod sink;
+
+pub use folder::RealFolder;
+pub use sink::RealSink;
