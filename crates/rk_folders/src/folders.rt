@@ -339,6 +339,11 @@ impl Held {
         })
     }
 
+    /// The folder.
+    pub(crate) fn folder(&mut self) -> &mut MemFolder {
+        &mut self.folder
+    }
+
     fn set_at(&mut self, words: &[Vec<u8>], path: &Path) -> Result<bool, NoMemory> {
         match text(words, 0) {
             "set-file" => self.folder.set_file(self.alloc, path, word(words, 2)),

@@ -1,4 +1,4 @@
-//! Carries out files of steps for folders, plans and made workloads, a step a line with what is wanted beside it, and prints
+//! Carries out files of steps for folders, plans, lists of calls that are finished, and made workloads, a step a line with what is wanted beside it, and prints
 //! for each file how many steps there were, and what came otherwise.
 #![tactic(auto)]
 
@@ -6,10 +6,12 @@ mod folders;
 mod made;
 mod plans;
 mod real;
+mod recoveries;
 
 use crate::folders::Held;
 use crate::made::Made;
 use crate::real::Real;
+use crate::recoveries::Recoveries;
 use rk_base::NoMemory;
 use rk_steps::{Subjects, Told, run_files, steps_of, subject_of};
 use std::process::ExitCode;
@@ -22,6 +24,7 @@ impl Subjects<HostRuntime> for Program {
         let told = match subject_of(text) {
             "folder" => steps_of(alloc, name, text, Held::new(alloc))?,
             "made" => steps_of(alloc, name, text, Made::new(alloc))?,
+            "recoveries" => steps_of(alloc, name, text, Recoveries::new(alloc))?,
             "real" => steps_of(alloc, name, text, Real::new(rt.clone()?))?,
             _ => return Ok(None),
         };

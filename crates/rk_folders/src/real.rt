@@ -2,10 +2,13 @@
 // for them and removed again.
 use crate::folders::{folder_step, put_shown};
 use crate::plans::{Holdings, op_of, plan_shown};
+use crate::recoveries::{call_of, install_shown, list_of, recovery_shown};
 use rk_base::NoMemory;
 use rk_build::{InstallErr, Op, Plan, install};
 use rk_folder::Sink;
+use rk_install::recover;
 use rk_real::{RealFolder, RealSink};
+use rk_seal as seal;
 use rk_steps::{Subject, behind, mode, number, plain, shown, text};
 use std::alloc::Global;
 use std::fs::{File, Permissions};
@@ -21,6 +24,7 @@ pub(crate) struct Real {
     folder: RealFolder<HostRuntime>,
     holdings: Holdings,
     ops: Vec<Op>,
+    calls: Vec<seal::Op>,
 }
 
 /// A stream that takes at most so many bytes at a time, or fails.
@@ -151,6 +155,7 @@ impl Real {
             folder: RealFolder::new(other, String::from_str(alloc, "real")?),
             holdings: Holdings::new(alloc),
             ops: Vec::new(alloc),
+            calls: Vec::new(alloc),
         })
     }
 
@@ -204,6 +209,35 @@ impl Real {
         self.install(&plan)
     }
 
+    fn put(&mut self, words: &[Vec<u8>]) -> Result<String, NoMemory> {
+        match call_of(self.alloc, words)? {
+            Some(op) => {
+                self.calls.push(op)?;
+                plain(self.alloc, "put")
+            }
+            None => plain(self.alloc, "no call"),
+        }
+    }
+
+    // The calls that were put, sealed.
+    fn install_list(&mut self) -> Result<String, NoMemory> {
+        match list_of(self.alloc, &mut self.calls) {
+            Some(list) => {
+                let done = rk_install::install(self.alloc, &mut self.folder, &list);
+                install_shown(self.alloc, done)
+            }
+            None => plain(self.alloc, "no list"),
+        }
+    }
+
+    fn sealed(&mut self, words: &[Vec<u8>]) -> Result<String, NoMemory> {
+        match text(words, 0) {
+            "op" => self.put(behind(words)),
+            "install-list" => self.install_list(),
+            _ => recovery_shown(self.alloc, recover(self.alloc, &mut self.folder)),
+        }
+    }
+
     fn planned(&mut self, words: &[Vec<u8>]) -> Result<String, NoMemory> {
         match text(words, 0) {
             "before" => self.holdings.before(behind(words)),
@@ -240,6 +274,7 @@ impl Subject for Real {
             "before" | "after" | "next" | "plan" | "install" | "call" | "make" => {
                 self.planned(words)
             }
+            "op" | "install-list" | "recover" => self.sealed(words),
             _ => folder_step(alloc, &mut self.folder, words),
         }
     }

@@ -1,0 +1,5 @@
+use Rattle.rk_install.proofs.StepLemmas.{may-unseal, unsealed-by}
+use Rattle.rk_install.proofs.recovery.unseal.Goals as goal
+
+pub make-requires : goal.make-requires
+make-requires g c = may-unseal _ c.in_ok-path.path c.in_ok-path.ensures c.requires

@@ -1,0 +1,5 @@
+pub mod Calls
+pub mod Halfway
+pub mod Install
+pub mod Looks
+pub mod Recovery

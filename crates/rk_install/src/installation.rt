@@ -1,0 +1,178 @@
+// An install that is sealed.
+ghost use Rattle.std.specs.Prelude.{◌≡◌, IfSome, IfOk, OnOk, OnErr, option_map, true, false};
+ghost use Rattle.std.specs.List.{list_any};
+ghost use Rattle.rk_folder.specs.Hidden as hidden;
+ghost use Rattle.rk_folder.specs.Told.{can_make_dir, can_rename, renamed};
+ghost use Rattle.rk_install.specs.Calls.{AllowsAll, Caused, DamagedBy, MemoryCaused, Steadily, after_all, allowed};
+ghost use Rattle.rk_install.specs.Halfway.{IsStopped};
+ghost use Rattle.rk_install.specs.Install.{AllowsInstall, IsAround, OwnOrCaused, StopsSo, installed, makes_hidden, others, rooted, step_other};
+
+use crate::calling::{InstallErr, call};
+use rk_base::{NoMemory, Path};
+use rk_folder::{Folder, FolderErr, fresh_list_file, hidden_dir, install_file};
+use rk_seal::{InstallList, Op, encode};
+use std::alloc::Global;
+
+// All memory of an install's own: the calls around those of the list, and the name that is sealed.
+#[derive(Drop)]
+struct Around {
+    making: Op,
+    draft: Op,
+    fresh: Path,
+    seal: Path,
+    unsealing: Op,
+}
+
+fn all_around(alloc: Global, list: &InstallList) -> Result<Around, NoMemory>
+    ensures { IfOk result (IsAround list.now) }
+{
+    let bytes = encode(alloc, list)?;
+    Ok(Around {
+        making: Op::MakeDir(hidden_dir(alloc)?),
+        draft: Op::Write(fresh_list_file(alloc)?, bytes),
+        fresh: fresh_list_file(alloc)?,
+        seal: install_file(alloc)?,
+        unsealing: Op::RemoveFile(install_file(alloc)?),
+    })
+}
+
+// Whether a call makes the hidden directory.
+#[tactic(auto, unfolding(rk_base::specs::Text::join))]
+fn makes_hidden(op: &Op) -> bool
+    ensures { result ≡ makes_hidden op.now }
+{
+    match op {
+        Op::RemoveFile(_) => false,
+        Op::RemoveDir(_) => false,
+        Op::MakeDir(path) => path.text() == b"/.rkr".as_slice(),
+        Op::Write(_, _) => false,
+    }
+}
+
+// Whether one of the calls makes it.
+fn has_hidden(ops: &[Op]) -> bool
+    ensures { result ≡ list_any makes_hidden ops.now }
+{
+    ops.iter().any(|op| makes_hidden(op))
+}
+
+// Makes the hidden directory, where that is among the calls.
+fn make_hidden<F: Folder>(
+    alloc: Global,
+    folder: &mut F,
+    ops: &[Op],
+    around: &Around,
+) -> Result<(), InstallErr>
+    requires around { IsAround ops.now around.now }
+    requires may { IfSome (F.told folder.old) (λ held. list_any makes_hidden ops.now ≡ true → can_make_dir hidden.hidden_dir held ≡ true) }
+    ensures held { OnOk result (F.told folder.new ≡ option_map (rooted ops.now) (F.told folder.old)) }
+    ensures left { OnErr result (F.told folder.new ≡ F.told folder.old) }
+    ensures cause { Caused (F.write_faults folder.old) (F.write_faults folder.new) result }
+    ensures memory { MemoryCaused (F.memory_failures folder.old) (F.memory_failures folder.new) result }
+    ensures steady { Steadily (F.steady folder.old) (F.steady folder.new) result }
+    ensures reads { F.read_faults folder.new ≡ F.read_faults folder.old }
+{
+    if !has_hidden(ops) {
+        return Ok(());
+    }
+    call(alloc, folder, &around.making)
+}
+
+// Seals the list that was written, by a rename.
+fn seal<F: Folder>(alloc: Global, folder: &mut F, around: &Around) -> Result<(), InstallErr>
+    requires { IfSome (F.told folder.old) (λ held. can_rename around.now.fresh around.now.seal held ≡ true) }
+    ensures held { OnOk result (F.told folder.new ≡ option_map (renamed around.now.fresh around.now.seal) (F.told folder.old)) }
+    ensures left { OnErr result (F.told folder.new ≡ F.told folder.old) }
+    ensures cause { Caused (F.write_faults folder.old) (F.write_faults folder.new) result }
+    ensures memory { MemoryCaused (F.memory_failures folder.old) (F.memory_failures folder.new) result }
+    ensures steady { Steadily (F.steady folder.old) (F.steady folder.new) result }
+    ensures reads { F.read_faults folder.new ≡ F.read_faults folder.old }
+{
+    match folder.rename(alloc, &around.fresh, &around.seal) {
+        Ok(()) => Ok(()),
+        Err(FolderErr::Failed) => Err(InstallErr::WriteFault),
+        Err(FolderErr::NoMemory) => Err(InstallErr::NoMemory),
+    }
+}
+
+// Makes a call that isn't the making of the hidden directory.
+fn make_other<F: Folder>(alloc: Global, folder: &mut F, op: &Op) -> Result<(), InstallErr>
+    requires { IfSome (F.told folder.old) (λ held. makes_hidden op.now ≡ false → allowed op.now held ≡ true) }
+    ensures held { OnOk result (F.told folder.new ≡ option_map (step_other op.now) (F.told folder.old)) }
+    ensures left { OnErr result ((makes_hidden op.now ≡ false) × DamagedBy op.now (F.told folder.old) (F.told folder.new)) }
+    ensures cause { Caused (F.write_faults folder.old) (F.write_faults folder.new) result }
+    ensures memory { MemoryCaused (F.memory_failures folder.old) (F.memory_failures folder.new) result }
+    ensures steady { Steadily (F.steady folder.old) (F.steady folder.new) result }
+    ensures reads { F.read_faults folder.new ≡ F.read_faults folder.old }
+{
+    if makes_hidden(op) {
+        return Ok(());
+    }
+    call(alloc, folder, op)?;
+    Ok(())
+}
+
+// Makes the other calls, one after another, up to the first that fails.
+fn make_others<F: Folder>(alloc: Global, folder: &mut F, ops: &[Op]) -> Result<(), InstallErr>
+    requires { IfSome (F.told folder.old) (AllowsAll (others ops.now)) }
+    ensures held { OnOk result (F.told folder.new ≡ option_map (after_all (others ops.now)) (F.told folder.old)) }
+    ensures left { OnErr result (IsStopped (others ops.now) (F.told folder.old) (F.told folder.new)) }
+    ensures cause { Caused (F.write_faults folder.old) (F.write_faults folder.new) result }
+    ensures memory { MemoryCaused (F.memory_failures folder.old) (F.memory_failures folder.new) result }
+    ensures steady { Steadily (F.steady folder.old) (F.steady folder.new) result }
+    ensures reads { F.read_faults folder.new ≡ F.read_faults folder.old }
+{
+    for op in ops {
+        make_other(alloc, folder, op)?;
+    }
+    Ok(())
+}
+
+// Makes the calls of a list, and those around them.
+fn install_around<F: Folder>(
+    alloc: Global,
+    folder: &mut F,
+    ops: &[Op],
+    around: &Around,
+) -> Result<(), InstallErr>
+    requires around { IsAround ops.now around.now }
+    requires may { IfSome (F.told folder.old) (AllowsInstall ops.now) }
+    ensures held { OnOk result (F.told folder.new ≡ option_map (installed ops.now) (F.told folder.old)) }
+    ensures stops { OnErr result (IfSome (F.told folder.old) (λ held. StopsSo ops.now held (F.told folder.new))) }
+    ensures cause { Caused (F.write_faults folder.old) (F.write_faults folder.new) result }
+    ensures memory { MemoryCaused (F.memory_failures folder.old) (F.memory_failures folder.new) result }
+    ensures steady { Steadily (F.steady folder.old) (F.steady folder.new) result }
+    ensures reads { F.read_faults folder.new ≡ F.read_faults folder.old }
+{
+    make_hidden(alloc, folder, ops, around)?;
+    call(alloc, folder, &around.draft)?;
+    seal(alloc, folder, around)?;
+    make_others(alloc, folder, ops)?;
+    let done = call(alloc, folder, &around.unsealing)?;
+    Ok(done)
+}
+
+/// Makes the calls of a list, so that a stop at any of them loses nothing: the hidden directory is made, where that is among
+/// them; the list is written there, and sealed by a rename; then come the other calls, in their order; and then the seal is
+/// taken away. All memory that is its own is taken before its first call.
+///
+/// `WriteFault` where a call of the folder was a fault, `NoMemory` where one had no memory, or the install itself had none.
+/// The folder is then as before, but that the hidden directory and a list that isn't sealed may stand; or the list is sealed,
+/// and `recover` finishes it.
+pub fn install<F: Folder>(
+    alloc: Global,
+    folder: &mut F,
+    list: &InstallList,
+) -> Result<(), InstallErr>
+    requires { IfSome (F.told folder.old) (AllowsInstall list.now) }
+    ensures held { OnOk result (F.told folder.new ≡ option_map (installed list.now) (F.told folder.old)) }
+    ensures stops { OnErr result (IfSome (F.told folder.old) (λ held. StopsSo list.now held (F.told folder.new))) }
+    ensures cause { Caused (F.write_faults folder.old) (F.write_faults folder.new) result }
+    // want of memory is its own, and then no call was made, or the folder's count of it rose
+    ensures memory { OwnOrCaused (F.told folder.old) (F.told folder.new) (F.memory_failures folder.old) (F.memory_failures folder.new) result }
+    ensures steady { Steadily (F.steady folder.old) (F.steady folder.new) result }
+    ensures reads { F.read_faults folder.new ≡ F.read_faults folder.old }
+{
+    let around = all_around(alloc, list)?;
+    install_around(alloc, folder, list.as_slice(), &around)
+}
