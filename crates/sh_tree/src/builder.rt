@@ -62,7 +62,7 @@ impl Builder {
         ensures bodies { (state self.new).bodies ≡ (state self.old).bodies }
         ensures documents { (state self.new).documents ≡ (state self.old).documents }
     {
-        let _value = self.pop();
+        drop(self.pop());
     }
 
     /// Puts a value on top.

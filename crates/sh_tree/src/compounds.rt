@@ -135,7 +135,10 @@ fn for_words(alloc: Global, value: Value) -> Result<Option<Rc<Words>>, NoMemory>
             let words = words_of(alloc, words)?;
             Ok(Some(words))
         }
-        _ => Ok(None),
+        other => {
+            drop(other);
+            Ok(None)
+        }
     }
 }
 

@@ -1,4 +1,5 @@
-// Values, taken for what they hold. One that holds something else counts as empty.
+// Values, taken for what they hold. One that holds something else counts as empty; `drop` lets it go, so that what this takes
+// is proved once and not in each function.
 ghost use Rattle.std.specs.Prelude.{◌≡◌, IfOk, map};
 ghost use Rattle.sh_ast.specs.Words as w;
 ghost use Rattle.sh_ast.specs.Commands as c;
@@ -22,7 +23,10 @@ pub fn text_in(alloc: Global, value: Value) -> Result<Bytes, NoMemory>
 {
     match value {
         Value::Text(text) => Ok(text),
-        _ => Bytes::new(alloc, Vec::new(alloc)),
+        other => {
+            drop(other);
+            Bytes::new(alloc, Vec::new(alloc))
+        }
     }
 }
 
@@ -33,7 +37,10 @@ pub fn parts_in(alloc: Global, value: Value) -> Row<Part>
 {
     match value {
         Value::Parts(parts) => parts,
-        _ => Row::new(alloc),
+        other => {
+            drop(other);
+            Row::new(alloc)
+        }
     }
 }
 
@@ -44,7 +51,10 @@ pub fn word_in(alloc: Global, value: Value) -> Result<NewWord, NoMemory>
 {
     match value {
         Value::Word(word) => Ok(word),
-        _ => new_word(alloc, Row::new(alloc), Vec::new(alloc)),
+        other => {
+            drop(other);
+            new_word(alloc, Row::new(alloc), Vec::new(alloc))
+        }
     }
 }
 
@@ -55,7 +65,10 @@ pub fn words_in(alloc: Global, value: Value) -> Row<Rc<Word>>
 {
     match value {
         Value::Words(words) => words,
-        _ => Row::new(alloc),
+        other => {
+            drop(other);
+            Row::new(alloc)
+        }
     }
 }
 
@@ -66,7 +79,10 @@ pub fn redirects_in(alloc: Global, value: Value) -> Row<Redirect>
 {
     match value {
         Value::Redirects(redirects) => redirects,
-        _ => Row::new(alloc),
+        other => {
+            drop(other);
+            Row::new(alloc)
+        }
     }
 }
 
@@ -79,7 +95,10 @@ pub fn simple_in(alloc: Global, value: Value) -> (Row<Assignment>, Row<Rc<Word>>
 {
     match value {
         Value::Simple(assignments, words, redirects) => (assignments, words, redirects),
-        _ => (Row::new(alloc), Row::new(alloc), Row::new(alloc)),
+        other => {
+            drop(other);
+            (Row::new(alloc), Row::new(alloc), Row::new(alloc))
+        }
     }
 }
 
@@ -90,7 +109,10 @@ pub fn commands_in(alloc: Global, value: Value) -> Row<Command>
 {
     match value {
         Value::Commands(commands) => commands,
-        _ => Row::new(alloc),
+        other => {
+            drop(other);
+            Row::new(alloc)
+        }
     }
 }
 
@@ -102,7 +124,10 @@ pub fn joined_in(alloc: Global, value: Value) -> (Row<Connector>, Row<Command>)
 {
     match value {
         Value::Joined(connectors, pipelines) => (connectors, pipelines),
-        _ => (Row::new(alloc), Row::new(alloc)),
+        other => {
+            drop(other);
+            (Row::new(alloc), Row::new(alloc))
+        }
     }
 }
 
@@ -120,7 +145,8 @@ pub fn compound_in(alloc: Global, value: Value) -> Result<Compound, NoMemory>
 {
     match value {
         Value::Compound(compound) => Ok(compound),
-        _ => {
+        other => {
+            drop(other);
             let list = list_of(alloc, Row::new(alloc))?;
             Ok(Compound::Group(list))
         }
@@ -135,7 +161,10 @@ pub fn branches_in(alloc: Global, value: Value) -> (Row<Branch>, Row<Command>)
 {
     match value {
         Value::Branches(branches, otherwise) => (branches, otherwise),
-        _ => (Row::new(alloc), Row::new(alloc)),
+        other => {
+            drop(other);
+            (Row::new(alloc), Row::new(alloc))
+        }
     }
 }
 
@@ -146,6 +175,9 @@ pub fn items_in(alloc: Global, value: Value) -> Row<CaseItem>
 {
     match value {
         Value::Items(items) => items,
-        _ => Row::new(alloc),
+        other => {
+            drop(other);
+            Row::new(alloc)
+        }
     }
 }
