@@ -6,6 +6,7 @@ ghost use Rattle.sh_tree.specs.Seen.{seen, state};
 ghost use Rattle.sh_script.specs.States as st;
 ghost use Rattle.sh_script.specs.Values as v;
 
+use crate::rows::one;
 use crate::taking::word_in;
 use crate::value::Value;
 use rk_base::NoMemory;
@@ -79,8 +80,7 @@ impl Builder {
     pub fn put_command(&mut self, alloc: Global, command: Command) -> Result<(), NoMemory>
         ensures { OnOk result (state self.new ≡ st.with (st.one_command (c.command command)) (state self.old)) }
     {
-        let mut commands = Row::new(alloc);
-        commands.add(command)?;
+        let commands = one(alloc, command)?;
         self.put(Value::Commands(commands))
     }
 

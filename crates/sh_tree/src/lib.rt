@@ -8,6 +8,7 @@ mod compounds;
 mod lists;
 mod parameters;
 mod parts;
+mod rows;
 mod simple;
 mod taking;
 mod value;

@@ -7,6 +7,7 @@ ghost use Rattle.sh_tree.specs.Seen.{state};
 ghost use Rattle.sh_script.specs.Acts as act;
 
 use crate::builder::Builder;
+use crate::rows::{all_in_front, in_front};
 use crate::taking::{commands_in, joined_in};
 use crate::value::Value;
 use rk_base::NoMemory;
@@ -108,9 +109,9 @@ pub fn joined(b: &mut Builder, alloc: Global, connector: Connector) -> Result<()
     b.skip();
     b.skip();
     let front = commands_in(alloc, b.pop());
-    let (mut connectors, mut pipelines) = joined_in(alloc, b.pop());
-    connectors.add(connector)?;
-    pipelines.add_all(front)?;
+    let (connectors, pipelines) = joined_in(alloc, b.pop());
+    let pipelines = all_in_front(front, pipelines)?;
+    let connectors = in_front(connector, connectors)?;
     b.put(Value::Joined(connectors, pipelines))
 }
 

@@ -10,6 +10,7 @@ use crate::builder::Builder;
 use crate::parameters::{
     braced_parameter, operation, plain_parameter, removal, without_ends, without_first,
 };
+use crate::rows::{all_in_front, in_front, one};
 use crate::taking::{list_in, parts_in, text_in};
 use crate::value::Value;
 use rk_base::{Bytes, NoMemory};
@@ -23,8 +24,7 @@ use std::rc::Rc;
 fn put_part(b: &mut Builder, alloc: Global, part: Part) -> Result<(), NoMemory>
     ensures { OnOk result (state b.new ≡ st.with (v.parts (w.part part ∷ [])) (state b.old)) }
 {
-    let mut parts = Row::new(alloc);
-    parts.add(part)?;
+    let parts = one(alloc, part)?;
     b.put(Value::Parts(parts))
 }
 
@@ -33,8 +33,7 @@ fn put_part(b: &mut Builder, alloc: Global, part: Part) -> Result<(), NoMemory>
 fn put_front(b: &mut Builder, alloc: Global, part: Part) -> Result<(), NoMemory>
     ensures { OnOk result (state b.new ≡ st.for_one (v.parts (w.part part ∷ v.parts_in (st.top (state b.old)))) (state b.old)) }
 {
-    let mut parts = parts_in(alloc, b.pop());
-    parts.add(part)?;
+    let parts = in_front(part, parts_in(alloc, b.pop()))?;
     b.put(Value::Parts(parts))
 }
 
@@ -70,8 +69,7 @@ pub fn join_parts(b: &mut Builder, alloc: Global) -> Result<(), NoMemory>
     ensures { OnOk result (state b.new ≡ act.join_parts (state b.old)) }
 {
     let front = parts_in(alloc, b.pop());
-    let mut parts = parts_in(alloc, b.pop());
-    parts.add_all(front)?;
+    let parts = all_in_front(front, parts_in(alloc, b.pop()))?;
     b.put(Value::Parts(parts))
 }
 
@@ -139,14 +137,15 @@ pub fn single(b: &mut Builder, alloc: Global) -> Result<(), NoMemory>
 }
 
 // What double quotes hold: an empty pair of them is one quoted literal of no bytes.
-fn in_quotes(alloc: Global, mut parts: Row<Part>) -> Result<Row<Part>, NoMemory>
+fn in_quotes(alloc: Global, parts: Row<Part>) -> Result<Row<Part>, NoMemory>
     ensures { IfOk result (λ ps. map w.part ps ≡ act.in_quotes (map w.part parts)) }
 {
-    if parts.is_empty() {
-        let nothing = Bytes::new(alloc, Vec::new(alloc))?;
-        parts.add(Part::Literal(Quoting::Quoted, nothing))?;
+    if !parts.is_empty() {
+        return Ok(parts);
     }
-    Ok(parts)
+    drop(parts);
+    let nothing = Bytes::new(alloc, Vec::new(alloc))?;
+    one(alloc, Part::Literal(Quoting::Quoted, nothing))
 }
 
 /// Double quotes.
@@ -173,6 +172,7 @@ fn operator_word(alloc: Global, parts: Row<Part>) -> Result<Option<Rc<Parts>>, N
     ensures { IfOk result (λ o. operator_word_seen o ≡ act.operator_word (map w.part parts)) }
 {
     if parts.is_empty() {
+        drop(parts);
         return Ok(None);
     }
     let parts = parts_of(alloc, parts)?;

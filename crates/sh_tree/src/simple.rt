@@ -10,6 +10,7 @@ ghost use Rattle.sh_script.specs.Acts as act;
 
 use crate::builder::Builder;
 use crate::parameters::{byte_at, descriptor_of, without_last};
+use crate::rows::{all_in_front, in_front};
 use crate::taking::{redirects_in, simple_in, text_in, word_in};
 use crate::value::Value;
 use crate::words::{word_quoted, word_text};
@@ -130,8 +131,8 @@ pub fn redirected(b: &mut Builder, alloc: Global) -> Result<(), NoMemory>
     ensures { OnOk result (state b.new ≡ act.redirected (state b.old)) }
 {
     let front = redirects_in(alloc, b.pop());
-    let (assignments, words, mut redirects) = simple_in(alloc, b.pop());
-    redirects.add_all(front)?;
+    let (assignments, words, redirects) = simple_in(alloc, b.pop());
+    let redirects = all_in_front(front, redirects)?;
     b.put(Value::Simple(assignments, words, redirects))
 }
 
@@ -141,8 +142,8 @@ pub fn argument(b: &mut Builder, alloc: Global) -> Result<(), NoMemory>
     ensures { OnOk result (state b.new ≡ act.argument (state b.old)) }
 {
     let word = b.pop_word(alloc)?;
-    let (assignments, mut words, redirects) = simple_in(alloc, b.pop());
-    words.add(word)?;
+    let (assignments, words, redirects) = simple_in(alloc, b.pop());
+    let words = in_front(word, words)?;
     b.put(Value::Simple(assignments, words, redirects))
 }
 
