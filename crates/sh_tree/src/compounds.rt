@@ -7,6 +7,7 @@ ghost use Rattle.sh_script.specs.States.{less};
 ghost use Rattle.sh_script.specs.Acts as act;
 
 use crate::builder::Builder;
+use crate::rows::in_front;
 use crate::taking::{
     branches_in, commands_in, compound_in, items_in, list_in, redirects_in, text_in, words_in,
 };
@@ -108,8 +109,8 @@ pub fn branch(b: &mut Builder, alloc: Global) -> Result<(), NoMemory>
     let condition = list_in(alloc, b.pop())?;
     b.skip();
     let body = list_in(alloc, b.pop())?;
-    let (mut branches, otherwise) = branches_in(alloc, b.pop());
-    branches.add(Branch { condition, body })?;
+    let (branches, otherwise) = branches_in(alloc, b.pop());
+    let branches = in_front(Branch { condition, body }, branches)?;
     b.put(Value::Branches(branches, otherwise))
 }
 
@@ -193,12 +194,11 @@ pub fn item(b: &mut Builder, alloc: Global) -> Result<(), NoMemory>
     ensures { OnOk result (state b.new ≡ act.item (state b.old)) }
 {
     let pattern = b.pop_word(alloc)?;
-    let mut patterns = words_in(alloc, b.pop());
-    let body = list_in(alloc, b.pop())?;
-    let mut items = items_in(alloc, b.pop());
-    patterns.add(pattern)?;
+    let patterns = in_front(pattern, words_in(alloc, b.pop()))?;
     let patterns = words_of(alloc, patterns)?;
-    items.add(CaseItem { patterns, body })?;
+    let body = list_in(alloc, b.pop())?;
+    let item = CaseItem { patterns, body };
+    let items = in_front(item, items_in(alloc, b.pop()))?;
     b.put(Value::Items(items))
 }
 

@@ -72,14 +72,15 @@ fn piped_in_front(
     b: &mut Builder,
     alloc: Global,
     front: Row<Command>,
-    mut commands: Row<Command>,
+    commands: Row<Command>,
 ) -> Result<(), NoMemory>
     ensures { OnOk result (state b.new ≡ st.with (act.piped (map c.command front) (map c.command commands)) (state b.old)) }
 {
     if commands.is_empty() {
+        drop(commands);
         return b.put(Value::Commands(front));
     }
-    commands.add_all(front)?;
+    let commands = all_in_front(front, commands)?;
     pipeline(b, alloc, false, commands)?;
     Ok(())
 }
@@ -122,14 +123,15 @@ fn chained(
     alloc: Global,
     front: Row<Command>,
     connectors: Row<Connector>,
-    mut pipelines: Row<Command>,
+    pipelines: Row<Command>,
 ) -> Result<(), NoMemory>
     ensures { OnOk result (state b.new ≡ st.with (act.chain (map c.command front) connectors (map c.command pipelines)) (state b.old)) }
 {
     if connectors.is_empty() {
+        drop(pipelines);
         return b.put(Value::Commands(front));
     }
-    pipelines.add_all(front)?;
+    let pipelines = all_in_front(front, pipelines)?;
     let pipelines = list_of(alloc, pipelines)?;
     let connectors = connectors_of(alloc, connectors)?;
     b.put_command(alloc, Command::AndOr(pipelines, connectors))?;

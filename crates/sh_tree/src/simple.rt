@@ -99,8 +99,7 @@ pub fn more_redirects(b: &mut Builder, alloc: Global) -> Result<(), NoMemory>
     ensures { OnOk result (state b.new ≡ act.more_redirects (state b.old)) }
 {
     let front = redirects_in(alloc, b.pop());
-    let mut redirects = redirects_in(alloc, b.pop());
-    redirects.add_all(front)?;
+    let redirects = all_in_front(front, redirects_in(alloc, b.pop()))?;
     b.put(Value::Redirects(redirects))
 }
 
