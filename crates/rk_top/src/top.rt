@@ -1,7 +1,6 @@
 // The top call.
-ghost use Rattle.std.specs.Prelude.{◌<◌, map, string_bytes};
-ghost use Rattle.rk_request.specs.Asked.{turns, IfBuild};
-ghost use Rattle.rk_top.specs.Serves.{Serves, Works};
+ghost use Rattle.std.specs.Prelude.{map, string_bytes};
+ghost use Rattle.rk_top.specs.Serves.{Serves};
 
 use crate::commands::Commands;
 use crate::queries::{check_records, forget_records, show_records};
@@ -12,58 +11,6 @@ use rk_request::{Request, RequestErr, request};
 use rk_workload::tell_workload;
 use std::alloc::Global;
 use std::sync::ledger::Ledger;
-
-// Does what is asked for; the outcome isn't told yet.
-fn work<F: Folder, O: Sink, E: Sink, L: Ledger>(
-    alloc: Global,
-    request: &Request,
-    folder: &mut F,
-    out: &mut O,
-    err: &mut E,
-    live: &mut Steps<L>,
-) -> Outcome
-    requires { IfBuild request.now (0 < turns request.now) }
-    ensures { Works request.now
-        (record {
-          reach = F.reach folder.old;
-          held = F.told folder.old;
-          schedule = F.schedule folder.old;
-          reads = F.read_faults folder.old;
-          writes = F.write_faults folder.old;
-          memory = F.memory_failures folder.old;
-          out = (record { so_far = O.so_far out.old; faults = O.faults out.old; memory = O.memory_failures out.old });
-          err = (record { so_far = E.so_far err.old; faults = E.faults err.old; memory = E.memory_failures err.old });
-          steady = (record { folder = F.steady folder.old; out = O.steady out.old; err = E.steady err.old });
-          live = live.old;
-        })
-        (record {
-          reach = F.reach folder.new;
-          held = F.told folder.new;
-          schedule = F.schedule folder.new;
-          reads = F.read_faults folder.new;
-          writes = F.write_faults folder.new;
-          memory = F.memory_failures folder.new;
-          out = (record { so_far = O.so_far out.new; faults = O.faults out.new; memory = O.memory_failures out.new });
-          err = (record { so_far = E.so_far err.new; faults = E.faults err.new; memory = E.memory_failures err.new });
-          steady = (record { folder = F.steady folder.new; out = O.steady out.new; err = E.steady err.new });
-          live = live.new;
-        })
-        result }
-{
-    match request {
-        Request::Build { .. } => {
-            let mut maker = Commands::new(alloc);
-            build_in(alloc, &mut maker, request, folder, out, err, live)
-        }
-        Request::Check => check_records(alloc, folder, out),
-        Request::Trace { json } => show_records(alloc, *json, folder, out),
-        Request::Forget => forget_records(alloc, folder, out),
-        Request::Gen(seed) => {
-            let mut maker = Commands::new(alloc);
-            tell_workload(alloc, &mut maker, *seed, out, live)
-        }
-    }
-}
 
 /// The whole program as one call: reads the words, of which the first is the program's name, and does what they
 /// ask for, over a folder and the two sinks for output and error text. `live` counts the turns that commands
@@ -105,10 +52,30 @@ pub fn rkr<F: Folder, O: Sink, E: Sink, L: Ledger>(
         result }
 {
     match request(alloc, words) {
-        Ok(asked) => {
-            let outcome = work(alloc, &asked, folder, out, err, live);
-            tell(alloc, err, outcome)
-        }
+        Ok(asked) => match &asked {
+            Request::Build { .. } => {
+                let mut maker = Commands::new(alloc);
+                let outcome = build_in(alloc, &mut maker, &asked, folder, out, err, live);
+                tell(alloc, err, outcome)
+            }
+            Request::Check => {
+                let outcome = check_records(alloc, folder, out);
+                tell(alloc, err, outcome)
+            }
+            Request::Trace { json } => {
+                let outcome = show_records(alloc, *json, folder, out);
+                tell(alloc, err, outcome)
+            }
+            Request::Forget => {
+                let outcome = forget_records(alloc, folder, out);
+                tell(alloc, err, outcome)
+            }
+            Request::Gen(seed) => {
+                let mut maker = Commands::new(alloc);
+                let outcome = tell_workload(alloc, &mut maker, *seed, out, live);
+                tell(alloc, err, outcome)
+            }
+        },
         Err(RequestErr::Usage) => tell(alloc, err, Outcome::Usage),
         Err(RequestErr::NoMemory) => tell(alloc, err, Outcome::NoMemory),
     }
