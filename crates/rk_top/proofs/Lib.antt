@@ -1,3 +1,5 @@
 pub mod AskLemmas
+pub mod GeneratedLemmas
+pub mod OneLineLemmas
 pub mod QueryLemmas
 pub mod ServeLemmas

@@ -15,11 +15,11 @@ use Rattle.rk_build.proofs.CallsLemmas.{asks-none}
 use Rattle.rk_build.proofs.TellLemmas.{line-asks, line-damaged, line-ended, line-faults, line-forged, line-gains, line-leaves, line-no-fault, line-settles, line-special, line-ticked, mid-still, steady-same, told-counted, told-errors, told-gains}
 use Rattle.rk_top.specs.First.{first_talk}
 use Rattle.rk_top.specs.Outside.{GainsLineAlone, IsSteady, Outside, Steady, counts, with_line}
-use Rattle.rk_workload.specs.Generated.{Generates}
+use Rattle.rk_top.specs.Generated.{Generates}
 use Rattle.rk_top.specs.Queries.{IsAnswer, Queried}
 use Rattle.rk_top.specs.Serves.{BuildWorks, Builds, QueryWorks, Serves, Works, query_calls}
 use Rattle.rk_top.proofs.AskLemmas.{asks, asks-any, build-then, builds-any, gen-then, gens-any, queries-any, query-then, unasked}
-use Rattle.rk_workload.proofs.GeneratedLemmas.{line-generates}
+use Rattle.rk_top.proofs.GeneratedLemmas.{line-generates}
 use Rattle.rk_top.proofs.QueryLemmas.{asked-not-usage, line-queried, unread-queried}
 use Rattle.rk_database.specs.declared.stop.Said.{Said}
 use Rattle.rk_database.specs.declared.stop.QueryErr.{QueryErr}

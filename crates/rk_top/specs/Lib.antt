@@ -4,5 +4,6 @@ pub mod Running
 pub mod UnknownTalk
 pub mod Asks
 pub mod Queries
+pub mod Generated
 pub mod Outside
 pub mod Serves

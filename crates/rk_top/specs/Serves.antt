@@ -22,7 +22,7 @@ use Rattle.rk_build.specs.declared.outcome.Outcome.{Outcome}
 use Rattle.rk_build.specs.declared.outcome.Outcome.TheVariants as out
 use Rattle.rk_top.specs.Asks.{Asks, AsksBuild, AsksQuery}
 use Rattle.rk_top.specs.First.{first_talk}
-use Rattle.rk_workload.specs.Generated.{Generates}
+use Rattle.rk_top.specs.Generated.{Generates}
 use Rattle.rk_top.specs.Outside.{GainsLineAlone, IsSteady, Outside, counts, folder_counts, sinks}
 use Rattle.rk_top.specs.Queries.{Queried}
 

@@ -3,12 +3,12 @@ ghost use Rattle.std.specs.Prelude.{map, string_bytes};
 ghost use Rattle.rk_top.specs.Serves.{Serves};
 
 use crate::commands::Commands;
+use crate::generate::tell_workload;
 use crate::queries::{check_records, forget_records, show_records};
 use rk_base::Steps;
 use rk_build::{Outcome, build_in, tell};
 use rk_folder::{Folder, Sink};
 use rk_request::{Request, RequestErr, request};
-use rk_workload::tell_workload;
 use std::alloc::Global;
 use std::sync::ledger::Ledger;
 
@@ -71,8 +71,7 @@ pub fn rkr<F: Folder, O: Sink, E: Sink, L: Ledger>(
                 tell(alloc, err, outcome)
             }
             Request::Gen(seed) => {
-                let mut maker = Commands::new(alloc);
-                let outcome = tell_workload(alloc, &mut maker, *seed, out, live);
+                let outcome = tell_workload(alloc, *seed, out, live);
                 tell(alloc, err, outcome)
             }
         },

@@ -1,8 +1,8 @@
 use Rattle.std.proofs.Common.{◌≡◌, ◌+◌, ◌≤◌, true}
 use Rattle.rk_folder.specs.Memory.{held_by, is_steady}
-use Rattle.rk_workload.specs.Generated.{Reaches, stage_of, workload_after}
+use Rattle.rk_top.specs.Generated.{Reaches, stage_of, workload_after}
 use Rattle.rk_build.specs.Sessions.{IsWell}
-use Rattle.rk_workload.proofs.session.run.Given as goal
+use Rattle.rk_top.proofs.generate.run.Given as goal
 
 abbrev pub invariant-loop-n : goal.invariant-loop-n
 invariant-loop-n g l = record {

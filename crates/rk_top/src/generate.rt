@@ -1,13 +1,15 @@
 // A made workload: a session of builds and edits over a folder in memory, and the line that tells it.
 ghost use Rattle.std.specs.Prelude.{◌≡◌, ◌+◌, ◌<◌, ◌≤◌, ◌^◌, ℕ, IfOk, OnOk, Some, true};
+ghost use Rattle.rk_top.specs.First.{first_talk};
 ghost use Rattle.rk_folder.specs.Memory.{held_by, is_steady};
 ghost use Rattle.rk_folder.specs.Told.{bytes_in, standing};
 ghost use Rattle.rk_gen.specs.Edits.{edited};
-ghost use Rattle.rk_workload.specs.Generated.{Generates, IsBuilt, IsLine, KeepsTable, Reaches, digest_of, edited_stage, last_digest, line_of_stage, stage_of};
+ghost use Rattle.rk_top.specs.Generated.{Generates, IsBuilt, IsLine, KeepsTable, Reaches, digest_of, edited_stage, last_digest, line_of_stage, stage_of};
 ghost use Rattle.rk_build.specs.Kept.{IsTable, state_in};
 ghost use Rattle.rk_build.specs.Outcomes.{Counted, IsNoFault};
 ghost use Rattle.rk_build.specs.Sessions.{IsWell};
 
+use crate::commands::Commands;
 use rk_base::{Bytes, NoMemory, Path, Steps};
 use rk_build::{BuildErr, Outcome, build_in, table_in};
 use rk_calls::Maker;
@@ -202,32 +204,26 @@ fn line_of_stage(alloc: Global, seed: u64, session: &Session) -> Result<Bytes, N
 }
 
 // The line of a seed's session.
-fn line_of_seed<M: Maker, L: Ledger>(
-    alloc: Global,
-    maker: &mut M,
-    seed: u64,
-    live: &mut Steps<L>,
-) -> Result<Bytes, NoMemory>
-    ensures { IfOk result (IsLine M.first seed live.old live.new) }
+fn line_of_seed<L: Ledger>(alloc: Global, seed: u64, live: &mut Steps<L>) -> Result<Bytes, NoMemory>
+    ensures { IfOk result (IsLine first_talk seed live.old live.new) }
 {
-    let session = run(alloc, maker, seed, live)?;
+    let mut maker = Commands::new(alloc);
+    let session = run(alloc, &mut maker, seed, live)?;
     line_of_stage(alloc, seed, &session)
 }
 
-/// Runs the session of a seed, by the machines of a maker and over a folder of its own, and puts its line. It answers
-/// `Said(0)`, `WriteFault` where that put failed, or `NoMemory`. `live` counts the turns that commands which ran have paid.
-pub fn tell_workload<M: Maker, O: Sink, L: Ledger>(
+/// Runs the session of a seed over a folder of its own, and puts its line. It answers `Said(0)`, `WriteFault` or `NoMemory`.
+pub(crate) fn tell_workload<O: Sink, L: Ledger>(
     alloc: Global,
-    maker: &mut M,
     seed: u64,
     out: &mut O,
     live: &mut Steps<L>,
 ) -> Outcome
-    ensures says { Generates M.first seed live.old live.new (O.so_far out.old) (O.so_far out.new) result }
+    ensures says { Generates first_talk seed live.old live.new (O.so_far out.old) (O.so_far out.new) result }
     ensures counts { (reads writes errors : ℕ) → Counted (record { reads = reads; writes = writes; puts = O.faults out.old; error_puts = errors }) (record { reads = reads; writes = writes; puts = O.faults out.new; error_puts = errors }) result }
     ensures steady { O.steady out.old ≡ true → IsNoFault result }
 {
-    match line_of_seed(alloc, maker, seed, live) {
+    match line_of_seed(alloc, seed, live) {
         Ok(line) => match out.put(line.as_slice()) {
             Ok(()) => Outcome::Said(0),
             Err(SinkErr::Failed) => Outcome::WriteFault,

@@ -1,9 +1,9 @@
 use Rattle.std.proofs.Common.{◌∙◌, ap, arith}
 use Rattle.rk_folder.specs.Memory.{held_by}
 use Rattle.rk_gen.specs.Summary.{Sums}
-use Rattle.rk_workload.specs.Generated.{stage_of}
-use Rattle.rk_workload.proofs.GeneratedLemmas.{round-more, start-reached, started-well, workload-more, workload-none}
-use Rattle.rk_workload.proofs.session.run.Goals as goal
+use Rattle.rk_top.specs.Generated.{stage_of}
+use Rattle.rk_top.proofs.GeneratedLemmas.{round-more, start-reached, started-well, workload-more, workload-none}
+use Rattle.rk_top.proofs.generate.run.Goals as goal
 
 pub build_once-requires-clause-well : goal.build_once-requires-clause-well
 build_once-requires-clause-well g c =

@@ -1,9 +1,9 @@
 use Rattle.std.proofs.Common.{ap, ◌∙◌, refl, ℕ}
 use Rattle.rk_folder.specs.Memory.{held_by}
 use Rattle.rk_gen.specs.Summary.{added}
-use Rattle.rk_workload.specs.Generated.{Stage}
-use Rattle.rk_workload.proofs.GeneratedLemmas.{built, ended-keeps, few-turns, no-other, spent-built}
-use Rattle.rk_workload.proofs.session.build_once.Goals as goal
+use Rattle.rk_top.specs.Generated.{Stage}
+use Rattle.rk_top.proofs.GeneratedLemmas.{built, ended-keeps, few-turns, no-other, spent-built}
+use Rattle.rk_top.proofs.generate.build_once.Goals as goal
 
 pub paid-requires : goal.paid-requires
 paid-requires g c =

@@ -10,8 +10,8 @@ use Rattle.rk_build.specs.Run.{fresh_run}
 use Rattle.rk_build.proofs.HoldingLemmas.{after-one}
 use Rattle.rk_kernel.specs.World.{World}
 use Rattle.rk_runs.specs.Run.{Outcome as Run, Done, Spent}
-use Rattle.rk_workload.specs.Generated.{ComesTo, HaveOneLine, IsBuilt, Reaches, Stage, edit_after, edited_stage, line_of_stage, plain_build, start_of}
-use Rattle.rk_workload.proofs.GeneratedLemmas.{one-kept, same-stage}
+use Rattle.rk_top.specs.Generated.{ComesTo, HaveOneLine, IsBuilt, Reaches, Stage, edit_after, edited_stage, line_of_stage, plain_build, start_of}
+use Rattle.rk_top.proofs.GeneratedLemmas.{one-kept, same-stage}
 
 comes-one : (r : Run World) (old : List Record) (before a b : Stage) → ComesTo r old before a → ComesTo r old before b → a ≡ b
 comes-one (Done world status left table) old before a b x y =

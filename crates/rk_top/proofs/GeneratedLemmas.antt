@@ -25,7 +25,7 @@ use Rattle.rk_runs.specs.Run.{Outcome as Run, Done, Spent}
 use Rattle.rk_runs.specs.Spoken.{AreSpoken}
 use Rattle.rk_tree.specs.Entries.{Entries}
 use Rattle.rk_build.specs.Fresh.{held_after}
-use Rattle.rk_workload.specs.Generated.{ComesTo, Generates, IsBuilt, IsLine, KeepsTable, Reaches, Stage, edit_after, edited_stage, line_of_stage, plain_build, workload_after}
+use Rattle.rk_top.specs.Generated.{ComesTo, Generates, IsBuilt, IsLine, KeepsTable, Reaches, Stage, edit_after, edited_stage, line_of_stage, plain_build, workload_after}
 use Rattle.rk_build.specs.Kept.{AreRows, IsTable, Keeping, state_in}
 use Rattle.rk_build.specs.Checks.{TellsForged}
 use Rattle.rk_build.specs.Outcomes.{EndsSo, FolderCounts, IsLeft, IsNext, IsNoFault, IsTally, Leaves}

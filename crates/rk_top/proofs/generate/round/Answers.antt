@@ -1,8 +1,8 @@
 use Rattle.std.proofs.Common.{OnOk, subst}
 use Rattle.rk_folder.specs.Memory.{held_by}
-use Rattle.rk_workload.specs.Generated.{IsBuilt, Stage, stage_of}
-use Rattle.rk_workload.proofs.GeneratedLemmas.{changed-well, round-stage}
-use Rattle.rk_workload.proofs.session.round.Goals as goal
+use Rattle.rk_top.specs.Generated.{IsBuilt, Stage, stage_of}
+use Rattle.rk_top.proofs.GeneratedLemmas.{changed-well, round-stage}
+use Rattle.rk_top.proofs.generate.round.Goals as goal
 
 pub build_once-requires-clause-well : goal.build_once-requires-clause-well
 build_once-requires-clause-well g c =

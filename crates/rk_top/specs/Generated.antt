@@ -23,7 +23,7 @@ use Rattle.rk_build.specs.Kept.{IsTable, Keeping, state_in}
 use Rattle.rk_build.specs.Outcomes.{IsNext}
 use Rattle.rk_build.specs.Run.{fresh_run, ran_count}
 use Rattle.rk_build.specs.Texts.{Front}
-use Rattle.rk_workload.specs.declared.session.Session.{Session}
+use Rattle.rk_top.specs.declared.generate.Session.{Session}
 use Rattle.rk_build.specs.declared.outcome.Outcome.{Outcome}
 use Rattle.rk_build.specs.declared.outcome.Outcome.TheVariants as out
 
