@@ -142,7 +142,7 @@ fn place_of<'a>(
 }
 
 #[tactic(auto, unfolding(crate::specs::Reading::same_at))]
-fn same_of(bytes: &[u8]) -> Result<(Answer, &[u8]), PartErr>
+fn same_answer_of(bytes: &[u8]) -> Result<(Answer, &[u8]), PartErr>
     ensures { Gives (λ x. (x.0, x.1.now)) result (same_at bytes.now) }
 {
     let (same, rest) = flag_of(bytes)?;
@@ -183,7 +183,7 @@ fn answer_after<'a>(
         6 => names_of(alloc, blobs, bytes),
         7 => text_of(blobs, bytes),
         8 => place_of(alloc, blobs, bytes),
-        9 => same_of(bytes),
+        9 => same_answer_of(bytes),
         10 => joined_of(bytes),
         11 => no_of(bytes),
         _ => Err(PartErr::Form),

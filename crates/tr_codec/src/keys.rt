@@ -74,7 +74,7 @@ pub(crate) fn path_of(alloc: Global, text: &[u8]) -> Result<Path, PartErr>
     }
 }
 
-fn list_of(vars: Vec<Var>) -> Result<VarList, PartErr>
+fn var_list_of(vars: Vec<Var>) -> Result<VarList, PartErr>
     ensures { Gives (λ l. l) result (given (are_variables vars.items) vars.items) }
 {
     match VarList::from_vec(vars) {
@@ -97,7 +97,7 @@ fn key_from(alloc: Global, argv: Vec<Bytes>, wd: &[u8], vars: Vec<Var>) -> Resul
     ensures { Gives (λ k. k) result (key_from argv.items wd.now vars.items) }
 {
     let wd = path_of(alloc, wd)?;
-    let vars = list_of(vars)?;
+    let vars = var_list_of(vars)?;
     whole_key(argv, wd, vars)
 }
 
