@@ -3,22 +3,23 @@ use Rattle.std.proofs.Common.{◌≡◌, ℕ, ◌+◌, ◌++◌, ◌≤◌, List
 use Rattle.rk_base.specs.Text.{Text}
 use Rattle.rk_calls.specs.Keys.{KeyValue}
 use Rattle.rk_calls.specs.Talk.{Says}
+use Rattle.rk_folder.specs.Counts.{Rose}
 use Rattle.rk_folder.specs.Told.{Held}
 use Rattle.rk_folder.specs.Sinks.{with_bytes}
 use Rattle.rk_folder.specs.Import.{snapshot_of}
 use Rattle.rk_folder.specs.Attributes.{with_rows}
 use Rattle.rk_folder.specs.Specials.{first_special}
-use Rattle.rk_build.specs.Changes.{MayRun, Partly, after_all}
-use Rattle.rk_build.specs.declared.ops.Op.{Op}
-use Rattle.rk_build.specs.declared.installation.InstallErr.{InstallErr}
-use Rattle.rk_build.specs.declared.installation.InstallErr.TheVariants as install
+use Rattle.rk_install.specs.Install.{AllowsPlan, IsMomentOf, StopsPlan, carried}
+use Rattle.rk_install.specs.declared.calling.InstallErr.{InstallErr}
+use Rattle.rk_install.specs.declared.calling.InstallErr.TheVariants as install
+use Rattle.rk_seal.specs.declared.plan.Plan.{Plan}
 use Rattle.rk_kernel.specs.World.{World}
 use Rattle.rk_replay.specs.declared.ran.Ran.{Ran}
 use Rattle.rk_runs.specs.Run.{Outcome as Run}
 use Rattle.rk_runs.specs.Spoken.{AreSpoken}
 use Rattle.rk_request.specs.Asked.{turns, is_fresh}
 use Rattle.rk_request.specs.declared.requests.Request.{Request}
-use Rattle.rk_build.specs.Outcomes.{Checked, outcome_of_stop, IfSpecial, IfDamaged, IfForged, EndsSo, EndsWith, HasStatus, Tallies, IsLeft, RanSo, StartsBoth, Leaves, FolderCounts, PartlyInstalled, Tried, Halts, GainsAll, Gains, GainsErrors, InOrder, Counts, Counted, ErrorsCounted, Ticked}
+use Rattle.rk_build.specs.Outcomes.{Checked, outcome_of_stop, IfSpecial, IfDamaged, IfForged, EndsSo, EndsWith, HasStatus, Tallies, IsLeft, RanSo, StartsBoth, Leaves, FolderCounts, PartlyInstalled, StoppedAt, Tried, Halts, GainsAll, Gains, GainsErrors, InOrder, Counts, Counted, ErrorsCounted, Ticked}
 use Rattle.rk_build.specs.Stages.{PreparesSo, IsPrepared, ReadsCounted, WritesCounted, MemoryRose, InstallsSo, StartsSo}
 use Rattle.rk_build.specs.Telling.{SinkState, IsPut, IsCut, PutsLine, PutsOutput, PutsErrors, PutsInOrder}
 use Rattle.rk_build.specs.Texts.{BothCounted, MemoryCounted}
@@ -216,23 +217,24 @@ put-starts first request told live late before now p text old new stop.ReadFault
 put-starts first request told live late before now p text old new stop.WriteFault is put few starts = (length p.finished.ran, (ran-so first request told live late p is, starts))
 put-starts first request told live late before now p text old new stop.NoMemory is put few starts = both-cut request told before now (length p.finished.ran) starts few
 
-pub install-starts : (first : KeyValue → Says) (request : Request) (told h k : Option Held) (ops : List Op) (live late before now : ℕ) (p : Prepared) (e : BuildErr) → IfSome told (λ held. IsPrepared first request held live late p) → InstallsSo {T = Unit {0}} ops h k (Err e) → length p.finished.ran ≤ turns request + 1 → StartsBoth request told before now (length p.finished.ran) → StartsSo {T = Ended} (λ e. length e.ran) first request told before now (Err e)
-install-starts first request told h k ops live late before now p (stop.Refused refusal) is part few starts = absurd part
-install-starts first request told h k ops live late before now p (stop.Forged rec step) is part few starts = absurd part
-install-starts first request told h k ops live late before now p stop.Spent is part few starts = absurd part
-install-starts first request told h k ops live late before now p stop.ReadFault is part few starts = absurd part
-install-starts first request told h k ops live late before now p stop.WriteFault is part few starts = (length p.finished.ran, (ran-so first request told live late p is, starts))
-install-starts first request told h k ops live late before now p stop.NoMemory is part few starts = both-cut request told before now (length p.finished.ran) starts few
+pub install-starts : (first : KeyValue → Says) (request : Request) (told h k : Option Held) (plan : Plan) (live late before now : ℕ) (p : Prepared) (e : BuildErr) → IfSome told (λ held. IsPrepared first request held live late p) → InstallsSo {T = Unit {0}} plan h k (Err e) → length p.finished.ran ≤ turns request + 1 → StartsBoth request told before now (length p.finished.ran) → StartsSo {T = Ended} (λ e. length e.ran) first request told before now (Err e)
+install-starts first request told h k plan live late before now p (stop.Refused refusal) is part few starts = absurd part
+install-starts first request told h k plan live late before now p (stop.Forged rec step) is part few starts = absurd part
+install-starts first request told h k plan live late before now p stop.Spent is part few starts = absurd part
+install-starts first request told h k plan live late before now p stop.ReadFault is part few starts = absurd part
+install-starts first request told h k plan live late before now p stop.WriteFault is part few starts = (length p.finished.ran, (ran-so first request told live late p is, starts))
+install-starts first request told h k plan live late before now p stop.NoMemory is part few starts = both-cut request told before now (length p.finished.ran) starts few
 
 -- A call of the installation failed.
 
-pub may_run : (first : KeyValue → Says) (request : Request) (told : Option Held) (before now : ℕ) (p : Prepared) → IfSome told (λ held. IsPrepared first request held before now p) → MayRun told p.plan
+pub may_run : (first : KeyValue → Says) (request : Request) (told : Option Held) (before now : ℕ) (p : Prepared) → IfSome told (λ held. IsPrepared first request held before now p) → IfSome told (AllowsPlan p.plan)
 may_run first request None before now p is = tt
 may_run first request (Some held) before now p is = is.allowed
 
-partly : (first : KeyValue → Says) (request : Request) (told new : Option Held) (before now : ℕ) (p : Prepared) (e : InstallErr) → IfSome told (λ held. IsPrepared first request held before now p) → Partly p.plan told new e → IfSome told (λ held. Keeping (is_fresh request) held (λ entries old. PartlyInstalled first request entries old held new e))
-partly first request None new before now p e is part = tt
-partly first request (Some held) new before now p e is part = record {
+partly : (first : KeyValue → Says) (request : Request) (told new : Option Held) (before now : ℕ) (p : Prepared) (e : InstallErr) → IfSome told (λ held. IsPrepared first request held before now p) → IfSome told (λ held. StopsPlan p.plan held new) → (e ≡ install.NoMemory → IfSome told (λ held. IsMomentOf p.plan held new))
+    → IfSome told (λ held. Keeping (is_fresh request) held (λ entries old. PartlyInstalled first request entries old held new e))
+partly first request None new before now p e is stops clean = tt
+partly first request (Some held) new before now p e is stops clean = record {
   plain = is.plain;
   rows = is.rows;
   old = is.old;
@@ -242,73 +244,88 @@ partly first request (Some held) new before now p e is part = record {
     table = p.finished.table;
     is_left = λ spoken. left first request held before now p is spoken;
     readable = is.readable;
-    part = subst (λ (ops : List Op). Partly ops (Some held) new e) is.plan part;
+    plan = p.plan;
+    is_plan = is.plan;
+    stops = stops;
+    clean = clean;
   };
 }
 
-pub install-leaves : (first : KeyValue → Says) (request : Request) (told new : Option Held) (before now : ℕ) (b n : FolderCounts) (p : Prepared) (e : BuildErr) → IfSome told (λ held. IsPrepared first request held before now p) → InstallsSo {T = Unit {0}} p.plan told new (Err e) → WritesCounted {T = Unit {0}} b.writes n.writes (Err e) → MemoryRose {T = Unit {0}} b.memory n.memory (Err e) → Leaves first request told new b n (outcome_of_stop e)
-install-leaves first request told new before now b n p (stop.Refused refusal) is part w m = absurd part
-install-leaves first request told new before now b n p (stop.Forged rec step) is part w m = absurd part
-install-leaves first request told new before now b n p stop.Spent is part w m = absurd part
-install-leaves first request told new before now b n p stop.ReadFault is part w m = absurd part
-install-leaves first request told new before now b n p stop.WriteFault is part w m = inr (w, partly first request told new before now p install.WriteFault is part)
-install-leaves first request told new before now b n p stop.NoMemory is part w m = inr (m, partly first request told new before now p install.NoMemory is part)
+-- a write fault isn't want of memory
+faulty : {P : Type 0} → install.WriteFault ≡ install.NoMemory → P
+faulty same = absurd (no same) where
+  no : install.WriteFault ≡ install.NoMemory → ⊥
+  no e = cc
+
+-- want of memory that isn't the folder's changed nothing
+memory-leaves : (first : KeyValue → Says) (request : Request) (told new : Option Held) (before now b n : ℕ) (p : Prepared) → IfSome told (λ held. IsPrepared first request held before now p) → IfSome told (λ held. StopsPlan p.plan held new) → IfSome told (λ held. IsMomentOf p.plan held new) → (new ≡ told) ⊎ Rose b n → StoppedAt first request told new b n install.NoMemory
+memory-leaves first request told new before now b n p is stops clean (inl same) = inl same
+memory-leaves first request told new before now b n p is stops clean (inr rose) = inr (rose, partly first request told new before now p install.NoMemory is stops (λ e. clean))
+
+pub install-leaves : (first : KeyValue → Says) (request : Request) (told new : Option Held) (before now : ℕ) (b n : FolderCounts) (p : Prepared) (e : BuildErr) → IfSome told (λ held. IsPrepared first request held before now p) → InstallsSo {T = Unit {0}} p.plan told new (Err e) → WritesCounted {T = Unit {0}} b.writes n.writes (Err e)
+    → MemoryRose {T = Unit {0}} told new b.memory n.memory (Err e) → Leaves first request told new b n (outcome_of_stop e)
+install-leaves first request told new before now b n p (stop.Refused refusal) is stops w m = absurd stops
+install-leaves first request told new before now b n p (stop.Forged rec step) is stops w m = absurd stops
+install-leaves first request told new before now b n p stop.Spent is stops w m = absurd stops
+install-leaves first request told new before now b n p stop.ReadFault is stops w m = absurd stops
+install-leaves first request told new before now b n p stop.WriteFault is stops w m = inr (w, partly first request told new before now p install.WriteFault is stops (λ e. faulty e))
+install-leaves first request told new before now b n p stop.NoMemory is stops w m = memory-leaves first request told new before now b.memory n.memory p is stops.0 stops.1 m
 
 -- a folder that tells the same
-pub install-leaves-now : (first : KeyValue → Says) (request : Request) (told h new : Option Held) (before now : ℕ) (b c n : FolderCounts) (p : Prepared) (e : BuildErr) → h ≡ told → c.writes ≡ b.writes → c.memory ≡ b.memory → IfSome told (λ held. IsPrepared first request held before now p) → InstallsSo {T = Unit {0}} p.plan h new (Err e) → WritesCounted {T = Unit {0}} c.writes n.writes (Err e) → MemoryRose {T = Unit {0}} c.memory n.memory (Err e) → Leaves first request told new b n (outcome_of_stop e)
+pub install-leaves-now : (first : KeyValue → Says) (request : Request) (told h new : Option Held) (before now : ℕ) (b c n : FolderCounts) (p : Prepared) (e : BuildErr) → h ≡ told → c.writes ≡ b.writes → c.memory ≡ b.memory → IfSome told (λ held. IsPrepared first request held before now p) → InstallsSo {T = Unit {0}} p.plan h new (Err e) → WritesCounted {T = Unit {0}} c.writes n.writes (Err e) → MemoryRose {T = Unit {0}} h new c.memory n.memory (Err e) → Leaves first request told new b n (outcome_of_stop e)
 install-leaves-now first request told h new before now b c n p e same writes memory is part w m =
     install-leaves first request told new before now b n p e is (subst (λ (t : Option Held). InstallsSo {T = Unit {0}} p.plan t new (Err e)) same part)
     (subst (λ (k : ℕ). WritesCounted {T = Unit {0}} k n.writes (Err e)) writes w)
-    (subst (λ (k : ℕ). MemoryRose {T = Unit {0}} k n.memory (Err e)) memory m)
+    (subst (λ (k : ℕ). MemoryRose {T = Unit {0}} told new k n.memory (Err e)) memory (subst (λ (t : Option Held). MemoryRose {T = Unit {0}} t new c.memory n.memory (Err e)) same m))
 
-pub install-gains : (first : KeyValue → Says) (request : Request) (told h n : Option Held) (ops : List Op) (it : Text) (old new : SinkState) (e : BuildErr) → IsTextOf first request output_of told it → InstallsSo {T = Unit {0}} ops h n (Err e) → IsPut it old new → Gains first request told old new (outcome_of_stop e)
-install-gains first request told h n ops it old new (stop.Refused refusal) is part put = absurd part
-install-gains first request told h n ops it old new (stop.Forged rec step) is part put = absurd part
-install-gains first request told h n ops it old new stop.Spent is part put = absurd part
-install-gains first request told h n ops it old new stop.ReadFault is part put = absurd part
-install-gains first request told h n ops it old new stop.WriteFault is part put = tried first request output_of told it old new is (inl put)
-install-gains first request told h n ops it old new stop.NoMemory is part put = inr (tried first request output_of told it old new is (inl put))
+pub install-gains : (first : KeyValue → Says) (request : Request) (told h n : Option Held) (plan : Plan) (it : Text) (old new : SinkState) (e : BuildErr) → IsTextOf first request output_of told it → InstallsSo {T = Unit {0}} plan h n (Err e) → IsPut it old new → Gains first request told old new (outcome_of_stop e)
+install-gains first request told h n plan it old new (stop.Refused refusal) is part put = absurd part
+install-gains first request told h n plan it old new (stop.Forged rec step) is part put = absurd part
+install-gains first request told h n plan it old new stop.Spent is part put = absurd part
+install-gains first request told h n plan it old new stop.ReadFault is part put = absurd part
+install-gains first request told h n plan it old new stop.WriteFault is part put = tried first request output_of told it old new is (inl put)
+install-gains first request told h n plan it old new stop.NoMemory is part put = inr (tried first request output_of told it old new is (inl put))
 
-pub install-gains-errors : (first : KeyValue → Says) (request : Request) (told h n : Option Held) (ops : List Op) (it : Text) (old new : SinkState) (e : BuildErr) → IsTextOf first request error_text_of told it → InstallsSo {T = Unit {0}} ops h n (Err e) → IsPut it old new → GainsErrors first request told old new (outcome_of_stop e)
-install-gains-errors first request told h n ops it old new (stop.Refused refusal) is part put = absurd part
-install-gains-errors first request told h n ops it old new (stop.Forged rec step) is part put = absurd part
-install-gains-errors first request told h n ops it old new stop.Spent is part put = absurd part
-install-gains-errors first request told h n ops it old new stop.ReadFault is part put = absurd part
-install-gains-errors first request told h n ops it old new stop.WriteFault is part put = inr (tried first request error_text_of told it old new is (inl put))
-install-gains-errors first request told h n ops it old new stop.NoMemory is part put = inr (tried first request error_text_of told it old new is (inl put))
+pub install-gains-errors : (first : KeyValue → Says) (request : Request) (told h n : Option Held) (plan : Plan) (it : Text) (old new : SinkState) (e : BuildErr) → IsTextOf first request error_text_of told it → InstallsSo {T = Unit {0}} plan h n (Err e) → IsPut it old new → GainsErrors first request told old new (outcome_of_stop e)
+install-gains-errors first request told h n plan it old new (stop.Refused refusal) is part put = absurd part
+install-gains-errors first request told h n plan it old new (stop.Forged rec step) is part put = absurd part
+install-gains-errors first request told h n plan it old new stop.Spent is part put = absurd part
+install-gains-errors first request told h n plan it old new stop.ReadFault is part put = absurd part
+install-gains-errors first request told h n plan it old new stop.WriteFault is part put = inr (tried first request error_text_of told it old new is (inl put))
+install-gains-errors first request told h n plan it old new stop.NoMemory is part put = inr (tried first request error_text_of told it old new is (inl put))
 
-pub install-counted : (b n : Counts) (h k : Option Held) (ops : List Op) (e : BuildErr) → InstallsSo {T = Unit {0}} ops h k (Err e) → WritesCounted {T = Unit {0}} b.writes n.writes (Err e) → n.reads ≡ b.reads → n.puts ≡ b.puts → n.error_puts ≡ b.error_puts → Counted b n (outcome_of_stop e)
-install-counted b n h k ops (stop.Refused refusal) part w r o x = absurd part
-install-counted b n h k ops (stop.Forged rec step) part w r o x = absurd part
-install-counted b n h k ops stop.Spent part w r o x = absurd part
-install-counted b n h k ops stop.ReadFault part w r o x = absurd part
-install-counted b n h k ops stop.WriteFault part w r o x = (r, inl w)
-install-counted b n h k ops stop.NoMemory part w r o x = counts-same b n r w o x
+pub install-counted : (b n : Counts) (h k : Option Held) (plan : Plan) (e : BuildErr) → InstallsSo {T = Unit {0}} plan h k (Err e) → WritesCounted {T = Unit {0}} b.writes n.writes (Err e) → n.reads ≡ b.reads → n.puts ≡ b.puts → n.error_puts ≡ b.error_puts → Counted b n (outcome_of_stop e)
+install-counted b n h k plan (stop.Refused refusal) part w r o x = absurd part
+install-counted b n h k plan (stop.Forged rec step) part w r o x = absurd part
+install-counted b n h k plan stop.Spent part w r o x = absurd part
+install-counted b n h k plan stop.ReadFault part w r o x = absurd part
+install-counted b n h k plan stop.WriteFault part w r o x = (r, inl w)
+install-counted b n h k plan stop.NoMemory part w r o x = counts-same b n r w o x
 
-pub install-errors : (before now : SinkState) (h k : Option Held) (ops : List Op) (e : BuildErr) → InstallsSo {T = Unit {0}} ops h k (Err e) → now.faults ≡ before.faults → now.memory ≡ before.memory → ErrorsCounted before now (outcome_of_stop e)
-install-errors before now h k ops (stop.Refused refusal) part f m = absurd part
-install-errors before now h k ops (stop.Forged rec step) part f m = absurd part
-install-errors before now h k ops stop.Spent part f m = absurd part
-install-errors before now h k ops stop.ReadFault part f m = absurd part
-install-errors before now h k ops stop.WriteFault part f m = (omega arith, m)
-install-errors before now h k ops stop.NoMemory part f m = (f, omega arith)
+pub install-errors : (before now : SinkState) (h k : Option Held) (plan : Plan) (e : BuildErr) → InstallsSo {T = Unit {0}} plan h k (Err e) → now.faults ≡ before.faults → now.memory ≡ before.memory → ErrorsCounted before now (outcome_of_stop e)
+install-errors before now h k plan (stop.Refused refusal) part f m = absurd part
+install-errors before now h k plan (stop.Forged rec step) part f m = absurd part
+install-errors before now h k plan stop.Spent part f m = absurd part
+install-errors before now h k plan stop.ReadFault part f m = absurd part
+install-errors before now h k plan stop.WriteFault part f m = (omega arith, m)
+install-errors before now h k plan stop.NoMemory part f m = (f, omega arith)
 
-pub install-ticked : (request : Request) (h k : Option Held) (ops : List Op) (before now : ℕ) (e : BuildErr) → InstallsSo {T = Unit {0}} ops h k (Err e) → now ≤ before + turns request → Ticked request before now (outcome_of_stop e)
-install-ticked request h k ops before now (stop.Refused refusal) part most = absurd part
-install-ticked request h k ops before now (stop.Forged rec step) part most = absurd part
-install-ticked request h k ops before now stop.Spent part most = most
-install-ticked request h k ops before now stop.ReadFault part most = most
-install-ticked request h k ops before now stop.WriteFault part most = most
-install-ticked request h k ops before now stop.NoMemory part most = most
+pub install-ticked : (request : Request) (h k : Option Held) (plan : Plan) (before now : ℕ) (e : BuildErr) → InstallsSo {T = Unit {0}} plan h k (Err e) → now ≤ before + turns request → Ticked request before now (outcome_of_stop e)
+install-ticked request h k plan before now (stop.Refused refusal) part most = absurd part
+install-ticked request h k plan before now (stop.Forged rec step) part most = absurd part
+install-ticked request h k plan before now stop.Spent part most = most
+install-ticked request h k plan before now stop.ReadFault part most = most
+install-ticked request h k plan before now stop.WriteFault part most = most
+install-ticked request h k plan before now stop.NoMemory part most = most
 
 -- All went well.
 
-ended : (first : KeyValue → Says) (request : Request) (held : Held) (before now : ℕ) (p : Prepared) (new : Option Held) → (is : IsPrepared first request held before now p) → new ≡ Some (after_all p.plan held) → AreSpoken first is.old → EndsSo first (fresh_run first request (with_rows (snapshot_of held) is.rows)) held new
+ended : (first : KeyValue → Says) (request : Request) (held : Held) (before now : ℕ) (p : Prepared) (new : Option Held) → (is : IsPrepared first request held before now p) → new ≡ Some (carried p.plan held) → AreSpoken first is.old → EndsSo first (fresh_run first request (with_rows (snapshot_of held) is.rows)) held new
 ended first request held before now p new is same spoken =
     subst (λ (r : Run World). EndsSo first r held new) (sym (is.run.ends spoken).1)
-    (record { spoken = is.run.spoken spoken; fits = is.fits spoken; installed = record { after = after_all p.plan held; told = same; is_after = is.leads; readable = is.readable }; next = is.next spoken })
+    (record { spoken = is.run.spoken spoken; fits = is.fits spoken; installed = record { after = carried p.plan held; told = same; is_after = is.leads; readable = is.readable }; next = is.next spoken })
 
-pub end-leaves : (first : KeyValue → Says) (request : Request) (told new : Option Held) (before now : ℕ) (b n : FolderCounts) (p : Prepared) (status launched ran : ℕ) → IfSome told (λ held. IsPrepared first request held before now p) → new ≡ option_map (after_all p.plan) told → Leaves first request told new b n (out.Ended status launched ran)
+pub end-leaves : (first : KeyValue → Says) (request : Request) (told new : Option Held) (before now : ℕ) (b n : FolderCounts) (p : Prepared) (status launched ran : ℕ) → IfSome told (λ held. IsPrepared first request held before now p) → new ≡ option_map (carried p.plan) told → Leaves first request told new b n (out.Ended status launched ran)
 end-leaves first request None new before now b n p status launched ran is same = tt
 end-leaves first request (Some held) new before now b n p status launched ran is same =
     record { plain = is.plain; rows = is.rows; old = is.old; kept = is.kept; so = λ spoken. ended first request held before now p new is same spoken }
@@ -323,7 +340,7 @@ pub end-checked : (first : KeyValue → Says) (request : Request) (told : Option
 end-checked first request None before now p is = tt
 end-checked first request (Some held) before now p is = record { plain = is.plain; rows = is.rows; old = is.old; kept = is.kept; so = is.checked }
 
-pub end-tally : (first : KeyValue → Says) (request : Request) (told new : Option Held) (before now : ℕ) (p : Prepared) (launched : ℕ) → IfSome told (λ held. IsPrepared first request held before now p) → new ≡ option_map (after_all p.plan) told → launched ≡ length p.finished.table → Tallies first request told new before now launched (length p.finished.ran)
+pub end-tally : (first : KeyValue → Says) (request : Request) (told new : Option Held) (before now : ℕ) (p : Prepared) (launched : ℕ) → IfSome told (λ held. IsPrepared first request held before now p) → new ≡ option_map (carried p.plan) told → launched ≡ length p.finished.table → Tallies first request told new before now launched (length p.finished.ran)
 end-tally first request None new before now p launched is same number = tt
 end-tally first request (Some held) new before now p launched is same number = record {
   plain = is.plain;
@@ -334,7 +351,7 @@ end-tally first request (Some held) new before now p launched is same number = r
     world = p.finished.world;
     table = p.finished.table;
     is_left = λ spoken. left first request held before now p is spoken;
-    installed = record { after = after_all p.plan held; told = same; is_after = is.leads; readable = is.readable };
+    installed = record { after = carried p.plan held; told = same; is_after = is.leads; readable = is.readable };
     launched = number;
     ran = ap (λ (ran : List Ran). length ran) is.run.ran;
     paid = is.run.ticked;

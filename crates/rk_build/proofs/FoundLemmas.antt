@@ -2,13 +2,13 @@
 use Rattle.std.proofs.Common.{◌≡◌, Bool, List, Option, Some, None, IfSome, Result, Ok, Err, ap, subst}
 use Rattle.rk_base.specs.Text.{Text}
 use Rattle.tr_record.specs.declared.records.Record.{Record}
-use Rattle.tr_codec.specs.Reads.{IsSealed}
+use Rattle.tr_parts.specs.Reads.{IsSealed}
 use Rattle.tr_codec.specs.Spelling.{body, table_piece}
 use Rattle.tr_codec.proofs.SealLemmas.{seal_right}
 use Rattle.rk_folder.specs.Told.{Held}
 use Rattle.rk_folder.specs.declared.hidden_files.State.{State}
-use Rattle.rk_build.specs.Imported.{holding_of}
-use Rattle.rk_build.specs.declared.holding.Holding.{Holding}
+use Rattle.rk_changes.specs.Imported.{holding_of}
+use Rattle.rk_changes.specs.declared.holding.Holding.{Holding}
 use Rattle.rk_request.specs.declared.requests.Request.{Request}
 use Rattle.rk_request.specs.Asked.{is_fresh}
 use Rattle.rk_build.specs.Kept.{IsKept, ReadsState, Spells, state_in, decoded}

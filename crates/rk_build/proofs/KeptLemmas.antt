@@ -1,10 +1,10 @@
 -- A folder that holds what a run leaves: the next build finds the very entries that the run left, and its records.
-use Rattle.std.proofs.Common.{◌≡◌, List, [], ◌∷◌, Bool, true, false, ◌&&◌, ◌||◌, Option, Some, None, option_map, cond, refl, sym, ap, subst, ◌∙◌}
+use Rattle.std.proofs.Common.{◌≡◌, inl, inr, List, [], ◌∷◌, Bool, true, false, ◌&&◌, ◌||◌, Option, Some, None, option_map, cond, refl, sym, ap, subst, ◌∙◌}
 use Rattle.std.specs.FinMap.{get}
 use Rattle.std.specs.List.{list_all}
 use Rattle.rk_base.specs.Text.{Text, is_within, same_text}
 use Rattle.rk_base.proofs.CanonicalLemmas.{both, either}
-use Rattle.rk_base.proofs.WithinLemmas.{same_is, same_itself}
+use Rattle.rk_base.proofs.WithinLemmas.{same_is}
 use Rattle.tr_record.specs.declared.records.Record.{Record}
 use Rattle.rk_attrs.specs.Rows.{are_rows}
 use Rattle.tr_codec.specs.Fits.{Fits}
@@ -24,12 +24,12 @@ use Rattle.rk_folder.specs.Specials.{first_special, is_fault, is_hidden_fault, i
 use Rattle.rk_folder.specs.Whole.{IsWhole}
 use Rattle.rk_folder.specs.declared.folder.Standing.TheVariants.{File}
 use Rattle.rk_folder.proofs.FirstLemmas.{first_special-is}
-use Rattle.rk_build.specs.Attributes.{attrs_of}
-use Rattle.rk_build.specs.Holdings.{IsAfter, dir_where, placed, hidden_dir, attrs_file, db_file}
-use Rattle.rk_build.specs.declared.holding.Holding.{Holding}
-use Rattle.rk_build.proofs.AttributesLemmas.{attrs_are, built-held}
-use Rattle.rk_build.proofs.HiddenLemmas.{install_hidden, install_state, install_not_dir, install_not_db, install_not_attrs, fresh_list_hidden, fresh_list_state, fresh_list_not_dir, fresh_list_not_db, fresh_list_not_attrs}
-use Rattle.rk_build.proofs.SeenLemmas.{odd-within}
+use Rattle.rk_changes.specs.Attributes.{attrs_of}
+use Rattle.rk_changes.specs.Holdings.{IsAfter, dir_where, placed, hidden_dir, attrs_file, db_file}
+use Rattle.rk_changes.specs.declared.holding.Holding.{Holding}
+use Rattle.rk_changes.proofs.AttributesLemmas.{attrs_are, built-held}
+use Rattle.rk_changes.proofs.HiddenLemmas.{install_hidden, install_state}
+use Rattle.rk_changes.proofs.SeenLemmas.{odd-within}
 use Rattle.rk_build.specs.Fresh.{AreInMemory, IsInMemory, attrs_bytes, held_after}
 use Rattle.rk_build.specs.Kept.{AreRows, IsTable, state_in}
 use Rattle.rk_build.specs.Outcomes.{IsNext}
@@ -48,9 +48,6 @@ never_any true y z w a h g i j = h refl
 never_any false true z w a h g i j = g refl
 never_any false false true w a h g i j = i refl
 never_any false false false w a h g i j = never_both w a j
-
-apart : (a b : Text) → same_text a b ≡ false → a ≡ b → ⊥
-apart a b other same = clash (same_text a b) (ap (same_text a) (sym same) ∙ same_itself a) other
 
 neither : (x y : Bool) → x ≡ false → y ≡ false → (x || y) ≡ false
 neither x y h g = cc
@@ -92,7 +89,7 @@ module _ (held after : Held) (holding : Holding) (whole : IsWhole held) (plain :
   dir_there : is_other_than_dir (standing after hidden_dir) ≡ false
   dir_there = ap is_other_than_dir (is.holds.rkr ∙ ap dir_where rkr)
 
-  -- a list of calls is as before
+  -- a sealed list of calls is as before, or gone
   nowhere : (q : Text) → is_fault held q ≡ false
   nowhere = subst (IsFirst (is_fault held)) plain (first_special-is held)
 
@@ -103,9 +100,11 @@ module _ (held after : Held) (holding : Holding) (whole : IsWhole held) (plain :
       ∙ (either (same_text q hidden_dir && is_other_than_dir (standing held q)) (is_state_file q && is_other_than_file (standing held q))
       (sym (ap (λ (b : Bool). cond b (is_hidden_fault q (standing held q)) (is_special (standing held q) || (is_dir (standing held q) && is_odd q held.odd))) inside) ∙ nowhere q)).1
 
-  list_well : (q : Text) → is_within hidden_dir q ≡ true → is_state_file q ≡ true → same_text q hidden_dir ≡ false → same_text q db_file ≡ false → same_text q attrs_file ≡ false → is_other_than_file (standing after q) ≡ false
-  list_well q inside state dir db attrs =
-      ap is_other_than_file (is.same_else.below q inside (apart q hidden_dir dir) (apart q db_file db) (apart q attrs_file attrs)) ∙ was_well q inside state
+  list_well : is_other_than_file (standing after install_file) ≡ false
+  list_well = elim is.list [
+    | inl gone ↦ ap is_other_than_file gone
+    | inr same ↦ ap is_other_than_file same ∙ was_well install_file install_hidden install_state
+  ]
 
   hidden_well : (q : Text) → is_hidden_fault q (standing after q) ≡ false
   hidden_well q =
@@ -114,8 +113,8 @@ module _ (held after : Held) (holding : Holding) (whole : IsWhole held) (plain :
       (never_any (same_text q attrs_file) (same_text q db_file) (same_text q install_file) (same_text q fresh_list_file) (is_other_than_file (standing after q))
       (λ e. ap (λ (t : Text). is_other_than_file (standing after t)) (same_is q attrs_file e) ∙ ap is_other_than_file is.holds.attrs ∙ file_plain holding.state.attrs)
       (λ e. ap (λ (t : Text). is_other_than_file (standing after t)) (same_is q db_file e) ∙ ap is_other_than_file is.holds.db ∙ file_plain holding.state.db)
-      (λ e. ap (λ (t : Text). is_other_than_file (standing after t)) (same_is q install_file e) ∙ list_well install_file install_hidden install_state install_not_dir install_not_db install_not_attrs)
-      (λ e. ap (λ (t : Text). is_other_than_file (standing after t)) (same_is q fresh_list_file e) ∙ list_well fresh_list_file fresh_list_hidden fresh_list_state fresh_list_not_dir fresh_list_not_db fresh_list_not_attrs))
+      (λ e. ap (λ (t : Text). is_other_than_file (standing after t)) (same_is q install_file e) ∙ list_well)
+      (λ e. ap (λ (t : Text). is_other_than_file (standing after t)) (same_is q fresh_list_file e) ∙ ap is_other_than_file is.draft))
 
   no_fault_inside : (q : Text) → is_within hidden_dir q ≡ true → is_fault after q ≡ false
   unfolding is_fault

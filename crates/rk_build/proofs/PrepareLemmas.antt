@@ -1,5 +1,5 @@
 -- What a build has come to before anything is put out.
-use Rattle.std.proofs.Common.{◌≡◌, ◌<◌, Bool, true, false, true≢false, refl, ℕ, ◌+◌, ◌++◌, ◌≤◌, List, length, Option, Some, None, Ok, Err, sym, ap, subst, ◌∙◌, arith}
+use Rattle.std.proofs.Common.{◌≡◌, ◌<◌, Bool, true, false, true≢false, IsSome, is_some, refl, ℕ, ◌+◌, ◌++◌, ◌≤◌, List, length, Option, Some, None, Ok, Err, sym, ap, subst, ◌∙◌, arith}
 use Rattle.rk_calls.specs.Keys.{KeyValue}
 use Rattle.rk_calls.specs.Talk.{Says}
 use Rattle.rk_kernel.specs.World.{World}
@@ -8,13 +8,13 @@ use Rattle.rk_folder.specs.Told.{Held, longest_file}
 use Rattle.rk_folder.specs.Whole.{TellsWhole}
 use Rattle.rk_folder.specs.Attributes.{with_rows}
 use Rattle.rk_folder.specs.Import.{snapshot_of}
-use Rattle.rk_build.specs.Changes.{after_all}
-use Rattle.rk_build.specs.Holdings.{IsAfter, IsBuilt, MayBecome}
-use Rattle.rk_build.specs.Imported.{holding_of}
-use Rattle.rk_build.specs.Planned.{planned, AreAllowed, LeadTo}
-use Rattle.rk_build.specs.declared.holding.Holding.{Holding}
-use Rattle.rk_build.specs.declared.ops.Op.{Op}
-use Rattle.rk_build.proofs.ImportedLemmas.{may_become-imported}
+use Rattle.rk_install.specs.Install.{carried}
+use Rattle.rk_seal.specs.declared.plan.Plan.{Plan}
+use Rattle.rk_changes.specs.Holdings.{HasPlaces, IsAfter, IsBuilt, MayBecome}
+use Rattle.rk_changes.specs.Imported.{holding_of}
+use Rattle.rk_changes.specs.Planned.{IsPlan}
+use Rattle.rk_changes.specs.declared.holding.Holding.{Holding}
+use Rattle.rk_changes.proofs.ImportedLemmas.{has_places-imported, may_become-imported}
 use Rattle.rk_runs.specs.Following.{never-wrong}
 use Rattle.tr_record.specs.Rec.{rec_at}
 use Rattle.tr_record.specs.declared.records.Record.{Record}
@@ -34,6 +34,7 @@ use Rattle.rk_build.specs.declared.found.Found.{Found}
 use Rattle.rk_build.specs.declared.run.Finished.{Finished}
 use Rattle.rk_build.specs.declared.stop.BuildErr.{BuildErr}
 use Rattle.rk_build.specs.declared.stop.BuildErr.TheVariants as stop
+use Rattle.rk_build.proofs.InstalledLemmas.{plan-allows, plan-leads}
 use Rattle.rk_build.proofs.KeptLemmas.{finds-next}
 
 entries-same : (request : Request) (held : Held) (found : Found) → found.holding ≡ holding_of (is_fresh request) held → with_rows found.holding.entries found.attrs ≡ with_rows (snapshot_of held) found.attrs
@@ -96,12 +97,17 @@ in-memory (Some bytes) small = let few : length bytes ≤ longest_file = small i
 both-in-memory : (world : World) (table : List Record) → AreReadable world table → AreInMemory world table
 both-in-memory world table small = (in-memory (held_after world table).state.attrs small.0, in-memory (held_after world table).state.db small.1)
 
+-- there is a plan
+pub never-none : {X : Type 0} (found : Option X) → IsSome found → found ≡ None → ⊥
+never-none {X = X} found some none = true≢false (sym some ∙ ap (λ (o : Option X). is_some o) none)
+
 -- all went well
-pub is_prepared : (first : KeyValue → Says) (request : Request) (told : Option Held) (found : Found) (after : Holding) (before now : ℕ) (f : Finished) (ops : List Op) (text : Text) → TellsWhole told → FindsSo request told (Ok found) → ChecksWhole first (checks request) found.old → Runs first request (with_rows found.holding.entries found.attrs) found.old before now (Ok f) → now ≤ before + turns request → after ≡ held_after f.world f.table → IsBuilt after → IsReadable after.state.attrs × IsReadable after.state.db → (AllByRecursion IsSound f.table → Fits f.table) → ops ≡ planned found.holding after → AreAllowed ops found.holding after → LeadTo ops found.holding after → text ≡ f.world.err ++ explanation request f.ran (length f.table) → PreparesSo first request told before now (Ok (record { finished = f; plan = ops; error_text = text }))
-is_prepared first request None found after before now f ops text whole is_found spoken_all runs most left built small spelt is allowed leads is_text = (tt, most)
-is_prepared first request (Some held) found after before now f ops text whole is_found spoken_all runs most left built small spelt is allowed leads is_text =
+pub is_prepared : (first : KeyValue → Says) (request : Request) (told : Option Held) (found : Found) (after : Holding) (before now : ℕ) (f : Finished) (plan : Plan) (text : Text) → TellsWhole told → FindsSo request told (Ok found) → ChecksWhole first (checks request) found.old → Runs first request (with_rows found.holding.entries found.attrs) found.old before now (Ok f) → now ≤ before + turns request → after ≡ held_after f.world f.table → IsBuilt after → IsReadable after.state.attrs × IsReadable after.state.db → (AllByRecursion IsSound f.table → Fits f.table) → IsPlan found.holding after plan → text ≡ f.world.err ++ explanation request f.ran (length f.table) → PreparesSo first request told before now (Ok (record { finished = f; plan = plan; error_text = text }))
+is_prepared first request None found after before now f plan text whole is_found spoken_all runs most left built small spelt is is_text = (tt, most)
+is_prepared first request (Some held) found after before now f plan text whole is_found spoken_all runs most left built small spelt is is_text =
     let becomes : MayBecome held found.holding after = subst (λ h. MayBecome held h after) (sym is_found.1) (may_become-imported held whole is_found.0 (is_fresh request) after built) in
-    let goes : IsAfter held (after_all ops held) (held_after f.world f.table) = subst (λ h. IsAfter held (after_all ops held) h) left (leads held becomes) in
+    let places : HasPlaces held found.holding = subst (HasPlaces held) (sym is_found.1) (has_places-imported held whole is_found.0 (is_fresh request)) in
+    let goes : IsAfter held (carried plan held) (held_after f.world f.table) = subst (λ h. IsAfter held (carried plan held) h) left (plan-leads held found.holding after becomes places plan is) in
     let stays : IsBuilt (held_after f.world f.table) = subst IsBuilt left built in (
       record {
         plain = is_found.0;
@@ -111,12 +117,12 @@ is_prepared first request (Some held) found after before now f ops text whole is
         checked = spoken_all;
         run = subst (λ (e : Entries). IsRun first request e found.old before now f) (entries-same request held found is_found.1) runs;
         text = is_text;
-        plan = is ∙ ap (λ h. planned h after) is_found.1 ∙ ap (planned (holding_of (is_fresh request) held)) left;
-        allowed = allowed held becomes;
+        plan = subst (λ h. IsPlan h (held_after f.world f.table) plan) is_found.1 (subst (λ h. IsPlan found.holding h plan) left is);
+        allowed = plan-allows held found.holding after becomes places plan is;
         leads = goes;
         readable = can-read f after left small;
         fits = λ spoken. spelt (runs.sound spoken);
-        next = λ spoken. finds-next held (after_all ops held) f.world f.table whole is_found.0 goes stays.entries (spelt (runs.sound spoken)) (both-in-memory f.world f.table (can-read f after left small));
+        next = λ spoken. finds-next held (carried plan held) f.world f.table whole is_found.0 goes stays.entries (spelt (runs.sound spoken)) (both-in-memory f.world f.table (can-read f after left small));
       },
       most,
     )

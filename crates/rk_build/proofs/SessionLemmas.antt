@@ -9,7 +9,7 @@ use Rattle.rk_folder.specs.Told.{Held, bytes_in}
 use Rattle.rk_folder.specs.Whole.{IsWhole}
 use Rattle.rk_folder.specs.Specials.{first_special}
 use Rattle.rk_folder.specs.declared.folder.Standing.{Standing}
-use Rattle.rk_build.proofs.HiddenLemmas.{attrs_hidden, db_hidden}
+use Rattle.rk_changes.proofs.HiddenLemmas.{attrs_hidden, db_hidden}
 use Rattle.rk_kernel.specs.World.{World, fresh_world}
 use Rattle.rk_kernel.specs.Do.{answered}
 use Rattle.rk_kernel.specs.Fitting.{answered-fits}

@@ -2,10 +2,10 @@
 use Rattle.std.proofs.Common.{◌≡◌, ◌≢◌, ◌<◌, ◌≤◌, ◌-◌, ◌^◌, ℕ, List, length, Option, Some, None, IfSome, refl, sym, ap, subst, ◌∙◌, inl, inr, arith}
 use Rattle.rk_base.specs.Text.{Text}
 use Rattle.tr_record.specs.declared.records.Record.{Record}
-use Rattle.tr_codec.specs.Reads.{IsDamage}
+use Rattle.tr_parts.specs.Reads.{IsDamage}
 use Rattle.rk_attrs.specs.declared.rows.AttrRow.{AttrRow}
-use Rattle.tr_codec.specs.declared.fault.Damage.{Damage}
-use Rattle.tr_codec.specs.declared.fault.Damage.TheVariants as damage
+use Rattle.tr_parts.specs.declared.fault.Damage.{Damage}
+use Rattle.tr_parts.specs.declared.fault.Damage.TheVariants as damage
 use Rattle.rk_calls.specs.Keys.{KeyValue}
 use Rattle.rk_calls.specs.Talk.{Says}
 use Rattle.rk_runs.proofs.Checks.{never-first_wrong}
@@ -45,6 +45,7 @@ db-clash (Some bytes) table d t h = h.1 table t.0.0 t.0.1
 kept-clash : (state : State) (rows : List (Text × AttrRow)) (table : List Record) (f : StateFile) (d : Damage) → IsKept state rows table → IsDamaged state f d → ⊥
 kept-clash state rows table file.Attrs d k h = attrs-clash state.attrs rows d k.0 h
 kept-clash state rows table file.Db d k h = db-clash state.db table d k.1 h.1
+kept-clash state rows table file.Install d k h = h
 
 none-some : (o : Option Text) (path : Text) → o ≡ None → o ≡ Some path → ⊥
 none-some o path none some = cc
@@ -82,6 +83,9 @@ damaged-one state file.Attrs file.Attrs a b h g = ap (out.Damaged file.Attrs) (s
 damaged-one state file.Attrs file.Db a b h g = absurd (attrs-clash state.attrs g.0.0 a g.0.1 h)
 damaged-one state file.Db file.Attrs a b h g = absurd (attrs-clash state.attrs h.0.0 b h.0.1 g)
 damaged-one state file.Db file.Db a b h g = ap (out.Damaged file.Db) (sym (db-one state.db a b h.1 g.1))
+damaged-one state file.Attrs file.Install a b h g = absurd g
+damaged-one state file.Db file.Install a b h g = absurd g
+damaged-one state file.Install g a b h i = absurd h
 
 one-path : (o : Option Text) (p q : Text) → o ≡ Some p → o ≡ Some q → out.Special q ≡ out.Special p
 one-path o p q h g = cc

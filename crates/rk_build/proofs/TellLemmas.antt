@@ -6,7 +6,7 @@ use Rattle.rk_calls.specs.Talk.{Says}
 use Rattle.rk_folder.specs.Counts.{Still}
 use Rattle.rk_folder.specs.Schedule.{Schedule}
 use Rattle.rk_folder.specs.Told.{Held}
-use Rattle.tr_codec.specs.declared.fault.Damage.{Damage}
+use Rattle.tr_parts.specs.declared.fault.Damage.{Damage}
 use Rattle.rk_build.specs.declared.outcome.StateFile.{StateFile}
 use Rattle.rk_request.specs.declared.requests.Request.{Request}
 use Rattle.rk_build.specs.Calls.{AsksSo}

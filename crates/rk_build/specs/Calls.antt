@@ -11,23 +11,26 @@ use Rattle.rk_tree.specs.Entries.{Entries}
 use Rattle.tr_record.specs.declared.records.Record.{Record}
 use Rattle.rk_request.specs.Asked.{is_fresh}
 use Rattle.rk_request.specs.declared.requests.Request.{Request}
-use Rattle.rk_build.specs.Changes.{calls_of}
+use Rattle.rk_install.specs.Asked.{plan_calls}
+use Rattle.rk_seal.specs.declared.plan.Plan.{Plan}
 use Rattle.rk_build.specs.Fresh.{held_after}
-use Rattle.rk_build.specs.Imported.{holding_of}
+use Rattle.rk_changes.specs.Imported.{holding_of}
 use Rattle.rk_build.specs.Kept.{Keeping}
 use Rattle.rk_build.specs.Outcomes.{IsLeft}
-use Rattle.rk_build.specs.Planned.{planned}
+use Rattle.rk_changes.specs.Planned.{IsPlan}
 use Rattle.rk_build.specs.Run.{fresh_run}
 use Rattle.rk_build.specs.declared.outcome.Outcome.{Outcome}
 use Rattle.rk_build.specs.declared.outcome.Outcome.TheVariants as out
 
--- Whatever the records: the calls of a look at it, and then those that lead to what a run left, each once at most, in this order,
--- and no other. Over spoken records that is what the fresh run leaves.
+-- Whatever the records: the calls of a look at it, and then those of the install of what leads to what a run left, each once at
+-- most, in this order, and no other. Over spoken records that is what the fresh run leaves.
 pub record AsksPlan (first : KeyValue → Says) (request : Request) (reach : ℕ) (entries : Entries) (old : List Record) (held : Held) (before now : Option Schedule) : Type 0 where
   pub world : World
   pub table : List Record
   pub is_left : AreSpoken first old → IsLeft (fresh_run first request entries) world table
-  pub calls : MakesCalls (looks (is_fresh request) reach held ++ calls_of (planned (holding_of (is_fresh request) held) (held_after world table))) before now
+  pub plan : Plan
+  pub is_plan : IsPlan (holding_of (is_fresh request) held) (held_after world table) plan
+  pub calls : MakesCalls (looks (is_fresh request) reach held ++ plan_calls plan) before now
 
 abbrev pub AsksAll : (KeyValue → Says) → Request → ℕ → Option Held → Option Schedule → Option Schedule → Type 0
 AsksAll first request reach told before now =

@@ -11,9 +11,9 @@ use Rattle.rk_runs.specs.Run.{Outcome, Done, Spent}
 use Rattle.rk_request.specs.declared.requests.Request.{Request}
 use Rattle.rk_replay.specs.Ran.{ran_of}
 use Rattle.rk_build.specs.Explained.{explanation}
-use Rattle.rk_build.specs.Attributes.{attrs_of}
+use Rattle.rk_changes.specs.Attributes.{attrs_of}
 use Rattle.rk_folder.specs.Told.{longest_file}
-use Rattle.rk_build.specs.declared.holding.Holding.{Holding}
+use Rattle.rk_changes.specs.declared.holding.Holding.{Holding}
 
 -- a text of a run that was asked for, over the records of an old table
 abbrev pub RunText : Type 0

@@ -5,9 +5,9 @@ use Rattle.tr_record.specs.declared.records.Record.{Record}
 use Rattle.rk_attrs.specs.Rows.{are_rows}
 use Rattle.tr_codec.specs.Attrs.{attrs_spelling}
 use Rattle.tr_codec.specs.Fits.{Fits}
-use Rattle.tr_codec.specs.Reads.{IsDamage}
+use Rattle.tr_parts.specs.Reads.{IsDamage}
 use Rattle.tr_codec.specs.Spelling.{db_spelling}
-use Rattle.tr_codec.specs.declared.fault.Damage.{Damage}
+use Rattle.tr_parts.specs.declared.fault.Damage.{Damage}
 use Rattle.rk_attrs.specs.declared.rows.AttrRow.{AttrRow}
 use Rattle.rk_folder.specs.Told.{Held}
 use Rattle.rk_folder.specs.Import.{read_state, snapshot_of, state_of}
@@ -55,10 +55,11 @@ abbrev pub IsDamagedDb : Option Text → Damage → Type 0
 IsDamagedDb None damage = ⊥
 IsDamagedDb (Some bytes) damage = IsDamage 52 bytes damage × ((table : List Record) → Fits table → bytes ≢ db_spelling table)
 
--- this state file is damaged so; attrs comes before the database
+-- this state file is damaged so; attrs comes before the database (a build doesn't look into a list of calls)
 abbrev pub IsDamaged : State → StateFile → Damage → Type 0
 IsDamaged state file.Attrs damage = IsDamagedAttrs state.attrs damage
 IsDamaged state file.Db damage = ((rows : List (Text × AttrRow)) × AreRows state.attrs rows) × IsDamagedDb state.db damage
+IsDamaged state file.Install damage = ⊥
 
 -- the state files of a folder
 abbrev pub state_in : Held → State
@@ -89,6 +90,7 @@ ReadsAttrs attrs (Ok rows) = AreRows attrs rows
 ReadsAttrs attrs (Err (stop.Refused (refusal.Special path))) = ⊥
 ReadsAttrs attrs (Err (stop.Refused (refusal.Damaged file.Attrs damage))) = IsDamagedAttrs attrs damage
 ReadsAttrs attrs (Err (stop.Refused (refusal.Damaged file.Db damage))) = ⊥
+ReadsAttrs attrs (Err (stop.Refused (refusal.Damaged file.Install damage))) = ⊥
 ReadsAttrs attrs (Err (stop.Forged rec step)) = ⊥
 ReadsAttrs attrs (Err stop.Spent) = ⊥
 ReadsAttrs attrs (Err stop.ReadFault) = ⊥
@@ -100,6 +102,7 @@ ReadsDb db (Ok table) = IsTable db table
 ReadsDb db (Err (stop.Refused (refusal.Special path))) = ⊥
 ReadsDb db (Err (stop.Refused (refusal.Damaged file.Attrs damage))) = ⊥
 ReadsDb db (Err (stop.Refused (refusal.Damaged file.Db damage))) = IsDamagedDb db damage
+ReadsDb db (Err (stop.Refused (refusal.Damaged file.Install damage))) = ⊥
 ReadsDb db (Err (stop.Forged rec step)) = ⊥
 ReadsDb db (Err stop.Spent) = ⊥
 ReadsDb db (Err stop.ReadFault) = ⊥

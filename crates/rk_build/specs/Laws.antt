@@ -13,7 +13,7 @@ use Rattle.rk_runs.specs.Spoken.{AreSpoken}
 use Rattle.rk_folder.specs.Told.{Held}
 use Rattle.rk_folder.specs.Whole.{IsWhole}
 use Rattle.rk_folder.specs.Specials.{first_special}
-use Rattle.rk_build.specs.Holdings.{IsAfter}
+use Rattle.rk_changes.specs.Holdings.{IsAfter}
 use Rattle.rk_request.specs.Asked.{is_fresh}
 use Rattle.rk_request.specs.declared.requests.Request.{Request}
 use Rattle.rk_build.specs.Fresh.{AreInMemory, held_after}

@@ -1,9 +1,4 @@
-pub mod Attributes
 pub mod Calls
-pub mod Changes
-pub mod Holdings
-pub mod Imported
-pub mod Planned
 pub mod Checks
 pub mod Explained
 pub mod Fresh
@@ -14,5 +9,6 @@ pub mod Outcomes
 pub mod Run
 pub mod Sessions
 pub mod Stages
+pub mod Stops
 pub mod Telling
 pub mod Texts

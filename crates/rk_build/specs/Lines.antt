@@ -3,8 +3,8 @@ use Rattle.std.specs.Prelude.{ℕ, [], ◌++◌, codes}
 use Rattle.rk_base.specs.Text.{Text}
 use Rattle.std.specs.Fmt.{decimal}
 use Rattle.hex.specs.Hex.{encode_lower}
-use Rattle.tr_codec.specs.declared.fault.Damage.{Damage}
-use Rattle.tr_codec.specs.declared.fault.Damage.TheVariants as damage
+use Rattle.tr_parts.specs.declared.fault.Damage.{Damage}
+use Rattle.tr_parts.specs.declared.fault.Damage.TheVariants as damage
 use Rattle.rk_show.specs.Shown.{shown}
 use Rattle.rk_build.specs.declared.outcome.StateFile.{StateFile}
 use Rattle.rk_build.specs.declared.outcome.StateFile.TheVariants as file
@@ -17,6 +17,7 @@ special_line path = codes "rkr: " ++ shown path ++ codes ": not a file or direct
 abbrev pub name_of : StateFile → Text
 name_of file.Attrs = codes "attrs"
 name_of file.Db = codes "db"
+name_of file.Install = codes "install"
 
 abbrev pub digests : Text → Text → Text
 digests kept computed = codes "digest " ++ (encode_lower kept ++ (codes ", computed " ++ encode_lower computed))

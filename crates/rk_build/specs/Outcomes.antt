@@ -6,14 +6,15 @@ use Rattle.rk_calls.specs.Talk.{Says}
 use Rattle.rk_runs.specs.Started.{started}
 use Rattle.rk_folder.specs.Told.{Held}
 use Rattle.rk_folder.specs.Counts.{Rose}
-use Rattle.rk_build.specs.Changes.{Partly}
-use Rattle.rk_build.specs.Holdings.{IsAfter}
-use Rattle.rk_build.specs.Imported.{holding_of}
-use Rattle.rk_build.specs.Planned.{planned}
-use Rattle.rk_build.specs.declared.installation.InstallErr.{InstallErr}
-use Rattle.rk_build.specs.declared.installation.InstallErr.TheVariants as install
+use Rattle.rk_install.specs.Install.{IsMomentOf, StopsPlan}
+use Rattle.rk_install.specs.declared.calling.InstallErr.{InstallErr}
+use Rattle.rk_install.specs.declared.calling.InstallErr.TheVariants as install
+use Rattle.rk_changes.specs.Holdings.{IsAfter}
+use Rattle.rk_changes.specs.Imported.{holding_of}
+use Rattle.rk_changes.specs.Planned.{IsPlan}
+use Rattle.rk_seal.specs.declared.plan.Plan.{Plan}
 use Rattle.tr_codec.specs.Fits.{Fits}
-use Rattle.tr_codec.specs.declared.fault.Damage.{Damage}
+use Rattle.tr_parts.specs.declared.fault.Damage.{Damage}
 use Rattle.tr_record.specs.declared.records.Record.{Record}
 use Rattle.rk_tree.specs.Copies.{snapshot_of as entries_of}
 use Rattle.rk_tree.specs.Entries.{Entries}
@@ -109,14 +110,17 @@ abbrev pub IsLeft : Run World → World → List Record → Type 0
 IsLeft (Done world status left table) w t = (w ≡ world) × (t ≡ table)
 IsLeft Spent w t = ⊥
 
--- Some of the calls that lead to what is to be left were made, and the next one failed and left its damage; over
--- spoken records it is what the fresh run leaves.
+-- The install of what leads to what is to be left stopped; over spoken records that is what the fresh run leaves.
 pub record PartlyInstalled (first : KeyValue → Says) (request : Request) (entries : Entries) (old : List Record) (held : Held) (new : Option Held) (e : InstallErr) : Type 0 where
   pub world : World
   pub table : List Record
   pub is_left : AreSpoken first old → IsLeft (fresh_run first request entries) world table
   pub readable : AreReadable world table
-  pub part : Partly (planned (holding_of (is_fresh request) held) (held_after world table)) (Some held) new e
+  pub plan : Plan
+  pub is_plan : IsPlan (holding_of (is_fresh request) held) (held_after world table) plan
+  pub stops : StopsPlan plan held new
+  -- a call that had no memory did nothing
+  pub clean : e ≡ install.NoMemory → IsMomentOf plan held new
 
 -- it is as before; or the folder's own count of such failures rose, and it is partly installed
 abbrev pub StoppedAt : (KeyValue → Says) → Request → Option Held → Option Held → ℕ → ℕ → InstallErr → Type 0

@@ -9,7 +9,7 @@ use Rattle.rk_folder.specs.Hidden.{hidden_dir}
 use Rattle.rk_folder.specs.Specials.{first_special}
 use Rattle.rk_folder.specs.Told.{Held, standing}
 use Rattle.rk_folder.specs.Whole.{IsWhole}
-use Rattle.rk_build.specs.Holdings.{IsAfter}
+use Rattle.rk_changes.specs.Holdings.{IsAfter}
 use Rattle.rk_kernel.specs.World.{World}
 use Rattle.rk_runs.specs.Lasting.{AllLast}
 use Rattle.rk_runs.specs.Run.{Outcome as Run, Done, Spent}

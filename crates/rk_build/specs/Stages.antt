@@ -1,5 +1,5 @@
 -- What each stage of a build tells.
-use Rattle.std.specs.Prelude.{◌≡◌, ◌≤◌, ◌+◌, ◌++◌, ℕ, length, Bool, true, List, Option, Some, None, IfSome, option_map, Result, Ok, Err}
+use Rattle.std.specs.Prelude.{◌≡◌, ◌⊎◌, ◌≤◌, ◌+◌, ◌++◌, ℕ, length, Bool, true, List, Option, Some, None, IfSome, option_map, Result, Ok, Err}
 use Rattle.rk_calls.specs.Keys.{KeyValue}
 use Rattle.rk_calls.specs.Talk.{Says}
 use Rattle.rk_folder.specs.Told.{Held}
@@ -9,13 +9,12 @@ use Rattle.rk_folder.specs.Attributes.{with_rows}
 use Rattle.rk_folder.specs.Specials.{first_special}
 use Rattle.rk_folder.specs.declared.importing.ImportErr.{ImportErr}
 use Rattle.rk_folder.specs.declared.importing.ImportErr.TheVariants as import
-use Rattle.rk_build.specs.Changes.{AllowsAll, Partly, after_all}
-use Rattle.rk_build.specs.Holdings.{IsAfter}
-use Rattle.rk_build.specs.Imported.{holding_of}
-use Rattle.rk_build.specs.Planned.{planned}
-use Rattle.rk_build.specs.declared.holding.Holding.{Holding}
-use Rattle.rk_build.specs.declared.ops.Op.{Op}
-use Rattle.rk_build.specs.declared.installation.InstallErr.TheVariants as install
+use Rattle.rk_install.specs.Install.{AllowsPlan, IsMomentOf, StopsPlan, carried}
+use Rattle.rk_seal.specs.declared.plan.Plan.{Plan}
+use Rattle.rk_changes.specs.Holdings.{IsAfter}
+use Rattle.rk_changes.specs.Imported.{holding_of}
+use Rattle.rk_changes.specs.Planned.{IsPlan}
+use Rattle.rk_changes.specs.declared.holding.Holding.{Holding}
 use Rattle.tr_codec.specs.Fits.{Fits}
 use Rattle.rk_attrs.specs.declared.rows.AttrRow.{AttrRow}
 use Rattle.tr_record.specs.declared.records.Record.{Record}
@@ -68,22 +67,22 @@ FindsSo request told (Err stop.ReadFault) = Unit {0}
 FindsSo request told (Err stop.NoMemory) = Unit {0}
 FindsSo request told (Err other) = ⊥
 
--- the planned calls lead on, or some were made and the next one failed
-abbrev pub InstallsSo : {T : Type 0} → List Op → Option Held → Option Held → Result T BuildErr → Type 0
-InstallsSo ops old new (Ok it) = new ≡ option_map (after_all ops) old
-InstallsSo ops old new (Err stop.WriteFault) = Partly ops old new install.WriteFault
-InstallsSo ops old new (Err stop.NoMemory) = Partly ops old new install.NoMemory
-InstallsSo ops old new (Err other) = ⊥
+-- the plan leads on, or its install stopped
+abbrev pub InstallsSo : {T : Type 0} → Plan → Option Held → Option Held → Result T BuildErr → Type 0
+InstallsSo plan old new (Ok it) = new ≡ option_map (carried plan) old
+InstallsSo plan old new (Err stop.WriteFault) = IfSome old (λ held. StopsPlan plan held new)
+InstallsSo plan old new (Err stop.NoMemory) = IfSome old (λ held. StopsPlan plan held new) × IfSome old (λ held. IsMomentOf plan held new)
+InstallsSo plan old new (Err other) = ⊥
 
 -- a write fault only where the count rose
 abbrev pub WritesCounted : {T : Type 0} → ℕ → ℕ → Result T BuildErr → Type 0
 WritesCounted before now (Err stop.WriteFault) = Rose before now
 WritesCounted before now other = now ≡ before
 
--- want of memory only where the count of it rose
-abbrev pub MemoryRose : {T : Type 0} → ℕ → ℕ → Result T BuildErr → Type 0
-MemoryRose before now (Err stop.NoMemory) = Rose before now
-MemoryRose before now other = now ≡ before
+-- want of memory that isn't the folder's leaves it as it was; else the count of it rose
+abbrev pub MemoryRose : {T : Type 0} → Option Held → Option Held → ℕ → ℕ → Result T BuildErr → Type 0
+MemoryRose old new before now (Err stop.NoMemory) = (new ≡ old) ⊎ Rose before now
+MemoryRose old new before now other = now ≡ before
 
 -- The run on what the folder holds with its rows, over the records that it keeps, has ended so, and the plan leads to what
 -- it leaves; over spoken records what it leaves has a spelling, and the next build finds just that.
@@ -95,12 +94,12 @@ pub record IsPrepared (first : KeyValue → Says) (request : Request) (held : He
   pub checked : ChecksWhole first (checks request) old
   pub run : IsRun first request (with_rows (snapshot_of held) rows) old before now p.finished
   pub text : p.error_text ≡ p.finished.world.err ++ explanation request p.finished.ran (length p.finished.table)
-  pub plan : p.plan ≡ planned (holding_of (is_fresh request) held) (held_after p.finished.world p.finished.table)
-  pub allowed : AllowsAll p.plan held
-  pub leads : IsAfter held (after_all p.plan held) (held_after p.finished.world p.finished.table)
+  pub plan : IsPlan (holding_of (is_fresh request) held) (held_after p.finished.world p.finished.table) p.plan
+  pub allowed : AllowsPlan p.plan held
+  pub leads : IsAfter held (carried p.plan held) (held_after p.finished.world p.finished.table)
   pub readable : AreReadable p.finished.world p.finished.table
   pub fits : AreSpoken first old → Fits p.finished.table
-  pub next : AreSpoken first old → IsNext p.finished.world p.finished.table (after_all p.plan held)
+  pub next : AreSpoken first old → IsNext p.finished.world p.finished.table (carried p.plan held)
 
 abbrev pub PreparesSo : (KeyValue → Says) → Request → Option Held → ℕ → ℕ → Result Prepared BuildErr → Type 0
 PreparesSo first request told before now (Ok p) = IfSome told (λ held. IsPrepared first request held before now p) × (now ≤ before + turns request)

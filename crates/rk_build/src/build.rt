@@ -1,23 +1,24 @@
 // The build, once the words are read.
-ghost use Rattle.std.specs.Prelude.{◌≡◌, ◌<◌, ◌≤◌, Ok, length, IfOk, true};
+ghost use Rattle.std.specs.Prelude.{◌≡◌, ◌<◌, ◌≤◌, Ok, length, IfOk, IfSome, true};
 ghost use Rattle.rk_build.specs.Calls.{AsksSo};
 ghost use Rattle.rk_folder.specs.Schedule.{MakesCalls};
-ghost use Rattle.rk_build.specs.Changes.{MayRun, calls_of};
+ghost use Rattle.rk_install.specs.Asked.{plan_calls};
+ghost use Rattle.rk_install.specs.Install.{AllowsPlan};
 ghost use Rattle.rk_request.specs.Asked.{turns};
 ghost use Rattle.rk_build.specs.Outcomes.{Checked, outcome_of, Leaves, HasStatus, Tallies, Gains, GainsErrors, InOrder, ErrorsCounted, Counted, Ticked};
 ghost use Rattle.rk_build.specs.Stages.{StartsSo, InstallsSo, WritesCounted, MemoryRose, Steadily};
 ghost use Rattle.rk_build.specs.Texts.{IsNoFault};
 
-use crate::installation::{InstallErr, install};
-use crate::ops::Plan;
 use crate::prepare::{Prepared, prepare};
 use crate::stop::BuildErr;
 use crate::texts::put_texts;
 use rk_base::Steps;
 use rk_calls::Maker;
 use rk_folder::{Folder, Sink};
+use rk_install::{InstallErr, install};
 use rk_replay::RanList;
 use rk_request::Request;
+use rk_seal::Plan;
 use std::alloc::Global;
 use std::sync::ledger::Ledger;
 
@@ -29,17 +30,17 @@ pub(crate) struct Ended {
     pub ran: RanList,
 }
 
-// Makes the planned calls.
-fn carry_out<F: Folder>(alloc: Global, folder: &mut F, plan: &Plan) -> Result<(), BuildErr>
-    requires { MayRun (F.told folder.old) plan.now }
-    ensures held { InstallsSo plan.now (F.told folder.old) (F.told folder.new) result }
+// Installs the plan.
+fn carry_out<F: Folder>(alloc: Global, folder: &mut F, plan: Plan) -> Result<(), BuildErr>
+    requires { IfSome (F.told folder.old) (AllowsPlan plan) }
+    ensures held { InstallsSo plan (F.told folder.old) (F.told folder.new) result }
     ensures writes { WritesCounted (F.write_faults folder.old) (F.write_faults folder.new) result }
-    ensures memory { MemoryRose (F.memory_failures folder.old) (F.memory_failures folder.new) result }
+    ensures memory { MemoryRose (F.told folder.old) (F.told folder.new) (F.memory_failures folder.old) (F.memory_failures folder.new) result }
     ensures steady { Steadily (F.steady folder.old) (F.steady folder.new) result }
     ensures reads { F.read_faults folder.new ≡ F.read_faults folder.old }
-    ensures calls { MakesCalls (calls_of plan.now) (F.schedule folder.old) (F.schedule folder.new) }
+    ensures calls { MakesCalls (plan_calls plan) (F.schedule folder.old) (F.schedule folder.new) }
 {
-    match install(alloc, folder, plan) {
+    match install(alloc, folder, &plan) {
         Ok(()) => Ok(()),
         Err(InstallErr::WriteFault) => Err(BuildErr::WriteFault),
         Err(InstallErr::NoMemory) => Err(BuildErr::NoMemory),
@@ -80,7 +81,7 @@ pub(crate) fn build<M: Maker, F: Folder, O: Sink, E: Sink, L: Ledger>(
         error_text,
     } = prepare(alloc, maker, request, folder, live)?;
     put_texts(out, err, finished.world.out(), error_text.as_slice())?;
-    carry_out(alloc, folder, &plan)?;
+    carry_out(alloc, folder, plan)?;
     let launched = finished.table.len() as u64;
     Ok(Ended {
         status: finished.status,

@@ -3,15 +3,15 @@ ghost use Rattle.std.specs.Prelude.{◌≡◌, IfOk, IfSome, OnOk};
 ghost use Rattle.rk_folder.specs.Looks.{LooksInOrder, looks};
 ghost use Rattle.rk_tree.specs.Entries.{IsWholeSnapshot};
 ghost use Rattle.rk_request.specs.Asked.{is_fresh};
-ghost use Rattle.tr_codec.specs.Reads.{IsSealed};
+ghost use Rattle.tr_parts.specs.Reads.{IsSealed};
 ghost use Rattle.rk_build.specs.Stages.{FindsSo, ReadsCounted, Steadily};
 
-use crate::holding::Holding;
 use crate::kept::{KeptState, kept};
 use crate::look::look;
 use crate::options::is_fresh;
 use crate::stop::BuildErr;
 use rk_attrs::Attrs;
+use rk_changes::Holding;
 use rk_folder::Folder;
 use rk_request::Request;
 use std::alloc::Global;

@@ -27,6 +27,7 @@ fn name_of(file: StateFile) -> &'static [u8]
     match file {
         StateFile::Attrs => b"attrs",
         StateFile::Db => b"db",
+        StateFile::Install => b"install",
     }
 }
 

@@ -4,8 +4,8 @@ ghost use Rattle.rk_folder.specs.Looks.{LooksInOrder, looks};
 ghost use Rattle.rk_tree.specs.Entries.{IsWholeSnapshot};
 ghost use Rattle.rk_build.specs.Stages.{LooksSo, ReadsCounted, Steadily, stop_of};
 
-use crate::holding::Holding;
 use crate::stop::{BuildErr, Refusal};
+use rk_changes::Holding;
 use rk_folder::{Folder, Hidden, ImportErr, Imported, import};
 use std::alloc::Global;
 

@@ -2,11 +2,12 @@
 use rk_base::Path;
 use tr_codec::Damage;
 
-/// A file in `.rkr` that a build reads.
+/// A file in `.rkr` that is read: by a build attrs and the database, and before it a sealed list of calls that is finished.
 #[derive(Clone, Copy, Debug, PartialEq, Eq)]
 pub enum StateFile {
     Attrs,
     Db,
+    Install,
 }
 
 /// How a call of `rkr` ends.
@@ -20,7 +21,7 @@ pub enum Outcome {
     Usage,
     /// The first path, in listing order, at which neither a file nor a directory stands where one has to.
     Special(Path),
-    /// The first state file, of attrs and then the database, that is damaged, and how.
+    /// The first state file, of a sealed list of calls, attrs and then the database, that is damaged, and how.
     Damaged(StateFile, Damage),
     /// This record of the database, from 0 on, isn't what its command says, and this is its first step, from 1 on,
     /// that the command doesn't take; one past the last is the exit.

@@ -3,30 +3,29 @@ ghost use Rattle.std.specs.Prelude.{◌≡◌, ◌+◌, ◌<◌, ◌≤◌, IfOk
 ghost use Rattle.rk_folder.specs.Looks.{LooksInOrder, looks};
 ghost use Rattle.rk_folder.specs.Told.{longest_file};
 ghost use Rattle.rk_tree.specs.Entries.{IsWholeSnapshot};
-ghost use Rattle.rk_build.specs.Attributes.{attrs_of};
-ghost use Rattle.rk_build.specs.Holdings.{IsBuilt};
+ghost use Rattle.rk_changes.specs.Attributes.{attrs_of};
+ghost use Rattle.rk_changes.specs.Holdings.{IsBuilt};
+ghost use Rattle.rk_changes.specs.Planned.{IsPlan};
 ghost use Rattle.std.specs.List.{AllByRecursion};
 ghost use Rattle.tr_codec.specs.Fits.{Fits};
 ghost use Rattle.tr_codec.specs.Sound.{IsSound};
-ghost use Rattle.tr_codec.specs.Reads.{IsSealed};
+ghost use Rattle.tr_parts.specs.Reads.{IsSealed};
 ghost use Rattle.tr_codec.specs.Spelling.{db_spelling};
 ghost use Rattle.rk_request.specs.Asked.{is_fresh, turns};
 ghost use Rattle.rk_build.specs.Stages.{StartsSo, PreparesSo, ReadsCounted, Steadily};
 ghost use Rattle.rk_build.specs.Fresh.{IsReadable, attrs_bytes, held_after};
 
-use crate::attributes::attrs_of;
 use crate::checked::check_old;
 use crate::explain::error_text;
 use crate::found::{Found, find};
-use crate::holding::Holding;
-use crate::ops::Plan;
-use crate::planning::plan;
 use crate::run::{Finished, run};
 use crate::stop::BuildErr;
 use rk_base::{Bytes, NoMemory, Steps};
 use rk_calls::Maker;
+use rk_changes::{Holding, attrs_of, plan};
 use rk_folder::{Folder, LONGEST_FILE, State};
 use rk_request::Request;
+use rk_seal::Plan;
 use rk_tree::Snapshot;
 use std::alloc::Global;
 use std::sync::ledger::Ledger;
@@ -88,6 +87,7 @@ fn held_after(alloc: Global, finished: &Finished, was: Option<&Bytes>) -> Result
     requires { IfSome (option_copied was) IsSealed }
     ensures holding { IfOk result (λ holding. holding ≡ held_after finished.now.world finished.now.table) }
     ensures built { IfOk result IsBuilt }
+    ensures whole { IfOk result (λ holding. IsWholeSnapshot holding.entries) }
     ensures readable { IfOk result (λ holding. IsReadable holding.state.attrs × IsReadable holding.state.db) }
     ensures fits { OnOk result (AllByRecursion IsSound finished.now.table → Fits finished.now.table) }
 {
@@ -104,6 +104,19 @@ fn held_after(alloc: Global, finished: &Finished, was: Option<&Bytes>) -> Result
             fresh_list: false,
         },
     })
+}
+
+// The plan between what is held and what is to be held, both of whole entries.
+fn planned(alloc: Global, before: &Holding, after: &Holding) -> Result<Plan, NoMemory>
+    requires before { IsWholeSnapshot before.now.entries }
+    requires after { IsWholeSnapshot after.now.entries }
+    ensures { IfOk result (λ plan. IsPlan before.now after.now plan) }
+{
+    let plan = plan(alloc, before, after)?;
+    match plan {
+        Some(plan) => Ok(plan),
+        None => unreachable!(),
+    }
 }
 
 /// Looks at the folder, reads its state files, runs the script on what it holds, where no record answers for it, and
@@ -135,7 +148,7 @@ pub(crate) fn prepare<M: Maker, F: Folder, L: Ledger>(
     check_old(maker, request, &old)?;
     let finished = run(alloc, maker, request, &before.entries, &attrs, &old, live)?;
     let after = held_after(alloc, &finished, before.state.db.as_ref())?;
-    let plan = plan(alloc, &before, &after)?;
+    let plan = planned(alloc, &before, &after)?;
     let error_text = error_text(alloc, request, &finished)?;
     Ok(Prepared {
         finished,

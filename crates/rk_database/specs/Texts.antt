@@ -9,9 +9,9 @@ use Rattle.rk_runs.specs.Spoken.{AreSpoken}
 use Rattle.rk_show.specs.Json.{json_text}
 use Rattle.rk_show.specs.Traces.{records_line, trace_text}
 use Rattle.tr_codec.specs.Fits.{Fits}
-use Rattle.tr_codec.specs.Reads.{IsDamage}
+use Rattle.tr_parts.specs.Reads.{IsDamage}
 use Rattle.tr_codec.specs.Spelling.{db_spelling}
-use Rattle.tr_codec.specs.declared.fault.Damage.{Damage}
+use Rattle.tr_parts.specs.declared.fault.Damage.{Damage}
 use Rattle.tr_record.specs.declared.records.Record.{Record}
 use Rattle.rk_database.specs.declared.stop.QueryErr.{QueryErr}
 use Rattle.rk_database.specs.declared.stop.QueryErr.TheVariants as stop

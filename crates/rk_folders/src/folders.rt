@@ -3,7 +3,7 @@ ghost use Rattle.rk_tree.specs.Entries.{IsWholeSnapshot};
 
 use rk_attrs::{AttrRow, Attrs};
 use rk_base::{Bytes, NoMemory, Path};
-use rk_build::attrs_of;
+use rk_changes::attrs_of;
 use rk_folder::{
     Folder, FolderCall, FolderErr, Got, ImportErr, Imported, Item, MemFolder, MemSink, Sink,
     SinkErr, Standing, State, import, state, tree_of,

@@ -1,7 +1,8 @@
 // Plans between what a folder holds before and after.
 use rk_base::{Bytes, NoMemory, Path};
-use rk_build::{Holding, Op, Plan, plan};
+use rk_changes::{Holding, plan};
 use rk_folder::State;
+use rk_seal::{InstallList, Op, Plan};
 use rk_steps::{number_shown, path_of, plain, push_shown, text, word};
 use rk_tree::{Entry, Snapshot};
 use std::alloc::Global;
@@ -33,11 +34,15 @@ fn keep(alloc: Global, file: &mut Option<Bytes>, bytes: &[u8]) -> Result<String,
     plain(alloc, "held")
 }
 
-// `PATH dir`, `PATH file BYTES`, `PATH link TEXT`, or one of `rkr`, `attrs BYTES` and `db BYTES`.
+// `PATH dir`, `PATH file BYTES`, `PATH link TEXT`, or one of `rkr`, `fresh-list`, `attrs BYTES` and `db BYTES`.
 fn hold(alloc: Global, holding: &mut Holding, words: &[Vec<u8>]) -> Result<String, NoMemory> {
     match text(words, 0) {
         "rkr" => {
             holding.rkr = true;
+            plain(alloc, "held")
+        }
+        "fresh-list" => {
+            holding.state.fresh_list = true;
             plain(alloc, "held")
         }
         "attrs" => keep(alloc, &mut holding.state.attrs, word(words, 1)),
@@ -89,34 +94,37 @@ fn push_op(alloc: Global, out: &mut String, op: &Op) -> Result<(), NoMemory> {
     }
 }
 
-/// A plan's calls; of more than 20 only how many.
-pub(crate) fn plan_shown(alloc: Global, plan: &Plan) -> Result<String, NoMemory> {
-    let mut out = number_shown(alloc, Some(plan.len()))?;
-    if plan.len() > 20 {
+fn ops_shown(alloc: Global, ops: &[Op]) -> Result<String, NoMemory> {
+    let mut out = number_shown(alloc, Some(ops.len()))?;
+    if ops.len() > 20 {
         return Ok(out);
     }
-    'ops: for op in plan.as_slice() {
+    'ops: for op in ops {
         push_op(alloc, &mut out, op)?;
     }
     Ok(out)
 }
 
-fn op_at(kind: &str, path: Path, bytes: Bytes) -> Option<Op> {
-    match kind {
-        "remove-file" => Some(Op::RemoveFile(path)),
-        "remove-dir" => Some(Op::RemoveDir(path)),
-        "make-dir" => Some(Op::MakeDir(path)),
-        "write" => Some(Op::Write(path, bytes)),
-        _ => None,
+fn calls_shown(alloc: Global, calls: &Option<InstallList>) -> Result<String, NoMemory> {
+    match calls {
+        Some(list) => ops_shown(alloc, list.as_slice()),
+        None => number_shown(alloc, Some(0)),
     }
 }
 
-/// The call of these words.
-pub(crate) fn op_of(alloc: Global, words: &[Vec<u8>]) -> Result<Option<Op>, NoMemory> {
-    let bytes = Bytes::from_slice(alloc, word(words, 2))?;
-    match path_of(alloc, word(words, 1))? {
-        Some(path) => Ok(op_at(text(words, 0), path, bytes)),
-        None => Ok(None),
+fn all_shown(alloc: Global, plan: &Plan) -> Result<String, NoMemory> {
+    let mut out = calls_shown(alloc, &plan.calls)?;
+    if plan.fresh_list {
+        out.push_str(" and a fresh list")?;
+    }
+    Ok(out)
+}
+
+/// A plan's calls, of more than 20 only how many; and whether a list stands that isn't sealed.
+pub(crate) fn plan_shown(alloc: Global, plan: &Option<Plan>) -> Result<String, NoMemory> {
+    match plan {
+        Some(plan) => all_shown(alloc, plan),
+        None => plain(alloc, "no plan"),
     }
 }
 
@@ -144,7 +152,7 @@ impl Holdings {
         plain(self.alloc, "next")
     }
 
-    pub(crate) fn plan(&self) -> Result<Plan, NoMemory> {
+    pub(crate) fn plan(&self) -> Result<Option<Plan>, NoMemory> {
         plan(self.alloc, &self.before, &self.after)
     }
 }

@@ -1,14 +1,13 @@
 // Steps of a real folder and of real streams, of which no clause tells what they hold, in a directory `real` that is made
 // for them and removed again.
 use crate::folders::{folder_step, put_shown};
-use crate::plans::{Holdings, op_of, plan_shown};
+use crate::plans::{Holdings, plan_shown};
 use crate::recoveries::{call_of, install_shown, list_of, recovery_shown};
 use rk_base::NoMemory;
-use rk_build::{InstallErr, Op, Plan, install};
 use rk_folder::Sink;
-use rk_install::recover;
+use rk_install::{install, recover};
 use rk_real::{RealFolder, RealSink};
-use rk_seal as seal;
+use rk_seal::{Op, Plan};
 use rk_steps::{Subject, behind, mode, number, plain, shown, text};
 use std::alloc::Global;
 use std::fs::{File, Permissions};
@@ -24,7 +23,6 @@ pub(crate) struct Real {
     folder: RealFolder<HostRuntime>,
     holdings: Holdings,
     ops: Vec<Op>,
-    calls: Vec<seal::Op>,
 }
 
 /// A stream that takes at most so many bytes at a time, or fails.
@@ -155,7 +153,6 @@ impl Real {
             folder: RealFolder::new(other, String::from_str(alloc, "real")?),
             holdings: Holdings::new(alloc),
             ops: Vec::new(alloc),
-            calls: Vec::new(alloc),
         })
     }
 
@@ -173,59 +170,38 @@ impl Real {
         }
     }
 
-    fn push(&mut self, op: Op) -> Result<String, NoMemory> {
-        self.ops.push(op)?;
-        plain(self.alloc, "planned")
-    }
-
-    fn add(&mut self, words: &[Vec<u8>]) -> Result<String, NoMemory> {
-        match op_of(self.alloc, words)? {
-            Some(op) => self.push(op),
-            None => plain(self.alloc, "no call"),
-        }
-    }
-
-    fn install(&mut self, plan: &Plan) -> Result<String, NoMemory> {
-        match install(self.alloc, &mut self.folder, plan) {
-            Ok(()) => plain(self.alloc, "installed"),
-            Err(InstallErr::WriteFault) => plain(self.alloc, "write fault"),
-            Err(InstallErr::NoMemory) => Err(NoMemory),
+    fn carry_out(&mut self, plan: Option<Plan>) -> Result<String, NoMemory> {
+        match plan {
+            Some(plan) => {
+                let done = install(self.alloc, &mut self.folder, &plan);
+                install_shown(self.alloc, done)
+            }
+            None => plain(self.alloc, "no plan"),
         }
     }
 
     fn install_planned(&mut self) -> Result<String, NoMemory> {
         let plan = self.holdings.plan()?;
-        self.install(&plan)
-    }
-
-    // The calls that were planned one by one, which are gone then.
-    fn make(&mut self) -> Result<String, NoMemory> {
-        let mut ops = Vec::new(self.alloc);
-        std::mem::swap(&mut self.ops, &mut ops);
-        let plan = Plan::new(ops);
-        if plan.is_empty() {
-            return plain(self.alloc, "nothing");
-        }
-        self.install(&plan)
+        self.carry_out(plan)
     }
 
     fn put(&mut self, words: &[Vec<u8>]) -> Result<String, NoMemory> {
         match call_of(self.alloc, words)? {
             Some(op) => {
-                self.calls.push(op)?;
+                self.ops.push(op)?;
                 plain(self.alloc, "put")
             }
             None => plain(self.alloc, "no call"),
         }
     }
 
-    // The calls that were put, sealed.
+    // The plan of the calls that were put.
     fn install_list(&mut self) -> Result<String, NoMemory> {
-        match list_of(self.alloc, &mut self.calls) {
-            Some(list) => {
-                let done = rk_install::install(self.alloc, &mut self.folder, &list);
-                install_shown(self.alloc, done)
-            }
+        match list_of(self.alloc, &mut self.ops) {
+            Some(list) => self.carry_out(Some(Plan {
+                calls: Some(list),
+                fresh_list: false,
+            })),
             None => plain(self.alloc, "no list"),
         }
     }
@@ -244,9 +220,7 @@ impl Real {
             "after" => self.holdings.after(behind(words)),
             "next" => self.holdings.next(),
             "plan" => plan_shown(self.alloc, &self.holdings.plan()?),
-            "install" => self.install_planned(),
-            "call" => self.add(behind(words)),
-            _ => self.make(),
+            _ => self.install_planned(),
         }
     }
 }
@@ -271,9 +245,7 @@ impl Subject for Real {
             "mode" => self.mode(text(words, 1)),
             "put-in" => put_in_file(&self.rt, alloc, words),
             "puts" => puts(&self.rt, alloc, words),
-            "before" | "after" | "next" | "plan" | "install" | "call" | "make" => {
-                self.planned(words)
-            }
+            "before" | "after" | "next" | "plan" | "install" => self.planned(words),
             "op" | "install-list" | "recover" => self.sealed(words),
             _ => folder_step(alloc, &mut self.folder, words),
         }

@@ -2,7 +2,7 @@
 use Rattle.std.proofs.Common.{◌≡◌, ◌⊎◌, inl, inr, List, [], ◌∷◌, Bool, true, false, not, ◌&&◌, ◌||◌, cond, nat_lt, Option, Some, None, refl, sym, ap, subst, ◌∙◌}
 use Rattle.std.specs.List.{list_all, list_any}
 use Rattle.std.specs.Ordering.{eq_by_cmp}
-use Rattle.rk_base.specs.Text.{Text, text_cmp, is_in, is_root, is_within, join, name_of, parent, root, same_text}
+use Rattle.rk_base.specs.Text.{Text, text_cmp, is_root, is_within, join, name_of, parent, root, same_text}
 use Rattle.rk_base.specs.Canonical.{is_canonical, is_empty}
 use Rattle.rk_base.proofs.CanonicalLemmas.{both, denied}
 use Rattle.rk_base.proofs.PathLemmas.{is_in-is, path-is_cut}
@@ -14,7 +14,7 @@ use Rattle.rk_folder.specs.Whole.{IsWhole}
 use Rattle.rk_folder.specs.declared.folder.Standing.{Standing}
 use Rattle.rk_folder.specs.declared.folder.Standing.TheVariants.{File, Dir, Special}
 use Rattle.rk_folder.proofs.HeldLemmas.{empty_holds_none, empty_not_odd, same_path, standing-with, standing-without}
-use Rattle.rk_seal.specs.Ops.{are_calls, group, is_call, path_of}
+use Rattle.rk_seal.specs.Ops.{group, is_call, path_of}
 use Rattle.rk_seal.specs.Spelling.{install_spelling}
 use Rattle.rk_seal.specs.declared.ops.Op.{Op}
 use Rattle.rk_seal.specs.declared.ops.Op.TheVariants.{RemoveFile, RemoveDir, MakeDir, Write}

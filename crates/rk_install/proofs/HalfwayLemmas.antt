@@ -21,7 +21,7 @@ use Rattle.rk_seal.specs.Ops.{path_of}
 use Rattle.rk_seal.specs.declared.ops.Op.{Op}
 use Rattle.rk_seal.specs.declared.ops.Op.TheVariants.{RemoveFile, RemoveDir, MakeDir, Write}
 use Rattle.rk_install.specs.Calls.{allowed, step, left_by, DamagedBy}
-use Rattle.rk_install.specs.Halfway.{Torn, Ahead, Halfway, pass, AllWhole, AllReady, IsReady, Finishes, StopsHalfway, StopsAgain, StaysWhole}
+use Rattle.rk_install.specs.Halfway.{Torn, Ahead, Halfway, pass, AllWhole, IsReady, Finishes, StopsHalfway, StopsAgain, StaysWhole}
 use Rattle.rk_install.proofs.StepLemmas.{standing-step, odd-step}
 
 absurd_both : (b : Bool) → b ≡ true → b ≡ false → ⊥

@@ -1,14 +1,12 @@
 -- An install that is sealed, and what a stop leaves of it.
-use Rattle.std.proofs.Common.{◌≡◌, ◌⊎◌, inl, inr, List, [], ◌∷◌, length, ◌<◌, ◌^◌, Bool, true, false, not, ◌&&◌, ◌||◌, cond, nat_lt, Option, Some, None, IfSome, option_map, refl, sym, ap, subst, ◌∙◌}
-use Rattle.std.specs.List.{filter, list_all, list_any}
-use Rattle.std.specs.Str.{is_utf8, chars}
-use lib.Utf8.{encode}
-use Rattle.rk_base.specs.Text.{Text, is_root, is_within, join, parent, same_text}
-use Rattle.rk_base.specs.Canonical.{is_canonical, is_name}
+use Rattle.std.proofs.Common.{◌≡◌, inl, inr, List, [], ◌∷◌, length, ◌<◌, ◌^◌, Bool, true, false, not, ◌||◌, cond, nat_lt, Option, Some, None, IfSome, option_map, refl, sym, ap, subst, ◌∙◌}
+use Rattle.std.specs.List.{list_all, list_any}
+use Rattle.rk_base.specs.Text.{Text, is_within, join, parent, same_text}
+use Rattle.rk_base.specs.Canonical.{is_canonical}
 use Rattle.rk_base.proofs.CanonicalLemmas.{both}
 use Rattle.rk_tree.proofs.TextLemmas.{told_apart, same_is, same_itself}
 use Rattle.rk_folder.specs.Hidden.{hidden_dir, install_file, fresh_list_file}
-use Rattle.rk_folder.specs.Told.{Held, bytes_in, can_make_dir, can_remove_file, can_rename, can_write, is_dir, is_file, is_nothing, renamed, standing, with_any, with_standing, without}
+use Rattle.rk_folder.specs.Told.{Held, bytes_in, can_make_dir, can_remove_file, can_rename, can_write, is_dir, is_nothing, renamed, standing, with_any, with_standing, without}
 use Rattle.rk_folder.specs.Whole.{IsWhole}
 use Rattle.rk_folder.specs.declared.folder.Standing.{Standing}
 use Rattle.rk_folder.specs.declared.folder.Standing.TheVariants.{File, Dir, Special}

@@ -1,3 +1,5 @@
+pub mod AskedLemmas
+pub mod CleanLemmas
 pub mod AllowLemmas
 pub mod HalfwayLemmas
 pub mod InstallLemmas

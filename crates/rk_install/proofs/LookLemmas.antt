@@ -1,5 +1,5 @@
 -- What listings tell of a path, name by name.
-use Rattle.std.proofs.Common.{◌≡◌, ℕ, List, [], ◌∷◌, ◌++◌, Bool, true, false, ◌&&◌, ◌||◌, not, cond, Option, Some, None, IfSome, option_map, is_some, drop, position, refl, sym, ap, subst, ◌∙◌, append_assoc}
+use Rattle.std.proofs.Common.{◌≡◌, ℕ, List, [], ◌∷◌, ◌++◌, Bool, true, false, ◌&&◌, not, cond, Option, Some, None, IfSome, option_map, is_some, drop, position, refl, sym, ap, subst, ◌∙◌, append_assoc}
 use Rattle.std.specs.List.{list_all, join_with_byte}
 use Rattle.std.proofs.lemmas.Bool.{eqb-true}
 use Rattle.std.proofs.lemmas.List.Splits.{join_with_byte-slice_split}
@@ -22,14 +22,10 @@ use Rattle.rk_folder.specs.declared.folder.Item.{Item}
 use Rattle.rk_folder.specs.declared.folder.Standing.{Standing}
 use Rattle.rk_folder.specs.declared.folder.Standing.TheVariants as standing
 use Rattle.rk_folder.proofs.ListingLemmas.{item_named-is}
-use Rattle.rk_seal.specs.Ops.{path_of}
-use Rattle.rk_seal.specs.declared.ops.Op.{Op}
-use Rattle.rk_seal.specs.declared.ops.Op.TheVariants.{RemoveFile, RemoveDir, MakeDir, Write}
-use Rattle.rk_install.specs.Calls.{allowed}
 use Rattle.rk_install.specs.Looks.{content_of, is_dir_place, is_file_place, is_free_place, lists_down, may_hold, place_at, place_below, place_by, place_of}
 use Rattle.rk_install.specs.Recovery.{seal_looks, sealed_in}
 use Rattle.rk_install.specs.declared.looking.Place.{Place}
-use Rattle.rk_install.specs.declared.looking.Place.TheVariants.{Nowhere, Free, File, Dir, Special}
+use Rattle.rk_install.specs.declared.looking.Place.TheVariants.{Nowhere, Free}
 
 clash : (b : Bool) → b ≡ true → b ≡ false → ⊥
 clash b t f = cc

@@ -1,10 +1,10 @@
 -- What is done with a sealed list.
-use Rattle.std.proofs.Common.{◌≡◌, ◌≢◌, ◌⊎◌, inl, inr, ℕ, Bool, arith, List, [], ◌∷◌, length, true, Option, Some, None, IfSome, Result, Ok, Err, IfOk, OnOk, OnErr, option_map, refl, sym, ap, subst, ◌∙◌}
+use Rattle.std.proofs.Common.{◌≡◌, inl, inr, ℕ, Bool, arith, List, [], ◌∷◌, true, Option, Some, None, IfSome, Result, Ok, Err, OnErr, option_map, refl, sym, ap, subst, ◌∙◌}
 use Rattle.rk_base.specs.Text.{Text}
-use Rattle.tr_codec.specs.Reads.{Finds, Tells}
-use Rattle.tr_codec.specs.declared.fault.Damage.{Damage}
-use Rattle.tr_codec.specs.declared.fault.CodecErr.{CodecErr}
-use Rattle.tr_codec.specs.declared.fault.CodecErr.TheVariants as codec
+use Rattle.tr_parts.specs.Reads.{Finds, Tells}
+use Rattle.tr_parts.specs.declared.fault.Damage.{Damage}
+use Rattle.tr_parts.specs.declared.fault.CodecErr.{CodecErr}
+use Rattle.tr_parts.specs.declared.fault.CodecErr.TheVariants as codec
 use Rattle.rk_folder.specs.Told.{Held}
 use Rattle.rk_seal.specs.Ops.{are_calls}
 use Rattle.rk_seal.specs.Spelling.{install_spelling}

@@ -1,13 +1,12 @@
 -- The calls of a list leave its own place as it is.
-use Rattle.std.proofs.Common.{◌≡◌, ◌⊎◌, inl, inr, List, [], ◌∷◌, Bool, true, false, not, ◌&&◌, ◌||◌, nat_lt, cond, Option, Some, None, IfSome, option_map, refl, sym, ap, subst, ◌∙◌}
+use Rattle.std.proofs.Common.{◌≡◌, inl, inr, List, [], ◌∷◌, Bool, true, false, not, ◌||◌, nat_lt, cond, Option, Some, None, IfSome, option_map, refl, sym, ap, subst, ◌∙◌}
 use Rattle.std.specs.List.{list_all}
-use Rattle.std.specs.Ordering.{eq_by_cmp}
-use Rattle.rk_base.specs.Text.{Text, text_cmp, is_root, is_within, join}
+use Rattle.rk_base.specs.Text.{Text, is_root, is_within, join}
 use Rattle.rk_base.specs.Canonical.{is_canonical}
 use Rattle.rk_base.proofs.CanonicalLemmas.{both, denied}
 use Rattle.rk_tree.proofs.TextLemmas.{told_apart}
 use Rattle.rk_folder.specs.Hidden.{install_file}
-use Rattle.rk_folder.specs.Told.{Held, standing, with_standing, bytes_in, can_remove_file, is_file}
+use Rattle.rk_folder.specs.Told.{Held, standing, with_standing, bytes_in, is_file}
 use Rattle.rk_folder.specs.declared.folder.Standing.{Standing}
 use Rattle.rk_folder.specs.declared.folder.Standing.TheVariants.{File, Dir, Special}
 use Rattle.rk_seal.specs.Ops.{hidden_dir, are_calls, follow, group, is_call, path_of}

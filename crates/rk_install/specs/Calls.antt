@@ -1,45 +1,13 @@
--- Calls that change a folder, one after another.
-use Rattle.std.specs.Prelude.{◌≡◌, ◌≤◌, ℕ, List, [], ◌∷◌, Bool, true, Option, Some, None, IfSome, Result, Ok, Err}
-use Rattle.rk_base.specs.Text.{Text}
-use Rattle.rk_folder.specs.Told.{Held, can_write, can_make_dir, can_remove_file, can_remove_dir, with_standing, without}
+-- What a call of an install tells and leaves.
+use Rattle.std.specs.Prelude.{◌≡◌, ◌≤◌, ℕ, Bool, true, Option, IfSome, Result, Ok, Err}
+use Rattle.rk_folder.specs.Told.{Held}
 use Rattle.rk_folder.specs.Calls.{Damages}
 use Rattle.rk_folder.specs.Counts.{Rose}
-use Rattle.rk_folder.specs.declared.folder.Standing.{Standing}
-use Rattle.rk_folder.specs.declared.folder.Standing.TheVariants.{File, Dir}
+pub use Rattle.rk_seal.specs.Effects.{allowed, step, after_all, AllowsAll, left_by}
 use Rattle.rk_seal.specs.declared.ops.Op.{Op}
 use Rattle.rk_seal.specs.declared.ops.Op.TheVariants.{RemoveFile, RemoveDir, MakeDir, Write}
 use Rattle.rk_install.specs.declared.calling.InstallErr.{InstallErr}
 use Rattle.rk_install.specs.declared.calling.InstallErr.TheVariants.{WriteFault, NoMemory}
-
-abbrev pub allowed : Op → Held → Bool
-allowed (RemoveFile path) = can_remove_file path
-allowed (RemoveDir path) = can_remove_dir path
-allowed (MakeDir path) = can_make_dir path
-allowed (Write path bytes) = can_write path
-
--- what a call makes of what the folder holds
-abbrev pub step : Op → Held → Held
-step (RemoveFile path) = without path
-step (RemoveDir path) = without path
-step (MakeDir path) = with_standing path Dir
-step (Write path bytes) = with_standing path (File bytes)
-
--- what the calls lead to
-abbrev pub after_all : List Op → Held → Held
-after_all [] held = held
-after_all (op ∷ ops) held = after_all ops (step op held)
-
--- the folder allows them, one after another
-abbrev pub AllowsAll : List Op → Held → Type 0
-AllowsAll [] held = Unit {0}
-AllowsAll (op ∷ ops) held = (allowed op held ≡ true) × AllowsAll ops (step op held)
-
--- what a call leaves at its path
-abbrev pub left_by : Op → Option Standing
-left_by (RemoveFile path) = None
-left_by (RemoveDir path) = None
-left_by (MakeDir path) = Some Dir
-left_by (Write path bytes) = Some (File bytes)
 
 -- a folder that tells what it holds allows it
 abbrev pub MayMake : Option Held → Op → Type 0
@@ -56,6 +24,12 @@ abbrev pub MemoryCaused : {T : Type 0} → ℕ → ℕ → Result T InstallErr �
 MemoryCaused before now (Ok it) = now ≡ before
 MemoryCaused before now (Err WriteFault) = now ≡ before
 MemoryCaused before now (Err NoMemory) = (before ≤ now) × Rose before now
+
+-- this, where there was no memory
+abbrev pub OnNoMemory : {T : Type 0} → Result T InstallErr → Type 0 → Type 0
+OnNoMemory (Ok it) P = Unit {0}
+OnNoMemory (Err WriteFault) P = Unit {0}
+OnNoMemory (Err NoMemory) P = P
 
 abbrev pub IsNoFault : {T : Type 0} → Result T InstallErr → Type 0
 IsNoFault (Ok it) = Unit {0}

@@ -45,6 +45,11 @@ abbrev pub IsStopped : List Op → Option Held → Option Held → Type 0
 IsStopped [] old new = new ≡ old
 IsStopped (op ∷ ops) old new = DamagedBy op old new ⊎ IsStopped ops (option_map (step op) old) new
 
+-- some of the calls were made, and nothing else was done
+abbrev pub IsFront : List Op → Option Held → Option Held → Type 0
+IsFront [] old new = new ≡ old
+IsFront (op ∷ ops) old new = (new ≡ old) ⊎ IsFront ops (option_map (step op) old) new
+
 -- each moment is whole
 abbrev pub AllWhole : List Op → Held → Type 0
 AllWhole [] start = IsWhole start

@@ -1,9 +1,9 @@
 -- An install that is sealed: what its calls lead to, and what a stop at any of them leaves.
-use Rattle.std.specs.Prelude.{◌≡◌, ◌≢◌, ◌⊎◌, ◌<◌, ◌≤◌, ◌^◌, ℕ, List, [], ◌∷◌, length, Bool, true, false, not, Option, Some, None, IfSome, option_map, Result, Ok, Err, if◌then◌else◌}
+use Rattle.std.specs.Prelude.{◌≡◌, ◌≢◌, ◌⊎◌, ◌<◌, ◌≤◌, ◌^◌, ℕ, List, length, Bool, true, false, not, Option, Some, None, IfSome, option_map, Result, Ok, Err, if◌then◌else◌}
 use Rattle.std.specs.List.{filter, list_any}
 use Rattle.rk_base.specs.Text.{Text, same_text}
 use Rattle.rk_folder.specs.Hidden.{hidden_dir, install_file, fresh_list_file}
-use Rattle.rk_folder.specs.Told.{Held, can_make_dir, can_remove_file, can_rename, can_write, is_dir, is_file_or_nothing, renamed, standing, with_any, with_standing}
+use Rattle.rk_folder.specs.Told.{Held, can_make_dir, can_remove_file, can_rename, can_write, is_dir, is_file_or_nothing, renamed, standing, with_any, with_standing, without}
 use Rattle.rk_folder.specs.Counts.{Rose}
 use Rattle.rk_folder.specs.Whole.{IsWhole}
 use Rattle.rk_folder.specs.declared.folder.Standing.TheVariants.{File, Dir}
@@ -11,8 +11,9 @@ use Rattle.rk_seal.specs.Ops.{are_calls}
 use Rattle.rk_seal.specs.Spelling.{install_spelling}
 use Rattle.rk_seal.specs.declared.ops.Op.{Op}
 use Rattle.rk_seal.specs.declared.ops.Op.TheVariants.{RemoveFile, RemoveDir, MakeDir, Write}
+use Rattle.rk_seal.specs.declared.plan.Plan.{Plan}
 use Rattle.rk_install.specs.Calls.{AllowsAll, after_all, step}
-use Rattle.rk_install.specs.Halfway.{IsStopped}
+use Rattle.rk_install.specs.Halfway.{IsFront, IsStopped}
 use Rattle.rk_install.specs.Recovery.{IsSealed, sealed_in, unsealed}
 use Rattle.rk_install.specs.declared.calling.InstallErr.{InstallErr}
 use Rattle.rk_install.specs.declared.calling.InstallErr.TheVariants.{WriteFault, NoMemory}
@@ -69,6 +70,11 @@ IsUnsealed ops held new = (new ≡ Some held) ⊎ ((left : Option Text) × (new 
 abbrev pub StopsSo : List Op → Held → Option Held → Type 0
 StopsSo ops held new = IsUnsealed ops held new ⊎ IsStopped (others ops) (Some (sealed ops held)) new
 
+-- A moment of an install, with no damage: nothing was done yet; the hidden directory stands; the list was written; or it was
+-- sealed, and some of its calls were made.
+abbrev pub IsMoment : List Op → Held → Option Held → Type 0
+IsMoment ops held new = (new ≡ Some held) ⊎ ((new ≡ Some (rooted ops held)) ⊎ ((new ≡ Some (drafted ops held)) ⊎ IsFront (others ops) (Some (sealed ops held)) new))
+
 -- these are the calls around those of the list
 pub record IsAround (ops : List Op) (around : Around) : Type 0 where
   pub making : around.making ≡ MakeDir hidden_dir
@@ -82,6 +88,45 @@ abbrev pub OwnOrCaused : {T : Type 0} → Option Held → Option Held → ℕ �
 OwnOrCaused old new before now (Ok it) = now ≡ before
 OwnOrCaused old new before now (Err WriteFault) = now ≡ before
 OwnOrCaused old new before now (Err NoMemory) = ((new ≡ old) × (now ≡ before)) ⊎ ((before ≤ now) × Rose before now)
+
+-- Plans.
+
+-- without a list that isn't sealed, where one stands
+abbrev pub cleared : Bool → Held → Held
+cleared true = without fresh_list_file
+cleared false = λ held. held
+
+-- what a plan leads to, by its calls
+abbrev pub carried_out : Option (List Op) → Bool → Held → Held
+carried_out None fresh_list = cleared fresh_list
+carried_out (Some ops) fresh_list = installed ops
+
+abbrev pub carried : Plan → Held → Held
+carried plan = carried_out plan.calls plan.fresh_list
+
+-- the folder allows it
+abbrev pub AllowsCalls : Option (List Op) → Bool → Held → Type 0
+AllowsCalls None fresh_list = λ held. fresh_list ≡ true → can_remove_file fresh_list_file held ≡ true
+AllowsCalls (Some ops) fresh_list = AllowsInstall ops
+
+abbrev pub AllowsPlan : Plan → Held → Type 0
+AllowsPlan plan = AllowsCalls plan.calls plan.fresh_list
+
+-- what a stop leaves: of no calls all is as before
+abbrev pub StopsCalls : Option (List Op) → Held → Option Held → Type 0
+StopsCalls None held new = new ≡ Some held
+StopsCalls (Some ops) held new = StopsSo ops held new
+
+abbrev pub StopsPlan : Plan → Held → Option Held → Type 0
+StopsPlan plan = StopsCalls plan.calls
+
+-- and where there was no memory
+abbrev pub MomentOf : Option (List Op) → Held → Option Held → Type 0
+MomentOf None held new = new ≡ Some held
+MomentOf (Some ops) held new = IsMoment ops held new
+
+abbrev pub IsMomentOf : Plan → Held → Option Held → Type 0
+IsMomentOf plan = MomentOf plan.calls
 
 -- Laws.
 

@@ -1,10 +1,10 @@
 -- What is done with a sealed list of calls.
 use Rattle.std.specs.Prelude.{◌≡◌, ◌≢◌, ◌⊎◌, ◌≤◌, ◌<◌, ◌^◌, ◌++◌, ℕ, List, [], ◌∷◌, length, Bool, true, false, Option, Some, None, IfSome, Result, Ok, Err}
 use Rattle.rk_base.specs.Text.{Text, is_root}
-use Rattle.tr_codec.specs.Reads.{IsDamage}
-use Rattle.tr_codec.specs.declared.fault.Damage.{Damage}
-use Rattle.tr_codec.specs.declared.fault.CodecErr.{CodecErr}
-use Rattle.tr_codec.specs.declared.fault.CodecErr.TheVariants as codec
+use Rattle.tr_parts.specs.Reads.{IsDamage}
+use Rattle.tr_parts.specs.declared.fault.Damage.{Damage}
+use Rattle.tr_parts.specs.declared.fault.CodecErr.{CodecErr}
+use Rattle.tr_parts.specs.declared.fault.CodecErr.TheVariants as codec
 use Rattle.rk_folder.specs.Counts.{Rose}
 use Rattle.rk_folder.specs.Hidden.{install_file}
 use Rattle.rk_folder.specs.Looks.{reads, state_listings}

@@ -1,7 +1,8 @@
 // Making one call.
 ghost use Rattle.std.specs.Prelude.{◌≡◌, OnOk, OnErr, option_map};
 ghost use Rattle.rk_install.specs.declared.calling.InstallErr.TheVariants as err;
-ghost use Rattle.rk_install.specs.Calls.{step, MayMake, Caused, MemoryCaused, Steadily, DamagedBy};
+ghost use Rattle.rk_install.specs.Asked.{IsAsked, asked_by};
+ghost use Rattle.rk_install.specs.Calls.{step, MayMake, Caused, MemoryCaused, OnNoMemory, Steadily, DamagedBy};
 
 use rk_base::NoMemory;
 use rk_folder::{Folder, FolderErr};
@@ -32,6 +33,9 @@ pub(crate) fn call<F: Folder>(alloc: Global, folder: &mut F, op: &Op) -> Result<
     ensures cause { Caused (F.write_faults folder.old) (F.write_faults folder.new) result }
     ensures memory { MemoryCaused (F.memory_failures folder.old) (F.memory_failures folder.new) result }
     ensures steady { Steadily (F.steady folder.old) (F.steady folder.new) result }
+    // want of memory changes nothing
+    ensures clean { OnNoMemory result (F.told folder.new ≡ F.told folder.old) }
+    ensures calls { IsAsked (asked_by op.now) (F.schedule folder.old) (F.schedule folder.new) result }
     ensures reads { F.read_faults folder.new ≡ F.read_faults folder.old }
 {
     let done = match op {

@@ -4,7 +4,7 @@ ghost use Rattle.rk_install.specs.Recovery.{of_codec};
 ghost use Rattle.rk_install.specs.declared.fault.RecoverErr.TheVariants as err;
 
 use rk_base::NoMemory;
-use tr_codec::{CodecErr, Damage};
+use tr_parts::{CodecErr, Damage};
 
 /// Why a sealed list was not finished.
 #[derive(Clone, Copy, Debug, PartialEq, Eq)]

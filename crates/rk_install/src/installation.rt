@@ -2,15 +2,17 @@
 ghost use Rattle.std.specs.Prelude.{◌≡◌, IfSome, IfOk, OnOk, OnErr, option_map, true, false};
 ghost use Rattle.std.specs.List.{list_any};
 ghost use Rattle.rk_folder.specs.Hidden as hidden;
-ghost use Rattle.rk_folder.specs.Told.{can_make_dir, can_rename, renamed};
-ghost use Rattle.rk_install.specs.Calls.{AllowsAll, Caused, DamagedBy, MemoryCaused, Steadily, after_all, allowed};
-ghost use Rattle.rk_install.specs.Halfway.{IsStopped};
-ghost use Rattle.rk_install.specs.Install.{AllowsInstall, IsAround, OwnOrCaused, StopsSo, installed, makes_hidden, others, rooted, step_other};
+ghost use Rattle.rk_folder.specs.Told.{can_make_dir, can_remove_file, can_rename, renamed};
+ghost use Rattle.rk_folder.specs.declared.folder.FolderCall.TheVariants as asks;
+ghost use Rattle.rk_install.specs.Asked.{CallsInOrder, CallsOrNone, IsAsked, calls_by, calls_of, clearing_calls, hidden_calls, install_calls, other_calls, plan_calls};
+ghost use Rattle.rk_install.specs.Calls.{AllowsAll, Caused, DamagedBy, MemoryCaused, OnNoMemory, Steadily, after_all, allowed};
+ghost use Rattle.rk_install.specs.Halfway.{IsFront, IsStopped};
+ghost use Rattle.rk_install.specs.Install.{AllowsCalls, AllowsInstall, AllowsPlan, IsAround, IsMoment, IsMomentOf, MomentOf, OwnOrCaused, StopsCalls, StopsPlan, StopsSo, carried, carried_out, cleared, installed, makes_hidden, others, rooted, step_other};
 
 use crate::calling::{InstallErr, call};
 use rk_base::{NoMemory, Path};
 use rk_folder::{Folder, FolderErr, fresh_list_file, hidden_dir, install_file};
-use rk_seal::{InstallList, Op, encode};
+use rk_seal::{InstallList, Op, Plan, encode};
 use std::alloc::Global;
 
 // All memory of an install's own: the calls around those of the list, and the name that is sealed.
@@ -70,6 +72,7 @@ fn make_hidden<F: Folder>(
     ensures cause { Caused (F.write_faults folder.old) (F.write_faults folder.new) result }
     ensures memory { MemoryCaused (F.memory_failures folder.old) (F.memory_failures folder.new) result }
     ensures steady { Steadily (F.steady folder.old) (F.steady folder.new) result }
+    ensures calls { CallsInOrder (hidden_calls ops.now) (F.schedule folder.old) (F.schedule folder.new) result }
     ensures reads { F.read_faults folder.new ≡ F.read_faults folder.old }
 {
     if !has_hidden(ops) {
@@ -86,6 +89,7 @@ fn seal<F: Folder>(alloc: Global, folder: &mut F, around: &Around) -> Result<(),
     ensures cause { Caused (F.write_faults folder.old) (F.write_faults folder.new) result }
     ensures memory { MemoryCaused (F.memory_failures folder.old) (F.memory_failures folder.new) result }
     ensures steady { Steadily (F.steady folder.old) (F.steady folder.new) result }
+    ensures calls { IsAsked (asks.Rename around.now.fresh around.now.seal) (F.schedule folder.old) (F.schedule folder.new) result }
     ensures reads { F.read_faults folder.new ≡ F.read_faults folder.old }
 {
     match folder.rename(alloc, &around.fresh, &around.seal) {
@@ -103,6 +107,8 @@ fn make_other<F: Folder>(alloc: Global, folder: &mut F, op: &Op) -> Result<(), I
     ensures cause { Caused (F.write_faults folder.old) (F.write_faults folder.new) result }
     ensures memory { MemoryCaused (F.memory_failures folder.old) (F.memory_failures folder.new) result }
     ensures steady { Steadily (F.steady folder.old) (F.steady folder.new) result }
+    ensures clean { OnNoMemory result (F.told folder.new ≡ F.told folder.old) }
+    ensures calls { CallsInOrder (other_calls op.now) (F.schedule folder.old) (F.schedule folder.new) result }
     ensures reads { F.read_faults folder.new ≡ F.read_faults folder.old }
 {
     if makes_hidden(op) {
@@ -120,6 +126,8 @@ fn make_others<F: Folder>(alloc: Global, folder: &mut F, ops: &[Op]) -> Result<(
     ensures cause { Caused (F.write_faults folder.old) (F.write_faults folder.new) result }
     ensures memory { MemoryCaused (F.memory_failures folder.old) (F.memory_failures folder.new) result }
     ensures steady { Steadily (F.steady folder.old) (F.steady folder.new) result }
+    ensures clean { OnNoMemory result (IsFront (others ops.now) (F.told folder.old) (F.told folder.new)) }
+    ensures calls { CallsInOrder (calls_of (others ops.now)) (F.schedule folder.old) (F.schedule folder.new) result }
     ensures reads { F.read_faults folder.new ≡ F.read_faults folder.old }
 {
     for op in ops {
@@ -142,6 +150,8 @@ fn install_around<F: Folder>(
     ensures cause { Caused (F.write_faults folder.old) (F.write_faults folder.new) result }
     ensures memory { MemoryCaused (F.memory_failures folder.old) (F.memory_failures folder.new) result }
     ensures steady { Steadily (F.steady folder.old) (F.steady folder.new) result }
+    ensures clean { OnNoMemory result (IfSome (F.told folder.old) (λ held. IsMoment ops.now held (F.told folder.new))) }
+    ensures calls { CallsInOrder (install_calls ops.now) (F.schedule folder.old) (F.schedule folder.new) result }
     ensures reads { F.read_faults folder.new ≡ F.read_faults folder.old }
 {
     make_hidden(alloc, folder, ops, around)?;
@@ -152,14 +162,8 @@ fn install_around<F: Folder>(
     Ok(done)
 }
 
-/// Makes the calls of a list, so that a stop at any of them loses nothing: the hidden directory is made, where that is among
-/// them; the list is written there, and sealed by a rename; then come the other calls, in their order; and then the seal is
-/// taken away. All memory that is its own is taken before its first call.
-///
-/// `WriteFault` where a call of the folder was a fault, `NoMemory` where one had no memory, or the install itself had none.
-/// The folder is then as before, but that the hidden directory and a list that isn't sealed may stand; or the list is sealed,
-/// and `recover` finishes it.
-pub fn install<F: Folder>(
+// Makes the calls of a list, and those around them. All memory that is its own is taken before its first call.
+fn install_list<F: Folder>(
     alloc: Global,
     folder: &mut F,
     list: &InstallList,
@@ -168,11 +172,79 @@ pub fn install<F: Folder>(
     ensures held { OnOk result (F.told folder.new ≡ option_map (installed list.now) (F.told folder.old)) }
     ensures stops { OnErr result (IfSome (F.told folder.old) (λ held. StopsSo list.now held (F.told folder.new))) }
     ensures cause { Caused (F.write_faults folder.old) (F.write_faults folder.new) result }
-    // want of memory is its own, and then no call was made, or the folder's count of it rose
     ensures memory { OwnOrCaused (F.told folder.old) (F.told folder.new) (F.memory_failures folder.old) (F.memory_failures folder.new) result }
     ensures steady { Steadily (F.steady folder.old) (F.steady folder.new) result }
+    ensures clean { OnNoMemory result (IfSome (F.told folder.old) (λ held. IsMoment list.now held (F.told folder.new))) }
+    ensures calls { CallsOrNone (install_calls list.now) (F.schedule folder.old) (F.schedule folder.new) result }
     ensures reads { F.read_faults folder.new ≡ F.read_faults folder.old }
 {
     let around = all_around(alloc, list)?;
     install_around(alloc, folder, list.as_slice(), &around)
+}
+
+// Removes a list that isn't sealed, where one stands.
+fn clear<F: Folder>(alloc: Global, folder: &mut F, fresh_list: bool) -> Result<(), InstallErr>
+    requires { IfSome (F.told folder.old) (λ held. fresh_list ≡ true → can_remove_file hidden.fresh_list_file held ≡ true) }
+    ensures held { OnOk result (F.told folder.new ≡ option_map (cleared fresh_list) (F.told folder.old)) }
+    ensures left { OnErr result (F.told folder.new ≡ F.told folder.old) }
+    ensures cause { Caused (F.write_faults folder.old) (F.write_faults folder.new) result }
+    ensures memory { OwnOrCaused (F.told folder.old) (F.told folder.new) (F.memory_failures folder.old) (F.memory_failures folder.new) result }
+    ensures steady { Steadily (F.steady folder.old) (F.steady folder.new) result }
+    ensures calls { CallsOrNone (clearing_calls fresh_list) (F.schedule folder.old) (F.schedule folder.new) result }
+    ensures reads { F.read_faults folder.new ≡ F.read_faults folder.old }
+{
+    if !fresh_list {
+        return Ok(());
+    }
+    let path = fresh_list_file(alloc)?;
+    let clearing = Op::RemoveFile(path);
+    call(alloc, folder, &clearing)
+}
+
+// Makes the calls of a plan.
+fn make_calls<F: Folder>(
+    alloc: Global,
+    folder: &mut F,
+    calls: &Option<InstallList>,
+    fresh_list: bool,
+) -> Result<(), InstallErr>
+    requires { IfSome (F.told folder.old) (AllowsCalls calls.now fresh_list) }
+    ensures held { OnOk result (F.told folder.new ≡ option_map (carried_out calls.now fresh_list) (F.told folder.old)) }
+    ensures stops { OnErr result (IfSome (F.told folder.old) (λ held. StopsCalls calls.now held (F.told folder.new))) }
+    ensures cause { Caused (F.write_faults folder.old) (F.write_faults folder.new) result }
+    ensures memory { OwnOrCaused (F.told folder.old) (F.told folder.new) (F.memory_failures folder.old) (F.memory_failures folder.new) result }
+    ensures steady { Steadily (F.steady folder.old) (F.steady folder.new) result }
+    ensures clean { OnNoMemory result (IfSome (F.told folder.old) (λ held. MomentOf calls.now held (F.told folder.new))) }
+    ensures calls { CallsOrNone (calls_by calls.now fresh_list) (F.schedule folder.old) (F.schedule folder.new) result }
+    ensures reads { F.read_faults folder.new ≡ F.read_faults folder.old }
+{
+    match calls {
+        None => clear(alloc, folder, fresh_list),
+        Some(list) => install_list(alloc, folder, list),
+    }
+}
+
+/// Makes the calls of a plan, so that a stop at any of them loses nothing: the hidden directory is made, where that is among
+/// them; the list is written there, and sealed by a rename; then come the other calls, in their order; and then the seal is
+/// taken away. All memory that is its own is taken before its first call. Of a plan without calls a list that isn't sealed is
+/// removed, where one stands, and nothing else is done.
+///
+/// `WriteFault` where a call of the folder was a fault, `NoMemory` where one had no memory, or the install itself had none.
+/// The folder is then as before, but that the hidden directory and a list that isn't sealed may stand; or the list is sealed,
+/// and `recover` finishes it.
+pub fn install<F: Folder>(alloc: Global, folder: &mut F, plan: &Plan) -> Result<(), InstallErr>
+    requires { IfSome (F.told folder.old) (AllowsPlan plan.now) }
+    ensures held { OnOk result (F.told folder.new ≡ option_map (carried plan.now) (F.told folder.old)) }
+    ensures stops { OnErr result (IfSome (F.told folder.old) (λ held. StopsPlan plan.now held (F.told folder.new))) }
+    ensures cause { Caused (F.write_faults folder.old) (F.write_faults folder.new) result }
+    // Want of memory is its own, and then no call was made, or the folder's count of it rose.
+    ensures memory { OwnOrCaused (F.told folder.old) (F.told folder.new) (F.memory_failures folder.old) (F.memory_failures folder.new) result }
+    ensures steady { Steadily (F.steady folder.old) (F.steady folder.new) result }
+    // A call that had no memory did nothing.
+    ensures clean { OnNoMemory result (IfSome (F.told folder.old) (λ held. IsMomentOf plan.now held (F.told folder.new))) }
+    // Each call is made once, in their order; at an error up to the one that failed.
+    ensures calls { CallsOrNone (plan_calls plan.now) (F.schedule folder.old) (F.schedule folder.new) result }
+    ensures reads { F.read_faults folder.new ≡ F.read_faults folder.old }
+{
+    make_calls(alloc, folder, &plan.calls, plan.fresh_list)
 }

@@ -3,10 +3,11 @@ ghost use Rattle.std.specs.Prelude.{◌≡◌, ◌≤◌, None, OnOk, IsOk, true
 ghost use Rattle.rk_base.specs.Text.{depth};
 ghost use Rattle.rk_folder.specs.Calls.{Caused, MemoryCaused};
 
+use crate::lasting::{Unsynced, dir_of, is_sealing};
 use rk_base::{Bytes, Name, Path, PathFault};
 use rk_folder::{Folder, FolderErr, Got, Item, LONGEST_FILE};
 use std::alloc::Global;
-use std::fs::{File, Files, Permissions};
+use std::fs::{File, Files, OpenFile, Permissions};
 use std::io::{ErrorKind, Read, Write};
 use std::os::unix::fs::MetadataExt;
 use std::{fs, io, str};
@@ -26,11 +27,13 @@ const LONGEST_PIECE: usize = 1 << 20;
 const LISTING: usize = 1 << 12;
 
 /// The folder below one directory. Links, devices and the like are special, and a file name that
-/// is no name is odd.
+/// is no name is odd. What was written is on the disk when its call answers; which names stand in a directory is there before
+/// a name in `.rkr` is put in place or taken away, and that when its call answers.
 #[derive(Drop)]
 pub struct RealFolder<R: Files + AllocGlobal + Drop> {
     rt: R,
     top: String,
+    unsynced: Unsynced,
     read_faults: u64,
     write_faults: u64,
     memory_failures: u64,
@@ -88,7 +91,8 @@ fn content(rt: &impl Files, alloc: Global, place: &str) -> io::Result<Got> {
 
 fn overwrite(rt: &impl Files, place: &str, bytes: &[u8]) -> io::Result<()> {
     let mut file = File::create(rt, place)?;
-    file.write_all(bytes)
+    file.write_all(bytes)?;
+    file.sync_all()
 }
 
 // A file of these bytes with this mode, in place of the name that the file there has here.
@@ -96,7 +100,8 @@ fn make_anew(rt: &impl Files, place: &str, mode: Permissions, bytes: &[u8]) -> i
     fs::remove_file(rt, place)?;
     let mut file = File::create_new(rt, place)?;
     file.write_all(bytes)?;
-    fs::set_permissions(rt, place, mode)
+    fs::set_permissions(rt, place, mode)?;
+    file.sync_all()
 }
 
 // What has another name too keeps its bytes there.
@@ -207,9 +212,11 @@ fn answer<T: Drop>(
 impl<R: Files + AllocGlobal + Drop> RealFolder<R> {
     /// The folder whose root is this directory.
     pub fn new(rt: R, top: String) -> RealFolder<R> {
+        let unsynced = Unsynced::new(rt.alloc());
         RealFolder {
             rt,
             top,
+            unsynced,
             read_faults: 0,
             write_faults: 0,
             memory_failures: 0,
@@ -220,32 +227,82 @@ impl<R: Files + AllocGlobal + Drop> RealFolder<R> {
         let place = place_of(alloc, self.top.as_str(), file)?;
         content(&self.rt, alloc, place.as_str())
     }
+}
 
-    fn write_at(&self, alloc: Global, file: &Path, bytes: &[u8]) -> io::Result<()> {
-        let place = place_of(alloc, self.top.as_str(), file)?;
-        put_content(&self.rt, place.as_str(), bytes)
-    }
+// A name in its directory is to change.
+fn to_change(alloc: Global, top: &str, path: &Path, unsynced: &mut Unsynced) -> io::Result<String> {
+    let place = place_of(alloc, top, path)?;
+    unsynced.add(alloc, dir_of(place.as_str()))?;
+    Ok(place)
+}
 
-    fn make_dir_at(&self, alloc: Global, dir: &Path) -> io::Result<()> {
-        let place = place_of(alloc, self.top.as_str(), dir)?;
-        fs::create_dir(&self.rt, place.as_str())
-    }
+fn write_in(
+    rt: &impl Files,
+    alloc: Global,
+    top: &str,
+    unsynced: &mut Unsynced,
+    file: &Path,
+    bytes: &[u8],
+) -> io::Result<()> {
+    let place = to_change(alloc, top, file, unsynced)?;
+    put_content(rt, place.as_str(), bytes)
+}
 
-    fn remove_file_at(&self, alloc: Global, file: &Path) -> io::Result<()> {
-        let place = place_of(alloc, self.top.as_str(), file)?;
-        fs::remove_file(&self.rt, place.as_str())
-    }
+fn make_dir_in(
+    rt: &impl Files,
+    alloc: Global,
+    top: &str,
+    unsynced: &mut Unsynced,
+    dir: &Path,
+) -> io::Result<()> {
+    let place = to_change(alloc, top, dir, unsynced)?;
+    fs::create_dir(rt, place.as_str())
+}
 
-    fn remove_dir_at(&self, alloc: Global, dir: &Path) -> io::Result<()> {
-        let place = place_of(alloc, self.top.as_str(), dir)?;
-        fs::remove_dir(&self.rt, place.as_str())
+// All before it lasts first, where its name is in `.rkr`, and then it does.
+fn remove_file_in(
+    rt: &impl Files,
+    alloc: Global,
+    top: &str,
+    unsynced: &mut Unsynced,
+    file: &Path,
+) -> io::Result<()> {
+    let place = to_change(alloc, top, file, unsynced)?;
+    if !is_sealing(file) {
+        return fs::remove_file(rt, place.as_str());
     }
+    unsynced.settle(rt)?;
+    unsynced.add(alloc, dir_of(place.as_str()))?;
+    fs::remove_file(rt, place.as_str())?;
+    unsynced.settle_made(rt)
+}
 
-    fn rename_at(&self, alloc: Global, from: &Path, to: &Path) -> io::Result<()> {
-        let old = place_of(alloc, self.top.as_str(), from)?;
-        let new = place_of(alloc, self.top.as_str(), to)?;
-        fs::rename(&self.rt, old.as_str(), new.as_str())
-    }
+fn remove_dir_in(
+    rt: &impl Files,
+    alloc: Global,
+    top: &str,
+    unsynced: &mut Unsynced,
+    dir: &Path,
+) -> io::Result<()> {
+    let place = to_change(alloc, top, dir, unsynced)?;
+    fs::remove_dir(rt, place.as_str())
+}
+
+fn rename_in(
+    rt: &impl Files,
+    alloc: Global,
+    top: &str,
+    unsynced: &mut Unsynced,
+    from: &Path,
+    to: &Path,
+) -> io::Result<()> {
+    let old = to_change(alloc, top, from, unsynced)?;
+    let new = to_change(alloc, top, to, unsynced)?;
+    unsynced.settle(rt)?;
+    unsynced.add(alloc, dir_of(old.as_str()))?;
+    unsynced.add(alloc, dir_of(new.as_str()))?;
+    fs::rename(rt, old.as_str(), new.as_str())?;
+    unsynced.settle_made(rt)
 }
 
 impl<R: Files + AllocGlobal + Drop> Folder for RealFolder<R> {
@@ -276,27 +333,41 @@ impl<R: Files + AllocGlobal + Drop> Folder for RealFolder<R> {
     }
 
     fn write(&mut self, alloc: Global, file: &Path, bytes: &[u8]) -> Result<(), FolderErr> {
-        let done = self.write_at(alloc, file, bytes);
+        let done = write_in(
+            &self.rt,
+            alloc,
+            self.top.as_str(),
+            &mut self.unsynced,
+            file,
+            bytes,
+        );
         answer(done, &mut self.write_faults, &mut self.memory_failures)
     }
 
     fn make_dir(&mut self, alloc: Global, dir: &Path) -> Result<(), FolderErr> {
-        let done = self.make_dir_at(alloc, dir);
+        let done = make_dir_in(&self.rt, alloc, self.top.as_str(), &mut self.unsynced, dir);
         answer(done, &mut self.write_faults, &mut self.memory_failures)
     }
 
     fn remove_file(&mut self, alloc: Global, file: &Path) -> Result<(), FolderErr> {
-        let done = self.remove_file_at(alloc, file);
+        let done = remove_file_in(&self.rt, alloc, self.top.as_str(), &mut self.unsynced, file);
         answer(done, &mut self.write_faults, &mut self.memory_failures)
     }
 
     fn remove_dir(&mut self, alloc: Global, dir: &Path) -> Result<(), FolderErr> {
-        let done = self.remove_dir_at(alloc, dir);
+        let done = remove_dir_in(&self.rt, alloc, self.top.as_str(), &mut self.unsynced, dir);
         answer(done, &mut self.write_faults, &mut self.memory_failures)
     }
 
     fn rename(&mut self, alloc: Global, from: &Path, to: &Path) -> Result<(), FolderErr> {
-        let done = self.rename_at(alloc, from, to);
+        let done = rename_in(
+            &self.rt,
+            alloc,
+            self.top.as_str(),
+            &mut self.unsynced,
+            from,
+            to,
+        );
         answer(done, &mut self.write_faults, &mut self.memory_failures)
     }
 }

@@ -2,6 +2,7 @@
 #![tactic(auto)]
 
 mod folder;
+mod lasting;
 mod sink;
 
 pub use folder::RealFolder;

@@ -6,13 +6,13 @@ use Rattle.sha2.specs.Sha256.{sha256}
 use Rattle.sha2.proofs.Facts256.{length-sha256}
 use Rattle.rk_base.specs.Text.{Text, is_root, is_within}
 use Rattle.rk_base.specs.Canonical.{is_canonical}
-use Rattle.tr_codec.specs.Piece.{num, string}
-use Rattle.tr_codec.specs.Spelling.{sealed}
-use Rattle.tr_codec.specs.Reading.{◌>>=◌, given, byte_at, string_at, counted_at}
-use Rattle.tr_codec.specs.RowReading.{path_at}
-use Rattle.tr_codec.proofs.AgainLemmas.{Again, again_bind, again_last, again_check, byte_again, Items, again_counted}
-use Rattle.tr_codec.proofs.SealLemmas.{num_length, one_front}
-use Rattle.tr_codec.proofs.TableAgain.{string_again}
+use Rattle.tr_parts.specs.Piece.{num, string}
+use Rattle.tr_parts.specs.Sealed.{sealed}
+use Rattle.tr_parts.specs.Reading.{◌>>=◌, given, byte_at, string_at, counted_at}
+use Rattle.tr_parts.specs.Reading.{path_at}
+use Rattle.tr_parts.proofs.AgainLemmas.{Again, again_bind, again_last, again_check, byte_again, Items, again_counted}
+use Rattle.tr_parts.proofs.SealLemmas.{num_length, one_front}
+use Rattle.tr_parts.proofs.AgainLemmas.{string_again}
 use Rattle.rk_seal.specs.declared.ops.Op.{Op}
 use Rattle.rk_seal.specs.declared.ops.Op.TheVariants.{RemoveFile, RemoveDir, MakeDir, Write}
 use Rattle.rk_seal.specs.Ops.{hidden_dir, path_of, group, is_call, follow, are_calls}

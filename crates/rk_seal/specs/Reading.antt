@@ -1,8 +1,8 @@
 -- Reading calls, as functions on bytes: a value and the rest, or none.
 use Rattle.std.specs.Prelude.{◌≡◌, ℕ, List, Option, Some, None, ◌==◌, if◌then◌else◌}
 use Rattle.rk_base.specs.Text.{Text}
-use Rattle.tr_codec.specs.Reading.{◌>>=◌, given, byte_at, string_at, counted_at}
-use Rattle.tr_codec.specs.RowReading.{path_at}
+use Rattle.tr_parts.specs.Reading.{◌>>=◌, given, byte_at, string_at, counted_at}
+use Rattle.tr_parts.specs.Reading.{path_at}
 use Rattle.rk_seal.specs.declared.ops.Op.{Op}
 use Rattle.rk_seal.specs.declared.ops.Op.TheVariants.{RemoveFile, RemoveDir, MakeDir, Write}
 use Rattle.rk_seal.specs.Ops.{are_calls}

@@ -1,8 +1,8 @@
 -- The spelling of a list of calls.
 use Rattle.std.specs.Prelude.{ℕ, List, [], ◌∷◌, ◌++◌, length}
 use Rattle.std.specs.List.{flat_map}
-use Rattle.tr_codec.specs.Piece.{num, string}
-use Rattle.tr_codec.specs.Spelling.{sealed}
+use Rattle.tr_parts.specs.Piece.{num, string}
+use Rattle.tr_parts.specs.Sealed.{sealed}
 use Rattle.rk_seal.specs.declared.ops.Op.{Op}
 use Rattle.rk_seal.specs.declared.ops.Op.TheVariants.{RemoveFile, RemoveDir, MakeDir, Write}
 

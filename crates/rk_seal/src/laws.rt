@@ -1,6 +1,6 @@
 // Laws of the spelling.
 ghost use Rattle.std.specs.Prelude.{◌≡◌, List, IfOk, true};
-ghost use Rattle.tr_codec.specs.Reads.{Finds, Tells};
+ghost use Rattle.tr_parts.specs.Reads.{Finds, Tells};
 ghost use Rattle.rk_seal.specs.declared.ops.Op.{Op as Call};
 ghost use Rattle.rk_seal.specs.Laws.{OneList};
 ghost use Rattle.rk_seal.specs.Ops.{are_calls};
@@ -11,7 +11,7 @@ use crate::reading::decode;
 use crate::writing::encode;
 use rk_base::Bytes;
 use std::alloc::Global;
-use tr_codec::CodecErr;
+use tr_parts::CodecErr;
 
 /// No two lists of calls have one spelling. It does nothing.
 pub fn one_list()

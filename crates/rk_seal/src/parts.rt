@@ -1,10 +1,10 @@
 // Parts of what is read, each with the bytes behind it; `None` where the bytes don't begin with one.
 ghost use Rattle.std.specs.Int.{w64};
-ghost use Rattle.tr_codec.specs.Reading.{number_at, byte_at, count_at, string_at};
+ghost use Rattle.tr_parts.specs.Reading.{number_at, byte_at, count_at, string_at};
 ghost use Rattle.rk_seal.specs.Reading.{Gives};
 
 /// A number of eight bytes, the greatest first.
-#[tactic(auto, unfolding(tr_codec::specs::Reading::number_at))]
+#[tactic(auto, unfolding(tr_parts::specs::Reading::number_at))]
 pub(crate) fn number_of(bytes: &[u8]) -> Option<(u64, &[u8])>
     ensures { Gives (λ x. (x.0, x.1.now)) result (number_at w64 bytes.now) }
 {
@@ -18,7 +18,7 @@ pub(crate) fn number_of(bytes: &[u8]) -> Option<(u64, &[u8])>
     Some((number, rest))
 }
 
-#[tactic(auto, unfolding(tr_codec::specs::Reading::byte_at))]
+#[tactic(auto, unfolding(tr_parts::specs::Reading::byte_at))]
 pub(crate) fn byte_of(bytes: &[u8]) -> Option<(u8, &[u8])>
     ensures { Gives (λ x. (x.0, x.1.now)) result (byte_at bytes.now) }
 {
@@ -29,7 +29,7 @@ pub(crate) fn byte_of(bytes: &[u8]) -> Option<(u8, &[u8])>
 }
 
 /// How many there are: no more than the bytes after it, so that no memory is asked for more.
-#[tactic(auto, unfolding(tr_codec::specs::Reading::count_at))]
+#[tactic(auto, unfolding(tr_parts::specs::Reading::count_at))]
 pub(crate) fn count_of(bytes: &[u8]) -> Option<(u64, &[u8])>
     ensures { Gives (λ x. (x.0, x.1.now)) result (count_at bytes.now) }
 {
@@ -41,7 +41,7 @@ pub(crate) fn count_of(bytes: &[u8]) -> Option<(u64, &[u8])>
 }
 
 /// A text behind its length, where it stands.
-#[tactic(auto, unfolding(tr_codec::specs::Reading::string_at))]
+#[tactic(auto, unfolding(tr_parts::specs::Reading::string_at))]
 pub(crate) fn string_of(bytes: &[u8]) -> Option<(&[u8], &[u8])>
     ensures { Gives (λ x. (x.0.now, x.1.now)) result (string_at bytes.now) }
 {

@@ -2,9 +2,9 @@
 ghost use Rattle.std.specs.Prelude.{◌≡◌, ◌≢◌, ◌<◌, ◌≤◌, ◌^◌, [], List, length, drop, true, Some, IfOk, IfSome};
 ghost use Rattle.sha2.specs.Sha256.{sha256};
 ghost use Rattle.rk_base.specs.Canonical.{is_canonical};
-ghost use Rattle.tr_codec.specs.Reading.{given, many_at, counted_at};
-ghost use Rattle.tr_codec.specs.RowReading.{path_at};
-ghost use Rattle.tr_codec.specs.Reads.{Tells, Finds, front_of, seal_of};
+ghost use Rattle.tr_parts.specs.Reading.{given, many_at, counted_at};
+ghost use Rattle.tr_parts.specs.Reading.{path_at};
+ghost use Rattle.tr_parts.specs.Reads.{Tells, Finds, front_of, seal_of};
 ghost use Rattle.rk_seal.specs.declared.ops.Op.{Op as Call};
 ghost use Rattle.rk_seal.specs.Ops.{are_calls};
 ghost use Rattle.rk_seal.specs.Spelling.{list_body, install_spelling};
@@ -15,7 +15,7 @@ use crate::parts::{byte_of, count_of, string_of};
 use crate::writing::list_body;
 use rk_base::{Bytes, NoMemory, Path, PathFault};
 use std::alloc::Global;
-use tr_codec::{CodecErr, Damage, is_same, open_seal};
+use tr_parts::{CodecErr, Damage, is_same, open_seal};
 
 fn path_from(alloc: Global, text: &[u8]) -> Result<Option<Path>, NoMemory>
     ensures { IfOk result (λ path. path ≡ given (is_canonical text.now) text.now) }
@@ -28,7 +28,7 @@ fn path_from(alloc: Global, text: &[u8]) -> Result<Option<Path>, NoMemory>
 }
 
 // A path behind the length of its text.
-#[tactic(auto, unfolding(tr_codec::specs::RowReading::path_at))]
+#[tactic(auto, unfolding(tr_parts::specs::Reading::path_at))]
 fn path_of(alloc: Global, bytes: &[u8]) -> Result<Option<(Path, &[u8])>, NoMemory>
     ensures { IfOk result (λ r. Gives (λ x. (x.0, x.1.now)) r (path_at bytes.now)) }
 {

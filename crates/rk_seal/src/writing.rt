@@ -1,14 +1,14 @@
 // The spelling of a list of calls.
 ghost use Rattle.std.specs.Prelude.{◌≡◌, ◌<◌, ◌^◌, ◌++◌, ◌∷◌, length, true, IfOk, OnOk};
 ghost use Rattle.std.specs.List.{flat_map};
-ghost use Rattle.tr_codec.specs.Piece.{string};
+ghost use Rattle.tr_parts.specs.Piece.{string};
 ghost use Rattle.rk_seal.specs.Ops.{are_calls};
 ghost use Rattle.rk_seal.specs.Spelling.{op_spelling, list_body, install_spelling};
 
 use crate::ops::{InstallList, Op};
 use rk_base::{Bytes, NoMemory, Path};
 use std::alloc::Global;
-use tr_codec::{push_number, push_string, seal};
+use tr_parts::{push_number, push_string, seal};
 
 // The kind of a call, and its path.
 fn push_call(out: &mut Vec<u8>, kind: u8, path: &Path) -> Result<(), NoMemory>

@@ -14,7 +14,7 @@ pub use drawing::{Draws, SOURCES, script, source};
 pub use numbers::{number, size, status, turns};
 pub use showing::{
     asks_change, calls_shown, changes_shown, contents, has_line, has_numbered, kind_at, ran,
-    rows_at, shown, text_at, unexplained,
+    reads_list, rows_at, shown, text_at, unexplained,
 };
 pub use steps::{SessionStep, StepKind, steps_of};
 pub use talks::db_of;

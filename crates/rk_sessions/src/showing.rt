@@ -307,6 +307,18 @@ pub fn changes_shown(alloc: Global, asked: &[FolderCall]) -> Result<String, NoMe
     Ok(text)
 }
 
+fn is_list_read(call: &FolderCall) -> bool {
+    match call {
+        FolderCall::Read(file) => file.text() == b"/.rkr/install".as_slice(),
+        _ => false,
+    }
+}
+
+/// Whether a sealed list of calls was read, which is finished before anything else.
+pub fn reads_list(asked: &[FolderCall]) -> bool {
+    asked.iter().any(|call| is_list_read(call))
+}
+
 /// Whether a call was to change the folder.
 pub fn asks_change(asked: &[FolderCall]) -> bool {
     asked.iter().any(|call| call.is_change())

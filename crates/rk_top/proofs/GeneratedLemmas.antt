@@ -17,8 +17,8 @@ use Rattle.rk_gen.specs.declared.edits.Edit.{Edit}
 use Rattle.rk_gen.specs.declared.files.File.{File}
 use Rattle.rk_gen.specs.Changed.{changed, with_files}
 use Rattle.rk_gen.proofs.PlainLemmas.{edits-plainly, starts-plainly}
-use Rattle.rk_build.specs.Holdings.{IsAfter}
-use Rattle.rk_build.proofs.HiddenLemmas.{attrs_hidden, db_hidden}
+use Rattle.rk_changes.specs.Holdings.{IsAfter}
+use Rattle.rk_changes.proofs.HiddenLemmas.{attrs_hidden, db_hidden}
 use Rattle.rk_kernel.specs.World.{World}
 use Rattle.rk_replay.specs.Ran.{ran_total}
 use Rattle.rk_runs.specs.Run.{Outcome as Run, Done, Spent}

@@ -3,3 +3,4 @@ pub mod GeneratedLemmas
 pub mod OneLineLemmas
 pub mod QueryLemmas
 pub mod ServeLemmas
+pub mod RecoverLemmas

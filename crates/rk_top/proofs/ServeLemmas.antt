@@ -31,7 +31,7 @@ pub works-as : (request it : Request) (before now : Outside) (outcome : Outcome)
 works-as request it before now outcome same h = subst (λ (r : Request). Works r before now outcome) (sym same) h
 
 -- a count that stays hasn't fallen or risen
-errors-still : (err : SinkState) (outcome : Outcome) → ErrorsCounted err err outcome
+pub errors-still : (err : SinkState) (outcome : Outcome) → ErrorsCounted err err outcome
 errors-still err (out.Ended status launched ran) = (refl, refl)
 errors-still err out.Usage = (refl, refl)
 errors-still err (out.Said status) = (refl, refl)
@@ -74,11 +74,11 @@ line-asked seed before now old new outcome h = λ e. subst (λ (o : Outcome). Ge
 -- The outcome's line.
 
 -- what is told without a name is what it was
-unnamed : (outcome told it : Outcome) → IsTold outcome told → it ≢ out.NoMemory → told ≡ it → outcome ≡ it
+pub unnamed : (outcome told it : Outcome) → IsTold outcome told → it ≢ out.NoMemory → told ≡ it → outcome ≡ it
 unnamed outcome told it (inl same) other is = sym same ∙ is
 unnamed outcome told it (inr named) other is = absurd (other (sym is ∙ named.1))
 
-line-alone : (before worked now : SinkState) (outcome told : Outcome) → worked.so_far ≡ before.so_far → ErrorsCounted before worked outcome → Tells outcome told worked now → GainsLineAlone before now told
+pub line-alone : (before worked now : SinkState) (outcome told : Outcome) → worked.so_far ≡ before.so_far → ErrorsCounted before worked outcome → Tells outcome told worked now → GainsLineAlone before now told
 line-alone before worked now outcome told nothing counted tells = record {
   worked = worked;
   nothing = nothing;
@@ -118,7 +118,7 @@ fault-rose b n outcome is h =
       ]
     ]
 
-read-rose : (b n : Counts) (outcome : Outcome) → outcome ≡ out.ReadFault → Counted b n outcome → Rose b.reads n.reads
+pub read-rose : (b n : Counts) (outcome : Outcome) → outcome ≡ out.ReadFault → Counted b n outcome → Rose b.reads n.reads
 read-rose b n outcome is h = let f : Counted b n out.ReadFault = subst (λ (o : Outcome). Counted b n o) is h in f.0
 
 -- the request was read, and its work done

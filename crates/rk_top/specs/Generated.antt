@@ -12,7 +12,7 @@ use Rattle.rk_gen.specs.Start.{Made, files_of, made_of}
 use Rattle.rk_gen.specs.Summary.{Sums, added, no_figures, summary}
 use Rattle.rk_gen.specs.declared.edits.Edit.{Edit}
 use Rattle.rk_gen.specs.Changed.{changed, with_files}
-use Rattle.rk_build.specs.Holdings.{IsAfter}
+use Rattle.rk_changes.specs.Holdings.{IsAfter}
 use Rattle.rk_kernel.specs.World.{World}
 use Rattle.rk_replay.specs.Ran.{ran_total}
 use Rattle.rk_runs.specs.Run.{Outcome as Run, Done, Spent}

@@ -5,5 +5,6 @@ pub mod UnknownTalk
 pub mod Asks
 pub mod Queries
 pub mod Generated
+pub mod Recovers
 pub mod Outside
 pub mod Serves

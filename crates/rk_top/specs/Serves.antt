@@ -86,7 +86,7 @@ pub record Works (request : Request) (before now : Outside) (outcome : Outcome) 
   pub error_counts : ErrorsCounted before.err now.err outcome
   pub steady : IsSteady before → (now.steady.err ≡ true) × IsNoFault outcome
 
--- What the whole call does.
+-- What the whole call does, from where a sealed list of calls was finished (`Recovers.antt`).
 pub record Serves (words : List Text) (before now : Outside) (outcome : Outcome) : Type 0 where
   -- Usage exactly where the words are no request, unless there is no memory to read them; then nothing is touched, and the
   -- outcome's line alone is put.

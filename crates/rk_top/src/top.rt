@@ -1,10 +1,11 @@
 // The top call.
 ghost use Rattle.std.specs.Prelude.{map, string_bytes};
-ghost use Rattle.rk_top.specs.Serves.{Serves};
+ghost use Rattle.rk_top.specs.Recovers.{ServesAfter};
 
 use crate::commands::Commands;
 use crate::generate::tell_workload;
 use crate::queries::{check_records, forget_records, show_records};
+use crate::recovering::{finish, outcome_of_recovery};
 use rk_base::Steps;
 use rk_build::{Outcome, build_in, tell};
 use rk_folder::{Folder, Sink};
@@ -12,7 +13,8 @@ use rk_request::{Request, RequestErr, request};
 use std::alloc::Global;
 use std::sync::ledger::Ledger;
 
-/// The whole program as one call: reads the words, of which the first is the program's name, and does what they
+/// The whole program as one call: reads the words, of which the first is the program's name, finishes a sealed list of calls
+/// that an earlier call was stopped in, where one stands and the words ask for something of the folder, and does what they
 /// ask for, over a folder and the two sinks for output and error text. `live` counts the turns that commands
 /// which ran have paid.
 pub fn rkr<F: Folder, O: Sink, E: Sink, L: Ledger>(
@@ -24,7 +26,7 @@ pub fn rkr<F: Folder, O: Sink, E: Sink, L: Ledger>(
     live: &mut Steps<L>,
 ) -> Outcome
     // What is outside before the call, what is there after it, and the outcome.
-    ensures { Serves (map string_bytes words.now)
+    ensures { ServesAfter (map string_bytes words.now)
         (record {
           reach = F.reach folder.old;
           held = F.told folder.old;
@@ -52,26 +54,32 @@ pub fn rkr<F: Folder, O: Sink, E: Sink, L: Ledger>(
         result }
 {
     match request(alloc, words) {
-        Ok(asked) => match &asked {
-            Request::Build { .. } => {
-                let mut maker = Commands::new(alloc);
-                let outcome = build_in(alloc, &mut maker, &asked, folder, out, err, live);
-                tell(alloc, err, outcome)
-            }
-            Request::Check => {
-                let outcome = check_records(alloc, folder, out);
-                tell(alloc, err, outcome)
-            }
-            Request::Trace { json } => {
-                let outcome = show_records(alloc, *json, folder, out);
-                tell(alloc, err, outcome)
-            }
-            Request::Forget => {
-                let outcome = forget_records(alloc, folder, out);
-                tell(alloc, err, outcome)
-            }
-            Request::Gen(seed) => {
-                let outcome = tell_workload(alloc, *seed, out, live);
+        Ok(asked) => match finish(alloc, &asked, folder) {
+            None => match &asked {
+                Request::Build { .. } => {
+                    let mut maker = Commands::new(alloc);
+                    let outcome = build_in(alloc, &mut maker, &asked, folder, out, err, live);
+                    tell(alloc, err, outcome)
+                }
+                Request::Check => {
+                    let outcome = check_records(alloc, folder, out);
+                    tell(alloc, err, outcome)
+                }
+                Request::Trace { json } => {
+                    let outcome = show_records(alloc, *json, folder, out);
+                    tell(alloc, err, outcome)
+                }
+                Request::Forget => {
+                    let outcome = forget_records(alloc, folder, out);
+                    tell(alloc, err, outcome)
+                }
+                Request::Gen(seed) => {
+                    let outcome = tell_workload(alloc, *seed, out, live);
+                    tell(alloc, err, outcome)
+                }
+            },
+            Some(e) => {
+                let outcome = outcome_of_recovery(e);
                 tell(alloc, err, outcome)
             }
         },

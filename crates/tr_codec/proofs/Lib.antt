@@ -1,6 +1,4 @@
-pub mod AgainLemmas
 pub mod FitLemmas
-pub mod LoopLemmas
 pub mod PutsLemmas
 pub mod RecordLemmas
 pub mod RowLemmas

@@ -5,7 +5,7 @@ use Rattle.std.proofs.lemmas.List.{append-nil, take_more, take_all}
 use Rattle.std.proofs.lemmas.Grind.{flat_map-append}
 use Rattle.std.specs.Cmp.Lexicographic.{bytes_decides}
 use Rattle.rk_base.specs.Text.{Text, same_text}
-use Rattle.tr_codec.specs.Piece.{Piece, plain, blob, ◌⊕◌, each, num, number_of, string, has, with_use, with_uses}
+use Rattle.tr_parts.specs.Piece.{Piece, plain, blob, ◌⊕◌, each, num, number_of, string, has, with_use, with_uses}
 use Rattle.tr_codec.specs.Spelling.{magic, body}
 use Rattle.tr_codec.specs.Puts.{Written, Puts}
 

@@ -2,10 +2,10 @@
 use Rattle.std.proofs.Common.{◌≡◌, ap, ℕ, List, Option, Some}
 use Rattle.rk_base.specs.Text.{Text}
 use Rattle.tr_record.specs.declared.records.Record.{Record}
-use Rattle.tr_codec.specs.declared.fault.PartErr.{PartErr}
-use Rattle.tr_codec.specs.declared.fault.PartErr.TheVariants.{Form, NoMemory}
+use Rattle.tr_parts.specs.declared.fault.PartErr.{PartErr}
+use Rattle.tr_parts.specs.declared.fault.PartErr.TheVariants.{Form, NoMemory}
 use Rattle.tr_codec.specs.declared.records.Row.{Row}
-use Rattle.tr_codec.specs.Reads.{Fails}
+use Rattle.tr_parts.specs.Reads.{Fails}
 use Rattle.tr_codec.specs.Reading.{◌>>=◌, row_at, record_at, next_rec}
 
 pub record_read : (blobs : List Text) (front : List Record) (bytes : List ℕ) (row : Row) (rest : List ℕ) → row_at blobs bytes ≡ Some (row, rest) → record_at blobs front bytes ≡ Some (next_rec front row, rest)

@@ -12,14 +12,13 @@ use Rattle.rk_attrs.specs.declared.rows.AttrRow.{AttrRow}
 use Rattle.rk_attrs.specs.declared.rows.AttrRow.TheVariants.{FileMode, DirMode, Link}
 use Rattle.rk_attrs.specs.Rows.{file_mode, dir_mode, is_mode, suits, is_row, are_rows}
 use Rattle.rk_attrs.proofs.RowLemmas.{both, row_parts, each_row}
-use Rattle.tr_codec.specs.Piece.{num, string}
+use Rattle.tr_parts.specs.Piece.{num, string}
 use Rattle.tr_codec.specs.Spelling.{sealed}
 use Rattle.tr_codec.specs.Reading.{◌>>=◌, given, number_at, byte_at, string_at, counted_at}
 use Rattle.tr_codec.specs.RowReading.{file_mode_at, dir_mode_at, link_at, attr_of, attr_at, path_at, attr_row_at, rows_at}
 use Rattle.tr_codec.specs.Attrs.{attr_spelling, row_spelling, attrs_magic, attrs_body, attrs_spelling}
-use Rattle.tr_codec.proofs.AgainLemmas.{Again, again_bind, again_last, again_check, mode_again, byte_again, Items, again_counted}
+use Rattle.tr_parts.proofs.AgainLemmas.{Again, again_bind, again_last, again_check, mode_again, byte_again, Items, again_counted, string_again}
 use Rattle.tr_codec.proofs.SealLemmas.{num_length, one_front}
-use Rattle.tr_codec.proofs.TableAgain.{string_again}
 
 -- a mode has two bytes
 mode_small : (default mode : ℕ) → is_mode default mode ≡ true → mode < 2 ^ 16

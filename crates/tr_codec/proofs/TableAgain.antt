@@ -3,9 +3,9 @@ use Rattle.std.proofs.Common.{◌≡◌, ℕ, suc, ◌+◌, ◌^◌, ◌<◌, �
 use Rattle.std.specs.Int.{w16, w32, w64}
 use Rattle.std.specs.List.{flat_map, list_all, AllByRecursion}
 use Rattle.std.specs.Cmp.Lexicographic.{bytes_decides}
-use Rattle.std.proofs.lemmas.Bool.{le-ltb, le-leb, lt-ltb, ltb-true}
+use Rattle.std.proofs.lemmas.Bool.{le-leb, lt-ltb, ltb-true}
 use Rattle.std.proofs.Math.Seq.{get_or-append_seam}
-use Rattle.std.proofs.lemmas.List.{take_at, drop_at, length-append, append-nil}
+use Rattle.std.proofs.lemmas.List.{take_at, length-append, append-nil}
 use Rattle.rk_base.specs.Text.{Text, same_text}
 use Rattle.rk_base.specs.Canonical.{is_canonical, is_name}
 use Rattle.rk_base.specs.Names.{are_names, ascend}
@@ -26,23 +26,14 @@ use Rattle.tr_record.specs.Rec.{count_of, fresh_rec, no_key, rec_at, AreNumbered
 use Rattle.tr_record.specs.declared.steps.Step.{Step}
 use Rattle.tr_record.specs.declared.records.Record.{Record}
 use Rattle.tr_codec.specs.declared.records.Row.{Row}
-use Rattle.tr_codec.specs.Piece.{Piece, plain, blob, ◌⊕◌, each, byte, mode, cost, number, counted, num, string, has, number_of, with_use, with_uses}
+use Rattle.tr_parts.specs.Piece.{Piece, plain, blob, ◌⊕◌, each, byte, mode, cost, number, counted, num, string, has, number_of, with_use, with_uses}
 use Rattle.tr_codec.specs.Spelling.{var_piece, key_piece, pair_piece, how_code, flag_code, call_piece, kind_code, errno_code, answer_piece, step_piece, record_piece, table_piece, magic, body}
 use Rattle.tr_codec.specs.Fits.{FitsKey, FitsMap, FitsCall, FitsAnswer, FitsStep, FitsRecord, Fits, paid}
 use Rattle.tr_codec.specs.Reading.{◌>>=◌, given, number_at, byte_at, mode_at, flag_of, flag_at, counted_at, string_at, blob_at, var_at, key_from, key_at, pair_at, map_at, how_of, kind_of, errno_of, number_call_at, path_call_at, texts_call_at, mode_call_at, open_at, write_at, stat_at, launch_at, call_of, call_at, text_answer_at, found_at, name_at, names_at, place_at, same_at, joined_at, no_at, answer_of, answer_at, step_at, row_at, next_rec, record_at, table_at}
-use Rattle.tr_codec.proofs.AgainLemmas.{Again, again_bind, again_last, again_check, again_given, number_again, mode_again, cost_again, byte_again, Items, items_length, again_counted}
+use Rattle.tr_parts.proofs.AgainLemmas.{string_again, Again, again_bind, again_last, again_check, again_given, number_again, mode_again, cost_again, byte_again, Items, items_length, again_counted}
 use Rattle.tr_codec.proofs.PutsLemmas.{has_use, with_uses_adds}
 
 -- ---- the blobs themselves
-
-pub string_again : (text : Text) → Again string_at (string text) text
-unfolding string_at
-string_again text rest small =
-    let group : string text ++ rest ≡ num (length text) ++ (text ++ rest) = append_assoc (num (length text)) text rest in
-    let whole : length (num (length text) ++ (text ++ rest)) < 2 ^ 64 = subst (λ n. n < 2 ^ 64) (ap length group) small in
-    let enough : length text ≤ length (text ++ rest) = omega (arith, length-append text rest) in
-    let few : length text < 2 ^ 64 = omega (arith, length-append (num (length text)) (text ++ rest)) in
-    ap string_at group ∙ rw (number_again (length text) few (text ++ rest) whole, le-ltb _ _ enough, take_at text rest (length text) refl, drop_at text rest (length text) refl) refl
 
 num_length : (n : ℕ) → length (num n) ≡ 8
 unfolding num

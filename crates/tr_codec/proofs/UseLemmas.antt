@@ -2,7 +2,7 @@
 use Rattle.std.proofs.Common.{◌≡◌, ◌+◌, Bool, true, false, not, ◌||◌, cond, List, [], ◌∷◌, ◌++◌, refl, ap}
 use Rattle.std.specs.Cmp.Lexicographic.{bytes_decides}
 use Rattle.rk_base.specs.Text.{Text, same_text}
-use Rattle.tr_codec.specs.Piece.{number_of, has, with_use}
+use Rattle.tr_parts.specs.Piece.{number_of, has, with_use}
 
 number_last : (blobs : List Text) (text : Text) → has blobs text ≡ false → number_of (blobs ++ text ∷ []) text ≡ number_of blobs text
 number_last [] text h = ap (λ (b : Bool). cond (not b) 1 0) ((bytes_decides text text).1 refl)

@@ -1,11 +1,8 @@
 pub mod Attrs
 pub mod Fits
 pub mod Laws
-pub mod Piece
 pub mod Puts
 pub mod Reading
-pub mod Reads
 pub mod RowReading
 pub mod Sound
 pub mod Spelling
-pub mod Whole

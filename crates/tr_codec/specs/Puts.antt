@@ -1,7 +1,7 @@
 -- What a writer holds, and what it is when a piece was put.
 use Rattle.std.specs.Prelude.{◌≡◌, ℕ, List, ◌++◌}
 use Rattle.rk_base.specs.Text.{Text}
-use Rattle.tr_codec.specs.Piece.{Piece, with_uses}
+use Rattle.tr_parts.specs.Piece.{Piece, with_uses}
 
 pub record Written : Type 0 where
   pub blobs : List Text

@@ -2,11 +2,11 @@
 use Rattle.std.specs.Prelude.{ℕ, List, Option, Some, None, ◌==◌, if◌then◌else◌}
 use Rattle.std.specs.Int.{w16}
 use Rattle.rk_base.specs.Text.{Text}
-use Rattle.rk_base.specs.Canonical.{is_canonical}
 use Rattle.rk_attrs.specs.declared.rows.AttrRow.{AttrRow}
 use Rattle.rk_attrs.specs.declared.rows.AttrRow.TheVariants.{FileMode, DirMode, Link}
 use Rattle.rk_attrs.specs.Rows.{are_rows}
-use Rattle.tr_codec.specs.Reading.{◌>>=◌, given, number_at, byte_at, string_at, counted_at}
+use Rattle.tr_parts.specs.Reading.{◌>>=◌, given, number_at, byte_at, string_at, counted_at}
+pub use Rattle.tr_parts.specs.Reading.{path_at}
 
 unfoldable pub file_mode_at : List ℕ → Option (AttrRow × List ℕ)
 file_mode_at bytes = do
@@ -33,12 +33,6 @@ unfoldable pub attr_at : List ℕ → Option (AttrRow × List ℕ)
 attr_at bytes = do
   kind ← byte_at bytes
   attr_of kind.0 kind.1
-
-unfoldable pub path_at : List ℕ → Option (Text × List ℕ)
-path_at bytes = do
-  text ← string_at bytes
-  path ← given (is_canonical text.0) text.0
-  Some (path, text.1)
 
 unfoldable pub attr_row_at : List ℕ → Option ((Text × AttrRow) × List ℕ)
 attr_row_at bytes = do

@@ -1,7 +1,6 @@
 -- The spelling of a table.
 use Rattle.std.specs.Prelude.{ℕ, Bool, true, false, List, [], ◌∷◌, ◌++◌, length}
 use Rattle.std.specs.List.{flat_map}
-use Rattle.sha2.specs.Sha256.{sha256}
 use Rattle.rk_base.specs.declared.errno.Errno.{Errno}
 use Rattle.rk_base.specs.declared.errno.Errno.TheVariants as errno
 use Rattle.rk_base.specs.declared.file_type.FileType.{FileType}
@@ -16,7 +15,8 @@ use Rattle.rk_calls.specs.declared.answer.Answer.{Answer}
 use Rattle.rk_calls.specs.declared.answer.Answer.TheVariants as answer
 use Rattle.tr_record.specs.declared.steps.Step.{Step}
 use Rattle.tr_record.specs.declared.records.Record.{Record}
-use Rattle.tr_codec.specs.Piece.{Piece, blob, ◌⊕◌, byte, mode, cost, number, counted, num, string, with_uses}
+pub use Rattle.tr_parts.specs.Sealed.{sealed}
+use Rattle.tr_parts.specs.Piece.{Piece, blob, ◌⊕◌, byte, mode, cost, number, counted, num, string, with_uses}
 
 -- a variable is its name and its value
 abbrev pub var_piece : Var → Piece
@@ -110,10 +110,6 @@ unfoldable pub body : Piece → List ℕ
 body piece =
     let blobs = with_uses [] piece.uses in
     magic ++ (num (length blobs) ++ (flat_map string blobs ++ piece.spelt blobs))
-
--- bytes, and their digest
-abbrev pub sealed : List ℕ → List ℕ
-sealed bytes = bytes ++ sha256 bytes
 
 abbrev pub db_spelling : List Record → List ℕ
 db_spelling table = sealed (body (table_piece table))

@@ -2,7 +2,7 @@
 ghost use Rattle.std.specs.Prelude.{◌≡◌, ◌<◌, ◌^◌, true, OnOk};
 ghost use Rattle.rk_base.specs.Canonical.{is_canonical};
 ghost use Rattle.rk_base.specs.Names.{are_names};
-ghost use Rattle.tr_codec.specs.Piece.{◌⊕◌, blob, byte, mode, each, counted};
+ghost use Rattle.tr_parts.specs.Piece.{◌⊕◌, blob, byte, mode, each, counted};
 ghost use Rattle.tr_codec.specs.Spelling.{kind_code, flag_code, errno_code, answer_piece};
 ghost use Rattle.tr_codec.specs.Puts.{Puts};
 ghost use Rattle.tr_codec.specs.Sound.{SpeltAnswer};

@@ -8,16 +8,15 @@ ghost use Rattle.rk_attrs.specs.Rows.{are_rows};
 ghost use Rattle.tr_codec.specs.Attrs.{attr_spelling, row_spelling, attrs_body, attrs_spelling};
 ghost use Rattle.tr_codec.specs.Reading.{given, many_at, counted_at};
 ghost use Rattle.tr_codec.specs.RowReading.{attr_at, path_at, attr_row_at, rows_at};
-ghost use Rattle.tr_codec.specs.Reads.{Gives, Tells, Finds, FindsPart, front_of, seal_of};
+ghost use Rattle.tr_parts.specs.Reads.{Gives, Tells, Finds, FindsPart, front_of, seal_of};
 
-use crate::fault::{CodecErr, Damage, PartErr};
 use crate::keys::path_of;
 use crate::parts::{byte_of, count_of, mode_of, string_of};
-use crate::sealing::{is_same, open_seal, seal};
-use crate::writer::{push_mode, push_number, push_string};
+use crate::writer::push_mode;
 use rk_attrs::{AttrRow, Attrs};
 use rk_base::{Bytes, NoMemory, Path};
 use std::alloc::Global;
+use tr_parts::{CodecErr, Damage, PartErr, is_same, open_seal, push_number, push_string, seal};
 
 fn push_attr(out: &mut Vec<u8>, it: &AttrRow) -> Result<(), NoMemory>
     ensures { OnOk result (out.new.items ≡ out.old.items ++ attr_spelling it.now) }
@@ -101,7 +100,7 @@ fn attr_of(alloc: Global, bytes: &[u8]) -> Result<(AttrRow, &[u8]), PartErr>
     Err(PartErr::Form)
 }
 
-#[tactic(auto, unfolding(crate::specs::RowReading::path_at))]
+#[tactic(auto, unfolding(tr_parts::specs::Reading::path_at))]
 fn path_text_of(alloc: Global, bytes: &[u8]) -> Result<(Path, &[u8]), PartErr>
     ensures { Gives (λ x. (x.0, x.1.now)) result (path_at bytes.now) }
 {

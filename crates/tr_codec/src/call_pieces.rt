@@ -1,7 +1,7 @@
 // The pieces of calls, put by a writer.
 ghost use Rattle.std.specs.Prelude.{◌≡◌, ◌<◌, ◌^◌, OnOk};
 ghost use Rattle.tr_codec.specs.Fits.{FitsKey, FitsMap};
-ghost use Rattle.tr_codec.specs.Piece.{◌⊕◌, blob, byte, mode, number, counted};
+ghost use Rattle.tr_parts.specs.Piece.{◌⊕◌, blob, byte, mode, number, counted};
 ghost use Rattle.tr_codec.specs.Spelling.{key_piece, pair_piece, how_code, flag_code, call_piece};
 ghost use Rattle.tr_codec.specs.Puts.{Puts};
 ghost use Rattle.tr_codec.specs.Sound.{SpeltCall};

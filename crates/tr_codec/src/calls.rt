@@ -2,14 +2,14 @@
 ghost use Rattle.std.specs.Prelude.{◌≡◌};
 ghost use Rattle.rk_calls.specs.declared.call.Call.TheVariants as call;
 ghost use Rattle.tr_codec.specs.Reading.{how_of, number_call_at, path_call_at, texts_call_at, mode_call_at, open_at, write_at, stat_at, launch_at, call_of, call_at};
-ghost use Rattle.tr_codec.specs.Reads.{Gives};
+ghost use Rattle.tr_parts.specs.Reads.{Gives};
 
-use crate::fault::PartErr;
 use crate::keys::{key_of, map_of};
 use crate::parts::{blob_of, byte_of, flag_of, number_of, permissions_of};
 use rk_base::Bytes;
 use rk_calls::{Call, How};
 use std::alloc::Global;
+use tr_parts::PartErr;
 
 fn how_of(code: u8) -> Result<How, PartErr>
     ensures { Gives (λ how. how) result (how_of code) }

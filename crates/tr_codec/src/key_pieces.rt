@@ -2,7 +2,7 @@
 ghost use Rattle.std.specs.Prelude.{◌≡◌, ◌<◌, ◌^◌, OnOk};
 ghost use Rattle.std.specs.List.{AllByRecursion};
 ghost use Rattle.tr_codec.specs.Fits.{FitsKey};
-ghost use Rattle.tr_codec.specs.Piece.{blob, each, counted};
+ghost use Rattle.tr_parts.specs.Piece.{blob, each, counted};
 ghost use Rattle.tr_codec.specs.Spelling.{var_piece, key_piece, pair_piece};
 ghost use Rattle.tr_codec.specs.Puts.{Puts};
 

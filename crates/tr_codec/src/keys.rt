@@ -5,13 +5,13 @@ ghost use Rattle.rk_base.specs.Variables.{are_variables};
 ghost use Rattle.rk_calls.specs.Keys.{is_key};
 ghost use Rattle.rk_calls.specs.RefMaps.{is_refmap};
 ghost use Rattle.tr_codec.specs.Reading.{counted_at, given, many_at, blob_at, var_at, key_from, key_at, pair_at, map_at};
-ghost use Rattle.tr_codec.specs.Reads.{Gives};
+ghost use Rattle.tr_parts.specs.Reads.{Gives};
 
-use crate::fault::PartErr;
 use crate::parts::{blob_of, blobs_of, byte_of, count_of, number_of};
 use rk_base::{Bytes, Path, PathFault, Var, VarList, WordList};
 use rk_calls::{Key, RefMap};
 use std::alloc::Global;
+use tr_parts::PartErr;
 
 fn words_of<'a>(
     alloc: Global,

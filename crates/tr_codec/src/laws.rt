@@ -1,14 +1,14 @@
 // Laws of the spelling.
 ghost use Rattle.tr_codec.specs.Fits.{Fits};
 ghost use Rattle.tr_codec.specs.Laws.{OneTable, OneAttrs};
-ghost use Rattle.tr_codec.specs.Reads.{Finds};
+ghost use Rattle.tr_parts.specs.Reads.{Finds};
 
 use crate::attrs::{read_attrs, write_attrs};
-use crate::fault::CodecErr;
 use crate::reading::read_db;
 use crate::writing::write_db;
 use rk_attrs::Attrs;
 use std::alloc::Global;
+use tr_parts::CodecErr;
 use tr_record::Table;
 
 /// No two tables have one spelling. It does nothing.

@@ -2,13 +2,13 @@
 ghost use Rattle.std.specs.Prelude.{◌≡◌, ℕ, List, []};
 ghost use Rattle.std.specs.Int.{w16, w32, w64};
 ghost use Rattle.tr_codec.specs.Reading.{number_at, byte_at, mode_at, flag_of, flag_at, count_at, many_at, string_at, blob_at};
-ghost use Rattle.tr_codec.specs.Reads.{Gives};
+ghost use Rattle.tr_parts.specs.Reads.{Gives};
 
-use crate::fault::PartErr;
 use rk_base::Bytes;
 use std::alloc::Global;
+use tr_parts::PartErr;
 
-#[tactic(auto, unfolding(crate::specs::Reading::number_at))]
+#[tactic(auto, unfolding(tr_parts::specs::Reading::number_at))]
 pub(crate) fn number_of(bytes: &[u8]) -> Result<(u64, &[u8]), PartErr>
     ensures { Gives (λ x. (x.0, x.1.now)) result (number_at w64 bytes.now) }
 {
@@ -23,7 +23,7 @@ pub(crate) fn number_of(bytes: &[u8]) -> Result<(u64, &[u8]), PartErr>
 }
 
 /// A number of four bytes.
-#[tactic(auto, unfolding(crate::specs::Reading::number_at))]
+#[tactic(auto, unfolding(tr_parts::specs::Reading::number_at))]
 pub(crate) fn cost_of(bytes: &[u8]) -> Result<(u32, &[u8]), PartErr>
     ensures { Gives (λ x. (x.0, x.1.now)) result (number_at w32 bytes.now) }
 {
@@ -36,7 +36,7 @@ pub(crate) fn cost_of(bytes: &[u8]) -> Result<(u32, &[u8]), PartErr>
 }
 
 /// A number of two bytes.
-#[tactic(auto, unfolding(crate::specs::Reading::number_at))]
+#[tactic(auto, unfolding(tr_parts::specs::Reading::number_at))]
 pub(crate) fn mode_of(bytes: &[u8]) -> Result<(u16, &[u8]), PartErr>
     ensures { Gives (λ x. (x.0, x.1.now)) result (number_at w16 bytes.now) }
 {
@@ -48,7 +48,7 @@ pub(crate) fn mode_of(bytes: &[u8]) -> Result<(u16, &[u8]), PartErr>
     Ok((number, rest))
 }
 
-#[tactic(auto, unfolding(crate::specs::Reading::byte_at))]
+#[tactic(auto, unfolding(tr_parts::specs::Reading::byte_at))]
 pub(crate) fn byte_of(bytes: &[u8]) -> Result<(u8, &[u8]), PartErr>
     ensures { Gives (λ x. (x.0, x.1.now)) result (byte_at bytes.now) }
 {
@@ -59,7 +59,7 @@ pub(crate) fn byte_of(bytes: &[u8]) -> Result<(u8, &[u8]), PartErr>
 }
 
 /// A mode, to 0777.
-#[tactic(auto, unfolding(crate::specs::Reading::mode_at))]
+#[tactic(auto, unfolding(tr_parts::specs::Reading::mode_at))]
 pub(crate) fn permissions_of(bytes: &[u8]) -> Result<(u16, &[u8]), PartErr>
     ensures { Gives (λ x. (x.0, x.1.now)) result (mode_at bytes.now) }
 {
@@ -82,7 +82,7 @@ fn flag_from(code: u8) -> Result<bool, PartErr>
 }
 
 /// A truth value.
-#[tactic(auto, unfolding(crate::specs::Reading::flag_at))]
+#[tactic(auto, unfolding(tr_parts::specs::Reading::flag_at))]
 pub(crate) fn flag_of(bytes: &[u8]) -> Result<(bool, &[u8]), PartErr>
     ensures { Gives (λ x. (x.0, x.1.now)) result (flag_at bytes.now) }
 {
@@ -92,7 +92,7 @@ pub(crate) fn flag_of(bytes: &[u8]) -> Result<(bool, &[u8]), PartErr>
 }
 
 /// How many there are: no more than the bytes after it, so that no memory is asked for more.
-#[tactic(auto, unfolding(crate::specs::Reading::count_at))]
+#[tactic(auto, unfolding(tr_parts::specs::Reading::count_at))]
 pub(crate) fn count_of(bytes: &[u8]) -> Result<(u64, &[u8]), PartErr>
     ensures { Gives (λ x. (x.0, x.1.now)) result (count_at bytes.now) }
 {
@@ -103,7 +103,7 @@ pub(crate) fn count_of(bytes: &[u8]) -> Result<(u64, &[u8]), PartErr>
     Ok((n, rest))
 }
 
-#[tactic(auto, unfolding(crate::specs::Reading::string_at))]
+#[tactic(auto, unfolding(tr_parts::specs::Reading::string_at))]
 pub(crate) fn string_of(alloc: Global, bytes: &[u8]) -> Result<(Bytes, &[u8]), PartErr>
     ensures { Gives (λ x. (x.0, x.1.now)) result (string_at bytes.now) }
 {
@@ -117,7 +117,7 @@ pub(crate) fn string_of(alloc: Global, bytes: &[u8]) -> Result<(Bytes, &[u8]), P
 }
 
 /// The text of the blob with the number that stands there.
-#[tactic(auto, unfolding(crate::specs::Reading::blob_at))]
+#[tactic(auto, unfolding(tr_parts::specs::Reading::blob_at))]
 pub(crate) fn blob_of<'a>(blobs: &[Bytes], bytes: &'a [u8]) -> Result<(Bytes, &'a [u8]), PartErr>
     ensures { Gives (λ x. (x.0, x.1.now)) result (blob_at blobs.now bytes.now) }
 {

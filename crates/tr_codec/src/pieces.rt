@@ -2,7 +2,7 @@
 ghost use Rattle.std.specs.Prelude.{◌≡◌, OnOk};
 ghost use Rattle.std.specs.List.{AllByRecursion};
 ghost use Rattle.tr_codec.specs.Fits.{Fits};
-ghost use Rattle.tr_codec.specs.Piece.{each, counted};
+ghost use Rattle.tr_parts.specs.Piece.{each, counted};
 ghost use Rattle.tr_codec.specs.Spelling.{step_piece, record_piece, table_piece};
 ghost use Rattle.tr_codec.specs.Puts.{Puts};
 ghost use Rattle.tr_codec.specs.Sound.{IsSound, Spelt, SpeltRecord};

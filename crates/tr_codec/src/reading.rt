@@ -5,13 +5,12 @@ ghost use Rattle.tr_record.specs.declared.records.Record.{Record as Rec};
 ghost use Rattle.tr_codec.specs.Spelling.{body, table_piece, db_spelling};
 ghost use Rattle.tr_codec.specs.Fits.{Fits};
 ghost use Rattle.tr_codec.specs.Reading.{table_at};
-ghost use Rattle.tr_codec.specs.Reads.{Gives, Tells, Finds, FindsPart, front_of, seal_of};
+ghost use Rattle.tr_parts.specs.Reads.{Gives, Tells, Finds, FindsPart, front_of, seal_of};
 
-use crate::fault::{CodecErr, Damage, PartErr};
 use crate::records::table_of;
-use crate::sealing::{is_same, open_seal};
 use crate::writing::body_of;
 use std::alloc::Global;
+use tr_parts::{CodecErr, Damage, PartErr, is_same, open_seal};
 use tr_record::Table;
 
 // What a body may spell. The four bytes at its front are not looked at.

@@ -2,16 +2,16 @@
 ghost use Rattle.std.specs.Prelude.{◌≡◌, ◌^◌, [], nat_lt};
 ghost use Rattle.tr_codec.specs.Fits.{paid};
 ghost use Rattle.tr_codec.specs.Reading.{step_at, row_at, record_at, table_at, many_at, counted_at};
-ghost use Rattle.tr_codec.specs.Reads.{Gives};
+ghost use Rattle.tr_parts.specs.Reads.{Gives};
 
 use crate::answers::answer_of;
 use crate::calls::call_of;
-use crate::fault::PartErr;
 use crate::keys::key_of;
 use crate::parts::{byte_of, cost_of, count_of, strings_of};
 use rk_base::Bytes;
 use rk_calls::Key;
 use std::alloc::Global;
+use tr_parts::PartErr;
 use tr_record::{Step, StepList, Table};
 
 // A record but for its ordinal.

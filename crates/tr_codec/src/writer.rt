@@ -4,13 +4,14 @@ ghost use Rattle.std.specs.Int.{w16, w32, to_be_bytes};
 ghost use Rattle.std.specs.List.{flat_map, IsDistinct};
 ghost use Rattle.rk_base.specs.Text.{same_text};
 ghost use Rattle.rk_base.specs.Canonical.{is_canonical};
-ghost use Rattle.tr_codec.specs.Piece.{with_use, number_of, num, string, plain, blob, byte, mode, cost, number};
+ghost use Rattle.tr_parts.specs.Piece.{with_use, number_of, num, string, plain, blob, byte, mode, cost, number};
 ghost use Rattle.tr_codec.specs.Puts.{Puts};
 
 use indexmap::{IndexMap, IndexSet};
 use rk_base::{Bytes, Name, NoMemory, Path};
 use std::alloc::Global;
 use std::marker::Model;
+use tr_parts::{push_number, push_string};
 
 /// The blobs that were used so far, in the order of first use, and the bytes that were put. A long text that was used before
 /// is mostly found by its mark, so that it isn't hashed again.
@@ -98,29 +99,11 @@ fn number_in(
     Ok(n)
 }
 
-/// Eight bytes, the greatest first.
-#[tactic(auto, unfolding(crate::specs::Piece::num))]
-pub fn push_number(out: &mut Vec<u8>, n: u64) -> Result<(), NoMemory>
-    ensures { OnOk result (out.new.items ≡ out.old.items ++ num n) }
-{
-    out.extend_from_slice(&n.to_be_bytes())?;
-    Ok(())
-}
-
 /// Two bytes.
 pub(crate) fn push_mode(out: &mut Vec<u8>, mode: u16) -> Result<(), NoMemory>
     ensures { OnOk result (out.new.items ≡ out.old.items ++ to_be_bytes w16 mode) }
 {
     out.extend_from_slice(&mode.to_be_bytes())?;
-    Ok(())
-}
-
-/// The length of a text in eight bytes, and the text.
-pub fn push_string(out: &mut Vec<u8>, text: &[u8]) -> Result<(), NoMemory>
-    ensures { OnOk result (out.new.items ≡ out.old.items ++ string text.now) }
-{
-    push_number(out, text.len() as u64)?;
-    out.extend_from_slice(text)?;
     Ok(())
 }
 
@@ -179,7 +162,7 @@ impl Writer {
     }
 
     /// Eight bytes.
-    #[tactic(auto, unfolding(crate::specs::Piece::num))]
+    #[tactic(auto, unfolding(tr_parts::specs::Piece::num))]
     pub(crate) fn put_number(&mut self, n: u64) -> Result<(), NoMemory>
         ensures puts { OnOk result (Puts (number n) self.old self.new) }
         ensures range { n < 2 ^ 64 }

@@ -2,15 +2,15 @@
 ghost use Rattle.std.specs.Prelude.{◌≡◌, ◌<◌, ◌^◌, length, IfOk, OnOk};
 ghost use Rattle.std.specs.List.{AllByRecursion};
 ghost use Rattle.tr_codec.specs.Fits.{Fits};
-ghost use Rattle.tr_codec.specs.Reads.{IsSealed};
+ghost use Rattle.tr_parts.specs.Reads.{IsSealed};
 ghost use Rattle.tr_codec.specs.Sound.{IsSound};
 ghost use Rattle.tr_codec.specs.Spelling.{body, table_piece, db_spelling};
 
 use crate::pieces::put_table;
-use crate::sealing::{seal, seal_as};
 use crate::writer::Writer;
 use rk_base::{Bytes, NoMemory};
 use std::alloc::Global;
+use tr_parts::{seal, seal_as};
 use tr_record::Table;
 
 // All but the digest.

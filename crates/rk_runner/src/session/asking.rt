@@ -2,11 +2,18 @@
 use super::{Session, at, digits, status_shown};
 use crate::program::{End, Program, WHOLE, ask_in};
 use rk_base::NoMemory;
-use rk_folder::MemFolder;
-use rk_sessions::{asks_change, calls_shown, changes_shown, db_of, has_numbered, shown};
+use rk_folder::{FolderCall, MemFolder};
+use rk_sessions::{
+    asks_change, calls_shown, changes_shown, db_of, has_numbered, reads_list, shown,
+};
 
 const USAGE: &str =
     "usage: rkr build [--steps N] [--explain] [--fresh] [--check] | check | trace [--json] | forget | gen SEED\n";
+
+// Whether the folder was to be changed, where no sealed list was finished.
+fn changes_unasked(asked: &[FolderCall]) -> bool {
+    asks_change(asked) && !reads_list(asked)
+}
 
 impl<P: Program> Session<P> {
     // An end tells how many commands were launched, and how many ran, as the explanation does.
@@ -18,11 +25,11 @@ impl<P: Program> Session<P> {
         Ok(())
     }
 
-    // Nothing is changed where a request is refused, and wrong words aren't followed by a call.
+    // Nothing is changed where a request is refused, unless a sealed list was finished first, and wrong words aren't followed by a call.
     pub(crate) fn untouched(&mut self, end: End) -> Result<(), NoMemory> {
         let is_wrong = match end {
             End::Usage => self.folder.calls() != self.calls,
-            End::Refused | End::Spent => asks_change(self.folder.asked()),
+            End::Refused | End::Spent => changes_unasked(self.folder.asked()),
             End::Ended { .. } | End::Other => false,
         };
         if is_wrong {

@@ -1,6 +1,6 @@
-use Rattle.std.proofs.Common.{◌∙◌, ap, arith, option_map, refl}
+use Rattle.std.proofs.Common.{◌∙◌, ap, option_map, refl}
 use Rattle.std.proofs.lemmas.Result.{err_from_is_err_and}
-use Rattle.rk_build.specs.Changes.{after_all}
+use Rattle.rk_install.specs.Install.{carried}
 use Rattle.rk_build.specs.Fresh.{output_of, error_text_of}
 use Rattle.rk_build.proofs.BuildLemmas.{put-gains, put-gains-errors, put-order, put-starts, install-starts, install-leaves-now, install-gains, install-gains-errors, end-gains, end-leaves, end-status, end-checked, end-tally, text-told, output-told, error_text-told}
 use Rattle.rk_folder.proofs.CallsLemmas.{makes-none}
@@ -25,15 +25,15 @@ returns-in_err-carry_out-clause-folder g c =
 pub returns-in_err-carry_out-clause-output : goal.returns-in_err-carry_out-clause-output
 returns-in_err-carry_out-clause-output g c =
     let p = err_from_is_err_and c.from_residual-in_err-carry_out.result c.from_residual-in_err-carry_out.ensures.1 in
-    rw (p.1, p.2) (install-gains g.M.Maker.first c.args.request.now _ _ _ _ c.out.result.now _ _ _ (text-told g.M.Maker.first c.args.request.now output_of _ _ _ c.out.ensures (output-told g.M.Maker.first c.args.request.now _ _ _ c.in_ok-finished.field-0 c.in_ok-finished.ensures.prepares.0)) c.in_err-carry_out.ensures.held c.in_ok-put_texts.ensures.output)
+    rw (p.1, p.2) (install-gains g.M.Maker.first c.args.request.now _ (g.F.Folder.told c.prepare.new.folder) (g.F.Folder.told c.carry_out.new.folder) c.in_ok-finished.field-0.plan c.out.result.now _ _ c.in_err-carry_out.field-0.0 (text-told g.M.Maker.first c.args.request.now output_of _ _ _ c.out.ensures (output-told g.M.Maker.first c.args.request.now _ _ _ c.in_ok-finished.field-0 c.in_ok-finished.ensures.prepares.0)) c.in_err-carry_out.ensures.held c.in_ok-put_texts.ensures.output)
 
 pub returns-in_err-carry_out-clause-errors : goal.returns-in_err-carry_out-clause-errors
 returns-in_err-carry_out-clause-errors g c =
     let p = err_from_is_err_and c.from_residual-in_err-carry_out.result c.from_residual-in_err-carry_out.ensures.1 in
-    rw (p.1, p.2) (install-gains-errors g.M.Maker.first c.args.request.now _ _ _ _ c.as_slice.result.now _ _ _ (text-told g.M.Maker.first c.args.request.now error_text_of _ _ _ c.as_slice.ensures (error_text-told g.M.Maker.first c.args.request.now _ _ _ c.in_ok-finished.field-0 c.in_ok-finished.ensures.prepares.0)) c.in_err-carry_out.ensures.held c.in_ok-put_texts.ensures.errors)
+    rw (p.1, p.2) (install-gains-errors g.M.Maker.first c.args.request.now _ (g.F.Folder.told c.prepare.new.folder) (g.F.Folder.told c.carry_out.new.folder) c.in_ok-finished.field-0.plan c.as_slice.result.now _ _ c.in_err-carry_out.field-0.0 (text-told g.M.Maker.first c.args.request.now error_text_of _ _ _ c.as_slice.ensures (error_text-told g.M.Maker.first c.args.request.now _ _ _ c.in_ok-finished.field-0 c.in_ok-finished.ensures.prepares.0)) c.in_err-carry_out.ensures.held c.in_ok-put_texts.ensures.errors)
 
 pub returns-clause-folder : goal.returns-clause-folder
-returns-clause-folder g c = end-leaves g.M.Maker.first c.args.request.now _ _ _ _ (record { writes = 0; memory = 0 }) (record { writes = 0; memory = 0 }) c.in_ok-finished.field-0 0 0 0 c.in_ok-finished.ensures.prepares.0 (c.in_ok-carry_out.ensures.held ∙ ap (option_map (after_all c.in_ok-finished.field-0.plan)) c.prepare.ensures.held)
+returns-clause-folder g c = end-leaves g.M.Maker.first c.args.request.now _ _ _ _ (record { writes = 0; memory = 0 }) (record { writes = 0; memory = 0 }) c.in_ok-finished.field-0 0 0 0 c.in_ok-finished.ensures.prepares.0 (c.in_ok-carry_out.ensures.held ∙ ap (option_map (carried c.in_ok-finished.field-0.plan)) c.prepare.ensures.held)
 
 pub returns-clause-status : goal.returns-clause-status
 returns-clause-status g c = end-status g.M.Maker.first c.args.request.now _ _ _ c.in_ok-finished.field-0 c.in_ok-finished.ensures.prepares.0
@@ -42,7 +42,7 @@ pub returns-clause-checked : goal.returns-clause-checked
 returns-clause-checked g c = end-checked g.M.Maker.first c.args.request.now _ _ _ c.in_ok-finished.field-0 c.in_ok-finished.ensures.prepares.0
 
 pub returns-clause-tally : goal.returns-clause-tally
-returns-clause-tally g c = end-tally g.M.Maker.first c.args.request.now _ _ _ _ c.in_ok-finished.field-0 _ c.in_ok-finished.ensures.prepares.0 (c.in_ok-carry_out.ensures.held ∙ ap (option_map (after_all c.in_ok-finished.field-0.plan)) c.prepare.ensures.held) c.len-launched.ensures
+returns-clause-tally g c = end-tally g.M.Maker.first c.args.request.now _ _ _ _ c.in_ok-finished.field-0 _ c.in_ok-finished.ensures.prepares.0 (c.in_ok-carry_out.ensures.held ∙ ap (option_map (carried c.in_ok-finished.field-0.plan)) c.prepare.ensures.held) c.len-launched.ensures
 
 pub returns-clause-output : goal.returns-clause-output
 returns-clause-output g c = end-gains g.M.Maker.first c.args.request.now output_of _ c.out.result.now _ _ (text-told g.M.Maker.first c.args.request.now output_of _ _ _ c.out.ensures (output-told g.M.Maker.first c.args.request.now _ _ _ c.in_ok-finished.field-0 c.in_ok-finished.ensures.prepares.0)) c.in_ok-put_texts.ensures.output
@@ -72,7 +72,7 @@ returns-in_err-put_texts-clause-starts g c =
 pub returns-in_err-carry_out-clause-starts : goal.returns-in_err-carry_out-clause-starts
 returns-in_err-carry_out-clause-starts g c =
     let p = err_from_is_err_and c.from_residual-in_err-carry_out.result c.from_residual-in_err-carry_out.ensures.1 in
-    rw (p.1, p.2) (install-starts g.M.Maker.first c.args.request.now _ _ _ _ _ _ _ _ c.in_ok-finished.field-0 _ c.in_ok-finished.ensures.prepares.0 c.in_err-carry_out.ensures.held c.in_ok-finished.ensures.few c.in_ok-finished.ensures.starts)
+    rw (p.1, p.2) (install-starts g.M.Maker.first c.args.request.now _ (g.F.Folder.told c.prepare.new.folder) (g.F.Folder.told c.carry_out.new.folder) c.in_ok-finished.field-0.plan _ _ _ _ c.in_ok-finished.field-0 c.in_err-carry_out.field-0.0 c.in_ok-finished.ensures.prepares.0 c.in_err-carry_out.ensures.held c.in_ok-finished.ensures.few c.in_ok-finished.ensures.starts)
 
 pub returns-in_err-finished-clause-calls : goal.returns-in_err-finished-clause-calls
 returns-in_err-finished-clause-calls g c =
@@ -87,7 +87,7 @@ returns-in_err-put_texts-clause-calls g c =
 pub returns-in_err-carry_out-clause-calls : goal.returns-in_err-carry_out-clause-calls
 returns-in_err-carry_out-clause-calls g c =
     let p = err_from_is_err_and c.from_residual-in_err-carry_out.result c.from_residual-in_err-carry_out.ensures.1 in
-    rw (p.1, p.2) (install-asks g.M.Maker.first c.args.request.now (g.F.Folder.reach c.args.folder.now) (g.F.Folder.told c.args.folder.now) _ _ _ _ _ _ c.in_err-carry_out.ensures.held (asks-all g.M.Maker.first c.args.request.now (g.F.Folder.reach c.args.folder.now) (g.F.Folder.told c.args.folder.now) _ _ c.in_ok-finished.field-0 _ _ _ c.in_ok-finished.ensures.prepares.0 c.prepare.ensures.looks c.carry_out.ensures.calls))
+    rw (p.1, p.2) (install-asks g.M.Maker.first c.args.request.now (g.F.Folder.reach c.args.folder.now) (g.F.Folder.told c.args.folder.now) (g.F.Folder.told c.prepare.new.folder) (g.F.Folder.told c.carry_out.new.folder) c.in_ok-finished.field-0.plan _ _ c.in_err-carry_out.field-0.0 c.in_err-carry_out.ensures.held (asks-all g.M.Maker.first c.args.request.now (g.F.Folder.reach c.args.folder.now) (g.F.Folder.told c.args.folder.now) _ _ c.in_ok-finished.field-0 _ _ _ c.in_ok-finished.ensures.prepares.0 c.prepare.ensures.looks c.carry_out.ensures.calls))
 
 pub returns-clause-calls : goal.returns-clause-calls
 returns-clause-calls g c =

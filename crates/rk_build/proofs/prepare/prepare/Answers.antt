@@ -19,7 +19,7 @@ pub returns-clause-prepares : goal.returns-clause-prepares
 returns-clause-prepares g c =
     is_prepared g.M.Maker.first c.args.request.now _ c.in_ok-before.field-0 c.in_ok-after.after _ _ c.in_ok-finished.finished c.in_ok-plan.plan c.in_ok-error_text.error_text (g.met.F.Folder.whole c.args.folder.now)
     c.in_ok-before.ensures.finds c.in_ok-check_old.ensures.checked c.in_ok-finished.ensures.runs c.run.ensures.at_most c.in_ok-after.ensures.holding c.in_ok-after.ensures.built c.in_ok-after.ensures.readable c.in_ok-after.ensures.fits
-    c.in_ok-plan.ensures.planned c.in_ok-plan.ensures.allowed c.in_ok-plan.ensures.leads c.in_ok-error_text.ensures
+    c.in_ok-plan.ensures c.in_ok-error_text.ensures
 
 pub returns-in_err-plan-clause-reads : goal.returns-in_err-plan-clause-reads
 returns-in_err-plan-clause-reads g c =

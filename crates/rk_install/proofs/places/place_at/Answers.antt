@@ -1,4 +1,4 @@
-use Rattle.std.proofs.Common.{◌≡◌, Option, drop, refl, rules, sym, ap, ◌∙◌}
+use Rattle.std.proofs.Common.{drop, refl, rules, ap, ◌∙◌}
 use Rattle.std.specs.List.{list_all}
 use Rattle.rk_base.specs.Text.{Text, components}
 use Rattle.rk_base.specs.Canonical.{is_canonical, is_name}

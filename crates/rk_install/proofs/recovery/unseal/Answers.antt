@@ -1,4 +1,4 @@
-use Rattle.rk_install.proofs.StepLemmas.{may-unseal, unsealed-by}
+use Rattle.rk_install.proofs.StepLemmas.{may-unseal}
 use Rattle.rk_install.proofs.recovery.unseal.Goals as goal
 
 pub make-requires : goal.make-requires

@@ -1,7 +1,7 @@
 use Rattle.std.proofs.Common.{Err}
-use Rattle.tr_codec.specs.Reads.{Finds}
-use Rattle.tr_codec.specs.declared.fault.CodecErr.{CodecErr}
-use Rattle.tr_codec.specs.declared.fault.CodecErr.TheVariants.{Damaged, NoMemory}
+use Rattle.tr_parts.specs.Reads.{Finds}
+use Rattle.tr_parts.specs.declared.fault.CodecErr.{CodecErr}
+use Rattle.tr_parts.specs.declared.fault.CodecErr.TheVariants.{Damaged, NoMemory}
 use Rattle.rk_seal.proofs.laws.spell_back.Goals as goal
 
 -- what isn't found for a fault isn't found for it whatever was sought

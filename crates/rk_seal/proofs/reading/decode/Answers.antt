@@ -2,7 +2,7 @@ use Rattle.std.proofs.Common.{◌≤◌, length, ap, arith}
 use Rattle.std.proofs.lemmas.List.{length-append}
 use Rattle.sha2.specs.Sha256.{sha256}
 use Rattle.sha2.proofs.Facts256.{length-sha256}
-use Rattle.tr_codec.proofs.SealLemmas.{one_front, seal_right, unopened}
+use Rattle.tr_parts.proofs.SealLemmas.{one_front, seal_right, unopened}
 use Rattle.rk_seal.specs.Spelling.{list_body}
 use Rattle.rk_seal.proofs.ListLemmas.{list_length}
 use Rattle.rk_seal.proofs.reading.decode.Goals as goal

@@ -1,7 +1,7 @@
 use Rattle.std.proofs.Common.{◌≡◌, List, [], Some}
 use Rattle.rk_seal.specs.declared.ops.Op.{Op}
-use Rattle.tr_codec.specs.Reading.{many_at}
-use Rattle.tr_codec.proofs.LoopLemmas.{goes_on, is_done}
+use Rattle.tr_parts.specs.Reading.{many_at}
+use Rattle.tr_parts.proofs.LoopLemmas.{goes_on, is_done}
 use Rattle.rk_seal.specs.Reading.{op_at}
 use Rattle.rk_seal.proofs.LoopLemmas.{ends}
 use Rattle.rk_seal.proofs.reading.so_many_ops.Goals as goal

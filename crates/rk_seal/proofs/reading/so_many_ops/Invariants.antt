@@ -1,6 +1,6 @@
 use Rattle.std.proofs.Common.{◌≡◌, ◌-◌, List, []}
 use Rattle.rk_seal.specs.declared.ops.Op.{Op}
-use Rattle.tr_codec.specs.Reading.{many_at}
+use Rattle.tr_parts.specs.Reading.{many_at}
 use Rattle.rk_seal.specs.Reading.{op_at}
 use Rattle.rk_seal.proofs.reading.so_many_ops.Given as goal
 

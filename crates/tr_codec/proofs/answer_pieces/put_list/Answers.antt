@@ -1,4 +1,4 @@
-use Rattle.tr_codec.specs.Piece.{blob}
+use Rattle.tr_parts.specs.Piece.{blob}
 use Rattle.tr_codec.proofs.PutsLemmas.{puts_then, puts_none, puts_next, puts_all}
 use Rattle.tr_codec.proofs.answer_pieces.put_list.Goals as goal
 

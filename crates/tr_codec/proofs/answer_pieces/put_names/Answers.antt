@@ -1,5 +1,5 @@
 use Rattle.std.proofs.Common.{subst}
-use Rattle.tr_codec.specs.Piece.{blob, counted}
+use Rattle.tr_parts.specs.Piece.{blob, counted}
 use Rattle.tr_codec.specs.Puts.{Puts}
 use Rattle.tr_codec.proofs.PutsLemmas.{puts_then}
 use Rattle.tr_codec.proofs.answer_pieces.put_names.Goals as goal

@@ -4,7 +4,7 @@ use Rattle.rk_base.specs.Text.{Text}
 use Rattle.rk_attrs.specs.declared.rows.AttrRow.{AttrRow}
 use Rattle.tr_codec.specs.Reading.{many_at}
 use Rattle.tr_codec.specs.RowReading.{attr_row_at}
-use Rattle.tr_codec.proofs.LoopLemmas.{goes_on, ends, is_done}
+use Rattle.tr_parts.proofs.LoopLemmas.{goes_on, ends, is_done}
 use Rattle.tr_codec.proofs.attrs.so_many_rows.Goals as goal
 
 pub returns-in_err-row : goal.returns-in_err-row

@@ -1,5 +1,5 @@
 use Rattle.std.proofs.Common.{subst}
-use Rattle.tr_codec.specs.Piece.{counted}
+use Rattle.tr_parts.specs.Piece.{counted}
 use Rattle.tr_codec.specs.Spelling.{pair_piece}
 use Rattle.tr_codec.specs.Puts.{Puts}
 use Rattle.tr_codec.proofs.PutsLemmas.{puts_then}

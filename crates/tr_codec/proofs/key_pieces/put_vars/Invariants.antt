@@ -1,5 +1,5 @@
 use Rattle.std.proofs.Common.{take}
-use Rattle.tr_codec.specs.Piece.{each}
+use Rattle.tr_parts.specs.Piece.{each}
 use Rattle.tr_codec.specs.Spelling.{var_piece}
 use Rattle.tr_codec.specs.Puts.{Puts}
 use Rattle.tr_codec.proofs.key_pieces.put_vars.Given as goal

@@ -1,5 +1,5 @@
 use Rattle.std.proofs.Common.{take}
-use Rattle.tr_codec.specs.Piece.{blob, each}
+use Rattle.tr_parts.specs.Piece.{blob, each}
 use Rattle.tr_codec.specs.Puts.{Puts}
 use Rattle.tr_codec.proofs.key_pieces.put_words.Given as goal
 

@@ -1,7 +1,7 @@
 use Rattle.std.proofs.Common.{ℕ, List, []}
 use Rattle.std.proofs.lemmas.Result.{err_from_is_err_and}
 use Rattle.tr_codec.specs.Reading.{pair_at, many_at}
-use Rattle.tr_codec.proofs.LoopLemmas.{goes_on, ends, is_done}
+use Rattle.tr_parts.proofs.LoopLemmas.{goes_on, ends, is_done}
 use Rattle.tr_codec.proofs.keys.so_many_pairs.Goals as goal
 
 pub returns-in_err-pair : goal.returns-in_err-pair

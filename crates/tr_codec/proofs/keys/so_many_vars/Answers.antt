@@ -2,7 +2,7 @@ use Rattle.std.proofs.Common.{List, []}
 use Rattle.std.proofs.lemmas.Result.{err_from_is_err_and}
 use Rattle.rk_base.specs.declared.vars.Var.{Var}
 use Rattle.tr_codec.specs.Reading.{var_at, many_at}
-use Rattle.tr_codec.proofs.LoopLemmas.{goes_on, ends, is_done}
+use Rattle.tr_parts.proofs.LoopLemmas.{goes_on, ends, is_done}
 use Rattle.tr_codec.proofs.keys.so_many_vars.Goals as goal
 
 pub returns-in_err-var : goal.returns-in_err-var

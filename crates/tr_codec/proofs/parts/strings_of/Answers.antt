@@ -1,7 +1,7 @@
 use Rattle.std.proofs.Common.{ℕ, List, []}
 use Rattle.std.proofs.lemmas.Result.{err_from_is_err_and}
 use Rattle.tr_codec.specs.Reading.{string_at, many_at}
-use Rattle.tr_codec.proofs.LoopLemmas.{goes_on, ends, is_done}
+use Rattle.tr_parts.proofs.LoopLemmas.{goes_on, ends, is_done}
 use Rattle.tr_codec.proofs.parts.strings_of.Goals as goal
 
 pub returns-in_err-text : goal.returns-in_err-text

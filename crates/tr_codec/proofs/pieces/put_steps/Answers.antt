@@ -1,6 +1,6 @@
 use Rattle.tr_codec.specs.Spelling.{step_piece}
 use Rattle.tr_codec.specs.Sound.{Spelt}
-use Rattle.tr_codec.proofs.LoopLemmas.{all_next, all_done}
+use Rattle.tr_parts.proofs.LoopLemmas.{all_next, all_done}
 use Rattle.tr_codec.proofs.PutsLemmas.{puts_then, puts_none, puts_next, puts_all}
 use Rattle.tr_codec.proofs.pieces.put_steps.Goals as goal
 

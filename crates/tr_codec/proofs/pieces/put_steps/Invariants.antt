@@ -1,6 +1,6 @@
 use Rattle.std.proofs.Common.{take}
 use Rattle.std.specs.List.{AllByRecursion}
-use Rattle.tr_codec.specs.Piece.{each}
+use Rattle.tr_parts.specs.Piece.{each}
 use Rattle.tr_codec.specs.Spelling.{step_piece}
 use Rattle.tr_codec.specs.Puts.{Puts}
 use Rattle.tr_codec.specs.Sound.{Spelt}

@@ -1,7 +1,7 @@
 use Rattle.std.proofs.Common.{[]}
 use Rattle.std.proofs.lemmas.Result.{err_from_is_err_and}
 use Rattle.tr_codec.specs.Reading.{record_at, many_at}
-use Rattle.tr_codec.proofs.LoopLemmas.{goes_on, ends, is_done}
+use Rattle.tr_parts.proofs.LoopLemmas.{goes_on, ends, is_done}
 use Rattle.tr_codec.proofs.RecordLemmas.{record_read, record_unread}
 use Rattle.tr_codec.proofs.records.so_many_records.Goals as goal
 

@@ -2,7 +2,7 @@ use Rattle.std.proofs.Common.{List, []}
 use Rattle.std.proofs.lemmas.Result.{err_from_is_err_and}
 use Rattle.tr_record.specs.declared.steps.Step.{Step}
 use Rattle.tr_codec.specs.Reading.{step_at, many_at}
-use Rattle.tr_codec.proofs.LoopLemmas.{goes_on, ends, is_done}
+use Rattle.tr_parts.proofs.LoopLemmas.{goes_on, ends, is_done}
 use Rattle.tr_codec.proofs.records.so_many_steps.Goals as goal
 
 pub returns-in_err-step : goal.returns-in_err-step

@@ -1,6 +1,6 @@
 use Rattle.std.proofs.Common.{◌≡◌, ◌++◌, take}
 use Rattle.std.specs.List.{flat_map}
-use Rattle.tr_codec.specs.Piece.{string}
+use Rattle.tr_parts.specs.Piece.{string}
 use Rattle.tr_codec.proofs.writer.push_strings.Given as goal
 
 abbrev pub invariant-texts : goal.invariant-texts

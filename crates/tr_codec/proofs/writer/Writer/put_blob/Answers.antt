@@ -1,5 +1,5 @@
 use Rattle.std.proofs.Common.{◌∙◌, ap, ◌++◌}
-use Rattle.tr_codec.specs.Piece.{num, with_use}
+use Rattle.tr_parts.specs.Piece.{num, with_use}
 use Rattle.tr_codec.specs.Puts.{Written}
 use Rattle.tr_codec.proofs.PutsLemmas.{puts_blob}
 use Rattle.tr_codec.proofs.writer.Writer.put_blob.Goals as goal

@@ -1,8 +1,0 @@
-use Rattle.std.proofs.Common.{◌≡◌, ◌++◌}
-use Rattle.std.specs.List.{filter_map}
-use Rattle.std.specs.FinMap.{entries}
-use Rattle.rk_build.specs.Planned.{removal_of}
-use Rattle.rk_build.proofs.planning.removals.Given as goal
-
-abbrev pub invariant-loop-path : goal.invariant-loop-path
-invariant-loop-path l = l.ops.items ++ filter_map (removal_of l.after) l.path-iterator ≡ filter_map (removal_of l.after) (entries l.before)

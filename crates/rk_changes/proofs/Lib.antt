@@ -1,0 +1,15 @@
+pub mod AttributesLemmas
+pub mod HiddenLemmas
+pub mod HoldingLemmas
+pub mod OrderLemmas
+pub mod SeenLemmas
+pub mod ImportedLemmas
+pub mod ReachLemmas
+pub mod AllowLemmas
+pub mod EffectLemmas
+pub mod PhaseLemmas
+pub mod StateLemmas
+pub mod PlannedLemmas
+pub mod PlanLemmas
+pub mod ListLemmas
+pub mod NeededLemmas

@@ -1,0 +1,8 @@
+use Rattle.std.proofs.Common.{◌≡◌, ◌++◌}
+use Rattle.std.specs.List.{filter_map}
+use Rattle.std.specs.FinMap.{entries}
+use Rattle.rk_changes.specs.Planned.{making_of}
+use Rattle.rk_changes.proofs.planning.add_makings.Given as goal
+
+abbrev pub invariant-loop-path : goal.invariant-loop-path
+invariant-loop-path l = l.ops.items ++ filter_map (making_of l.before) l.path-iterator ≡ l.initial.ops.items ++ filter_map (making_of l.before) (entries l.after)

@@ -1,0 +1,4 @@
+pub mod Attributes
+pub mod Holdings
+pub mod Imported
+pub mod Planned

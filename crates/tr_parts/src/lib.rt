@@ -1,0 +1,10 @@
+//! What the spellings of files share: numbers and strings, and the digest at the end.
+#![tactic(auto)]
+
+mod fault;
+mod pushing;
+mod sealing;
+
+pub use fault::{CodecErr, Damage, PartErr};
+pub use pushing::{push_number, push_string};
+pub use sealing::{is_same, open_seal, seal, seal_as};
