@@ -1,0 +1,6 @@
+//! Contents by numbers: each stands once.
+#![tactic(auto)]
+
+mod contents;
+
+pub use contents::{ContentId, Contents};
