@@ -10,7 +10,7 @@ use Rattle.rk_attrs.specs.Rows.{are_rows}
 use Rattle.tr_codec.specs.Fits.{Fits}
 use Rattle.tr_codec.specs.Spelling.{db_spelling}
 use Rattle.rk_attrs.specs.declared.rows.AttrRow.{AttrRow}
-use Rattle.tr_codec.proofs.RowLemmas.{one_attrs}
+use Rattle.tr_attrs.proofs.RowLemmas.{one_attrs}
 use Rattle.tr_codec.proofs.SealLemmas.{one_table}
 use Rattle.rk_tree.specs.Copies.{snapshot_of as entries_of}
 use Rattle.rk_tree.specs.Entries.{IsWholeSnapshot}

@@ -2,7 +2,7 @@
 use Rattle.std.specs.Prelude.{◌<◌, ◌≤◌, ◌^◌, List, [], ◌∷◌, ◌++◌, length, true, false, Option, Some, None}
 use Rattle.rk_base.specs.Text.{Text}
 use Rattle.tr_record.specs.declared.records.Record.{Record}
-use Rattle.tr_codec.specs.Attrs.{attrs_spelling}
+use Rattle.tr_attrs.specs.Attrs.{attrs_spelling}
 use Rattle.tr_codec.specs.Spelling.{db_spelling}
 use Rattle.rk_attrs.specs.declared.rows.AttrRow.{AttrRow}
 use Rattle.rk_tree.specs.Copies.{snapshot_of as entries_of}

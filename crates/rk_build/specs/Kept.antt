@@ -3,7 +3,7 @@ use Rattle.std.specs.Prelude.{◌≡◌, ◌≢◌, Bool, true, List, [], Option
 use Rattle.rk_base.specs.Text.{Text}
 use Rattle.tr_record.specs.declared.records.Record.{Record}
 use Rattle.rk_attrs.specs.Rows.{are_rows}
-use Rattle.tr_codec.specs.Attrs.{attrs_spelling}
+use Rattle.tr_attrs.specs.Attrs.{attrs_spelling}
 use Rattle.tr_codec.specs.Fits.{Fits}
 use Rattle.tr_parts.specs.Reads.{IsDamage}
 use Rattle.tr_codec.specs.Spelling.{db_spelling}

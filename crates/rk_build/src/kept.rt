@@ -10,7 +10,8 @@ use rk_attrs::Attrs;
 use rk_base::Bytes;
 use rk_folder::State;
 use std::alloc::Global;
-use tr_codec::{CodecErr, Damage, read_attrs, read_db};
+use tr_attrs::read_attrs;
+use tr_codec::{CodecErr, Damage, read_db};
 use tr_record::Table;
 
 /// The rows of attributes and the records.

@@ -29,7 +29,8 @@ use rk_seal::Plan;
 use rk_tree::Snapshot;
 use std::alloc::Global;
 use std::sync::ledger::Ledger;
-use tr_codec::{write_attrs, write_db, write_db_as};
+use tr_attrs::write_attrs;
+use tr_codec::{write_db, write_db_as};
 use tr_record::Table;
 
 /// A run that ended, and the calls that lead the folder to what it leaves.

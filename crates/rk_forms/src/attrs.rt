@@ -4,7 +4,8 @@ use rk_attrs::{AttrRow, Attrs};
 use rk_base::{Bytes, NoMemory, Path};
 use rk_steps::{Subject, attrs_shown, behind, path_of, plain, row_of, text, word};
 use std::alloc::Global;
-use tr_codec::{CodecErr, read_attrs, read_back_attrs, write_attrs};
+use tr_attrs::{read_attrs, read_back_attrs, write_attrs};
+use tr_codec::CodecErr;
 
 /// Rows that are put together, the attributes that were last made or read, and their bytes.
 #[derive(Drop)]

@@ -3,7 +3,7 @@ use rk_attrs::{AttrRow, Attrs};
 use rk_base::{Name, NoMemory, Path};
 use rk_folder::{Folder, FolderCall, Item, MemFolder, Standing};
 use std::alloc::Global;
-use tr_codec::read_attrs;
+use tr_attrs::read_attrs;
 
 /// Bytes as text.
 pub fn shown(bytes: &[u8]) -> &str {

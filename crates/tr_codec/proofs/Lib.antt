@@ -1,7 +1,6 @@
 pub mod FitLemmas
 pub mod PutsLemmas
 pub mod RecordLemmas
-pub mod RowLemmas
 pub mod SealLemmas
 pub mod TableAgain
 pub mod UseLemmas

@@ -6,12 +6,11 @@ ghost use Rattle.rk_calls.specs.declared.answer.Answer.TheVariants as answer;
 ghost use Rattle.tr_codec.specs.Reading.{given, many_at, counted_at, kind_of, errno_of, text_answer_at, found_at, name_at, names_at, place_at, same_at, joined_at, no_at, answer_of, answer_at};
 ghost use Rattle.tr_parts.specs.Reads.{Gives};
 
-use crate::keys::path_of;
-use crate::parts::{blob_of, byte_of, count_of, flag_of, permissions_of};
+use crate::parts::{blob_of, flag_of, permissions_of};
 use rk_base::{Bytes, Errno, FileType, Name, NameList, PathFault};
 use rk_calls::Answer;
 use std::alloc::Global;
-use tr_parts::PartErr;
+use tr_parts::{PartErr, byte_of, count_of, path_of};
 
 fn kind_of(code: u8) -> Result<FileType, PartErr>
     ensures { Gives (λ kind. kind) result (kind_of code) }

@@ -5,11 +5,11 @@ ghost use Rattle.tr_codec.specs.Reading.{how_of, number_call_at, path_call_at, t
 ghost use Rattle.tr_parts.specs.Reads.{Gives};
 
 use crate::keys::{key_of, map_of};
-use crate::parts::{blob_of, byte_of, flag_of, number_of, permissions_of};
+use crate::parts::{blob_of, flag_of, permissions_of};
 use rk_base::Bytes;
 use rk_calls::{Call, How};
 use std::alloc::Global;
-use tr_parts::PartErr;
+use tr_parts::{PartErr, byte_of, number_of};
 
 fn how_of(code: u8) -> Result<How, PartErr>
     ensures { Gives (λ how. how) result (how_of code) }

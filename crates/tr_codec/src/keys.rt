@@ -1,17 +1,16 @@
 // Keys and descriptors that are read.
 ghost use Rattle.std.specs.Prelude.{◌≡◌, ℕ, List, []};
-ghost use Rattle.rk_base.specs.Canonical.{is_canonical};
 ghost use Rattle.rk_base.specs.Variables.{are_variables};
 ghost use Rattle.rk_calls.specs.Keys.{is_key};
 ghost use Rattle.rk_calls.specs.RefMaps.{is_refmap};
 ghost use Rattle.tr_codec.specs.Reading.{counted_at, given, many_at, blob_at, var_at, key_from, key_at, pair_at, map_at};
 ghost use Rattle.tr_parts.specs.Reads.{Gives};
 
-use crate::parts::{blob_of, blobs_of, byte_of, count_of, number_of};
-use rk_base::{Bytes, Path, PathFault, Var, VarList, WordList};
+use crate::parts::{blob_of, blobs_of};
+use rk_base::{Bytes, Path, Var, VarList, WordList};
 use rk_calls::{Key, RefMap};
 use std::alloc::Global;
-use tr_parts::PartErr;
+use tr_parts::{PartErr, byte_of, count_of, number_of, path_of};
 
 fn words_of<'a>(
     alloc: Global,
@@ -62,16 +61,6 @@ fn vars_of<'a>(
     let (count, rest) = count_of(bytes)?;
     let (vars, rest) = so_many_vars(alloc, blobs, count, rest)?;
     Ok((vars, rest))
-}
-
-pub(crate) fn path_of(alloc: Global, text: &[u8]) -> Result<Path, PartErr>
-    ensures { Gives (λ p. p) result (given (is_canonical text.now) text.now) }
-{
-    match Path::parse(alloc, text) {
-        Ok(path) => Ok(path),
-        Err(PathFault::Invalid) => Err(PartErr::Form),
-        Err(PathFault::NoMemory) => Err(PartErr::NoMemory),
-    }
 }
 
 fn var_list_of(vars: Vec<Var>) -> Result<VarList, PartErr>

@@ -1,62 +1,11 @@
-// Parts of what is read: numbers, strings and blobs.
+// Parts of what is read: modes, truth values, strings and blobs.
 ghost use Rattle.std.specs.Prelude.{◌≡◌, ℕ, List, []};
-ghost use Rattle.std.specs.Int.{w16, w32, w64};
-ghost use Rattle.tr_codec.specs.Reading.{number_at, byte_at, mode_at, flag_of, flag_at, count_at, many_at, string_at, blob_at};
+ghost use Rattle.tr_codec.specs.Reading.{mode_at, flag_of, flag_at, many_at, string_at, blob_at};
 ghost use Rattle.tr_parts.specs.Reads.{Gives};
 
 use rk_base::Bytes;
 use std::alloc::Global;
-use tr_parts::PartErr;
-
-#[tactic(auto, unfolding(tr_parts::specs::Reading::number_at))]
-pub(crate) fn number_of(bytes: &[u8]) -> Result<(u64, &[u8]), PartErr>
-    ensures { Gives (λ x. (x.0, x.1.now)) result (number_at w64 bytes.now) }
-{
-    if bytes.len() < 8 {
-        return Err(PartErr::Form);
-    }
-    let (front, rest) = bytes.split_at(8);
-    let number = u64::from_be_bytes([
-        front[0], front[1], front[2], front[3], front[4], front[5], front[6], front[7],
-    ]);
-    Ok((number, rest))
-}
-
-/// A number of four bytes.
-#[tactic(auto, unfolding(tr_parts::specs::Reading::number_at))]
-pub(crate) fn cost_of(bytes: &[u8]) -> Result<(u32, &[u8]), PartErr>
-    ensures { Gives (λ x. (x.0, x.1.now)) result (number_at w32 bytes.now) }
-{
-    if bytes.len() < 4 {
-        return Err(PartErr::Form);
-    }
-    let (front, rest) = bytes.split_at(4);
-    let number = u32::from_be_bytes([front[0], front[1], front[2], front[3]]);
-    Ok((number, rest))
-}
-
-/// A number of two bytes.
-#[tactic(auto, unfolding(tr_parts::specs::Reading::number_at))]
-pub(crate) fn mode_of(bytes: &[u8]) -> Result<(u16, &[u8]), PartErr>
-    ensures { Gives (λ x. (x.0, x.1.now)) result (number_at w16 bytes.now) }
-{
-    if bytes.len() < 2 {
-        return Err(PartErr::Form);
-    }
-    let (front, rest) = bytes.split_at(2);
-    let number = u16::from_be_bytes([front[0], front[1]]);
-    Ok((number, rest))
-}
-
-#[tactic(auto, unfolding(tr_parts::specs::Reading::byte_at))]
-pub(crate) fn byte_of(bytes: &[u8]) -> Result<(u8, &[u8]), PartErr>
-    ensures { Gives (λ x. (x.0, x.1.now)) result (byte_at bytes.now) }
-{
-    match bytes {
-        [] => Err(PartErr::Form),
-        [b, rest @ ..] => Ok((*b, rest)),
-    }
-}
+use tr_parts::{PartErr, byte_of, mode_of, number_of, string_of};
 
 /// A mode, to 0777.
 #[tactic(auto, unfolding(tr_parts::specs::Reading::mode_at))]
@@ -89,31 +38,6 @@ pub(crate) fn flag_of(bytes: &[u8]) -> Result<(bool, &[u8]), PartErr>
     let (code, rest) = byte_of(bytes)?;
     let flag = flag_from(code)?;
     Ok((flag, rest))
-}
-
-/// How many there are: no more than the bytes after it, so that no memory is asked for more.
-#[tactic(auto, unfolding(tr_parts::specs::Reading::count_at))]
-pub(crate) fn count_of(bytes: &[u8]) -> Result<(u64, &[u8]), PartErr>
-    ensures { Gives (λ x. (x.0, x.1.now)) result (count_at bytes.now) }
-{
-    let (n, rest) = number_of(bytes)?;
-    if (rest.len() as u64) < n {
-        return Err(PartErr::Form);
-    }
-    Ok((n, rest))
-}
-
-#[tactic(auto, unfolding(tr_parts::specs::Reading::string_at))]
-pub(crate) fn string_of(alloc: Global, bytes: &[u8]) -> Result<(Bytes, &[u8]), PartErr>
-    ensures { Gives (λ x. (x.0, x.1.now)) result (string_at bytes.now) }
-{
-    let (len, rest) = number_of(bytes)?;
-    let len = len as usize;
-    if rest.len() < len {
-        return Err(PartErr::Form);
-    }
-    let (text, rest) = rest.split_at(len);
-    Ok((Bytes::from_slice(alloc, text)?, rest))
 }
 
 /// The text of the blob with the number that stands there.

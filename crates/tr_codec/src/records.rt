@@ -7,11 +7,11 @@ ghost use Rattle.tr_parts.specs.Reads.{Gives};
 use crate::answers::answer_of;
 use crate::calls::call_of;
 use crate::keys::key_of;
-use crate::parts::{byte_of, cost_of, count_of, strings_of};
+use crate::parts::strings_of;
 use rk_base::Bytes;
 use rk_calls::Key;
 use std::alloc::Global;
-use tr_parts::PartErr;
+use tr_parts::{PartErr, byte_of, cost_of, count_of};
 use tr_record::{Step, StepList, Table};
 
 // A record but for its ordinal.

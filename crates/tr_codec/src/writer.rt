@@ -1,6 +1,5 @@
 // A writer of pieces.
 ghost use Rattle.std.specs.Prelude.{◌≡◌, ◌<◌, ◌^◌, ◌++◌, ◌∷◌, [], length, true, option_copied, slice_get, IfOk, IfSome, OnOk};
-ghost use Rattle.std.specs.Int.{w16, w32, to_be_bytes};
 ghost use Rattle.std.specs.List.{flat_map, IsDistinct};
 ghost use Rattle.rk_base.specs.Text.{same_text};
 ghost use Rattle.rk_base.specs.Canonical.{is_canonical};
@@ -97,14 +96,6 @@ fn number_in(
     let n = looked_up(blobs, text)?;
     recent.insert(mark, n)?;
     Ok(n)
-}
-
-/// Two bytes.
-pub(crate) fn push_mode(out: &mut Vec<u8>, mode: u16) -> Result<(), NoMemory>
-    ensures { OnOk result (out.new.items ≡ out.old.items ++ to_be_bytes w16 mode) }
-{
-    out.extend_from_slice(&mode.to_be_bytes())?;
-    Ok(())
 }
 
 fn push_strings(out: &mut Vec<u8>, texts: &[Bytes]) -> Result<(), NoMemory>

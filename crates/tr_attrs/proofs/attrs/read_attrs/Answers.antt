@@ -3,10 +3,10 @@ use Rattle.std.proofs.lemmas.List.{length-append}
 use Rattle.std.proofs.lemmas.Result.{err_from_is_err_and}
 use Rattle.sha2.specs.Sha256.{sha256}
 use Rattle.sha2.proofs.Facts256.{length-sha256}
-use Rattle.tr_codec.specs.Attrs.{attrs_body}
-use Rattle.tr_codec.proofs.RowLemmas.{attrs_length}
-use Rattle.tr_codec.proofs.SealLemmas.{one_front, seal_right, unopened, whole_finds, whole_tells}
-use Rattle.tr_codec.proofs.attrs.read_attrs.Goals as goal
+use Rattle.tr_attrs.specs.Attrs.{attrs_body}
+use Rattle.tr_attrs.proofs.RowLemmas.{attrs_length}
+use Rattle.tr_parts.proofs.SealLemmas.{one_front, seal_right, unopened, whole_finds, whole_tells}
+use Rattle.tr_attrs.proofs.attrs.read_attrs.Goals as goal
 
 pub body_rows-requires : goal.body_rows-requires
 body_rows-requires c =

@@ -2,11 +2,11 @@ use Rattle.std.proofs.Common.{◌≡◌, ◌∙◌, ◌<◌, ◌^◌, length, sy
 use Rattle.std.proofs.lemmas.Result.{err_from_is_err_and}
 use Rattle.rk_base.specs.Text.{Text}
 use Rattle.rk_attrs.specs.declared.rows.AttrRow.{AttrRow}
-use Rattle.tr_codec.specs.Attrs.{attrs_body}
-use Rattle.tr_codec.specs.RowReading.{rows_at}
-use Rattle.tr_codec.proofs.RowLemmas.{parsed_rows}
-use Rattle.tr_codec.proofs.SealLemmas.{fails_finds}
-use Rattle.tr_codec.proofs.attrs.body_rows.Goals as goal
+use Rattle.tr_attrs.specs.Attrs.{attrs_body}
+use Rattle.tr_attrs.specs.RowReading.{rows_at}
+use Rattle.tr_attrs.proofs.RowLemmas.{parsed_rows}
+use Rattle.tr_parts.proofs.SealLemmas.{fails_finds}
+use Rattle.tr_attrs.proofs.attrs.body_rows.Goals as goal
 
 pub returns-in_err-attrs-clause-only : goal.returns-in_err-attrs-clause-only
 returns-in_err-attrs-clause-only c = λ rows are e.

@@ -5,8 +5,7 @@ use Rattle.rk_base.specs.Text.{Text}
 use Rattle.rk_attrs.specs.declared.rows.AttrRow.{AttrRow}
 use Rattle.rk_attrs.specs.declared.rows.AttrRow.TheVariants.{FileMode, DirMode, Link}
 use Rattle.rk_attrs.specs.Rows.{are_rows}
-use Rattle.tr_parts.specs.Reading.{◌>>=◌, given, number_at, byte_at, string_at, counted_at}
-pub use Rattle.tr_parts.specs.Reading.{path_at}
+use Rattle.tr_parts.specs.Reading.{◌>>=◌, given, number_at, byte_at, string_at, counted_at, path_at}
 
 unfoldable pub file_mode_at : List ℕ → Option (AttrRow × List ℕ)
 file_mode_at bytes = do

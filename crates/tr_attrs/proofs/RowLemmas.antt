@@ -1,24 +1,24 @@
 -- Rows are read again from their spelling, and how long that is.
-use Rattle.std.proofs.Common.{◌≡◌, ◌≤◌, ◌<◌, ◌^◌, ℕ, Bool, true, false, not, ◌&&◌, ◌==◌, nat_le, List, [], ◌∷◌, ◌++◌, length, drop, Option, Some, refl, sym, ap, subst, ◌∙◌, arith}
+use Rattle.std.proofs.Common.{◌≡◌, ◌≤◌, ◌<◌, ◌^◌, ℕ, true, not, ◌==◌, nat_le, List, [], ◌∷◌, ◌++◌, length, drop, Option, Some, refl, sym, ap, subst, ◌∙◌, arith}
 use Rattle.std.specs.Int.{w16, to_be_bytes}
 use Rattle.std.specs.List.{flat_map, list_all}
 use Rattle.std.proofs.lemmas.Bool.{leb-true}
 use Rattle.std.proofs.lemmas.List.{length-append, append-nil}
 use Rattle.sha2.specs.Sha256.{sha256}
 use Rattle.sha2.proofs.Facts256.{length-sha256}
-use Rattle.rk_base.specs.Text.{Text, root, join, hidden, is_within}
+use Rattle.rk_base.specs.Text.{Text}
 use Rattle.rk_base.specs.Canonical.{is_canonical}
 use Rattle.rk_attrs.specs.declared.rows.AttrRow.{AttrRow}
 use Rattle.rk_attrs.specs.declared.rows.AttrRow.TheVariants.{FileMode, DirMode, Link}
 use Rattle.rk_attrs.specs.Rows.{file_mode, dir_mode, is_mode, suits, is_row, are_rows}
 use Rattle.rk_attrs.proofs.RowLemmas.{both, row_parts, each_row}
 use Rattle.tr_parts.specs.Piece.{num, string}
-use Rattle.tr_codec.specs.Spelling.{sealed}
-use Rattle.tr_codec.specs.Reading.{◌>>=◌, given, number_at, byte_at, string_at, counted_at}
-use Rattle.tr_codec.specs.RowReading.{file_mode_at, dir_mode_at, link_at, attr_of, attr_at, path_at, attr_row_at, rows_at}
-use Rattle.tr_codec.specs.Attrs.{attr_spelling, row_spelling, attrs_magic, attrs_body, attrs_spelling}
+use Rattle.tr_parts.specs.Sealed.{sealed}
+use Rattle.tr_parts.specs.Reading.{◌>>=◌, given, number_at, byte_at, string_at, counted_at, path_at}
+use Rattle.tr_attrs.specs.RowReading.{file_mode_at, dir_mode_at, link_at, attr_of, attr_at, attr_row_at, rows_at}
+use Rattle.tr_attrs.specs.Attrs.{attr_spelling, row_spelling, attrs_magic, attrs_body, attrs_spelling}
 use Rattle.tr_parts.proofs.AgainLemmas.{Again, again_bind, again_last, again_check, mode_again, byte_again, Items, again_counted, string_again}
-use Rattle.tr_codec.proofs.SealLemmas.{num_length, one_front}
+use Rattle.tr_parts.proofs.SealLemmas.{num_length, one_front}
 
 -- a mode has two bytes
 mode_small : (default mode : ℕ) → is_mode default mode ≡ true → mode < 2 ^ 16

@@ -1,22 +1,31 @@
 // The attributes of paths as bytes, written and read.
 ghost use Rattle.std.specs.Prelude.{◌≡◌, ◌≢◌, ◌<◌, ◌≤◌, ◌^◌, ◌++◌, ℕ, [], List, length, drop, true, IfOk, OnOk};
+ghost use Rattle.std.specs.Int.{w16, to_be_bytes};
 ghost use Rattle.std.specs.List.{flat_map};
 ghost use Rattle.sha2.specs.Sha256.{sha256};
 ghost use Rattle.rk_base.specs.Text.{Text};
 ghost use Rattle.rk_attrs.specs.declared.rows.AttrRow.{AttrRow as Row};
 ghost use Rattle.rk_attrs.specs.Rows.{are_rows};
-ghost use Rattle.tr_codec.specs.Attrs.{attr_spelling, row_spelling, attrs_body, attrs_spelling};
-ghost use Rattle.tr_codec.specs.Reading.{given, many_at, counted_at};
-ghost use Rattle.tr_codec.specs.RowReading.{attr_at, path_at, attr_row_at, rows_at};
+ghost use Rattle.tr_attrs.specs.Attrs.{attr_spelling, row_spelling, attrs_body, attrs_spelling};
+ghost use Rattle.tr_attrs.specs.RowReading.{attr_at, attr_row_at, rows_at};
+ghost use Rattle.tr_parts.specs.Reading.{given, many_at, counted_at, path_at};
 ghost use Rattle.tr_parts.specs.Reads.{Gives, Tells, Finds, FindsPart, front_of, seal_of};
 
-use crate::keys::path_of;
-use crate::parts::{byte_of, count_of, mode_of, string_of};
-use crate::writer::push_mode;
 use rk_attrs::{AttrRow, Attrs};
 use rk_base::{Bytes, NoMemory, Path};
 use std::alloc::Global;
-use tr_parts::{CodecErr, Damage, PartErr, is_same, open_seal, push_number, push_string, seal};
+use tr_parts::{
+    CodecErr, Damage, PartErr, byte_of, count_of, is_same, mode_of, open_seal, path_of,
+    push_number, push_string, seal, string_of,
+};
+
+// Two bytes.
+fn push_mode(out: &mut Vec<u8>, mode: u16) -> Result<(), NoMemory>
+    ensures { OnOk result (out.new.items ≡ out.old.items ++ to_be_bytes w16 mode) }
+{
+    out.extend_from_slice(&mode.to_be_bytes())?;
+    Ok(())
+}
 
 fn push_attr(out: &mut Vec<u8>, it: &AttrRow) -> Result<(), NoMemory>
     ensures { OnOk result (out.new.items ≡ out.old.items ++ attr_spelling it.now) }

@@ -2,10 +2,10 @@ use Rattle.std.proofs.Common.{List, []}
 use Rattle.std.proofs.lemmas.Result.{err_from_is_err_and}
 use Rattle.rk_base.specs.Text.{Text}
 use Rattle.rk_attrs.specs.declared.rows.AttrRow.{AttrRow}
-use Rattle.tr_codec.specs.Reading.{many_at}
-use Rattle.tr_codec.specs.RowReading.{attr_row_at}
+use Rattle.tr_parts.specs.Reading.{many_at}
+use Rattle.tr_attrs.specs.RowReading.{attr_row_at}
 use Rattle.tr_parts.proofs.LoopLemmas.{goes_on, ends, is_done}
-use Rattle.tr_codec.proofs.attrs.so_many_rows.Goals as goal
+use Rattle.tr_attrs.proofs.attrs.so_many_rows.Goals as goal
 
 pub returns-in_err-row : goal.returns-in_err-row
 returns-in_err-row c =

@@ -6,7 +6,7 @@ use Rattle.rk_base.specs.Text.{Text}
 use Rattle.rk_attrs.specs.declared.rows.AttrRow.{AttrRow}
 use Rattle.rk_attrs.specs.declared.rows.AttrRow.TheVariants.{FileMode, DirMode, Link}
 use Rattle.tr_parts.specs.Piece.{num, string}
-use Rattle.tr_codec.specs.Spelling.{sealed}
+use Rattle.tr_parts.specs.Sealed.{sealed}
 
 -- a kind, and a mode of two bytes or a text
 abbrev pub attr_spelling : AttrRow → List ℕ

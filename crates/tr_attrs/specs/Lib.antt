@@ -1,0 +1,3 @@
+pub mod Attrs
+pub mod Laws
+pub mod RowReading
