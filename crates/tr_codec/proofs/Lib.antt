@@ -1,6 +1,6 @@
 pub mod FitLemmas
+pub mod KnownLemmas
 pub mod PutsLemmas
 pub mod RecordLemmas
 pub mod SealLemmas
 pub mod TableAgain
-pub mod UseLemmas

@@ -5,7 +5,7 @@ use Rattle.std.proofs.lemmas.List.{append-nil, take_more, take_all}
 use Rattle.std.proofs.lemmas.Grind.{flat_map-append}
 use Rattle.std.specs.Cmp.Lexicographic.{bytes_decides}
 use Rattle.rk_base.specs.Text.{Text, same_text}
-use Rattle.tr_parts.specs.Piece.{Piece, plain, blob, ◌⊕◌, each, num, number_of, string, has, with_use, with_uses}
+use Rattle.tr_parts.specs.Piece.{Piece, plain, blob, ◌⊕◌, each, counted, num, number, number_of, string, has, with_use, with_uses}
 use Rattle.tr_codec.specs.Spelling.{magic, body}
 use Rattle.tr_codec.specs.Puts.{Written, Puts}
 
@@ -93,6 +93,11 @@ puts_then one two a b c p q =
           q.bytes more ∙ ap (λ l. l ++ two.spelt (c.blobs ++ more)) (p.bytes (grown.0 ++ more) ∙ ap (λ l. a.bytes ++ l) here)
           ∙ append_assoc a.bytes (one.spelt (c.blobs ++ more)) (two.spelt (c.blobs ++ more));
     }
+
+-- so many items, put after their number
+pub puts_count : {X : Type 0} (f : X → Piece) (xs : List X) (n : ℕ) (none a b c : Written) → a ≡ none → length xs ≡ n → Puts (number n) a b → Puts (each f xs) b c → Puts (counted f xs) none c
+puts_count f xs n none a b c start many p q =
+    puts_then (number (length xs)) (each f xs) none b c (subst (λ (w : Written). Puts (number (length xs)) w b) start (subst (λ (m : ℕ). Puts (number m) a b) (sym many) p)) q
 
 pub puts_none : {X : Type 0} (f : X → Piece) (a : Written) → Puts (each f []) a a
 unfolding each

@@ -78,7 +78,7 @@ unfolding blob
 blob_covered blobs text h = h.0
 
 -- the number of a text that is there names it
-named : (blobs : List Text) (text : Text) → has blobs text ≡ true → (slice_get blobs (number_of blobs text) ≡ Some text) × (number_of blobs text < length blobs)
+pub named : (blobs : List Text) (text : Text) → has blobs text ≡ true → (slice_get blobs (number_of blobs text) ≡ Some text) × (number_of blobs text < length blobs)
 named [] text h = absurd cc
 named (b ∷ bs) text h =
     elim (same_text text b) as (λ x. same_text text b ≡ x → (x || has bs text) ≡ true → (slice_get (b ∷ bs) (cond (not x) (1 + number_of bs text) 0) ≡ Some text) × (cond (not x) (1 + number_of bs text) 0 < suc (length bs))) [

@@ -1,6 +1,7 @@
 //! The table of records, as bytes: one spelling.
 #![tactic(auto)]
 
+mod again;
 mod answer_pieces;
 mod answers;
 mod call_pieces;

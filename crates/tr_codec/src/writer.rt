@@ -1,13 +1,14 @@
 // A writer of pieces.
-ghost use Rattle.std.specs.Prelude.{◌≡◌, ◌<◌, ◌^◌, ◌++◌, ◌∷◌, [], length, true, option_copied, slice_get, IfOk, IfSome, OnOk};
+ghost use Rattle.std.specs.Prelude.{◌≡◌, ◌<◌, ◌^◌, ◌++◌, [], Some, length, slice_get, true, IfOk, IfSome, OnOk};
 ghost use Rattle.std.specs.List.{flat_map, IsDistinct};
 ghost use Rattle.rk_base.specs.Text.{same_text};
 ghost use Rattle.rk_base.specs.Canonical.{is_canonical};
 ghost use Rattle.tr_parts.specs.Piece.{with_use, number_of, num, string, plain, blob, byte, mode, cost, number};
 ghost use Rattle.tr_codec.specs.Puts.{Puts};
 
-use indexmap::{IndexMap, IndexSet};
+use indexmap::IndexMap;
 use rk_base::{Bytes, Name, NoMemory, Path};
+use rk_content::{ContentId, Contents};
 use std::alloc::Global;
 use std::marker::Model;
 use tr_parts::{push_number, push_string};
@@ -16,8 +17,8 @@ use tr_parts::{push_number, push_string};
 /// is mostly found by its mark, so that it isn't hashed again.
 #[derive(Drop)]
 pub(crate) struct Writer {
-    blobs: IndexSet<Bytes>,
-    recent: IndexMap<u64, usize>,
+    blobs: Contents,
+    recent: IndexMap<u64, ContentId>,
     out: Vec<u8>,
 }
 
@@ -26,7 +27,7 @@ impl Model for Writer {
 
     ghost Value = { Written };
 
-    ghost view = { λ w. record { blobs = w.blobs.keys; bytes = w.out.items } };
+    ghost view = { λ w. record { blobs = w.blobs; bytes = w.out.items } };
 }
 
 // From so many bytes on a text is looked for by its mark before it is hashed.
@@ -44,53 +45,46 @@ fn mark_of(text: &[u8]) -> u64 {
     mark
 }
 
-fn blob_at(blobs: &[Bytes], n: usize) -> Option<&Bytes>
-    ensures { option_copied result ≡ slice_get blobs.now n }
-{
-    blobs.get(n)
-}
-
 // The number of a text that was the last one with its mark.
 fn recalled(
-    blobs: &[Bytes],
-    recent: &IndexMap<u64, usize>,
+    blobs: &Contents,
+    recent: &IndexMap<u64, ContentId>,
     mark: u64,
     text: &Bytes,
-) -> Option<usize>
-    requires { IsDistinct same_text blobs.now }
+) -> Option<ContentId>
     ensures used { IfSome result (λ n. with_use blobs.now text.now ≡ blobs.now) }
     ensures number { IfSome result (λ n. n ≡ number_of blobs.now text.now) }
 {
     let n = *recent.get(&mark)?;
-    let blob = blob_at(blobs, n)?;
+    let blob = blobs.get(n)?;
+    let _ = blobs.as_slice();
     if blob.same(text) { Some(n) } else { None }
 }
 
 // The number of a text, which is added where it is new. It is hashed once.
-#[tactic(auto, using(crate::proofs::UseLemmas::number_used))]
-fn looked_up(blobs: &mut IndexSet<Bytes>, text: &Bytes) -> Result<usize, NoMemory>
-    ensures blobs { OnOk result (blobs.new.keys ≡ with_use blobs.old.keys text.now) }
-    ensures number { IfOk result (λ n. n ≡ number_of blobs.new.keys text.now) }
+fn looked_up(blobs: &mut Contents, text: &Bytes) -> Result<ContentId, NoMemory>
+    ensures blobs { OnOk result (blobs.new ≡ with_use blobs.old text.now) }
+    ensures number { IfOk result (λ n. n ≡ number_of blobs.new text.now) }
 {
-    let copy = text.copy()?;
-    let (number, _) = blobs.insert_full(copy)?;
-    Ok(number)
+    let n = blobs.put(text)?;
+    let _ = blobs.as_slice();
+    Ok(n)
 }
 
 // The same. A long text is hashed only where another one, or none, is known by its mark.
 fn number_in(
-    blobs: &mut IndexSet<Bytes>,
-    recent: &mut IndexMap<u64, usize>,
+    blobs: &mut Contents,
+    recent: &mut IndexMap<u64, ContentId>,
     text: &Bytes,
-) -> Result<usize, NoMemory>
-    ensures blobs { OnOk result (blobs.new.keys ≡ with_use blobs.old.keys text.now) }
-    ensures number { IfOk result (λ n. n ≡ number_of blobs.new.keys text.now) }
+) -> Result<ContentId, NoMemory>
+    ensures blobs { OnOk result (blobs.new ≡ with_use blobs.old text.now) }
+    ensures number { IfOk result (λ n. n ≡ number_of blobs.new text.now) }
 {
     if text.len() < LONG {
         return looked_up(blobs, text);
     }
     let mark = mark_of(text.as_slice());
-    if let Some(n) = recalled(blobs.as_slice(), recent, mark, text) {
+    if let Some(n) = recalled(blobs, recent, mark, text) {
         return Ok(n);
     }
     let n = looked_up(blobs, text)?;
@@ -113,7 +107,7 @@ impl Writer {
         ensures { result ≡ record { blobs = []; bytes = [] } }
     {
         Writer {
-            blobs: IndexSet::new(alloc),
+            blobs: Contents::new(alloc),
             recent: IndexMap::new(alloc),
             out: Vec::new(alloc),
         }
@@ -162,12 +156,41 @@ impl Writer {
         Ok(())
     }
 
+    /// The texts that were used, in the order of first use. No two are the same.
+    pub(crate) fn blobs(&self) -> &[Bytes]
+        ensures value { result.now ≡ self.now.blobs }
+        ensures apart { IsDistinct same_text self.now.blobs }
+    {
+        self.blobs.as_slice()
+    }
+
     /// The number of a text's blob.
     pub(crate) fn put_blob(&mut self, text: &Bytes) -> Result<(), NoMemory>
         ensures { OnOk result (Puts (blob text.now) self.old self.new) }
     {
+        self.put_text(text)?;
+        Ok(())
+    }
+
+    /// The same; the number is told.
+    pub(crate) fn put_text(&mut self, text: &Bytes) -> Result<ContentId, NoMemory>
+        ensures puts { OnOk result (Puts (blob text.now) self.old self.new) }
+        ensures number { IfOk result (λ n. slice_get self.new.blobs n ≡ Some text.now) }
+    {
         let n = number_in(&mut self.blobs, &mut self.recent, text)?;
-        push_number(&mut self.out, n as u64)?;
+        push_number(&mut self.out, n.number() as u64)?;
+        Ok(n)
+    }
+
+    /// The number of the blob of a text that was put, once more.
+    pub(crate) fn put_again(&mut self, n: ContentId, text: &Bytes) -> Result<(), NoMemory>
+        requires { slice_get self.old.blobs n ≡ Some text.now }
+        ensures puts { OnOk result (Puts (blob text.now) self.old self.new) }
+        ensures blobs { self.new.blobs ≡ self.old.blobs }
+    {
+        let _ = text;
+        let _ = self.blobs();
+        push_number(&mut self.out, n.number() as u64)?;
         Ok(())
     }
 
@@ -198,8 +221,9 @@ impl Writer {
     {
         let alloc = *self.out.allocator();
         let mut out = Vec::from_slice(alloc, magic)?;
-        push_number(&mut out, self.blobs.len() as u64)?;
-        push_strings(&mut out, self.blobs.as_slice())?;
+        let blobs = self.blobs.as_slice();
+        push_number(&mut out, blobs.len() as u64)?;
+        push_strings(&mut out, blobs)?;
         out.extend_from_slice(self.out.as_slice())?;
         Ok(out)
     }

@@ -1,5 +1,5 @@
 -- Reading one after the other, as a loop does.
-use Rattle.std.proofs.Common.{◌≡◌, ℕ, suc, ◌-◌, ◌+◌, ◌≤◌, ◌<◌, List, [], ◌∷◌, ◌++◌, Option, Some, None, length, take, get_or, refl, sym, subst, ◌∙◌, arith}
+use Rattle.std.proofs.Common.{◌≡◌, ℕ, suc, ◌-◌, ◌+◌, ◌≤◌, ◌<◌, List, [], ◌∷◌, ◌++◌, Option, Some, None, length, take, get_or, refl, sym, ap, subst, ◌∙◌, arith}
 use Rattle.std.specs.List.{AllByRecursion}
 use Rattle.std.proofs.lemmas.List.{take_more, take_all}
 use Rattle.tr_parts.specs.declared.fault.PartErr.{PartErr}
@@ -8,6 +8,10 @@ use Rattle.tr_parts.specs.Reads.{Fails}
 use Rattle.tr_parts.specs.Reading.{many_at}
 
 module _ {A : Type 0} (one : List A → List ℕ → Option (A × List ℕ)) where
+  -- nothing was read yet
+  pub starts : (count : ℕ) (bytes : List ℕ) → many_at one (count - 0) [] bytes ≡ many_at one count [] bytes
+  starts count bytes = let all : count - 0 ≡ count = omega arith in ap (λ (n : ℕ). many_at one n [] bytes) all
+
   -- one more was read
   pub goes_on : (front : List A) (count i : ℕ) (bytes : List ℕ) (x : A) (after : List ℕ) (total : Option (List A × List ℕ)) → i < count → one front bytes ≡ Some (x, after)
       → many_at one (count - i) front bytes ≡ total → many_at one (count - (i + 1)) (front ++ x ∷ []) after ≡ total

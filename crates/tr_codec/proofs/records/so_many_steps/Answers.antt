@@ -1,18 +1,34 @@
-use Rattle.std.proofs.Common.{List, []}
+use Rattle.std.proofs.Common.{List, [], refl}
 use Rattle.std.proofs.lemmas.Result.{err_from_is_err_and}
 use Rattle.tr_record.specs.declared.steps.Step.{Step}
 use Rattle.tr_codec.specs.Reading.{step_at, many_at}
-use Rattle.tr_parts.proofs.LoopLemmas.{goes_on, ends, is_done}
+use Rattle.tr_codec.specs.Spelling.{step_piece}
+use Rattle.tr_codec.proofs.KnownLemmas.{longer}
+use Rattle.tr_parts.proofs.LoopLemmas.{starts, goes_on, ends, is_done}
+use Rattle.tr_codec.proofs.PutsLemmas.{puts_none, puts_more}
 use Rattle.tr_codec.proofs.records.so_many_steps.Goals as goal
 
-pub returns-in_err-step : goal.returns-in_err-step
-returns-in_err-step c =
+pub steps-init : goal.steps-init
+steps-init c = record {
+  read = rw c.new-steps.ensures (starts (λ (before : List Step). step_at c.args.blobs.now) c.args.count c.args.bytes.now);
+  puts = rw c.new-steps.ensures (puts_none step_piece _);
+  many = rw c.new-steps.ensures refl;
+  known = c.requires;
+}
+
+pub returns-in_err-step-clause-gives : goal.returns-in_err-step-clause-gives
+returns-in_err-step-clause-gives c =
     let p = err_from_is_err_and c.from_residual.result c.from_residual.ensures.1 in
-    rw (p.1, p.2) (ends (λ (before : List Step). step_at c.args.blobs.now) c.in_err-step.field-0.0 c.steps.steps c.args.count c.steps.counter c.steps.rest.now (many_at (λ (before : List Step). step_at c.args.blobs.now) c.args.count [] c.args.bytes.now) c.steps-test.true c.in_err-step.ensures c.steps.invariant)
+    rw (p.1, p.2) (ends (λ (before : List Step). step_at c.args.blobs.now) c.in_err-step.field-0.0 c.steps.steps c.args.count c.steps.counter c.steps.rest.now (many_at (λ (before : List Step). step_at c.args.blobs.now) c.args.count [] c.args.bytes.now) c.steps-test.true c.in_err-step.ensures.gives c.steps.invariant.read)
 
 pub steps-preserved : goal.steps-preserved
-steps-preserved c =
-    rw c.in_ok-push.ensures.ok (goes_on (λ (before : List Step). step_at c.args.blobs.now) c.steps.steps c.args.count c.steps.counter c.steps.rest.now c.in_ok-step.step c.in_ok-step.after.now (many_at (λ (before : List Step). step_at c.args.blobs.now) c.args.count [] c.args.bytes.now) c.steps-test.true c.in_ok-step.ensures c.steps.invariant)
+steps-preserved c = record {
+  read =
+      rw c.in_ok-push.ensures.ok (goes_on (λ (before : List Step). step_at c.args.blobs.now) c.steps.steps c.args.count c.steps.counter c.steps.rest.now c.in_ok-step.step c.in_ok-step.after.now (many_at (λ (before : List Step). step_at c.args.blobs.now) c.args.count [] c.args.bytes.now) c.steps-test.true c.in_ok-step.ensures.gives c.steps.invariant.read);
+  puts = rw c.in_ok-push.ensures.ok (puts_more step_piece c.steps.steps c.in_ok-step.step _ _ _ c.steps.invariant.puts c.in_ok-step.ensures.puts);
+  many = rw c.in_ok-push.ensures.ok (longer c.steps.steps c.in_ok-step.step c.steps.counter c.steps.invariant.many);
+  known = c.in_ok-step.ensures.known;
+}
 
-pub returns : goal.returns
-returns c = is_done (λ (before : List Step). step_at c.args.blobs.now) c.steps.steps c.args.count c.steps.counter c.steps.rest.now (many_at (λ (before : List Step). step_at c.args.blobs.now) c.args.count [] c.args.bytes.now) c.steps-test.false c.steps.invariant
+pub returns-clause-gives : goal.returns-clause-gives
+returns-clause-gives c = is_done (λ (before : List Step). step_at c.args.blobs.now) c.steps.steps c.args.count c.steps.counter c.steps.rest.now (many_at (λ (before : List Step). step_at c.args.blobs.now) c.args.count [] c.args.bytes.now) c.steps-test.false c.steps.invariant.read

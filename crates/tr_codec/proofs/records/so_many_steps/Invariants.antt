@@ -1,7 +1,16 @@
-use Rattle.std.proofs.Common.{◌≡◌, ◌-◌, List, []}
+use Rattle.std.proofs.Common.{◌≡◌, ◌-◌, List, [], length}
 use Rattle.tr_record.specs.declared.steps.Step.{Step}
+use Rattle.tr_codec.specs.Again.{AreKnown}
+use Rattle.tr_parts.specs.Piece.{each}
+use Rattle.tr_codec.specs.Puts.{Puts}
 use Rattle.tr_codec.specs.Reading.{step_at, many_at}
+use Rattle.tr_codec.specs.Spelling.{step_piece}
 use Rattle.tr_codec.proofs.records.so_many_steps.Given as goal
 
 abbrev pub invariant-steps : goal.invariant-steps
-invariant-steps l = many_at (λ (before : List Step). step_at l.blobs) (l.count - l.counter) l.steps l.rest ≡ many_at (λ (before : List Step). step_at l.blobs) l.count [] l.bytes
+invariant-steps l = record {
+  read : many_at (λ (before : List Step). step_at l.blobs) (l.count - l.counter) l.steps l.rest ≡ many_at (λ (before : List Step). step_at l.blobs) l.count [] l.bytes;
+  puts : Puts (each step_piece l.steps) l.initial.w l.w;
+  many : length l.steps ≡ l.counter;
+  known : AreKnown l.w.blobs l.known.items l.blobs;
+}
