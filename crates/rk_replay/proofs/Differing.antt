@@ -9,9 +9,7 @@ use Rattle.rk_base.specs.declared.file_type.FileType.TheVariants.{File, Dir, Lin
 use Rattle.rk_calls.specs.declared.answer.Answer.{Answer}
 use Rattle.rk_calls.specs.declared.answer.Answer.TheVariants.{Go, Done, Opened, Piped, Content, Stat, Names, Text, Place, Same, Joined, No}
 use Rattle.tr_record.specs.declared.steps.Step.{Step}
-use Rattle.std.proofs.Common.{get_or}
-use Rattle.std.proofs.lemmas.List.{get_or_default}
-use Rattle.rk_runs.specs.Spoken.{step_at, no_step}
+use Rattle.rk_runs.specs.Spoken.{step_at}
 use Rattle.rk_runs.specs.Differences.{IsFirstDifference, AnswerAlike}
 use Rattle.rk_replay.specs.declared.ran.Cause.{Cause}
 use Rattle.rk_replay.specs.declared.ran.Cause.TheVariants.{Differs}
@@ -159,12 +157,3 @@ first_difference-first n (suc i) (x ∷ xs) (y ∷ ys) d =
     } in
     rw (e, same-itself)
     (first_difference-first (suc n) i xs ys later ∙ ap (λ m. Some (Differs m (step_at i xs).answer (step_at i ys).answer)) (omega arith))
-
--- as the code tells it
-pub difference-told : (xs ys ws zs : List Step) (i : ℕ) (x y : Step) (cause : Cause) → ws ≡ xs → zs ≡ ys → IsFirstDifference xs ys i → cause ≡ Differs (i + 1) (get_or ws i x).answer (get_or zs i y).answer → Some cause ≡ first_difference 1 xs ys
-difference-told xs ys ws zs i x y cause ew ez d e =
-    let ex = ap (λ ws. get_or ws i x) ew ∙ get_or_default xs i x no_step d.here.0 in
-    let ey = ap (λ zs. get_or zs i y) ez ∙ get_or_default ys i y no_step d.here.1 in
-    let m : i + 1 ≡ 1 + i = omega arith in
-    ap (λ c. Some c) (e ∙ ap (λ n. Differs n (get_or ws i x).answer (get_or zs i y).answer) m ∙ ap (λ (s : Step). Differs (1 + i) s.answer (get_or zs i y).answer) ex ∙ ap (λ (s : Step). Differs (1 + i) (step_at i xs).answer s.answer) ey)
-    ∙ sym (first_difference-first 1 i xs ys d)

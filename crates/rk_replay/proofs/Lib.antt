@@ -3,6 +3,7 @@ pub mod Differing
 pub mod Finding
 pub mod Keeping
 pub mod Linking
+pub mod Noting
 pub mod PaidLemmas
 pub mod Replaying
 pub mod Standing

@@ -89,7 +89,7 @@ pub record Steps {S : Type 0} (old : List Record) (r : Record) (c : ℕ) (r' : R
   pub changes : Changes old r r' (given_up was now) (counted was now c r')
 
 -- a difference stays
-cause-stays : (old : List Record) (r : Record) (st : Step) (c : Cause) → cause_of old r ≡ Some c → cause_of old (with_step r st) ≡ Some c
+pub cause-stays : (old : List Record) (r : Record) (st : Step) (c : Cause) → cause_of old r ≡ Some c → cause_of old (with_step r st) ≡ Some c
 unfolding cause_of
 cause-stays old r st c e =
     by_found (found old r.key r.ordinal) e
@@ -108,12 +108,12 @@ step-is : (x : Step) (call : Call) (c : ℕ) (a : Answer) → call ≡ x.call �
 step-is x call c a ec ek ea = rw (ec, ek, ← ea) refl
 
 module _ (old : List Record) (r : Record) (call : Call) (c : ℕ) (a : Answer) (rec at : ℕ) (lt : at < length (rec_at rec old).steps) (ef : found old r.key r.ordinal ≡ Some (rec_at rec old)) (es : r.steps ≡ take at (rec_at rec old).steps) where
-  as-recorded : call ≡ (step_at at (rec_at rec old).steps).call → c ≡ (step_at at (rec_at rec old).steps).cost → (step_at at (rec_at rec old).steps).answer ≡ a → r.steps ++ step c call a ∷ [] ≡ take (at + 1) (rec_at rec old).steps
+  pub as-recorded : call ≡ (step_at at (rec_at rec old).steps).call → c ≡ (step_at at (rec_at rec old).steps).cost → (step_at at (rec_at rec old).steps).answer ≡ a → r.steps ++ step c call a ∷ [] ≡ take (at + 1) (rec_at rec old).steps
   as-recorded ek ec e =
       ap (λ x. x ++ step c call a ∷ []) es ∙ ap (λ x. take at (rec_at rec old).steps ++ x ∷ []) (step-is (step_at at (rec_at rec old).steps) call c a ek ec e)
       ∙ sym (next-take (rec_at rec old).steps at lt)
 
-  cause-other : (step_at at (rec_at rec old).steps).answer ≢ a → cause_of old (with_step r (step c call a)) ≡ Some (Differs (1 + at) (step_at at (rec_at rec old).steps).answer a)
+  pub cause-other : (step_at at (rec_at rec old).steps).answer ≢ a → cause_of old (with_step r (step c call a)) ≡ Some (Differs (1 + at) (step_at at (rec_at rec old).steps).answer a)
   cause-other ne =
       cause-found old (with_step r (step c call a)) (rec_at rec old) ef ∙ ap (λ xs. cause_by (Some (rec_at rec old)) (xs ++ step c call a ∷ [])) es
       ∙ first_difference-next 1 at (rec_at rec old).steps (step c call a) lt ne
@@ -148,7 +148,7 @@ steps {S} old r call c a (Replays rec at) (Replays rec' at') z l t =
     rw (t.0, t.1) on
 
 -- it exits
-cause-ended : (old : List Record) (r : Record) (status c : ℕ) → cause_of old (with_exit r status c) ≡ cause_of old r
+pub cause-ended : (old : List Record) (r : Record) (status c : ℕ) → cause_of old (with_exit r status c) ≡ cause_of old r
 unfolding cause_of
 cause-ended old r status c = refl
 

@@ -1,6 +1,6 @@
 -- A build under way: what stands in the records of the command that goes on and of those that wait, and what
 -- changes of the counts.
-use Rattle.std.proofs.Common.{◌≡◌, ℕ, ◌+◌, ◌≤◌, ◌<◌, List, [], ◌∷◌, ◌++◌, length, refl, sym, ◌∙◌, ap, subst, arith}
+use Rattle.std.proofs.Common.{◌≡◌, ℕ, ◌+◌, ◌≤◌, ◌<◌, List, [], ◌∷◌, ◌++◌, length, refl, sym, ◌∙◌, ap, subst, arith, Option}
 use Rattle.std.specs.Prelude.{sum_by}
 use Rattle.std.proofs.lemmas.List.Sums.{sum_by_push}
 use Rattle.rk_calls.specs.declared.call.Call.{Call}
@@ -24,8 +24,11 @@ use Rattle.rk_runs.specs.Places.{length-begun, length-stepped, length-ended, rec
 use Rattle.rk_runs.specs.Totals.{total-begun, total-stepped, total-ended}
 use Rattle.rk_replay.specs.declared.activity.Activity.{Activity}
 use Rattle.rk_replay.specs.Activities.{IsReady, IsWaiting, IsLaunched, Speaks_on, Takes, made, given_up, counted, exit_counted}
+use Rattle.rk_replay.specs.declared.ran.Cause.{Cause}
+use Rattle.rk_replay.specs.Causes.{AreCauses, noted}
 use Rattle.rk_replay.specs.Ran.{ran_total}
 use Rattle.rk_replay.proofs.Linking.{IsLinked, IsAsking, linked-ready, asking-waiting, asks, begins, steps, ends}
+use Rattle.rk_replay.proofs.Noting.{stepped-causes, ended-causes}
 use Rattle.rk_replay.proofs.Totalling.{ran_count, ran_total-none, ran-within, Counts, stepped-counts, ended-counts, begun-counts}
 
 -- each of them stands above this place
@@ -153,6 +156,9 @@ module _ {S : Type 0} (old t : List Record) (m : Active (Activity S)) (fs : List
   pub Pays-ask : (call : Call) (n c : ℕ) (b : Answer) (t' : List Record) (next : Activity S) → s ≡ Calls call n → c ≡ n → t' ≡ stepped m.place (step c call b) t → Takes old now b next → Pays old t t' (given_up now next) (counted now next c (rec_at m.place t')) c
   Pays-ask call n c b t' next es ec et k = rw et (take-pays old t m.place call c b now next i.here i.unended (asking call n c es ec) k)
 
+  pub Causes-ask : (call : Call) (n c : ℕ) (b : Answer) (t' : List Record) (next : Activity S) (cs cs' : List (Option Cause)) → s ≡ Calls call n → c ≡ n → t' ≡ stepped m.place (step c call b) t → Takes old now b next → AreCauses old t cs → cs' ≡ noted old m.place now b next cs → AreCauses old t' cs'
+  Causes-ask call n c b t' next cs cs' es ec et k are en = rw (et, en) (stepped-causes old t cs m.place call c b now next i.here (asking call n c es ec) k are)
+
   pub Replaying-launch : (call : Call) (key : KeyValue) (map : List (ℕ × ℕ)) (n c : ℕ) (child : Active (Activity S)) (t' : List Record) (fs' : List (Frame (Activity S))) → s ≡ Calls call n → c ≡ n → call ≡ Launch key map → IsLaunched old key (count_of key t) child.machine → child.place ≡ length t → t' ≡ begun key t → fs' ≡ fs ++ record { waiting = record { place = m.place; refs = m.refs; machine = now }; key = key; map = map; cost = c } ∷ [] → Replaying old t' child fs'
   Replaying-launch call key map n c child t' fs' es ec ek l ep et ef =
       let f : Frame (Activity S) = record { waiting = record { place = m.place; refs = m.refs; machine = now }; key = key; map = map; cost = c } in
@@ -175,6 +181,9 @@ module _ {S : Type 0} (old t : List Record) (m : Active (Activity S)) (fs : List
         counts = ended-counts old t m.place status c 0 (exit_counted now c) i.here (ends old (rec_at m.place t) status c n m.machine now s i.unended es i.linked on);
         total = total-ended m.place status c t i.here i.unended;
       })
+
+  pub Causes-end : (status c : ℕ) (t' : List Record) (cs : List (Option Cause)) → t' ≡ ended m.place status c t → AreCauses old t cs → AreCauses old t' cs
+  Causes-end status c t' cs et are = rw et (ended-causes old t cs m.place status c i.here are)
 
   module _ (status n c : ℕ) (t' : List Record) (fs' : List (Frame (Activity S))) (f : Frame (Activity S)) (es : s ≡ Exits status n) (et : t' ≡ ended m.place status c t) (ef : fs ≡ fs' ++ f ∷ []) where
     popped : IsAsking old (rec_at f.waiting.place t) (Launch f.key f.map) f.cost f.waiting.machine × ((rec_at f.waiting.place t).exit_cost ≡ 0) × (f.waiting.place < m.place) × AllAsk old t f.waiting.place fs'
@@ -200,6 +209,17 @@ module _ {S : Type 0} (old t : List Record) (m : Active (Activity S)) (fs : List
 
     pub Waiting-join : IsWaiting old f.waiting.machine
     Waiting-join = asking-waiting old (rec_at f.waiting.place t) (Launch f.key f.map) f.cost f.waiting.machine popped.0
+
+    pub join-noted : (cs : List (Option Cause)) → AreCauses old t cs → f.waiting.place < length cs
+    join-noted cs are =
+        let lt : f.waiting.place < m.place = popped.2 in
+        let h : m.place < length t = i.here in
+        let many : length cs ≡ length t = are.many in
+        omega arith
+
+    pub Causes-join : (t'' : List Record) (next : Activity S) (cs cs' : List (Option Cause)) → t'' ≡ stepped f.waiting.place (step f.cost (Launch f.key f.map) (Joined status)) t' → Takes old f.waiting.machine (Joined status) next → AreCauses old t cs → cs' ≡ noted old f.waiting.place f.waiting.machine (Joined status) next cs → AreCauses old t'' cs'
+    Causes-join t'' next cs cs' et' k are en =
+        rw (et', en) (stepped-causes old t' cs f.waiting.place (Launch f.key f.map) f.cost (Joined status) f.waiting.machine next join-place waiting k (Causes-end status c t' cs et are))
 
     pub Replaying-join : (t'' : List Record) (next : Active (Activity S)) → t'' ≡ stepped f.waiting.place (step f.cost (Launch f.key f.map) (Joined status)) t' → next.place ≡ f.waiting.place → Takes old f.waiting.machine (Joined status) next.machine → Replaying old t'' next fs'
     Replaying-join t'' next et' ep k =

@@ -1,6 +1,5 @@
 -- How many machines were started until a build stops.
 use Rattle.std.proofs.Common.{◌≡◌, ℕ, ◌+◌, ◌-◌, ◌≤◌, List, [], ◌∷◌, length, Option, Some, None, Err, refl, sym, ◌∙◌, ap, subst, arith}
-use Rattle.std.specs.Prelude.{sum_by}
 use Rattle.std.proofs.lemmas.List.Sums.{sum_by-append}
 use Rattle.rk_base.specs.declared.memory.NoMemory.{NoMemory}
 use Rattle.rk_calls.specs.Heard.{IsPaid}

@@ -1,5 +1,5 @@
 // Commands that run or are replayed.
-ghost use Rattle.std.specs.Prelude.{◌≡◌, ◌+◌, ◌≤◌, ◌<◌, length, take, IfOk, IfErr, OnOk, OnErr};
+ghost use Rattle.std.specs.Prelude.{◌≡◌, ◌+◌, ◌≤◌, ◌<◌, ◌++◌, ◌∷◌, [], length, take, IfOk, IfErr, OnOk, OnErr};
 ghost use Rattle.rk_calls.specs.Saying.{goes_on};
 ghost use Rattle.rk_calls.specs.Starts.{one_more};
 ghost use Rattle.rk_calls.specs.declared.answer.Answer.{Answer};
@@ -9,10 +9,13 @@ ghost use Rattle.rk_runs.specs.Spoken.{follow, Follows, step_at};
 ghost use Rattle.rk_runs.specs.Fed.{waits_at};
 ghost use Rattle.rk_runs.specs.Started.{started, StartsSome};
 ghost use Rattle.rk_replay.specs.Activities.{stands, waits, IsReady, IsWaiting, IsLaunched, made, Takes, given_up, counted, so_far, exit_counted};
+ghost use Rattle.rk_replay.specs.Causes.{launch_cause, noted};
 ghost use Rattle.rk_replay.specs.Starts.{StartsFor};
 ghost use Rattle.rk_replay.specs.Stops.{IsForged};
 ghost use Rattle.rk_replay.specs.declared.activity.Activity.TheVariants.{Replays};
 
+use crate::causes::CauseList;
+use crate::ran::Cause;
 use rk_base::{NoMemory, Steps};
 use rk_calls::{Answer, Key, Machine, Maker, Refs, same_answer};
 use rk_runs::{Active, CheckErr, feed};
@@ -49,10 +52,21 @@ fn launch<K: Maker>(
     }
 }
 
-/// A command of this key, with these descriptors, is launched, and its record begins.
+/// Why a command runs from its launch on, if it does.
+fn launch_cause<M: Drop>(activity: &Activity<M>) -> Option<Cause>
+    ensures { result ≡ launch_cause activity.now }
+{
+    match activity {
+        Activity::Runs(_) => Some(Cause::NoRecord),
+        Activity::Replays(_, _) => None,
+    }
+}
+
+/// A command of this key, with these descriptors, is launched, and its record begins. It is noted why it runs, if it does.
 pub(crate) fn begin<K: Maker>(
     maker: &mut K,
     table: &mut Table,
+    causes: &mut CauseList,
     key: &Key,
     refs: Refs,
     old: &Table,
@@ -64,8 +78,10 @@ pub(crate) fn begin<K: Maker>(
     ensures refs { IfOk result (λ a. a.refs ≡ refs) }
     ensures place { IfOk result (λ a. a.place ≡ length table.old) }
     ensures table { OnOk result (table.new ≡ begun key.now table.old) }
+    ensures noted { IfOk result (λ a. causes.new ≡ causes.old ++ launch_cause a.machine ∷ []) }
 {
     let machine = launch(maker, table, key, old)?;
+    causes.push(launch_cause(&machine))?;
     let key = key.copy()?;
     let place = table.begin(key)?;
     Ok(Active {
@@ -96,18 +112,22 @@ pub(crate) fn machine_of<K: Maker>(
     }
 }
 
-/// The activity of a replayed command after an answer: its record, one step further, or its machine.
+/// The activity of a replayed command after an answer: its record, one step further, or its machine; then it is noted why.
 fn take_answer<K: Maker>(
     maker: &mut K,
     old: &Table,
     rec: usize,
     at: usize,
     answer: &Answer,
+    causes: &mut CauseList,
+    place: usize,
 ) -> Result<Activity<K::Made>, CheckErr>
     requires in_old { rec < length old.now }
     requires in_rec { at < length (rec_at rec old.now).steps }
+    requires noted { place < length causes.old }
     ensures state { IfOk result (λ now. stands K.Made.talk K.first old.now now answer.now ≡ goes_on (step_at at (rec_at rec old.now).steps).cost (follow (K.first (rec_at rec old.now).key) (take at (rec_at rec old.now).steps)) answer.now) }
     ensures takes { IfOk result (λ now. Takes old.now (Replays rec at) answer.now now) }
+    ensures noted { IfOk result (λ now. causes.new ≡ noted old.now place (Replays rec at) answer.now now causes.old) }
     ensures starts { IfOk result (λ now. K.starts maker.new ≡ started (made now) (K.starts maker.old)) }
     ensures started { OnErr result (StartsFor old.now (K.starts maker.old) (K.starts maker.new)) }
     ensures forged { IfErr result (IsForged K.first old.now) }
@@ -116,6 +136,8 @@ fn take_answer<K: Maker>(
     if same_answer(&steps[at].answer, answer) {
         return Ok(Activity::Replays(rec, at + 1));
     }
+    let cause = Cause::differs(at as u64 + 1, &steps[at].answer, answer)?;
+    causes.note(place, cause);
     let machine = machine_of(maker, old, rec, at + 1)?;
     Ok(Activity::Runs(machine))
 }
@@ -145,7 +167,7 @@ fn tick_so_far<M: Drop, L: Ledger>(
 }
 
 /// A command takes the answer of its step, which has this cost and stands last in its record. Its costs are
-/// counted where it runs, and those so far where its record is given up for a machine.
+/// counted where it runs, and those so far where its record is given up for a machine; it is noted why.
 pub(crate) fn settle<K: Maker, L: Ledger>(
     maker: &mut K,
     activity: &mut Activity<K::Made>,
@@ -153,13 +175,16 @@ pub(crate) fn settle<K: Maker, L: Ledger>(
     cost: u32,
     table: &Table,
     place: usize,
+    causes: &mut CauseList,
     old: &Table,
     live: &mut Steps<L>,
 ) -> Result<(), CheckErr>
     requires waiting { IsWaiting old.now activity.old }
     requires here { place < length table.now }
+    requires noted { place < length causes.old }
     ensures state { IfOk result (λ _. stands K.Made.talk K.first old.now activity.new answer.now ≡ waits K.Made.talk K.first old.now activity.old answer.now) }
     ensures takes { IfOk result (λ _. Takes old.now activity.old answer.now activity.new) }
+    ensures noted { IfOk result (λ _. causes.new ≡ noted old.now place activity.old answer.now activity.new causes.old) }
     ensures starts { IfOk result (λ _. K.starts maker.new ≡ started (given_up activity.old activity.new) (K.starts maker.old)) }
     ensures started { OnErr result (StartsFor old.now (K.starts maker.old) (K.starts maker.new)) }
     ensures live { IfOk result (λ _. live.new ≡ live.old + counted activity.old activity.new cost (rec_at place table.now)) }
@@ -172,7 +197,7 @@ pub(crate) fn settle<K: Maker, L: Ledger>(
             Ok(())
         }
         Activity::Replays(rec, at) => {
-            let now = take_answer(maker, old, *rec, *at, answer)?;
+            let now = take_answer(maker, old, *rec, *at, answer, causes, place)?;
             tick_so_far(live, &now, table, place);
             *activity = now;
             Ok(())

@@ -12,8 +12,9 @@ ghost use Rattle.rk_replay.specs.Starts.{StartsStopped};
 ghost use Rattle.rk_replay.specs.Stops.{Stops};
 
 use crate::activity::{Activity, begin, exit_counted};
+use crate::causes::{CauseList, ran_of};
 use crate::hearing::hear;
-use crate::ran::{RanList, ran_of};
+use crate::ran::RanList;
 use crate::stop::ReplayErr;
 use crate::turns::{answer_call, launch_below, resume};
 use rk_base::{Budget, NoMemory, Steps};
@@ -69,9 +70,10 @@ pub fn build_with<K: Maker, W: Answerer, L: Ledger>(
     ensures at_most { live.new ≤ live.old + left budget.old }
 {
     let mut table = Table::new(alloc);
+    let mut causes = CauseList::new(alloc);
     let mut stack: Vec<Frame<Activity<K::Made>>> = Vec::new(alloc);
     let refs = Refs::top(alloc)?;
-    let mut top = begin(maker, &mut table, key, refs, old)?;
+    let mut top = begin(maker, &mut table, &mut causes, key, refs, old)?;
     let mut answer = Answer::Go;
     'turns: loop {
         match hear(maker, &mut top.machine, answer, budget.left(), old)? {
@@ -79,12 +81,30 @@ pub fn build_with<K: Maker, W: Answerer, L: Ledger>(
                 let cost = pay(budget, cost);
                 match call {
                     Call::Launch(key, map) => {
-                        launch_below(maker, &mut table, &mut stack, &mut top, key, map, cost, old)?;
+                        launch_below(
+                            maker,
+                            &mut table,
+                            &mut causes,
+                            &mut stack,
+                            &mut top,
+                            key,
+                            map,
+                            cost,
+                            old,
+                        )?;
                         answer = Answer::Go;
                     }
                     call => {
                         answer = answer_call(
-                            maker, world, &mut table, &mut top, call, cost, old, live,
+                            maker,
+                            world,
+                            &mut table,
+                            &mut causes,
+                            &mut top,
+                            call,
+                            cost,
+                            old,
+                            live,
                         )?;
                     }
                 }
@@ -95,12 +115,21 @@ pub fn build_with<K: Maker, W: Answerer, L: Ledger>(
                 table.end(top.place, status, cost);
                 match stack.pop() {
                     None => {
-                        let ran = ran_of(alloc, old, &table)?;
+                        let ran = ran_of(alloc, &table, &causes)?;
                         live.tick(u64::from(counted));
                         return Ok(Built { status, table, ran });
                     }
                     Some(frame) => {
-                        top = resume(maker, &mut table, frame, status, counted, old, live)?;
+                        top = resume(
+                            maker,
+                            &mut table,
+                            &mut causes,
+                            frame,
+                            status,
+                            counted,
+                            old,
+                            live,
+                        )?;
                         answer = Answer::Joined(status);
                     }
                 }

@@ -4,6 +4,7 @@
 
 mod activity;
 mod build;
+mod causes;
 mod hearing;
 mod paying;
 mod ran;

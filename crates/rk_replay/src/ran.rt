@@ -1,15 +1,11 @@
 // Which commands ran, and why.
 ghost use Rattle.std.specs.Prelude.{◌≡◌, ◌++◌, ◌∷◌, [], IfOk, OnOk, OnErr, length};
-ghost use Rattle.std.specs.List.{cons_option};
 ghost use Rattle.rk_replay.specs.declared.ran.Cause.TheVariants.{Differs};
-ghost use Rattle.rk_replay.specs.Ran.{first_difference, cause_of, ran_for, ran_of};
 
 use rk_base::NoMemory;
 use rk_calls::{Answer, Key};
-use rk_runs::first_difference;
 use std::alloc::Global;
 use std::marker::Model;
-use tr_record::{Record, Table};
 
 /// Why a command ran.
 #[derive(Debug, Drop)]
@@ -22,6 +18,35 @@ pub enum Cause {
         recorded: Answer,
         seen: Answer,
     },
+}
+
+impl Cause {
+    /// The step of this number was answered otherwise than recorded.
+    pub(crate) fn differs(step: u64, recorded: &Answer, seen: &Answer) -> Result<Cause, NoMemory>
+        ensures { IfOk result (λ c. c ≡ Differs step recorded.now seen.now) }
+    {
+        let recorded = recorded.copy()?;
+        let seen = seen.copy()?;
+        Ok(Cause::Differs {
+            step,
+            recorded,
+            seen,
+        })
+    }
+
+    /// The same cause.
+    pub(crate) fn copy(&self) -> Result<Cause, NoMemory>
+        ensures { IfOk result (λ c. c ≡ self.now) }
+    {
+        match self {
+            Cause::NoRecord => Ok(Cause::NoRecord),
+            Cause::Differs {
+                step,
+                recorded,
+                seen,
+            } => Cause::differs(*step, recorded, seen),
+        }
+    }
 }
 
 /// A command that ran, and why.
@@ -49,7 +74,8 @@ impl Model for RanList {
 }
 
 impl RanList {
-    fn new(alloc: Global) -> RanList
+    /// Nothing ran.
+    pub(crate) fn new(alloc: Global) -> RanList
         ensures { result ≡ [] }
     {
         RanList {
@@ -57,7 +83,8 @@ impl RanList {
         }
     }
 
-    fn push(&mut self, ran: Ran) -> Result<(), NoMemory>
+    /// One more ran, launched after these.
+    pub(crate) fn push(&mut self, ran: Ran) -> Result<(), NoMemory>
         ensures ok { OnOk result (self.new ≡ self.old ++ ran ∷ []) }
         ensures err { OnErr result (self.new ≡ self.old) }
     {
@@ -78,74 +105,4 @@ impl RanList {
     {
         self.items.len()
     }
-}
-
-fn differs(number: u64, recorded: &Answer, seen: &Answer) -> Result<Cause, NoMemory>
-    ensures { IfOk result (λ c. c ≡ Differs number recorded.now seen.now) }
-{
-    let recorded = recorded.copy()?;
-    let seen = seen.copy()?;
-    Ok(Cause::Differs {
-        step: number,
-        recorded,
-        seen,
-    })
-}
-
-/// The first step at which the answers of two records differ, as a cause.
-fn difference(recorded: &Record, seen: &Record) -> Result<Option<Cause>, NoMemory>
-    ensures { IfOk result (λ c. c ≡ first_difference 1 recorded.now.steps seen.now.steps) }
-{
-    match first_difference(recorded, seen) {
-        None => Ok(None),
-        Some(i) => {
-            let was = recorded.steps.as_slice();
-            let is = seen.steps.as_slice();
-            let cause = differs(i as u64 + 1, &was[i].answer, &is[i].answer)?;
-            Ok(Some(cause))
-        }
-    }
-}
-
-/// Why the command of a record ran, if it did.
-#[tactic(auto, unfolding(crate::specs::Ran::cause_of))]
-fn cause_of(old: &Table, rec: &Record) -> Result<Option<Cause>, NoMemory>
-    ensures { IfOk result (λ c. c ≡ cause_of old.now rec.now) }
-{
-    match old.place(&rec.key, rec.ordinal) {
-        None => Ok(Some(Cause::NoRecord)),
-        Some(i) => {
-            let cause = difference(old.at(i), rec)?;
-            Ok(cause)
-        }
-    }
-}
-
-fn add_ran(ran: &mut RanList, old: &Table, rec: &Record) -> Result<(), NoMemory>
-    ensures { OnOk result (ran.new ≡ ran.old ++ cons_option (ran_for rec.now (cause_of old.now rec.now)) []) }
-{
-    match cause_of(old, rec)? {
-        None => Ok(()),
-        Some(cause) => {
-            let key = rec.key.copy()?;
-            ran.push(Ran {
-                key,
-                ordinal: rec.ordinal,
-                cause,
-            })
-        }
-    }
-}
-
-/// The commands of a table that ran, each with its cause.
-#[tactic(auto, unfolding(crate::specs::Ran::ran_of))]
-pub(crate) fn ran_of(alloc: Global, old: &Table, table: &Table) -> Result<RanList, NoMemory>
-    ensures { IfOk result (λ r. r ≡ ran_of old.now table.now) }
-{
-    let mut ran = RanList::new(alloc);
-    let records = table.as_slice();
-    'records: for i in 0..records.len() {
-        add_ran(&mut ran, old, &records[i])?;
-    }
-    Ok(ran)
 }

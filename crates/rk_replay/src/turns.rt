@@ -9,10 +9,12 @@ ghost use Rattle.tr_record.specs.Rec.{rec_at, begun, stepped, count_of};
 ghost use Rattle.rk_runs.specs.Run.{step};
 ghost use Rattle.rk_runs.specs.Started.{started, StartsSome};
 ghost use Rattle.rk_replay.specs.Activities.{stands, waits, IsWaiting, IsLaunched, made, Takes, given_up, counted};
+ghost use Rattle.rk_replay.specs.Causes.{launch_cause, noted};
 ghost use Rattle.rk_replay.specs.Starts.{StartsFor};
 ghost use Rattle.rk_replay.specs.Stops.{Stops, IsForged};
 
 use crate::activity::{Activity, begin, settle};
+use crate::causes::CauseList;
 use crate::stop::ReplayErr;
 use rk_base::{NoMemory, Steps};
 use rk_calls::{Answer, Answerer, Call, Key, Machine, Maker, RefMap};
@@ -25,6 +27,7 @@ use tr_record::Table;
 pub(crate) fn launch_below<K: Maker>(
     maker: &mut K,
     table: &mut Table,
+    causes: &mut CauseList,
     stack: &mut Vec<Frame<Activity<K::Made>>>,
     top: &mut Active<Activity<K::Made>>,
     key: Key,
@@ -39,10 +42,11 @@ pub(crate) fn launch_below<K: Maker>(
     ensures refs { IfOk result (λ _. top.new.refs ≡ passed_refs top.old.refs map) }
     ensures place { IfOk result (λ _. top.new.place ≡ length table.old) }
     ensures table { IfOk result (λ _. table.new ≡ begun key table.old) }
+    ensures noted { IfOk result (λ _. causes.new ≡ causes.old ++ launch_cause top.new.machine ∷ []) }
     ensures stack { IfOk result (λ _. stack.new.items ≡ stack.old.items ++ record { waiting = top.old; key = key; map = map; cost = cost } ∷ []) }
 {
     let refs = top.refs.pass(&map)?;
-    let child = begin(maker, table, &key, refs, old)?;
+    let child = begin(maker, table, causes, &key, refs, old)?;
     let waiting = mem::replace(top, child);
     stack.push(Frame {
         waiting,
@@ -58,6 +62,7 @@ pub(crate) fn answer_call<K: Maker, W: Answerer, L: Ledger>(
     maker: &mut K,
     world: &mut W,
     table: &mut Table,
+    causes: &mut CauseList,
     top: &mut Active<Activity<K::Made>>,
     call: Call,
     cost: u32,
@@ -66,11 +71,13 @@ pub(crate) fn answer_call<K: Maker, W: Answerer, L: Ledger>(
 ) -> Result<Answer, ReplayErr<W::Stop>>
     requires waiting { IsWaiting old.now top.old.machine }
     requires here { top.old.place < length table.old }
+    requires noted { top.old.place < length causes.old }
     ensures place { IfOk result (λ _. top.new.place ≡ top.old.place) }
     ensures given { IfOk result (λ a. IfSome (W.told world.old) (λ before. IsSomeAnd (W.told world.new) (λ now. record { answer = a; refs = top.new.refs; world = now } ≡ W.given before top.old.refs call))) }
     ensures table { IfOk result (λ a. table.new ≡ stepped top.old.place (step cost call a) table.old) }
     ensures state { IfOk result (λ a. stands K.Made.talk K.first old.now top.new.machine a ≡ waits K.Made.talk K.first old.now top.old.machine a) }
     ensures takes { IfOk result (λ a. Takes old.now top.old.machine a top.new.machine) }
+    ensures noted { IfOk result (λ a. causes.new ≡ noted old.now top.old.place top.old.machine a top.new.machine causes.old) }
     ensures starts { IfOk result (λ _. K.starts maker.new ≡ started (given_up top.old.machine top.new.machine) (K.starts maker.old)) }
     ensures started { OnErr result (StartsFor old.now (K.starts maker.old) (K.starts maker.new)) }
     ensures live { IfOk result (λ _. live.new ≡ live.old + counted top.old.machine top.new.machine cost (rec_at top.old.place table.new)) }
@@ -89,6 +96,7 @@ pub(crate) fn answer_call<K: Maker, W: Answerer, L: Ledger>(
         cost,
         table,
         top.place,
+        causes,
         old,
         live,
     )?;
@@ -100,6 +108,7 @@ pub(crate) fn answer_call<K: Maker, W: Answerer, L: Ledger>(
 pub(crate) fn resume<K: Maker, L: Ledger>(
     maker: &mut K,
     table: &mut Table,
+    causes: &mut CauseList,
     frame: Frame<Activity<K::Made>>,
     status: u8,
     exited: u32,
@@ -108,11 +117,13 @@ pub(crate) fn resume<K: Maker, L: Ledger>(
 ) -> Result<Active<Activity<K::Made>>, CheckErr>
     requires waiting { IsWaiting old.now frame.waiting.machine }
     requires here { frame.waiting.place < length table.old }
+    requires noted { frame.waiting.place < length causes.old }
     ensures place { IfOk result (λ a. a.place ≡ frame.waiting.place) }
     ensures refs { IfOk result (λ a. a.refs ≡ frame.waiting.refs) }
     ensures table { IfOk result (λ _. table.new ≡ stepped frame.waiting.place (step frame.cost (Launch frame.key frame.map) (Joined status)) table.old) }
     ensures state { IfOk result (λ a. stands K.Made.talk K.first old.now a.machine (Joined status) ≡ waits K.Made.talk K.first old.now frame.waiting.machine (Joined status)) }
     ensures takes { IfOk result (λ a. Takes old.now frame.waiting.machine (Joined status) a.machine) }
+    ensures noted { IfOk result (λ a. causes.new ≡ noted old.now frame.waiting.place frame.waiting.machine (Joined status) a.machine causes.old) }
     ensures starts { IfOk result (λ a. K.starts maker.new ≡ started (given_up frame.waiting.machine a.machine) (K.starts maker.old)) }
     ensures started { OnErr result (StartsFor old.now (K.starts maker.old) (K.starts maker.new)) }
     ensures live { IfOk result (λ a. live.new ≡ live.old + (exited + counted frame.waiting.machine a.machine frame.cost (rec_at frame.waiting.place table.new))) }
@@ -129,6 +140,7 @@ pub(crate) fn resume<K: Maker, L: Ledger>(
         cost,
         table,
         top.place,
+        causes,
         old,
         live,
     )?;

@@ -6,8 +6,9 @@ use Rattle.rk_runs.specs.Places.{length-begun, length-ended, length-stepped}
 use Rattle.rk_runs.specs.Purse.{left}
 use Rattle.rk_runs.specs.Run.{game}
 use Rattle.rk_runs.specs.Speaking.{fresh-spoken}
-use Rattle.rk_replay.proofs.Replaying.{ready, Replaying-start, Pays-start, Waiting-ask, Replaying-ask, Pays-ask, Replaying-launch, Pays-launch, Pays-end, join-place, Waiting-join, Replaying-join, Pays-join, pend, pend-push, pend-none, pend-empty, starts-first, starts-next, few-counted}
+use Rattle.rk_replay.proofs.Replaying.{ready, Replaying-start, Pays-start, Waiting-ask, Replaying-ask, Pays-ask, Causes-ask, Replaying-launch, Pays-launch, Pays-end, Causes-end, join-place, join-noted, Waiting-join, Replaying-join, Causes-join, Pays-join, pend, pend-push, pend-none, pend-empty, starts-first, starts-next, few-counted}
 use Rattle.rk_replay.proofs.Keeping.{all-kept}
+use Rattle.rk_replay.proofs.Noting.{causes-none, begun-causes}
 use Rattle.rk_replay.proofs.Stopping.{told-forged, stops-want, stops-forged, stops-since}
 use Rattle.rk_replay.proofs.Starting.{few-ran, fewer-ran, paid-some, ran-all, stopped-asked, stopped-checked, stopped-handed, stopped-launch, stopped-want}
 use Rattle.rk_replay.proofs.Telling.{told-start, told-still, told-last, told-asked, told-first, told-kept}
@@ -22,6 +23,7 @@ turns-init g c =
       goes = told-start _ _ (λ before. Freshing-start _ _ _ _ _ _ _ _ _ _ _ _ _ c.new-table.ensures c.in_ok-top.ensures.place c.in_ok-top.ensures.refs c.in_ok-refs.ensures c.in_ok-top.ensures.table c.in_ok-top.ensures.says c.new-stack.ensures.items);
       since = λ now stop h. h;
       replays = Replaying-start _ _ _ _ _ _ c.new-table.ensures c.new-stack.ensures.items c.in_ok-top.ensures.launched c.in_ok-top.ensures.place c.in_ok-top.ensures.table;
+      causes = begun-causes _ _ _ _ _ _ _ c.in_ok-top.ensures.launched c.in_ok-top.ensures.table (causes-none _ _ _ c.new-table.ensures c.new-causes.ensures) c.in_ok-top.ensures.noted;
       starts = starts-first _ _ _ _ c.in_ok-top.ensures.starts p.0;
       live = omega (arith, p.1);
       paid = omega (arith, p.2, z);
@@ -89,6 +91,7 @@ turns-preserved-in-Launch g c =
           Replaying-launch _ _ _ _ c.turns.invariant.replays _ _ c.in_ok-call.ensures.on _ _ _ _ _ _ _ _ c.in-Call.is c.pay-cost.ensures.cost c.in-Launch.is
           c.in_ok-launch_below-in-Launch.ensures.launched c.in_ok-launch_below-in-Launch.ensures.place c.in_ok-launch_below-in-Launch.ensures.table
           c.in_ok-launch_below-in-Launch.ensures.stack;
+      causes = begun-causes _ _ _ _ _ _ _ c.in_ok-launch_below-in-Launch.ensures.launched c.in_ok-launch_below-in-Launch.ensures.table c.turns.invariant.causes c.in_ok-launch_below-in-Launch.ensures.noted;
       starts = starts-next _ _ _ _ _ _ _ c.turns.invariant.starts c.in_ok-call.ensures.starts c.in_ok-launch_below-in-Launch.ensures.starts p.counts.ran;
       live = omega (arith, p.counts.live);
       paid = omega (arith, p.total, n);
@@ -101,6 +104,7 @@ pub answer_call-requires : goal.answer_call-requires
 answer_call-requires g c = record {
   waiting = Waiting-ask _ _ _ _ c.turns.invariant.replays _ _ c.in_ok-call.ensures.on _ _ c.in-Call.is;
   here = c.turns.invariant.replays.here;
+  noted = omega (arith, c.turns.invariant.causes.many, c.turns.invariant.replays.here);
 }
 
 pub turns-preserved-in_default : goal.turns-preserved-in_default
@@ -117,6 +121,9 @@ turns-preserved-in_default g c =
       replays =
           Replaying-ask _ _ _ _ c.turns.invariant.replays _ _ c.in_ok-call.ensures.on _ _ _ _ _ _ c.in-Call.is c.pay-cost.ensures.cost
           c.in_ok-answer-in_default.ensures.table c.in_ok-answer-in_default.ensures.place c.in_ok-answer-in_default.ensures.takes;
+      causes =
+          Causes-ask _ _ _ _ c.turns.invariant.replays _ _ c.in_ok-call.ensures.on _ _ _ _ _ _ _ _ c.in-Call.is c.pay-cost.ensures.cost
+          c.in_ok-answer-in_default.ensures.table c.in_ok-answer-in_default.ensures.takes c.turns.invariant.causes c.in_ok-answer-in_default.ensures.noted;
       starts = starts-next _ _ _ _ _ _ _ c.turns.invariant.starts c.in_ok-call.ensures.starts c.in_ok-answer-in_default.ensures.starts p.counts.ran;
       live = omega (arith, p.counts.live, c.in_ok-answer-in_default.ensures.live);
       paid = omega (arith, p.total);
@@ -156,6 +163,9 @@ returns-in_err-ran-in-None-clause-stopped g c =
     let p = err_from_is_err_and c.from_residual-in_err-ran-in-None.result c.from_residual-in_err-ran-in-None.ensures.1 in
     rw p.1 (stopped-want _ _ _ _ _ _ (few-ran c.args.old.now c.turns.table (pend c.turns.stack.items) c.args.budget.now.used c.pay-cost-in-Exit.new.budget.used c.turns.invariant.records (omega (arith, c.turns.invariant.paid, c.pay-cost-in-Exit.ensures.used))) (c.in_ok-call.ensures.starts ∙ c.turns.invariant.starts) _ _ p.2 refl)
 
+pub ran_of-requires : goal.ran_of-requires
+ran_of-requires g c = (Causes-end _ _ _ _ c.turns.invariant.replays _ _ c.in_ok-call.ensures.on _ _ _ _ c.end.ensures c.turns.invariant.causes).many
+
 -- the run, as it ends
 pub returns-in-None-clause-done : goal.returns-in-None-clause-done
 returns-in-None-clause-done g c =
@@ -179,10 +189,14 @@ returns-in-None-clause-kept g c =
     told-kept (g.W.Answerer.told c.args.world.now) _ _ _ (returns-in-None-clause-spoken g c)
     (λ q spoken. all-kept g.K.Maker.first (all-last g.K.Maker.first g.met.K.Maker.command) _ _ q spoken)
 
+pub returns-in-None-clause-ran : goal.returns-in-None-clause-ran
+returns-in-None-clause-ran g c = c.in_ok-ran-in-None.ensures _ (Causes-end _ _ _ _ c.turns.invariant.replays _ _ c.in_ok-call.ensures.on _ _ _ _ c.end.ensures c.turns.invariant.causes)
+
 pub returns-in-None-clause-starts : goal.returns-in-None-clause-starts
 returns-in-None-clause-starts g c =
     let p = Pays-end _ _ _ _ c.turns.invariant.replays _ _ c.in_ok-call.ensures.on _ _ _ _ c.in-Exit.is c.end.ensures in
-    starts-next _ _ _ _ _ _ 0 c.turns.invariant.starts c.in_ok-call.ensures.starts refl (ap length c.in_ok-ran-in-None.ensures ∙ ran_count-length _ _ ∙ p.counts.ran)
+    let ran = c.in_ok-ran-in-None.ensures _ (Causes-end _ _ _ _ c.turns.invariant.replays _ _ c.in_ok-call.ensures.on _ _ _ _ c.end.ensures c.turns.invariant.causes) in
+    starts-next _ _ _ _ _ _ 0 c.turns.invariant.starts c.in_ok-call.ensures.starts refl (ap length ran ∙ ran_count-length _ _ ∙ p.counts.ran)
 
 pub returns-in-None-clause-live : goal.returns-in-None-clause-live
 returns-in-None-clause-live g c =
@@ -205,6 +219,9 @@ resume-requires-clause-waiting g c = Waiting-join _ _ _ _ c.turns.invariant.repl
 
 pub resume-requires-clause-here : goal.resume-requires-clause-here
 resume-requires-clause-here g c = join-place _ _ _ _ c.turns.invariant.replays _ _ c.in_ok-call.ensures.on _ _ _ _ _ _ c.in-Exit.is c.end.ensures c.in-Some.ensures.items
+
+pub resume-requires-clause-noted : goal.resume-requires-clause-noted
+resume-requires-clause-noted g c = join-noted _ _ _ _ c.turns.invariant.replays _ _ c.in_ok-call.ensures.on _ _ _ _ _ _ c.in-Exit.is c.end.ensures c.in-Some.ensures.items _ c.turns.invariant.causes
 
 pub returns-in_err-top-in-Some-clause-stops : goal.returns-in_err-top-in-Some-clause-stops
 returns-in_err-top-in-Some-clause-stops g c =
@@ -230,6 +247,9 @@ turns-preserved g c =
       replays =
           Replaying-join _ _ _ _ c.turns.invariant.replays _ _ c.in_ok-call.ensures.on _ _ _ _ _ _ c.in-Exit.is c.end.ensures c.in-Some.ensures.items
           _ _ c.in_ok-top-in-Some.ensures.table c.in_ok-top-in-Some.ensures.place c.in_ok-top-in-Some.ensures.takes;
+      causes =
+          Causes-join _ _ _ _ c.turns.invariant.replays _ _ c.in_ok-call.ensures.on _ _ _ _ _ _ c.in-Exit.is c.end.ensures c.in-Some.ensures.items
+          _ _ _ _ c.in_ok-top-in-Some.ensures.table c.in_ok-top-in-Some.ensures.takes c.turns.invariant.causes c.in_ok-top-in-Some.ensures.noted;
       starts = starts-next _ _ _ _ _ _ _ c.turns.invariant.starts c.in_ok-call.ensures.starts c.in_ok-top-in-Some.ensures.starts p.counts.ran;
       live = omega (arith, p.counts.live, c.in_ok-top-in-Some.ensures.live, c.exit_counted-counted.ensures);
       paid = omega (arith, p.total, n);
