@@ -3,7 +3,7 @@ ghost use Rattle.std.specs.Prelude.{◌≡◌, ◌≤◌, None, OnOk, IsOk, true
 ghost use Rattle.rk_base.specs.Text.{depth};
 ghost use Rattle.rk_folder.specs.Calls.{Caused, MemoryCaused};
 
-use crate::lasting::{Unsynced, dir_of, is_sealing};
+use crate::lasting::{Unsynced, dir_of, is_seal, is_sealing};
 use rk_base::{Bytes, Name, Path, PathFault};
 use rk_folder::{Folder, FolderErr, Got, Item, LONGEST_FILE};
 use std::alloc::Global;
@@ -175,15 +175,37 @@ fn items_at(rt: &impl Files, alloc: Global, place: &str) -> io::Result<Vec<Item>
     Ok(items)
 }
 
-fn items_of(rt: &impl Files, alloc: Global, top: &str, dir: &Path) -> io::Result<Vec<Item>>
+fn list_in(
+    rt: &impl Files,
+    alloc: Global,
+    top: &str,
+    unsynced: &mut Unsynced,
+    dir: &Path,
+) -> io::Result<Vec<Item>>
     ensures { OnOk result (depth dir.now ≤ 4096) }
 {
     if dir.depth() > DEEPEST {
         return Err(io::Error::from(ErrorKind::FilesystemLoop));
     }
     let place = place_of(alloc, top, dir)?;
+    unsynced.add_listed(alloc, place.as_str())?;
     let items = items_at(rt, alloc, place.as_str())?;
     Ok(items)
+}
+
+// A sealed list that is read is to be finished.
+fn read_in(
+    rt: &impl Files,
+    alloc: Global,
+    top: &str,
+    unsynced: &mut Unsynced,
+    file: &Path,
+) -> io::Result<Got> {
+    let place = place_of(alloc, top, file)?;
+    if is_seal(file) {
+        unsynced.set_finishes(true);
+    }
+    content(rt, alloc, place.as_str())
 }
 
 // The answer of a call. Each error but want of memory is a fault.
@@ -221,11 +243,6 @@ impl<R: Files + AllocGlobal + Drop> RealFolder<R> {
             write_faults: 0,
             memory_failures: 0,
         }
-    }
-
-    fn read_at(&self, alloc: Global, file: &Path) -> io::Result<Got> {
-        let place = place_of(alloc, self.top.as_str(), file)?;
-        content(&self.rt, alloc, place.as_str())
     }
 }
 
@@ -274,6 +291,9 @@ fn remove_file_in(
     unsynced.settle(rt)?;
     unsynced.add(alloc, dir_of(place.as_str()))?;
     fs::remove_file(rt, place.as_str())?;
+    if is_seal(file) {
+        unsynced.set_finishes(false);
+    }
     unsynced.settle_made(rt)
 }
 
@@ -323,12 +343,12 @@ impl<R: Files + AllocGlobal + Drop> Folder for RealFolder<R> {
     ghost whole = { λ _. tt };
 
     fn list(&mut self, alloc: Global, dir: &Path) -> Result<Vec<Item>, FolderErr> {
-        let items = items_of(&self.rt, alloc, self.top.as_str(), dir);
+        let items = list_in(&self.rt, alloc, self.top.as_str(), &mut self.unsynced, dir);
         answer(items, &mut self.read_faults, &mut self.memory_failures)
     }
 
     fn read(&mut self, alloc: Global, file: &Path) -> Result<Got, FolderErr> {
-        let got = self.read_at(alloc, file);
+        let got = read_in(&self.rt, alloc, self.top.as_str(), &mut self.unsynced, file);
         answer(got, &mut self.read_faults, &mut self.memory_failures)
     }
 

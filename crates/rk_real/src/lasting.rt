@@ -1,5 +1,6 @@
 // What makes the changes of a real directory last: a file that was written is synced at once, and the directories whose names
-// changed before the seal of an install is put in its place or taken away.
+// changed before the seal of an install is put in its place or taken away. Where a sealed list is read, a call that was killed
+// has made some of its changes and synced none of these directories, so each that is listed from there on is synced too.
 use rk_base::Path;
 use std::alloc::Global;
 use std::fs::{File, Files, OpenFile};
@@ -10,6 +11,8 @@ use std::io::ErrorKind;
 #[derive(Drop)]
 pub(crate) struct Unsynced {
     places: Vec<String>,
+    // Whether a sealed list was read, and its seal still stands.
+    finishes: bool,
 }
 
 /// The directory that this place is in.
@@ -34,11 +37,30 @@ pub(crate) fn is_sealing(path: &Path) -> bool {
     path.text().starts_with(b"/.rkr/")
 }
 
+/// Whether this is the sealed list.
+pub(crate) fn is_seal(path: &Path) -> bool {
+    path.text() == b"/.rkr/install".as_slice()
+}
+
 impl Unsynced {
     pub(crate) fn new(alloc: Global) -> Unsynced {
         Unsynced {
             places: Vec::new(alloc),
+            finishes: false,
         }
+    }
+
+    /// Says whether a sealed list is to be finished, whose calls another process may have made.
+    pub(crate) fn set_finishes(&mut self, finishes: bool) {
+        self.finishes = finishes;
+    }
+
+    /// Keeps a directory that was listed, where a sealed list is to be finished.
+    pub(crate) fn add_listed(&mut self, alloc: Global, dir: &str) -> io::Result<()> {
+        if !self.finishes {
+            return Ok(());
+        }
+        self.add(alloc, dir)
     }
 
     fn is_last(&self, dir: &str) -> bool {
