@@ -6,7 +6,6 @@ mod builder;
 mod building;
 mod compounds;
 mod lists;
-mod parameters;
 mod parts;
 mod rows;
 mod simple;

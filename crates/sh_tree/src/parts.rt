@@ -7,15 +7,15 @@ ghost use Rattle.sh_script.specs.States as st;
 ghost use Rattle.sh_script.specs.Acts as act;
 
 use crate::builder::Builder;
-use crate::parameters::{
-    braced_parameter, operation, plain_parameter, removal, without_ends, without_first,
-};
 use crate::rows::{all_in_front, in_front, one};
 use crate::taking::{list_in, parts_in, text_in};
 use crate::value::Value;
 use rk_base::{Bytes, NoMemory};
 use sh_ast::{Part, Parts, Quoting};
 use sh_nodes::{Row, parts_of};
+use sh_script::{
+    braced_parameter, operation, plain_parameter, removal, without_ends, without_first,
+};
 use std::alloc::Global;
 use std::rc::Rc;
 

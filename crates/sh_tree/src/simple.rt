@@ -9,7 +9,6 @@ ghost use Rattle.sh_script.specs.Texts as t;
 ghost use Rattle.sh_script.specs.Acts as act;
 
 use crate::builder::Builder;
-use crate::parameters::{byte_at, descriptor_of, without_last};
 use crate::rows::{all_in_front, in_front};
 use crate::taking::{redirects_in, simple_in, text_in, word_in};
 use crate::value::Value;
@@ -17,6 +16,7 @@ use crate::words::{word_quoted, word_text};
 use rk_base::NoMemory;
 use sh_ast::{Assignment, Command, Redirect, RedirectOperator, Word};
 use sh_nodes::{Row, word_of};
+use sh_script::{byte_at, descriptor_of, without_last};
 use std::alloc::Global;
 use std::rc::Rc;
 

@@ -1,7 +1,7 @@
 use Rattle.std.proofs.Common.{◌≡◌, ◌+◌, ◌-◌, ◌≤◌, drop, length}
 use Rattle.std.specs.Char.{is_ascii_digit}
 use Rattle.sh_script.specs.Names.{count_of}
-use Rattle.sh_tree.proofs.parameters.digit_run.Given as goal
+use Rattle.sh_script.proofs.parameters.digit_run.Given as goal
 
 -- so many went by
 abbrev pub invariant-run : goal.invariant-run

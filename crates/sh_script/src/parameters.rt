@@ -52,7 +52,7 @@ fn in_name(byte: u8) -> bool
 }
 
 // The parameter that some bytes are.
-#[tactic(auto, unfolding(sh_script::specs::Texts::parameter_of))]
+#[tactic(auto, unfolding(crate::specs::Texts::parameter_of))]
 fn parameter_of(alloc: Global, text: &[u8]) -> Result<Parameter, NoMemory>
     ensures { IfOk result (λ p. p ≡ t.parameter_of text.now) }
 {
@@ -108,7 +108,7 @@ fn digit_run(text: &[u8]) -> usize
 }
 
 // How many bytes of a parameter stand in front.
-#[tactic(auto, unfolding(sh_script::specs::Names::parameter_length))]
+#[tactic(auto, unfolding(crate::specs::Names::parameter_length))]
 fn parameter_length(text: &[u8]) -> usize
     ensures { result ≡ names.parameter_length text.now }
 {

@@ -1,6 +1,6 @@
 use Rattle.std.proofs.Common.{◌≡◌, ◌+◌, ◌-◌, ◌≤◌, drop, length}
 use Rattle.sh_script.specs.Names.{count_of, in_name}
-use Rattle.sh_tree.proofs.parameters.name_run.Given as goal
+use Rattle.sh_script.proofs.parameters.name_run.Given as goal
 
 -- so many went by
 abbrev pub invariant-run : goal.invariant-run
