@@ -2,7 +2,7 @@
 // for them and removed again.
 use crate::folders::{folder_step, put_shown};
 use crate::plans::{Holdings, plan_shown};
-use crate::recoveries::{call_of, install_shown, list_of, recovery_shown};
+use crate::recoveries::{call_of, install_list_of, install_shown, recovery_shown};
 use rk_base::NoMemory;
 use rk_folder::Sink;
 use rk_install::{install, recover};
@@ -197,7 +197,7 @@ impl Real {
 
     // The plan of the calls that were put.
     fn install_list(&mut self) -> Result<String, NoMemory> {
-        match list_of(self.alloc, &mut self.ops) {
+        match install_list_of(self.alloc, &mut self.ops) {
             Some(list) => self.carry_out(Some(Plan {
                 calls: Some(list),
                 fresh_list: false,

@@ -36,7 +36,7 @@ pub(crate) fn call_of(alloc: Global, words: &[Vec<u8>]) -> Result<Option<Op>, No
 }
 
 /// These calls as a list, where they are one; they are gone then.
-pub(crate) fn list_of(alloc: Global, calls: &mut Vec<Op>) -> Option<InstallList> {
+pub(crate) fn install_list_of(alloc: Global, calls: &mut Vec<Op>) -> Option<InstallList> {
     let mut ops = Vec::new(alloc);
     std::mem::swap(calls, &mut ops);
     InstallList::from_vec(ops)
@@ -100,7 +100,7 @@ impl Recoveries {
 
     // The calls that were put, as the sealed list of the folder.
     fn seal(&mut self) -> Result<String, NoMemory> {
-        let Some(list) = list_of(self.alloc, &mut self.ops) else {
+        let Some(list) = install_list_of(self.alloc, &mut self.ops) else {
             return plain(self.alloc, "no list");
         };
         let bytes = encode(self.alloc, &list)?;

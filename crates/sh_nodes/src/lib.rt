@@ -10,7 +10,7 @@ mod shared;
 mod simple;
 mod words;
 
-pub use lists::{branches_of, case_items_of, connectors_of, list_of, parts_of, words_of};
+pub use lists::{branches_of, case_items_of, commands_of, connectors_of, parts_of, words_of};
 pub use places::{PLACES, place_of};
 pub use row::Row;
 pub use shared::Shared;

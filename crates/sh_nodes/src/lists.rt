@@ -32,7 +32,7 @@ pub fn words_of(alloc: Global, words: Row<Rc<Word>>) -> Result<Rc<Words>, NoMemo
 }
 
 /// Commands, one after another.
-pub fn list_of(alloc: Global, commands: Row<Command>) -> Result<Rc<CommandList>, NoMemory>
+pub fn commands_of(alloc: Global, commands: Row<Command>) -> Result<Rc<CommandList>, NoMemory>
     ensures { IfOk result (λ r. c.commands r.value ≡ c.commands_of (map c.command commands)) }
 {
     let items = commands.into_items()?;

@@ -15,7 +15,7 @@ use crate::value::Value;
 use crate::words::{word_quoted, word_text};
 use rk_base::NoMemory;
 use sh_ast::{Branch, CaseItem, Command, Compound, LoopKind, Words};
-use sh_nodes::{Row, branches_of, case_items_of, list_of, words_of};
+use sh_nodes::{Row, branches_of, case_items_of, commands_of, words_of};
 use std::alloc::Global;
 use std::rc::Rc;
 
@@ -122,7 +122,7 @@ pub fn if_command(b: &mut Builder, alloc: Global) -> Result<(), NoMemory>
     branch(b, alloc)?;
     let (branches, otherwise) = branches_in(alloc, b.pop());
     let branches = branches_of(alloc, branches)?;
-    let otherwise = list_of(alloc, otherwise)?;
+    let otherwise = commands_of(alloc, otherwise)?;
     b.put(Value::Compound(Compound::If(branches, otherwise)))
 }
 

@@ -12,7 +12,7 @@ use crate::taking::{commands_in, joined_in};
 use crate::value::Value;
 use rk_base::NoMemory;
 use sh_ast::{Command, Connector};
-use sh_nodes::{Row, connectors_of, list_of};
+use sh_nodes::{Row, commands_of, connectors_of};
 use std::alloc::Global;
 
 /// No commands.
@@ -51,7 +51,7 @@ fn pipeline(
 ) -> Result<(), NoMemory>
     ensures { OnOk result (state b.new ≡ st.with (act.pipeline negated (map c.command commands)) (state b.old)) }
 {
-    let list = list_of(alloc, commands)?;
+    let list = commands_of(alloc, commands)?;
     b.put_command(alloc, Command::Pipeline(negated, list))
 }
 
@@ -132,7 +132,7 @@ fn chained(
         return b.put(Value::Commands(front));
     }
     let pipelines = all_in_front(front, pipelines)?;
-    let pipelines = list_of(alloc, pipelines)?;
+    let pipelines = commands_of(alloc, pipelines)?;
     let connectors = connectors_of(alloc, connectors)?;
     b.put_command(alloc, Command::AndOr(pipelines, connectors))?;
     Ok(())

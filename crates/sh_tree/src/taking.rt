@@ -12,7 +12,7 @@ use rk_base::{Bytes, NoMemory};
 use sh_ast::{
     Assignment, Branch, CaseItem, Command, CommandList, Compound, Connector, Part, Redirect, Word,
 };
-use sh_nodes::{NewWord, Row, list_of, new_word};
+use sh_nodes::{NewWord, Row, commands_of, new_word};
 use std::alloc::Global;
 use std::rc::Rc;
 
@@ -135,7 +135,7 @@ pub fn joined_in(alloc: Global, value: Value) -> (Row<Connector>, Row<Command>)
 pub fn list_in(alloc: Global, value: Value) -> Result<Rc<CommandList>, NoMemory>
     ensures { IfOk result (λ r. c.commands r.value ≡ c.commands_of (v.commands_in (seen value))) }
 {
-    list_of(alloc, commands_in(alloc, value))
+    commands_of(alloc, commands_in(alloc, value))
 }
 
 /// The compound command that a value holds; else an empty group.
@@ -147,7 +147,7 @@ pub fn compound_in(alloc: Global, value: Value) -> Result<Compound, NoMemory>
         Value::Compound(compound) => Ok(compound),
         other => {
             drop(other);
-            let list = list_of(alloc, Row::new(alloc))?;
+            let list = commands_of(alloc, Row::new(alloc))?;
             Ok(Compound::Group(list))
         }
     }
