@@ -9,7 +9,7 @@ use Rattle.rk_calls.specs.Proper.{IsProper}
 use Rattle.rk_calls.specs.Views.{View, Alike, alike-ask}
 use Rattle.sh_redirect.specs.DescriptorTable.{slot}
 use Rattle.sh_means.specs.declared.flow.Flow.{Flow}
-use Rattle.sh_means.specs.declared.flow.Flow.TheVariants.{Normal, Breaks, Continues, Returns, Exits}
+use Rattle.sh_means.specs.declared.flow.Flow.TheVariants.{Normal, Breaks, Continues, Returns}
 use Rattle.sh_means.specs.declared.flow.Place.{Place}
 use Rattle.sh_means.specs.State.{Shell, with_status, heard}
 use Rattle.sh_means.specs.Flows.{Next, Go_on, Means, asks, told, tells, ends, and_then, by_status, leave, go_round, in_loop, returned, watch, watched, inverted_status, inverted}
@@ -64,10 +64,7 @@ module _ (v : View) where
 
   pub and_then-alike : (P : ℕ) (g g' : Go_on) (k k' : Next) → Goes P g g' → Below P k k' → Below P (and_then g k) (and_then g' k')
   and_then-alike P g g' k k' hg hk Normal = hg
-  and_then-alike P g g' k k' hg hk (Breaks n) = hk (Breaks n)
-  and_then-alike P g g' k k' hg hk (Continues n) = hk (Continues n)
-  and_then-alike P g g' k k' hg hk Returns = hk Returns
-  and_then-alike P g g' k k' hg hk Exits = hk Exits
+  and_then-alike P g g' k k' hg hk flow = hk flow
 
   pub by_status-alike : (P s : ℕ) (g g' h h' : Go_on) → Goes P g g' → Goes P h h' → Goes P (by_status s g h) (by_status s g' h')
   by_status-alike P zero g g' h h' hg hh = hg
@@ -78,29 +75,19 @@ module _ (v : View) where
   go_round-alike P (suc n) g g' k k' hg hk = hk (Continues n)
 
   pub in_loop-alike : (P : ℕ) (g g' h h' : Go_on) (k k' : Next) → Goes P g g' → Goes P h h' → Below P k k' → Below P (in_loop g h k) (in_loop g' h' k')
-  in_loop-alike P g g' h h' k k' hg hh hk Normal = hg
   in_loop-alike P g g' h h' k k' hg hh hk (Breaks n) = hk (leave n)
   in_loop-alike P g g' h h' k k' hg hh hk (Continues n) = go_round-alike P n h h' k k' hh hk
-  in_loop-alike P g g' h h' k k' hg hh hk Returns = hk Returns
-  in_loop-alike P g g' h h' k k' hg hh hk Exits = hk Exits
+  in_loop-alike P g g' h h' k k' hg hh hk flow = and_then-alike P g g' k k' hg hk flow
 
   pub returned-alike : (P : ℕ) (k k' : Next) → Below P k k' → Below P (returned k) (returned k')
-  returned-alike P k k' h Normal = h Normal
-  returned-alike P k k' h (Breaks n) = h (Breaks n)
-  returned-alike P k k' h (Continues n) = h (Continues n)
   returned-alike P k k' h Returns = h Normal
-  returned-alike P k k' h Exits = h Exits
+  returned-alike P k k' h flow = h flow
 
   pub watched-alike : (P : ℕ) (pl : Place) (k k' : Next) → Below P k k' → Below P (watched pl k) (watched pl k')
-  watched-alike P pl k k' h Normal e p le = h (watch pl e) e p le
-  watched-alike P pl k k' h (Breaks n) e p le = h (Breaks n) e p le
-  watched-alike P pl k k' h (Continues n) e p le = h (Continues n) e p le
-  watched-alike P pl k k' h Returns e p le = h Returns e p le
-  watched-alike P pl k k' h Exits e p le = h Exits e p le
+  watched-alike P pl k k' h = and_then-alike P (λ e. k (watch pl e) e) (λ e. k' (watch pl e) e) k k' (λ e p le. h (watch pl e) e p le) h
 
   pub inverted-alike : (P : ℕ) (k k' : Next) → Below P k k' → Below P (inverted k) (inverted k')
-  inverted-alike P k k' h Normal e p le = h Normal (with_status (inverted_status e.env.status) e) p le
-  inverted-alike P k k' h (Breaks n) e p le = h (Breaks n) e p le
-  inverted-alike P k k' h (Continues n) e p le = h (Continues n) e p le
-  inverted-alike P k k' h Returns e p le = h Returns e p le
-  inverted-alike P k k' h Exits e p le = h Exits e p le
+  inverted-alike P k k' h =
+      let x : Go_on = λ e. k Normal (with_status (inverted_status e.env.status) e) in
+      let x' : Go_on = λ e. k' Normal (with_status (inverted_status e.env.status) e) in
+      and_then-alike P x x' k k' (λ e p le. h Normal (with_status (inverted_status e.env.status) e) p le) h

@@ -43,13 +43,11 @@ sh = codes "sh"
 abbrev pub ends : Flow → ℕ → Next → Go_on
 ends f n k e = k f (with_status n e)
 
--- one command after another
+-- One command after another: where the first has ended normally, the next goes on; any other flow passes on to what comes
+-- after both.
 abbrev pub and_then : Go_on → Next → Next
 and_then go k Normal e = go e
-and_then go k (Breaks n) e = k (Breaks n) e
-and_then go k (Continues n) e = k (Continues n) e
-and_then go k Returns e = k Returns e
-and_then go k Exits e = k Exits e
+and_then go k flow e = k flow e
 
 abbrev pub by_status : ℕ → Go_on → Go_on → Go_on
 by_status zero good bad e = good e
@@ -66,13 +64,12 @@ abbrev pub go_round : ℕ → Go_on → Next → Go_on
 go_round zero again k e = again e
 go_round (suc n) again k e = k (Continues n) e
 
--- after a loop's condition or body: how it goes on normally, and its next round
+-- After a loop's condition or body: a break leaves the loop, a continue goes on with its next round, and all else is as
+-- between commands.
 abbrev pub in_loop : Go_on → Go_on → Next → Next
-in_loop go again k Normal e = go e
 in_loop go again k (Breaks n) e = k (leave n) e
 in_loop go again k (Continues n) e = go_round n again k e
-in_loop go again k Returns e = k Returns e
-in_loop go again k Exits e = k Exits e
+in_loop go again k flow e = and_then go k flow e
 
 -- A break or a continue of n loops where there are d. Outside of loops nothing is left; of fewer loops the outermost is.
 abbrev pub break_of : ℕ → ℕ → Flow
@@ -85,12 +82,10 @@ continue_of n (suc d) = Continues (min (n - 1) d)
 
 -- Returning: of a function or a dot script; elsewhere the shell exits.
 
+-- a return leads back here, as the end of the body does; any other flow passes on
 abbrev pub returned : Next → Next
-returned k Normal e = k Normal e
-returned k (Breaks n) e = k (Breaks n) e
-returned k (Continues n) e = k (Continues n) e
 returned k Returns e = k Normal e
-returned k Exits e = k Exits e
+returned k flow e = k flow e
 
 abbrev pub return_flow : Bool → Flow
 return_flow true = Returns
@@ -101,11 +96,7 @@ abbrev pub watch : Place → Shell → Flow
 watch pl e = if e.errexit && (not pl.ignores && not (e.env.status == 0)) then Exits else Normal
 
 abbrev pub watched : Place → Next → Next
-watched pl k Normal e = k (watch pl e) e
-watched pl k (Breaks n) e = k (Breaks n) e
-watched pl k (Continues n) e = k (Continues n) e
-watched pl k Returns e = k Returns e
-watched pl k Exits e = k Exits e
+watched pl k = and_then (λ e. k (watch pl e) e) k
 
 -- `!`
 abbrev pub inverted_status : ℕ → ℕ
@@ -113,11 +104,7 @@ inverted_status zero = 1
 inverted_status (suc n) = 0
 
 abbrev pub inverted : Next → Next
-inverted k Normal e = k Normal (with_status (inverted_status e.env.status) e)
-inverted k (Breaks n) e = k (Breaks n) e
-inverted k (Continues n) e = k (Continues n) e
-inverted k Returns e = k Returns e
-inverted k Exits e = k Exits e
+inverted k = and_then (λ e. k Normal (with_status (inverted_status e.env.status) e)) k
 
 -- Places.
 
