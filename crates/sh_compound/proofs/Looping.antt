@@ -5,7 +5,6 @@ use Rattle.std.proofs.lemmas.Bool.{false≢true}
 use Rattle.std.specs.declared.rc.Rc.{Rc}
 use Rattle.std.specs.declared.alloc.Global.{Global}
 use Rattle.rk_calls.specs.declared.answer.Answer.TheVariants.{Go}
-use Rattle.sh_ast.specs.Commands as tree
 use Rattle.sh_ast.specs.declared.command.CommandList.{CommandList}
 use Rattle.sh_ast.specs.declared.command.LoopKind.{LoopKind}
 use Rattle.sh_ast.specs.declared.command.LoopKind.TheVariants.{While, Until}
@@ -19,8 +18,7 @@ use Rattle.sh_means.specs.Compound.{turns_round, after_body}
 use Rattle.sh_means.specs.Eval.{is_until}
 use Rattle.sh_means.specs.Flows.{Next, Go_on, by_status, ends, deeper}
 use Rattle.sh_compound.specs.Leaving.{goes_on, entered}
-use Rattle.sh_means.specs.Run.{run}
-use Rattle.sh_means.specs.Stack.{each_body, looping, whole, continued, resumed}
+use Rattle.sh_means.specs.Stack.{each_body, loop_of, whole, continued, resumed}
 use Rattle.sh_means.specs.State.{Shell}
 
 pub each_entered : (each : Each) (b : Place) (body : Rc CommandList Global) (pl : Place) (k k' : Next) (e : Shell) (p : ℕ) → body.value ≡ each.body.value → b ≡ deeper pl → k' ≡ continued (continuation.Each pl (record each { at = each.at + 1 })) k → each_body each pl k e p ≡ resumed (control.Whole b body) k' Go e p
@@ -54,7 +52,7 @@ stops Until (suc n) x y e p h = absurd (false≢true (sym h ∙ ap not (eqb-suc-
 
 pub loop_entered : (l : Loop) (last : ℕ) (t : Bool) (b : Place) (body : Rc CommandList Global) (pl : Place) (k k' : Next) (e : Shell) (p : ℕ) → t ≡ goes_on l.kind e.env.status → t ≡ true → body.value ≡ l.body.value → b ≡ deeper pl → k' ≡ continued (continuation.Body pl l) k → entered l last pl k e p ≡ resumed (control.Whole b body) k' Go e p
 loop_entered l last t b body pl k k' e p ht h hc hb hk =
-    let x : Go_on = λ e. whole l.body.value (deeper pl) e (after_body run (looping l) (tree.commands l.condition.value) (tree.commands l.body.value) pl k) in
+    let x : Go_on = λ e. whole l.body.value (deeper pl) e (after_body (loop_of l) pl k) in
     let y : Go_on = λ e. ends Normal last k e in
     turns_is l.kind x y e p ∙ goes l.kind e.env.status x y e p (sym ht ∙ h)
     ∙ ap (λ (c : CommandList). whole c (deeper pl) e (continued (continuation.Body pl l) k) p) (sym hc)
@@ -63,6 +61,6 @@ loop_entered l last t b body pl k k' e p ht h hc hb hk =
 
 pub loop_over : (l : Loop) (last : ℕ) (t : Bool) (pl : Place) (k : Next) (e : Shell) (p : ℕ) → t ≡ goes_on l.kind e.env.status → t ≡ false → entered l last pl k e p ≡ ends Normal last k e p
 loop_over l last t pl k e p ht h =
-    let x : Go_on = λ e. whole l.body.value (deeper pl) e (after_body run (looping l) (tree.commands l.condition.value) (tree.commands l.body.value) pl k) in
+    let x : Go_on = λ e. whole l.body.value (deeper pl) e (after_body (loop_of l) pl k) in
     let y : Go_on = λ e. ends Normal last k e in
     turns_is l.kind x y e p ∙ stops l.kind e.env.status x y e p (sym ht ∙ h)

@@ -3,7 +3,6 @@ use Rattle.std.proofs.Common.{◌≡◌, ℕ, ◌-◌, ◌<◌, ◌≤◌, List,
 use Rattle.rk_base.specs.Text.{Text}
 use Rattle.rk_calls.specs.Talk.{pay}
 use Rattle.rk_calls.specs.Views.{View, Alike, alike-if, alike-pay, alike-ask}
-use Rattle.sh_ast.specs.Commands.{CommandsTree}
 use Rattle.sh_ast.specs.declared.command.Connector.{Connector}
 use Rattle.sh_pattern.specs.Decided.{is_matched}
 use Rattle.sh_expand.specs.declared.mode.Mode.TheVariants as mode
@@ -13,11 +12,9 @@ use Rattle.sh_means.specs.declared.flow.Place.{Place}
 use Rattle.sh_means.specs.State.{FunctionTree, Shell, with_status, heard, back, past_stage, define}
 use Rattle.sh_means.specs.Flows.{Next, Go_on, Means, ends, and_then, by_status, in_loop, watched, inverted, ignoring, deeper}
 use Rattle.sh_means.specs.Words.{WordMeant, RedirectMeant, value_of, named, redirect_all, unredirected}
-use Rattle.sh_means.specs.Simple.{Meaning, Round}
-use Rattle.sh_means.specs.Compound.{seq_all, whole_of, place_before, takes, links_mean, and_or_means, stages_mean, piped_means, pipeline_means, define_means, subshell_means, BranchMeant, if_means, turns_round, next_round, after_body, after_condition, round_means, for_each, for_fields, ForMeant, Parameters, Among, for_means, CaseMeant, case_patterns, case_items, case_means, made_compound, refused_compound, compound_means}
+use Rattle.sh_means.specs.Compound.{seq_all, whole_of, place_before, takes, links_mean, and_or_means, stages_mean, piped_means, pipeline_means, define_means, subshell_means, BranchMeant, if_means, LoopMeant, turns_round, next_round, after_body, after_condition, round_means, for_each, for_fields, ForMeant, Parameters, Among, for_means, CaseMeant, case_patterns, case_items, case_means, made_compound, refused_compound, compound_means}
 use Rattle.sh_means.proofs.AlikeFlows.{Each, Below, Goes, SameMeans, lower, means-down, all-down, ends-alike, and_then-alike, by_status-alike, in_loop-alike, watched-alike, inverted-alike}
 use Rattle.sh_means.proofs.AlikeWords.{SameWord, SameRedirect, expand_word-alike, expand_words-alike, redirect_all-alike, unredirected-alike, named-same, assigns-alike, word-down, words-down, redirects-down}
-use Rattle.sh_means.proofs.AlikeSimple.{SameAgain}
 
 module _ (v : View) where
   -- Lists.
@@ -196,31 +193,36 @@ module _ (v : View) where
       (λ r e' p' le'. s p' (omega arith) pl e' p' (unredirected (named rs) e.descriptors k) (unredirected (named rs) e.descriptors k') (omega arith) (lower v (p - 1) p' (unredirected (named rs) e.descriptors k) (unredirected (named rs) e.descriptors k') le' (unredirected-alike v (p - 1) (named rs) e.descriptors k k' hk')))
       (ends-alike v (p - 1) Normal 1 (unredirected (named rs) e.descriptors (watched pl k)) (unredirected (named rs) e.descriptors (watched pl k')) (unredirected-alike v (p - 1) (named rs) e.descriptors (watched pl k) (watched pl k') (watched-alike v (p - 1) pl k k' hk'))) hk' e (p - 1) (omega arith)))
 
-  -- Loops, wherever what is evaluated again is alike with fewer than P turns left.
-  module _ (P : ℕ) (g h : Meaning) (same : SameAgain v P g h) where
-    next_round-alike : (Q : ℕ) (until : Bool) (t b : CommandsTree) (pl : Place) (k k' : Next) → Q < P → Below v Q k k' → Goes v Q (next_round g until t b pl k) (next_round h until t b pl k')
-    next_round-alike Q until t b pl k k' lt hk e p le = same (Round e.env.status until t b) pl e p k k' (omega arith) (lower v Q p k k' le hk)
+  -- Loops, whose rounds are alike with fewer than P turns left.
+  abbrev pub SameRounds : ℕ → (ℕ → Means) → (ℕ → Means) → Type 0
+  SameRounds P g h = (last : ℕ) (pl : Place) (e : Shell) (p : ℕ) (k k' : Next) → p < P → Below v p k k' → Alike v p (g last pl e k) (h last pl e k')
 
-    after_body-alike : (Q : ℕ) (until : Bool) (t b : CommandsTree) (pl : Place) (k k' : Next) → Q < P → Below v Q k k' → Below v Q (after_body g until t b pl k) (after_body h until t b pl k')
-    after_body-alike Q until t b pl k k' lt hk =
-        let x : Go_on = next_round g until t b pl k in
-        let x' : Go_on = next_round h until t b pl k' in
-        let s : Goes v Q x x' = next_round-alike Q until t b pl k k' lt hk in
+  module _ (P : ℕ) (l m : LoopMeant) (same : SameRounds P l.again m.again) where
+    next_round-alike : (Q : ℕ) (pl : Place) (k k' : Next) → Q < P → Below v Q k k' → Goes v Q (next_round l pl k) (next_round m pl k')
+    next_round-alike Q pl k k' lt hk e p le = same e.env.status pl e p k k' (omega arith) (lower v Q p k k' le hk)
+
+    after_body-alike : (Q : ℕ) (pl : Place) (k k' : Next) → Q < P → Below v Q k k' → Below v Q (after_body l pl k) (after_body m pl k')
+    after_body-alike Q pl k k' lt hk =
+        let x : Go_on = next_round l pl k in
+        let x' : Go_on = next_round m pl k' in
+        let s : Goes v Q x x' = next_round-alike Q pl k k' lt hk in
         in_loop-alike v Q x x' x x' k k' s s hk
 
     turns_round-alike : (Q : ℕ) (until : Bool) (x x' y y' : Go_on) → Goes v Q x x' → Goes v Q y y' → Goes v Q (turns_round until x y) (turns_round until x' y')
     turns_round-alike Q true x x' y y' hx hy e p le = by_status-alike v Q e.env.status y y' x x' hy hx e p le
     turns_round-alike Q false x x' y y' hx hy e p le = by_status-alike v Q e.env.status x x' y y' hx hy e p le
 
-    pub round-alike : (Q : ℕ) (tm tn bm bn : Means) (last : ℕ) (until : Bool) (t b : CommandsTree) → Q ≤ P → SameMeans v Q tm tn → SameMeans v Q bm bn → SameMeans v Q (round_means tm bm g last until t b) (round_means tn bn h last until t b)
-    round-alike Q tm tn bm bn last until t b leQ st sb pl e p k k' le hk =
-        let x : Go_on = λ e. bm (deeper pl) e (after_body g until t b pl k) in
-        let x' : Go_on = λ e. bn (deeper pl) e (after_body h until t b pl k') in
+    pub round-alike : (Q last : ℕ) → Q ≤ P → l.until ≡ m.until → SameMeans v Q l.condition m.condition → SameMeans v Q l.body m.body → SameMeans v Q (round_means l last) (round_means m last)
+    round-alike Q last leQ su st sb pl e p k k' le hk =
+        let x : Go_on = λ e. l.body (deeper pl) e (after_body l pl k) in
+        let x' : Go_on = λ e. m.body (deeper pl) e (after_body m pl k') in
         let y : Go_on = λ e. ends Normal last k e in
         let y' : Go_on = λ e. ends Normal last k' e in
         alike-pay v p 1 _ _ (λ lt.
         let hk' : Below v (p - 1) k k' = lower v p (p - 1) k k' (omega arith) hk in
-        st (ignoring (deeper pl)) e (p - 1) (after_condition bm g last until t b pl k) (after_condition bn h last until t b pl k') (omega arith)
-        (in_loop-alike v (p - 1) (turns_round until x y) (turns_round until x' y') (next_round g until t b pl k) (next_round h until t b pl k') k k'
-        (turns_round-alike (p - 1) until x x' y y' (λ e' p' le'. sb (deeper pl) e' p' (after_body g until t b pl k) (after_body h until t b pl k') (omega arith) (after_body-alike p' until t b pl k k' (omega arith) (lower v (p - 1) p' k k' le' hk'))) (λ e' p' le'. hk' Normal (with_status last e') p' le'))
-        (next_round-alike (p - 1) until t b pl k k' (omega arith) hk') hk'))
+        let goes : Goes v (p - 1) (turns_round l.until x y) (turns_round l.until x' y') =
+        turns_round-alike (p - 1) l.until x x' y y' (λ e' p' le'. sb (deeper pl) e' p' (after_body l pl k) (after_body m pl k') (omega arith) (after_body-alike p' pl k k' (omega arith) (lower v (p - 1) p' k k' le' hk'))) (λ e' p' le'. hk' Normal (with_status last e') p' le') in
+        st (ignoring (deeper pl)) e (p - 1) (after_condition l last pl k) (after_condition m last pl k') (omega arith)
+        (in_loop-alike v (p - 1) (turns_round l.until x y) (turns_round m.until x' y') (next_round l pl k) (next_round m pl k') k k'
+        (subst (λ (u : Bool). Goes v (p - 1) (turns_round l.until x y) (turns_round u x' y')) su goes)
+        (next_round-alike (p - 1) pl k k' (omega arith) hk') hk'))

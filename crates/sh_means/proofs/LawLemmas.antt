@@ -12,7 +12,7 @@ use Rattle.sh_means.specs.State.{Shell}
 use Rattle.sh_means.specs.Flows.{Next, sh, ends}
 use Rattle.sh_means.specs.Simple.{Job, Round, Called, Reads, Meaning}
 use Rattle.sh_script.specs.Reads.{Reading, Script, Faulty}
-use Rattle.sh_means.specs.Eval.{is_until, command_in, commands_in, compound_in, for_in, branches_in, items_in, words_in, word_in, bodies_in, simple_in, assigns_in, redirects_in, whole_in, reading_means, job_in, Task, task_in, run, over}
+use Rattle.sh_means.specs.Eval.{is_until, command_in, commands_in, compound_in, for_in, branches_in, items_in, words_in, word_in, bodies_in, simple_in, assigns_in, redirects_in, whole_in, loop_in, reading_means, job_in, Task, task_in, run, over}
 use Rattle.sh_means.proofs.AlikeFlows.{Each, Below, SameMeans, all-down, tells-alike, ends-alike}
 use Rattle.sh_means.proofs.AlikeWords.{SameWord, SameRedirect, SameAssign, word-down, words-down}
 use Rattle.sh_means.proofs.AlikeSimple.{SameAgain, simple-alike}
@@ -83,7 +83,7 @@ module _ (v : View) (P : ℕ) (g h : Meaning) (same : SameAgain v P g h) where
 module _ (read : Text → Reading) where
   job-alike : (v : View) (P : ℕ) (g h : Meaning) → SameAgain v P g h → SameAgain v (suc P) (job_in read g) (job_in read h)
   job-alike v P g h same (Round last until condition body) pl e p k k' lt hk =
-      round-alike v P g h same P (whole_in g condition) (whole_in h condition) (whole_in g body) (whole_in h body) last until condition body (omega arith)
+      round-alike v P (loop_in g until condition body) (loop_in h until condition body) (λ last. same (Round last until condition body)) P last (omega arith) refl
       (whole_of-alike v P (commands_in g condition) (commands_in h condition) (commands-alike v P g h same condition))
       (whole_of-alike v P (commands_in g body) (commands_in h body) (commands-alike v P g h same body)) pl e p k k' (omega arith) hk
   job-alike v P g h same (Called f) pl e p k k' lt hk =

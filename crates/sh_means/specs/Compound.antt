@@ -3,7 +3,6 @@ use Rattle.std.specs.Prelude.{ℕ, ◌==◌, not, List, [], ◌∷◌, Option, S
 use Rattle.rk_base.specs.Text.{Text}
 use Rattle.rk_calls.specs.Talk.{Says, pay}
 use Rattle.rk_calls.specs.declared.call.Call.TheVariants.{Pipe}
-use Rattle.sh_ast.specs.Commands.{CommandsTree}
 use Rattle.sh_ast.specs.declared.command.Connector.{Connector}
 use Rattle.sh_ast.specs.declared.command.Connector.TheVariants.{And, Or}
 use Rattle.sh_pattern.specs.Decided.{is_matched}
@@ -15,7 +14,6 @@ use Rattle.sh_means.specs.declared.flow.Place.{Place}
 use Rattle.sh_means.specs.State.{FunctionTree, Shell, with_slot, back, past_stage, define}
 use Rattle.sh_means.specs.Flows.{Next, Go_on, Means, asks, ends, and_then, by_status, in_loop, watched, inverted, ignoring, deeper}
 use Rattle.sh_means.specs.Words.{WordMeant, RedirectMeant, expand_word, expand_words, value_of, named, redirect_all, unredirected, assigns}
-use Rattle.sh_means.specs.Simple.{Meaning, Round}
 
 -- Lists.
 
@@ -92,25 +90,30 @@ abbrev pub if_means : List BranchMeant → Means → Means
 if_means [] otherwise pl e k = otherwise pl e k
 if_means (b ∷ bs) otherwise pl e k = b.condition (ignoring pl) e (and_then (λ e. by_status e.env.status (λ e. b.body pl e k) (λ e. if_means bs otherwise pl e k) e) k)
 
+-- A loop: what its condition and its body mean, whether it is an `until`, and its round after a body that had this status.
+pub record LoopMeant : Type 0 where
+  pub condition : Means
+  pub body : Means
+  pub until : Bool
+  pub again : ℕ → Means
+
 -- one round more where the condition has status 0, or for `until` any other
 abbrev pub turns_round : Bool → Go_on → Go_on → Shell → Says
 turns_round true body over e = by_status e.env.status over body e
 turns_round false body over e = by_status e.env.status body over e
 
-abbrev pub next_round : Meaning → Bool → CommandsTree → CommandsTree → Place → Next → Go_on
-next_round again until condition body pl k e = again (Round e.env.status until condition body) pl e k
+abbrev pub next_round : LoopMeant → Place → Next → Go_on
+next_round l pl k e = l.again e.env.status pl e k
 
-abbrev pub after_body : Meaning → Bool → CommandsTree → CommandsTree → Place → Next → Next
-after_body again until condition body pl k = let go = next_round again until condition body pl k in in_loop go go k
+abbrev pub after_body : LoopMeant → Place → Next → Next
+after_body l pl k = let go = next_round l pl k in in_loop go go k
 
 -- a loop that is over has the status of its last body, or 0
-abbrev pub after_condition : Means → Meaning → ℕ → Bool → CommandsTree → CommandsTree → Place → Next → Next
-after_condition body_means again last until condition body pl k =
-    in_loop (turns_round until (λ e. body_means (deeper pl) e (after_body again until condition body pl k)) (λ e. ends Normal last k e)) (next_round again until condition body pl k) k
+abbrev pub after_condition : LoopMeant → ℕ → Place → Next → Next
+after_condition l last pl k = in_loop (turns_round l.until (λ e. l.body (deeper pl) e (after_body l pl k)) (λ e. ends Normal last k e)) (next_round l pl k) k
 
-abbrev pub round_means : Means → Means → Meaning → ℕ → Bool → CommandsTree → CommandsTree → Means
-round_means condition_means body_means again last until condition body pl e k =
-    pay 1 (condition_means (ignoring (deeper pl)) e (after_condition body_means again last until condition body pl k))
+abbrev pub round_means : LoopMeant → ℕ → Means
+round_means l last pl e k = pay 1 (l.condition (ignoring (deeper pl)) e (after_condition l last pl k))
 
 -- `for`, over these fields
 abbrev pub for_each : Text → List Text → Means → Place → Next → Go_on

@@ -14,7 +14,7 @@ use Rattle.sh_means.specs.State.{Shell}
 use Rattle.sh_means.specs.Flows.{Next, Means, tells, sh, ends}
 use Rattle.sh_means.specs.Words.{WordMeant, RedirectMeant, AssignMeant, redirect_kind}
 use Rattle.sh_means.specs.Simple.{Job, Round, Called, Reads, Meaning, simple_means}
-use Rattle.sh_means.specs.Compound.{whole_of, and_or_means, pipeline_means, define_means, subshell_means, BranchMeant, if_means, round_means, ForMeant, Parameters, Among, for_means, CaseMeant, case_means, compound_means}
+use Rattle.sh_means.specs.Compound.{whole_of, and_or_means, pipeline_means, define_means, subshell_means, BranchMeant, if_means, LoopMeant, round_means, ForMeant, Parameters, Among, for_means, CaseMeant, case_means, compound_means}
 
 abbrev pub is_until : LoopKind → Bool
 is_until While = false
@@ -78,6 +78,10 @@ abbrev mutual
 abbrev pub whole_in : Meaning → CommandsTree → Means
 whole_in again cs = whole_of (commands_in again cs)
 
+-- a loop, whose rounds are evaluated again
+abbrev pub loop_in : Meaning → Bool → CommandsTree → CommandsTree → LoopMeant
+loop_in again until condition body = record { condition = whole_in again condition; body = whole_in again body; until = until; again = λ last. again (Round last until condition body) }
+
 -- a fault of syntax is told under the text's name and ends the shell
 abbrev pub reading_means : Meaning → Text → Reading → Means
 reading_means again name (Script cs) pl e k = whole_in again cs pl e k
@@ -86,7 +90,7 @@ reading_means again name (Faulty words) pl e k = tells (error_line sh name words
 -- Where texts read so.
 module _ (read : Text → Reading) where
   abbrev pub job_in : Meaning → Meaning
-  job_in again (Round last until condition body) = round_means (whole_in again condition) (whole_in again body) again last until condition body
+  job_in again (Round last until condition body) = round_means (loop_in again until condition body) last
   job_in again (Called f) = compound_means (redirects_in again f.redirects) (compound_in again f.body)
   job_in again (Reads name text) = reading_means again name (read text)
 

@@ -61,8 +61,8 @@ use Rattle.sh_means.specs.State.{Shell, with_env, with_status, with_positional, 
 use Rattle.sh_means.specs.Flows.{Next, Go_on, Means, asks, ends, and_then, by_status, in_loop, returned, watched, inverted, deeper}
 use Rattle.sh_means.specs.Words.{WordMeant, RedirectMeant, AssignMeant, bodies_at, faults, expand_words, fields_of, value_of, named, moved, redirect_to, redirect_all, unredirected, names, assigns, assign_all, unassigned}
 use Rattle.sh_means.specs.Simple.{CommandKind, Bare, Special, Calls, Builtin as Builds, Launches, Round, Reads, dot_opened, dot_read, works, made_simple, refused_simple, redirects_and_works}
-use Rattle.sh_means.specs.Compound.{seq_all, links_mean, with_input, stages_mean, BranchMeant, if_means, after_body, after_condition, for_each, for_fields, CaseMeant, case_patterns, case_items, made_compound, refused_compound, compound_means}
-use Rattle.sh_means.specs.Eval.{is_until, commands_in, compound_in, branches_in, items_in, words_in, word_in, assigns_in, redirects_in, whole_in, over}
+use Rattle.sh_means.specs.Compound.{seq_all, links_mean, with_input, stages_mean, BranchMeant, if_means, LoopMeant, after_body, after_condition, for_each, for_fields, CaseMeant, case_patterns, case_items, made_compound, refused_compound, compound_means}
+use Rattle.sh_means.specs.Eval.{is_until, commands_in, compound_in, branches_in, items_in, words_in, word_in, assigns_in, redirects_in, whole_in, loop_in, over}
 use Rattle.sh_means.specs.Run.{run}
 use Rattle.sh_means.specs.Views.{function_of, back_to}
 use Rattle.sh_means.specs.Begins.{begins}
@@ -187,6 +187,9 @@ giving each pl k e = giving_to (drop each.at each.fields) each pl k e
 abbrev pub looping : Loop → Bool
 looping l = is_until l.kind
 
+abbrev pub loop_of : Loop → LoopMeant
+loop_of l = loop_in run (looping l) (tree.commands l.condition.value) (tree.commands l.body.value)
+
 abbrev pub resumed_compound : CompoundStep → Next → Go_on
 resumed_compound (compound_step.Compound pl b) k e = compound_in run (tree.compound b.value) pl e k
 resumed_compound (compound_step.Called pl callee) k e = compound_means (redirects_in run (function_of callee).redirects) (compound_in run (function_of callee).body) pl e k
@@ -224,8 +227,8 @@ continued (continuation.Links pl left) k = and_then (links_mean (commands_from l
 continued (continuation.Stage pl l i n status saved) k = λ f e. stages_mean (Some n) (commands_from l.value i) pl k (with_status status (back_to saved.value e))
 continued (continuation.Watch pl) k = watched pl k
 continued continuation.Invert k = inverted k
-continued (continuation.Condition pl last l) k = after_condition (whole l.body.value) run last (looping l) (tree.commands l.condition.value) (tree.commands l.body.value) pl k
-continued (continuation.Body pl l) k = after_body run (looping l) (tree.commands l.condition.value) (tree.commands l.body.value) pl k
+continued (continuation.Condition pl last l) k = after_condition (loop_of l) last pl k
+continued (continuation.Body pl l) k = after_body (loop_of l) pl k
 continued (continuation.Each pl each) k = let go = for_each each.name (drop each.at each.fields) (whole each.body.value) pl k in in_loop go go k
 continued (continuation.Choose pl body left) k = and_then (λ e. by_status e.env.status (λ e. whole body.value pl e k) (λ e. if_means (branches_from left.branches.value left.at) (whole left.otherwise.value) pl e k) e) k
 
