@@ -29,7 +29,7 @@ use Rattle.sh_means.specs.Eval.{command_in, commands_in, compound_in, redirects_
 use Rattle.sh_means.specs.Flows.{Next, Means, and_then, ignoring}
 use Rattle.sh_means.specs.Run.{run}
 use Rattle.sh_means.specs.Simple.{redirects_and_works}
-use Rattle.sh_means.specs.Stack.{Goes, commands_from, words_from, assigns_from, redirects_from, then_means, first_of, whole, continued, resumed}
+use Rattle.sh_means.specs.Stack.{Goes, commands_from, words_from, redirects_from, simple_of, then_means, first_of, whole, continued, resumed}
 use Rattle.sh_means.specs.State.{Shell, with_status, define, function_tree}
 use Rattle.sh_means.specs.Trees.{is_one, cleared}
 use Rattle.sh_means.specs.Words.{expand_words, named, redirect_all}
@@ -39,7 +39,7 @@ use Rattle.sh_means.proofs.Places.{commands_some, commands_none}
 pub simple_entered : (c : SimpleCommand) (r : Rc SimpleCommand Global) (ws : Rc Words Global) (fields : List Text) (pl : Place) (k : Next) (e : Shell) (p : ℕ) → r.value ≡ c → ws.value ≡ (out-SimpleCommand c).words.value → fields ≡ [] → simple_in run (tree.simple_command c) pl e k p ≡ pay 1 (resumed (control.SimpleStep (simple_step.Words pl (record { words = ws; at = 0; fields = fields; ran = false; then = then.Simple r }))) k Go e) p
 simple_entered c r ws fields pl k e p hr hw hf =
     ap (λ (s : tree.SimpleTree). simple_in run s pl e k p) (simple_is c)
-    ∙ ap (λ (c : SimpleCommand). pay 1 (expand_words (words_from (out-SimpleCommand c).words.value 0) [] false pl (redirects_and_works run (assigns_from (out-SimpleCommand c).assignments.value 0) (redirects_from (out-SimpleCommand c).redirects.value 0) pl k) k e) p) (sym hr)
+    ∙ ap (λ (c : SimpleCommand). pay 1 (expand_words (words_from (out-SimpleCommand c).words.value 0) [] false pl (redirects_and_works run (simple_of c) pl k) k e) p) (sym hr)
     ∙ ap (λ (w : Words). pay 1 (expand_words (words_from w 0) [] false pl (then_means (then.Simple r) pl k) k e) p) (ap (λ (c : SimpleCommand). (out-SimpleCommand c).words.value) hr ∙ sym hw)
     ∙ ap (λ (fs : List Text). pay 1 (expand_words (words_from ws.value 0) fs false pl (then_means (then.Simple r) pl k) k e) p) (sym hf)
 

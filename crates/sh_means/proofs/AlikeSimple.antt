@@ -17,8 +17,8 @@ use Rattle.sh_means.specs.declared.flow.Flow.TheVariants.{Normal, Exits}
 use Rattle.sh_means.specs.declared.flow.Place.{Place}
 use Rattle.sh_means.specs.State.{FunctionTree, Shell, with_env, with_status, with_held, with_positional}
 use Rattle.sh_means.specs.Flows.{Next, Go_on, sh, ends, returned, watched, in_function, in_script}
-use Rattle.sh_means.specs.Words.{WordMeant, RedirectMeant, AssignMeant, named, redirect_all, unredirected, names, assign_all}
-use Rattle.sh_means.specs.Simple.{Job, Called, Reads, Meaning, CommandKind, Bare, Special, Calls, Builtin, Launches, kind_of, launches, calls, builds_in, errs, unless_barred, changes, shifts, dot_read, dot_opened, dots, obeys, works, is_plain, exports, for_its_time, assigns_and_works, keeps, unless_kept, refusal_flow, made_simple, refused_simple, redirects_and_works, simple_means}
+use Rattle.sh_means.specs.Words.{AssignMeant, named, redirect_all, unredirected, names, assign_all}
+use Rattle.sh_means.specs.Simple.{Job, Called, Reads, Meaning, CommandKind, Bare, Special, Calls, Builtin, Launches, kind_of, launches, calls, builds_in, errs, unless_barred, changes, shifts, dot_read, dot_opened, dots, obeys, works, is_plain, exports, for_its_time, work_of, assigns_and_works, keeps, unless_kept, refusal_flow, past_simple, refused_simple, SimpleMeant, redirects_and_works, simple_means}
 use Rattle.sh_means.proofs.AlikeFlows.{Each, Below, Goes, SameMeans, lower, asks-alike, tells-alike, ends-alike, returned-alike, watched-alike}
 use Rattle.sh_means.proofs.AlikeWords.{SameWord, SameRedirect, SameAssign, expand_words-alike, redirect_all-alike, unredirected-alike, named-same, assign_all-alike, unassigned-alike, names-same, words-down, redirects-down, assigns-down}
 
@@ -98,9 +98,9 @@ module _ (v : View) where
     for_its_time-alike Q true ns before k k' hk = unassigned-alike v Q ns before k k' hk
     for_its_time-alike Q false ns before k k' hk = hk
 
-    assigns_and_works-alike : (Q : ℕ) (kd : CommandKind) (as' bs : List AssignMeant) (fields : List Text) (pl : Place) (k k' : Next) (ran : Bool) → Q < P → Each (SameAssign v Q) as' bs → Below v Q k k' → Goes v Q (assigns_and_works g kd as' fields pl k ran) (assigns_and_works h kd bs fields pl k' ran)
+    assigns_and_works-alike : (Q : ℕ) (kd : CommandKind) (as' bs : List AssignMeant) (fields : List Text) (pl : Place) (k k' : Next) (ran : Bool) → Q < P → Each (SameAssign v Q) as' bs → Below v Q k k' → Goes v Q (assigns_and_works g (work_of kd fields as') pl k ran) (assigns_and_works h (work_of kd fields bs) pl k' ran)
     assigns_and_works-alike Q kd as' bs fields pl k k' ran lt s hk e p le =
-        subst (λ (ns : List Text). Alike v p (assigns_and_works g kd as' fields pl k ran e) (assign_all bs (exports kd) ran pl (λ ran. works h kd fields ran pl (for_its_time (is_plain kd) ns e.env.vars k')) (for_its_time (is_plain kd) ns e.env.vars k') e)) (names-same v Q as' bs s)
+        subst (λ (ns : List Text). Alike v p (assigns_and_works g (work_of kd fields as') pl k ran e) (assign_all bs (exports kd) ran pl (λ ran. works h kd fields ran pl (for_its_time (is_plain kd) ns e.env.vars k')) (for_its_time (is_plain kd) ns e.env.vars k') e)) (names-same v Q as' bs s)
         (let kk : Next = for_its_time (is_plain kd) (names as') e.env.vars k in
         let kk' : Next = for_its_time (is_plain kd) (names as') e.env.vars k' in
         let hk' : Below v Q kk kk' = for_its_time-alike Q (is_plain kd) (names as') e.env.vars k k' hk in
@@ -110,22 +110,23 @@ module _ (v : View) where
     unless_kept-alike Q true ds before k k' hk = hk
     unless_kept-alike Q false ds before k k' hk = unredirected-alike v Q ds before k k' hk
 
-    made_simple-alike : (Q : ℕ) (kd : CommandKind) (as' bs : List AssignMeant) (ds : List ℕ) (before : DescriptorTable) (fields : List Text) (pl : Place) (k k' : Next) (ran : Bool) → Q < P → Each (SameAssign v Q) as' bs → Below v Q k k' → Goes v Q (made_simple g kd as' ds before fields pl k ran) (made_simple h kd bs ds before fields pl k' ran)
-    made_simple-alike Q kd as' bs ds before fields pl k k' ran lt s hk =
-        assigns_and_works-alike Q kd as' bs fields pl (unless_kept (keeps kd) ds before (watched pl k)) (unless_kept (keeps kd) ds before (watched pl k')) ran lt s (unless_kept-alike Q (keeps kd) ds before (watched pl k) (watched pl k') (watched-alike v Q pl k k' hk))
+    past_simple-alike : (Q : ℕ) (kd : CommandKind) (ds : List ℕ) (before : DescriptorTable) (pl : Place) (k k' : Next) → Below v Q k k' → Below v Q (past_simple kd ds before pl k) (past_simple kd ds before pl k')
+    past_simple-alike Q kd ds before pl k k' hk = unless_kept-alike Q (keeps kd) ds before (watched pl k) (watched pl k') (watched-alike v Q pl k k' hk)
 
     refused_simple-alike : (Q : ℕ) (kd : CommandKind) (ds : List ℕ) (before : DescriptorTable) (pl : Place) (k k' : Next) → Below v Q k k' → Goes v Q (refused_simple kd ds before pl k) (refused_simple kd ds before pl k')
     refused_simple-alike Q kd ds before pl k k' hk =
         ends-alike v Q (refusal_flow kd) 1 (unredirected ds before (watched pl k)) (unredirected ds before (watched pl k')) (unredirected-alike v Q ds before (watched pl k) (watched pl k') (watched-alike v Q pl k k' hk))
 
-    redirects_and_works-alike : (Q : ℕ) (as' bs : List AssignMeant) (rs rs' : List RedirectMeant) (pl : Place) (k k' : Next) (fields : List Text) (ran : Bool) → Q < P → Each (SameAssign v Q) as' bs → Each (SameRedirect v Q) rs rs' → Below v Q k k' → Goes v Q (redirects_and_works g as' rs pl k fields ran) (redirects_and_works h bs rs' pl k' fields ran)
-    redirects_and_works-alike Q as' bs rs rs' pl k k' fields ran lt sa sr hk e p le =
-        let kd = kind_of fields e.functions in
-        subst (λ (ds : List ℕ). Alike v p (redirects_and_works g as' rs pl k fields ran e) (redirect_all rs' ran pl (made_simple h kd bs ds e.descriptors fields pl k') (refused_simple kd ds e.descriptors pl k') k' e)) (named-same v Q rs rs' sr)
-        (redirect_all-alike v Q rs rs' ran pl (made_simple g kd as' (named rs) e.descriptors fields pl k) (made_simple h kd bs (named rs) e.descriptors fields pl k') (refused_simple kd (named rs) e.descriptors pl k) (refused_simple kd (named rs) e.descriptors pl k') k k' sr (λ r. made_simple-alike Q kd as' bs (named rs) e.descriptors fields pl k k' r lt sa hk) (refused_simple-alike Q kd (named rs) e.descriptors pl k k' hk) hk e p le)
+    redirects_and_works-alike : (Q : ℕ) (c d : SimpleMeant) (pl : Place) (k k' : Next) (fields : List Text) (ran : Bool) → Q < P → Each (SameAssign v Q) c.assignments d.assignments → Each (SameRedirect v Q) c.redirections d.redirections → Below v Q k k' → Goes v Q (redirects_and_works g c pl k fields ran) (redirects_and_works h d pl k' fields ran)
+    redirects_and_works-alike Q c d pl k k' fields ran lt sa sr hk e p le =
+        let kd : CommandKind = kind_of fields e.functions in
+        let done : Next → Next = past_simple kd (named c.redirections) e.descriptors pl in
+        let hd : Below v Q (done k) (done k') = past_simple-alike Q kd (named c.redirections) e.descriptors pl k k' hk in
+        subst (λ (ds : List ℕ). Alike v p (redirects_and_works g c pl k fields ran e) (redirect_all d.redirections ran pl (assigns_and_works h (work_of kd fields d.assignments) pl (past_simple kd ds e.descriptors pl k')) (refused_simple kd ds e.descriptors pl k') k' e)) (named-same v Q c.redirections d.redirections sr)
+        (redirect_all-alike v Q c.redirections d.redirections ran pl (assigns_and_works g (work_of kd fields c.assignments) pl (done k)) (assigns_and_works h (work_of kd fields d.assignments) pl (done k')) (refused_simple kd (named c.redirections) e.descriptors pl k) (refused_simple kd (named c.redirections) e.descriptors pl k') k k' sr (λ r. assigns_and_works-alike Q kd c.assignments d.assignments fields pl (done k) (done k') r lt sa hd) (refused_simple-alike Q kd (named c.redirections) e.descriptors pl k k' hk) hk e p le)
 
-    pub simple-alike : (Q : ℕ) (as' bs : List AssignMeant) (ws ws' : List WordMeant) (rs rs' : List RedirectMeant) → Q ≤ P → Each (SameAssign v Q) as' bs → Each (SameWord v Q) ws ws' → Each (SameRedirect v Q) rs rs' → SameMeans v Q (simple_means g as' ws rs) (simple_means h bs ws' rs')
-    simple-alike Q as' bs ws ws' rs rs' leQ sa sw sr pl e p k k' le hk =
-        alike-pay v p 1 _ _ (λ lt. expand_words-alike v (p - 1) ws ws' [] false pl (redirects_and_works g as' rs pl k) (redirects_and_works h bs rs' pl k') k k' (words-down v Q (p - 1) ws ws' (omega arith) sw)
-        (λ fs r. redirects_and_works-alike (p - 1) as' bs rs rs' pl k k' fs r (omega arith) (assigns-down v Q (p - 1) as' bs (omega arith) sa) (redirects-down v Q (p - 1) rs rs' (omega arith) sr) (lower v p (p - 1) k k' (omega arith) hk))
+    pub simple-alike : (Q : ℕ) (c d : SimpleMeant) → Q ≤ P → Each (SameAssign v Q) c.assignments d.assignments → Each (SameWord v Q) c.words d.words → Each (SameRedirect v Q) c.redirections d.redirections → SameMeans v Q (simple_means g c) (simple_means h d)
+    simple-alike Q c d leQ sa sw sr pl e p k k' le hk =
+        alike-pay v p 1 _ _ (λ lt. expand_words-alike v (p - 1) c.words d.words [] false pl (redirects_and_works g c pl k) (redirects_and_works h d pl k') k k' (words-down v Q (p - 1) c.words d.words (omega arith) sw)
+        (λ fs r. redirects_and_works-alike (p - 1) c d pl k k' fs r (omega arith) (assigns-down v Q (p - 1) c.assignments d.assignments (omega arith) sa) (redirects-down v Q (p - 1) c.redirections d.redirections (omega arith) sr) (lower v p (p - 1) k k' (omega arith) hk))
         (lower v p (p - 1) k k' (omega arith) hk) e (p - 1) (omega arith))

@@ -66,7 +66,7 @@ module _ (v : View) (P : ℕ) (g h : Meaning) (same : SameAgain v P g h) where
     bodies-alike (body_and b bs) = (whole_of-alike v P (commands_in g b) (commands_in h b) (commands-alike b), bodies-alike bs)
 
     simple_in-alike : (c : SimpleTree) → SameMeans v P (simple_in g c) (simple_in h c)
-    simple_in-alike (simply as' ws rs) = simple-alike v P g h same P (assigns_in g as') (assigns_in h as') (words_in g ws) (words_in h ws) (redirects_in g rs) (redirects_in h rs) (omega arith) (assigns-alike as') (words-alike ws) (redirects-alike rs)
+    simple_in-alike (simply as' ws rs) = simple-alike v P g h same P (record { assignments = assigns_in g as'; words = words_in g ws; redirections = redirects_in g rs }) (record { assignments = assigns_in h as'; words = words_in h ws; redirections = redirects_in h rs }) (omega arith) (assigns-alike as') (words-alike ws) (redirects-alike rs)
 
     assigns-alike : (as' : AssignmentsTree) → Each (SameAssign v P) (assigns_in g as') (assigns_in h as')
     assigns-alike no_assignments = tt

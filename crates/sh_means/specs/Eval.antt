@@ -65,7 +65,7 @@ abbrev mutual
   bodies_in again (body_and b bs) = whole_of (commands_in again b) ∷ bodies_in again bs
 
   pub simple_in : Meaning → SimpleTree → Means
-  simple_in again (simply as' ws rs) = simple_means again (assigns_in again as') (words_in again ws) (redirects_in again rs)
+  simple_in again (simply as' ws rs) = simple_means again (record { assignments = assigns_in again as'; words = words_in again ws; redirections = redirects_in again rs })
 
   pub assigns_in : Meaning → AssignmentsTree → List AssignMeant
   assigns_in again no_assignments = []

@@ -168,9 +168,19 @@ abbrev pub for_its_time : Bool → List Text → Held → Next → Next
 for_its_time true ns before k = unassigned ns before k
 for_its_time false ns before k = k
 
-abbrev pub assigns_and_works : Meaning → CommandKind → List AssignMeant → List Text → Place → Next → Bool → Go_on
-assigns_and_works again kind assignments fields pl k ran e =
-    let k' = for_its_time (is_plain kind) (names assignments) e.env.vars k in assign_all assignments (exports kind) ran pl (λ ran. works again kind fields ran pl k') k' e
+-- a simple command whose words were expanded: what it is, its fields, and what it assigns
+pub record Work : Type 0 where
+  pub kind : CommandKind
+  pub fields : List Text
+  pub assignments : List AssignMeant
+
+abbrev pub work_of : CommandKind → List Text → List AssignMeant → Work
+work_of kind fields assignments = record { kind = kind; fields = fields; assignments = assignments }
+
+abbrev pub assigns_and_works : Meaning → Work → Place → Next → Bool → Go_on
+assigns_and_works again w pl k ran e =
+    let k' = for_its_time (is_plain w.kind) (names w.assignments) e.env.vars k in
+    assign_all w.assignments (exports w.kind) ran pl (λ ran. works again w.kind w.fields ran pl k') k' e
 
 -- the redirections of `exec` without a command stay
 abbrev pub keeps : CommandKind → Bool
@@ -192,16 +202,24 @@ refusal_flow (Calls f) = Normal
 refusal_flow Builtin = Normal
 refusal_flow Launches = Normal
 
-abbrev pub made_simple : Meaning → CommandKind → List AssignMeant → List ℕ → DescriptorTable → List Text → Place → Next → Bool → Go_on
-made_simple again kind assignments ds before fields pl k = assigns_and_works again kind assignments fields pl (unless_kept (keeps kind) ds before (watched pl k))
+-- behind what it does, its redirections are undone, and `set -e` looks at it
+abbrev pub past_simple : CommandKind → List ℕ → DescriptorTable → Place → Next → Next
+past_simple kind ds before pl k = unless_kept (keeps kind) ds before (watched pl k)
 
 abbrev pub refused_simple : CommandKind → List ℕ → DescriptorTable → Place → Next → Go_on
 refused_simple kind ds before pl k = ends (refusal_flow kind) 1 (unredirected ds before (watched pl k))
 
-abbrev pub redirects_and_works : Meaning → List AssignMeant → List RedirectMeant → Place → Next → List Text → Bool → Go_on
-redirects_and_works again assignments redirections pl k fields ran e =
-    let kind = kind_of fields e.functions in
-    redirect_all redirections ran pl (made_simple again kind assignments (named redirections) e.descriptors fields pl k) (refused_simple kind (named redirections) e.descriptors pl k) k e
+-- a simple command: what its assignments, words and redirections mean
+pub record SimpleMeant : Type 0 where
+  pub assignments : List AssignMeant
+  pub words : List WordMeant
+  pub redirections : List RedirectMeant
 
-abbrev pub simple_means : Meaning → List AssignMeant → List WordMeant → List RedirectMeant → Means
-simple_means again assignments words redirections pl e k = pay 1 (expand_words words [] false pl (redirects_and_works again assignments redirections pl k) k e)
+abbrev pub redirects_and_works : Meaning → SimpleMeant → Place → Next → List Text → Bool → Go_on
+redirects_and_works again c pl k fields ran e =
+    let kind = kind_of fields e.functions in
+    let ds = named c.redirections in
+    redirect_all c.redirections ran pl (assigns_and_works again (work_of kind fields c.assignments) pl (past_simple kind ds e.descriptors pl k)) (refused_simple kind ds e.descriptors pl k) k e
+
+abbrev pub simple_means : Meaning → SimpleMeant → Means
+simple_means again c pl e k = pay 1 (expand_words c.words [] false pl (redirects_and_works again c pl k) k e)

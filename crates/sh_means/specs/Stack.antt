@@ -8,7 +8,7 @@ use Rattle.rk_calls.specs.declared.answer.Answer.TheVariants as answer
 use Rattle.rk_calls.specs.declared.turn.Turn.{Turn}
 use Rattle.rk_calls.specs.declared.turn.Turn.TheVariants as turn
 use Rattle.sh_ast.specs.Commands as tree
-use Rattle.sh_ast.specs.declared.command.SimpleCommand.{out-SimpleCommand}
+use Rattle.sh_ast.specs.declared.command.SimpleCommand.{SimpleCommand, out-SimpleCommand}
 use Rattle.sh_ast.specs.declared.command.Assignments.{Assignments}
 use Rattle.sh_ast.specs.declared.command.Branches.{Branches}
 use Rattle.sh_ast.specs.declared.command.CaseItems.{CaseItems}
@@ -37,6 +37,7 @@ use Rattle.sh_means.specs.declared.control.PendingCase.{PendingCase}
 use Rattle.sh_means.specs.declared.control.Control.{Control}
 use Rattle.sh_means.specs.declared.control.Control.TheVariants as control
 use Rattle.sh_means.specs.declared.control.Each.{Each}
+use Rattle.sh_means.specs.declared.doing.Doing.{Doing}
 use Rattle.sh_means.specs.declared.control.PendingFields.{PendingFields}
 use Rattle.sh_means.specs.declared.control.Frame.{Frame}
 use Rattle.sh_means.specs.declared.control.Frame.TheVariants as frame
@@ -60,7 +61,7 @@ use Rattle.sh_means.specs.declared.control.SimpleStep.TheVariants as simple_step
 use Rattle.sh_means.specs.State.{Shell, with_env, with_status, with_positional, with_slot, past_stage, took}
 use Rattle.sh_means.specs.Flows.{Next, Go_on, Means, asks, ends, and_then, by_status, in_loop, returned, watched, inverted, deeper}
 use Rattle.sh_means.specs.Words.{WordMeant, RedirectMeant, AssignMeant, bodies_at, faults, expand_words, fields_of, value_of, named, moved, redirect_to, redirect_all, unredirected, names, assigns, assign_all, unassigned}
-use Rattle.sh_means.specs.Simple.{CommandKind, Bare, Special, Calls, Builtin as Builds, Launches, Round, Reads, dot_opened, dot_read, works, made_simple, refused_simple, redirects_and_works}
+use Rattle.sh_means.specs.Simple.{CommandKind, Bare, Special, Calls, Builtin as Builds, Launches, Round, Reads, dot_opened, dot_read, SimpleMeant, Work, work_of, works, assigns_and_works, past_simple, refused_simple, redirects_and_works}
 use Rattle.sh_means.specs.Compound.{seq_all, links_mean, with_input, stages_mean, BranchMeant, if_means, LoopMeant, after_body, after_condition, for_each, for_fields, CaseMeant, case_patterns, case_items, made_compound, refused_compound, compound_means}
 use Rattle.sh_means.specs.Eval.{is_until, commands_in, compound_in, branches_in, items_in, words_in, word_in, assigns_in, redirects_in, whole_in, loop_in, over}
 use Rattle.sh_means.specs.Run.{run}
@@ -90,6 +91,9 @@ assigns_from as' i = drop i (assigns_in run (tree.assignments as'))
 abbrev pub whole : CommandList → Means
 whole l = whole_in run (tree.commands l)
 
+abbrev pub simple_of : SimpleCommand → SimpleMeant
+simple_of c = record { assignments = assigns_from (out-SimpleCommand c).assignments.value 0; words = words_from (out-SimpleCommand c).words.value 0; redirections = redirects_from (out-SimpleCommand c).redirects.value 0 }
+
 -- What is half done.
 
 abbrev pub kind_of_code : code.CommandKind → CommandKind
@@ -99,15 +103,18 @@ kind_of_code (kinds.Calls callee) = Calls (function_of callee)
 kind_of_code kinds.Builtin = Builds
 kind_of_code kinds.Launches = Launches
 
+abbrev pub work_by : Doing → Assignments → Work
+work_by doing as' = work_of (kind_of_code doing.kind) doing.fields (assigns_from as' 0)
+
 abbrev pub then_means : Then → Place → Next → List Text → Bool → Go_on
-then_means (then.Simple c) pl k = redirects_and_works run (assigns_from (out-SimpleCommand c.value).assignments.value 0) (redirects_from (out-SimpleCommand c.value).redirects.value 0) pl k
+then_means (then.Simple c) pl k = redirects_and_works run (simple_of c.value) pl k
 then_means (then.For name body) pl k = λ fields ran. for_fields name fields (whole body.value) pl k
 
 abbrev pub fielding : PendingFields → Place → Next → Go_on
 fielding f pl k = expand_words (words_from f.words.value f.at) f.fields f.ran pl (then_means f.then pl k) k
 
 abbrev pub made_go : Made → List ℕ → DescriptorTable → Place → Next → Bool → Go_on
-made_go (made.Simple as' doing) ds before pl k = made_simple run (kind_of_code doing.value.kind) (assigns_from as'.value 0) ds before doing.value.fields pl k
+made_go (made.Simple as' doing) ds before pl k = assigns_and_works run (work_by doing.value as'.value) pl (past_simple (kind_of_code doing.value.kind) ds before pl k)
 made_go (made.Compound b) ds before pl k = made_compound (compound_in run (tree.compound b.value)) ds before pl k
 
 abbrev pub refused_go : Made → List ℕ → DescriptorTable → Place → Next → Go_on

@@ -14,8 +14,8 @@ use Rattle.sh_means.specs.declared.flow.Place.{Place}
 use Rattle.sh_means.specs.declared.functions.Functions as code
 use Rattle.sh_means.specs.Flows.{Next}
 use Rattle.sh_means.specs.Run.{run}
-use Rattle.sh_means.specs.Simple.{CommandKind, kind_of, made_simple, refused_simple}
-use Rattle.sh_means.specs.Stack.{making, redirects_from, assigns_from, kind_of_code}
+use Rattle.sh_means.specs.Simple.{CommandKind, kind_of, work_of, assigns_and_works, past_simple, refused_simple}
+use Rattle.sh_means.specs.Stack.{making, redirects_from, assigns_from, kind_of_code, work_by}
 use Rattle.sh_means.specs.State.{Shell}
 use Rattle.sh_means.specs.Views.{shell_of, functions_of}
 use Rattle.sh_means.specs.Words.{redirect_all, named}
@@ -26,12 +26,12 @@ use Rattle.sh_words.proofs.words.made_first.Goals as goal
 -- the redirections of a simple command with these fields, as a kind
 with_kind : List Text → Bool → Place → Next → Shell → Redirects → Assignments → CommandKind → Says
 with_kind fields ran pl k e R A kd =
-    redirect_all (redirects_from R 0) ran pl (made_simple run kd (assigns_from A 0) (named (redirects_from R 0)) e.descriptors fields pl k) (refused_simple kd (named (redirects_from R 0)) e.descriptors pl k) k e
+    redirect_all (redirects_from R 0) ran pl (assigns_and_works run (work_of kd fields (assigns_from A 0)) pl (past_simple kd (named (redirects_from R 0)) e.descriptors pl k)) (refused_simple kd (named (redirects_from R 0)) e.descriptors pl k) k e
 
 -- the same with the map and what the command is, where they lie behind pointers
 with_doing : Rc Redirects Global → Rc Assignments Global → Bool → Place → Next → Shell → DescriptorTable → Doing → Says
 with_doing rs as' ran pl k e ds d =
-    redirect_all (redirects_from rs.value 0) ran pl (made_simple run (kind_of_code d.kind) (assigns_from as'.value 0) (named (redirects_from rs.value 0)) ds d.fields pl k) (refused_simple (kind_of_code d.kind) (named (redirects_from rs.value 0)) ds pl k) k e
+    redirect_all (redirects_from rs.value 0) ran pl (assigns_and_works run (work_by d as'.value) pl (past_simple (kind_of_code d.kind) (named (redirects_from rs.value 0)) ds pl k)) (refused_simple (kind_of_code d.kind) (named (redirects_from rs.value 0)) ds pl k) k e
 
 simple_then : (x : SimpleCommand) (rs : Rc Redirects Global) (as' : Rc Assignments Global) (d : Doing) (before : Rc DescriptorTable Global) (doing : Box Doing) (ran : Bool) (pl : Place) (k : Next) (e : Shell) (p : ℕ) → rs.value ≡ (out-SimpleCommand x).redirects.value → as'.value ≡ (out-SimpleCommand x).assignments.value → kind_of_code d.kind ≡ kind_of d.fields e.functions → before.value ≡ e.descriptors → doing.value ≡ d → with_kind d.fields ran pl k e (out-SimpleCommand x).redirects.value (out-SimpleCommand x).assignments.value (kind_of d.fields e.functions) p ≡ making (record { redirects = rs; at = 0; before = before; ran = ran; made = made.Simple as' doing }) ran pl k e p
 unfolding with_kind with_doing
