@@ -14,8 +14,6 @@ use Rattle.rk_calls.specs.Turns.{turns}
 use Rattle.rk_calls.specs.Views.{View, Alike, alike-ask, alike-pay}
 use Rattle.sh_ast.specs.declared.parameter.Parameter.{Parameter}
 use Rattle.sh_ast.specs.declared.parameter.Parameter.TheVariants as pm
-use Rattle.sh_ast.specs.declared.word.Substitute.{Substitute}
-use Rattle.sh_ast.specs.declared.word.Substitute.TheVariants.{Default, Assign, Fault, Alternative}
 use Rattle.sh_ast.specs.declared.word.Removal.{Removal}
 use Rattle.sh_ast.specs.Parameters.{spelling}
 use Rattle.sh_ast.specs.Words.{PartTree, literal, value_of, length_of, substitute, without, output_of, arithmetic, OperatorWord, no_word, the_word, PartsTree, no_parts, part_and}
@@ -35,12 +33,14 @@ use Rattle.sh_expand.specs.declared.glob.Component.{Component}
 use Rattle.sh_expand.specs.declared.glob.Component.TheVariants as component
 use Rattle.sh_expand.specs.Globbing.{Numbered, Found, listed, kept, lists, stats, checked, globs}
 use Rattle.sh_expand.specs.Told.{names_of, stands, numbered}
-use Rattle.sh_expand.specs.Values.{value, values, stay_apart, counts, separator, all_removed}
+use Rattle.sh_expand.specs.Operators as outcome
+use Rattle.sh_expand.specs.Operators.{Outcome, table, cell}
+use Rattle.sh_expand.specs.Values.{value, values, separator, all_removed}
 use Rattle.sh_expand.specs.declared.mode.Mode.{Mode}
 use Rattle.sh_expand.specs.declared.mode.Mode.TheVariants as mode
 use Rattle.sh_expand.specs.declared.mode.Expanded.{Expanded}
 use Rattle.sh_expand.specs.declared.mode.Expanded.TheVariants as expanded
-use Rattle.sh_expand.specs.Expands.{Go_on, Body, Ended, Failed, With_text, counted, read_of, not_set, not_valid, readonly, is_quoted, literal_marks, unset, shown, got, unmeasured, measured, put_by, assigning, used, taken, worth_put, computed, substituted, expand, expand_part, expand_word, expand_text}
+use Rattle.sh_expand.specs.Expands.{Go_on, Body, Ended, Failed, With_text, counted, read_of, not_set, not_valid, readonly, is_quoted, literal_marks, unset, Use, use_of, shown_of, with_values, got, unmeasured, measured, put_by, assigning, WordMeans, carried_out, taken, worth_put, computed, substituted, manner_of, expand, expand_part, expand_word, expand_text}
 use Rattle.sh_expand.specs.Fields.{With_fields, ifs, components, has_pattern, or_as_was, named, all_names}
 use Rattle.sh_expand.specs.Means.{With_expanded, all_bytes, pay_fields, splits, finished, expand_in}
 
@@ -73,9 +73,13 @@ module _ (v : View) where
   unset-alike P true quoted parameter ms k k' f f' hk hf e p le = hf (spelling parameter) not_set e p le
   unset-alike P false quoted parameter ms k k' f f' hk hf e p le = hk (ms ++ given quoted []) e p le
 
-  got-alike : (P : ℕ) (cuts quoted : Bool) (parameter : Parameter) (o : Option (List Text)) (ms : Marks) (k k' : Ended) (f f' : Failed) → SameEnded P k k' → SameFailed P f f' → Goes P (got cuts quoted parameter o ms k f) (got cuts quoted parameter o ms k' f')
-  got-alike P cuts quoted parameter (Some words) ms k k' f f' hk hf e p le = hk (ms ++ shown (stay_apart cuts quoted parameter) quoted words e) e p le
-  got-alike P cuts quoted parameter None ms k k' f f' hk hf e p le = unset-alike P e.nounset quoted parameter ms k k' f f' hk hf e p le
+  with_values-alike : (P : ℕ) (u : Use) (o : Option (List Text)) (ms : Marks) (g g' : List Text → Go_on) (k k' : Ended) (f f' : Failed) → ((words : List Text) → Goes P (g words) (g' words)) → SameEnded P k k' → SameFailed P f f' → Goes P (with_values u o ms g k f) (with_values u o ms g' k' f')
+  with_values-alike P u (Some words) ms g g' k k' f f' hg hk hf e p le = hg words e p le
+  with_values-alike P u None ms g g' k k' f f' hg hk hf e p le = unset-alike P e.nounset u.quoted u.parameter ms k k' f f' hk hf e p le
+
+  got-alike : (P : ℕ) (u : Use) (o : Option (List Text)) (ms : Marks) (k k' : Ended) (f f' : Failed) → SameEnded P k k' → SameFailed P f f' → Goes P (got u o ms k f) (got u o ms k' f')
+  got-alike P u o ms k k' f f' hk hf e p le =
+      with_values-alike P u o ms (λ words e'. k (ms ++ shown_of u words e') e') (λ words e'. k' (ms ++ shown_of u words e') e') k k' f f' (λ words e' q lq. hk (ms ++ shown_of u words e') e' q lq) hk hf e p le
 
   unmeasured-alike : (P : ℕ) (strict quoted : Bool) (parameter : Parameter) (ms : Marks) (k k' : Ended) (f f' : Failed) → SameEnded P k k' → SameFailed P f f' → Goes P (unmeasured strict quoted parameter ms k f) (unmeasured strict quoted parameter ms k' f')
   unmeasured-alike P true quoted parameter ms k k' f f' hk hf e p le = hf (spelling parameter) not_set e p le
@@ -85,16 +89,16 @@ module _ (v : View) where
   measured-alike P quoted parameter (Some words) ms k k' f f' hk hf e p le = hk (ms ++ given quoted (decimal (length (joined (separator e) words)))) e p le
   measured-alike P quoted parameter None ms k k' f f' hk hf e p le = unmeasured-alike P e.nounset quoted parameter ms k k' f f' hk hf e p le
 
-  put_by-alike : (P : ℕ) (kept quoted : Bool) (name text : Text) (ms : Marks) (k k' : Ended) (f f' : Failed) → SameEnded P k k' → SameFailed P f f' → Goes P (put_by kept quoted name text ms k f) (put_by kept quoted name text ms k' f')
-  put_by-alike P true quoted name text ms k k' f f' hk hf e p le = hf name readonly e p le
-  put_by-alike P false quoted name text ms k k' f f' hk hf e p le = hk (ms ++ given quoted text) (record e { vars = assigned name text e.vars }) p le
+  put_by-alike : (P : ℕ) (kept : Bool) (name text : Text) (ms : Marks) (k k' : Ended) (f f' : Failed) → SameEnded P k k' → SameFailed P f f' → Goes P (put_by kept name text ms k f) (put_by kept name text ms k' f')
+  put_by-alike P true name text ms k k' f f' hk hf e p le = hf name readonly e p le
+  put_by-alike P false name text ms k k' f f' hk hf e p le = hk ms (record e { vars = assigned name text e.vars }) p le
 
   abbrev SameWord : ℕ → (With_text → Go_on) → (With_text → Go_on) → Type 0
   SameWord P w w' = (k k' : With_text) → SameText P k k' → Goes P (w k) (w' k')
 
   assigning-alike : (P : ℕ) (quoted : Bool) (parameter : Parameter) (ms : Marks) (w w' : With_text → Go_on) (k k' : Ended) (f f' : Failed) → SameWord P w w' → SameEnded P k k' → SameFailed P f f' → Goes P (assigning quoted parameter ms w k f) (assigning quoted parameter ms w' k' f')
   assigning-alike P quoted (pm.Variable name) ms w w' k k' f f' hw hk hf e p le =
-      hw (λ t e'. put_by (is_readonly e'.vars name) quoted name t ms k f e') (λ t e'. put_by (is_readonly e'.vars name) quoted name t ms k' f' e') (λ t e' q lq. put_by-alike P (is_readonly e'.vars name) quoted name t ms k k' f f' hk hf e' q lq) e p le
+      hw (λ t e'. put_by (is_readonly e'.vars name) name t (ms ++ given quoted t) k f e') (λ t e'. put_by (is_readonly e'.vars name) name t (ms ++ given quoted t) k' f' e') (λ t e' q lq. put_by-alike P (is_readonly e'.vars name) name t (ms ++ given quoted t) k k' f f' hk hf e' q lq) e p le
   assigning-alike P quoted (pm.Positional digits) ms w w' k k' f f' hw hk hf e p le = hf digits not_valid e p le
   assigning-alike P quoted pm.At ms w w' k k' f f' hw hk hf e p le = hf (spelling pm.At) not_valid e p le
   assigning-alike P quoted pm.Asterisk ms w w' k k' f f' hw hk hf e p le = hf (spelling pm.Asterisk) not_valid e p le
@@ -105,20 +109,16 @@ module _ (v : View) where
   abbrev SameHere : ℕ → (Marks → Ended → Go_on) → (Marks → Ended → Go_on) → Type 0
   SameHere P h h' = (ms : Marks) (k k' : Ended) → SameEnded P k k' → Goes P (h ms k) (h' ms k')
 
-  used-alike : (P : ℕ) (by : Substitute) (c cuts quoted : Bool) (parameter : Parameter) (ms : Marks) (h h' : Marks → Ended → Go_on) (t t' m m' : With_text → Go_on) (k k' : Ended) (f f' : Failed) → SameHere P h h' → SameWord P t t' → SameWord P m m' → SameEnded P k k' → SameFailed P f f' → Goes P (used by c cuts quoted parameter ms h t m k f) (used by c cuts quoted parameter ms h' t' m' k' f')
-  used-alike P Default true cuts quoted parameter ms h h' t t' m m' k k' f f' hh ht hm hk hf e p le = got-alike P cuts quoted parameter (values e parameter) ms k k' f f' hk hf e p le
-  used-alike P Default false cuts quoted parameter ms h h' t t' m m' k k' f f' hh ht hm hk hf e p le = hh ms k k' hk e p le
-  used-alike P Assign true cuts quoted parameter ms h h' t t' m m' k k' f f' hh ht hm hk hf e p le = got-alike P cuts quoted parameter (values e parameter) ms k k' f f' hk hf e p le
-  used-alike P Assign false cuts quoted parameter ms h h' t t' m m' k k' f f' hh ht hm hk hf e p le = assigning-alike P quoted parameter ms t t' k k' f f' ht hk hf e p le
-  used-alike P Fault true cuts quoted parameter ms h h' t t' m m' k k' f f' hh ht hm hk hf e p le = got-alike P cuts quoted parameter (values e parameter) ms k k' f f' hk hf e p le
-  used-alike P Fault false cuts quoted parameter ms h h' t t' m m' k k' f f' hh ht hm hk hf e p le = hm (λ x e'. f (spelling parameter) x e') (λ x e'. f' (spelling parameter) x e') (λ x. hf (spelling parameter) x) e p le
-  used-alike P Alternative true cuts quoted parameter ms h h' t t' m m' k k' f f' hh ht hm hk hf e p le = hh ms k k' hk e p le
-  used-alike P Alternative false cuts quoted parameter ms h h' t t' m m' k k' f f' hh ht hm hk hf e p le = hk (ms ++ given quoted []) e p le
+  carried-alike : (P : ℕ) (it : Outcome) (u : Use) (ms : Marks) (w w' : WordMeans) (k k' : Ended) (f f' : Failed) → SameHere P w.here w'.here → ((t : Text) → SameWord P (w.text t) (w'.text t)) → SameEnded P k k' → SameFailed P f f' → Goes P (carried_out it u w ms k f) (carried_out it u w' ms k' f')
+  carried-alike P outcome.Value u ms w w' k k' f f' hh ht hk hf e p le = got-alike P u (values e u.parameter) ms k k' f f' hk hf e p le
+  carried-alike P outcome.Word u ms w w' k k' f f' hh ht hk hf e p le = hh ms k k' hk e p le
+  carried-alike P outcome.Null u ms w w' k k' f f' hh ht hk hf e p le = hk (ms ++ given u.quoted []) e p le
+  carried-alike P outcome.Assigns u ms w w' k k' f f' hh ht hk hf e p le = assigning-alike P u.quoted u.parameter ms (w.text []) (w'.text []) k k' f f' (ht []) hk hf e p le
+  carried-alike P outcome.Error u ms w w' k k' f f' hh ht hk hf e p le =
+      ht not_set (λ x e'. f (spelling u.parameter) x e') (λ x e'. f' (spelling u.parameter) x e') (λ x. hf (spelling u.parameter) x) e p le
 
-  taken-alike : (P : ℕ) (removal : Removal) (cuts quoted : Bool) (parameter : Parameter) (o : Option (List Text)) (ms : Marks) (w w' : Ended → Go_on) (k k' : Ended) (f f' : Failed) → ((j j' : Ended) → SameEnded P j j' → Goes P (w j) (w' j')) → SameEnded P k k' → SameFailed P f f' → Goes P (taken removal cuts quoted parameter o ms w k f) (taken removal cuts quoted parameter o ms w' k' f')
-  taken-alike P removal cuts quoted parameter (Some words) ms w w' k k' f f' hw hk hf e p le =
-      hw (λ xs e'. k (ms ++ shown (stay_apart cuts quoted parameter) quoted (all_removed removal (pattern_of xs) words) e') e') (λ xs e'. k' (ms ++ shown (stay_apart cuts quoted parameter) quoted (all_removed removal (pattern_of xs) words) e') e') (λ xs e' q lq. hk (ms ++ shown (stay_apart cuts quoted parameter) quoted (all_removed removal (pattern_of xs) words) e') e' q lq) e p le
-  taken-alike P removal cuts quoted parameter None ms w w' k k' f f' hw hk hf e p le = unset-alike P e.nounset quoted parameter ms k k' f f' hk hf e p le
+  taken-alike : (P : ℕ) (removal : Removal) (u : Use) (words : List Text) (ms : Marks) (k k' : Ended) → SameEnded P k k' → SameEnded P (taken removal u words ms k) (taken removal u words ms k')
+  taken-alike P removal u words ms k k' hk xs e p le = hk (ms ++ shown_of u (all_removed removal (pattern_of xs) words) e) e p le
 
   -- Arithmetic.
 
@@ -142,32 +142,32 @@ module _ (v : View) where
   -- The parts.
 
   mutual
-    pub expand-alike : (P : ℕ) (b b' : ℕ → Body) (inner cuts : Bool) (ps : PartsTree) (ms : Marks) (k k' : Ended) (f f' : Failed) → ((n : ℕ) → SameBody P (b n) (b' n)) → SameEnded P k k' → SameFailed P f f' → Goes P (expand b inner cuts ps ms k f) (expand b' inner cuts ps ms k' f')
+    pub expand-alike : (P : ℕ) (b b' : ℕ → Body) (inner cuts : Bool) (ps : PartsTree) (ms : Marks) (k k' : Ended) (f f' : Failed) → ((n : ℕ) → SameBody P (b n) (b' n)) → SameEnded P k k' → SameFailed P f f' → Goes P (expand (manner_of b inner cuts) ps ms k f) (expand (manner_of b' inner cuts) ps ms k' f')
     expand-alike P b b' inner cuts no_parts ms k k' f f' hb hk hf e p le = hk ms e p le
     expand-alike P b b' inner cuts (part_and q qs) ms k k' f f' hb hk hf e p le =
-        part-alike P b b' inner cuts q ms (λ xs e'. expand b inner cuts qs xs k f e') (λ xs e'. expand b' inner cuts qs xs k' f' e') f f' hb (λ xs. expand-alike P b b' inner cuts qs xs k k' f f' hb hk hf) hf e p le
+        part-alike P b b' inner cuts q ms (λ xs e'. expand (manner_of b inner cuts) qs xs k f e') (λ xs e'. expand (manner_of b' inner cuts) qs xs k' f' e') f f' hb (λ xs. expand-alike P b b' inner cuts qs xs k k' f f' hb hk hf) hf e p le
 
-    pub part-alike : (P : ℕ) (b b' : ℕ → Body) (inner cuts : Bool) (q : PartTree) (ms : Marks) (k k' : Ended) (f f' : Failed) → ((n : ℕ) → SameBody P (b n) (b' n)) → SameEnded P k k' → SameFailed P f f' → Goes P (expand_part b inner cuts q ms k f) (expand_part b' inner cuts q ms k' f')
+    pub part-alike : (P : ℕ) (b b' : ℕ → Body) (inner cuts : Bool) (q : PartTree) (ms : Marks) (k k' : Ended) (f f' : Failed) → ((n : ℕ) → SameBody P (b n) (b' n)) → SameEnded P k k' → SameFailed P f f' → Goes P (expand_part (manner_of b inner cuts) q ms k f) (expand_part (manner_of b' inner cuts) q ms k' f')
     part-alike P b b' inner cuts (literal quoting text) ms k k' f f' hb hk hf e p le = hk (ms ++ literal_marks inner quoting text) e p le
-    part-alike P b b' inner cuts (value_of quoting parameter) ms k k' f f' hb hk hf e p le = got-alike P cuts (is_quoted quoting) parameter (values e parameter) ms k k' f f' hk hf e p le
+    part-alike P b b' inner cuts (value_of quoting parameter) ms k k' f f' hb hk hf e p le = got-alike P (use_of cuts (is_quoted quoting) parameter) (values e parameter) ms k k' f f' hk hf e p le
     part-alike P b b' inner cuts (length_of quoting parameter) ms k k' f f' hb hk hf e p le = measured-alike P (is_quoted quoting) parameter (values e parameter) ms k k' f f' hk hf e p le
     part-alike P b b' inner cuts (substitute quoting parameter condition by word) ms k k' f f' hb hk hf e p le =
-        used-alike P by (counts condition (value e parameter)) cuts (is_quoted quoting) parameter ms
-        (λ xs j e'. expand_word b cuts (is_quoted quoting) word xs j f e') (λ xs j e'. expand_word b' cuts (is_quoted quoting) word xs j f' e')
-        (λ j e'. expand_text b [] word j f e') (λ j e'. expand_text b' [] word j f' e')
-        (λ j e'. expand_text b not_set word j f e') (λ j e'. expand_text b' not_set word j f' e')
+        carried-alike P (cell (table by condition) (value e parameter)) (use_of cuts (is_quoted quoting) parameter) ms
+        (record { here = λ xs j e'. expand_word (manner_of b true cuts) (is_quoted quoting) word xs j f e'; text = λ t j e'. expand_text b t word j f e' })
+        (record { here = λ xs j e'. expand_word (manner_of b' true cuts) (is_quoted quoting) word xs j f' e'; text = λ t j e'. expand_text b' t word j f' e' })
         k k' f f'
         (λ xs j j' hj. word-alike P b b' cuts (is_quoted quoting) word xs j j' f f' hb hj hf)
-        (λ j j' hj. text-alike P b b' [] word j j' f f' hb hj hf)
-        (λ j j' hj. text-alike P b b' not_set word j j' f f' hb hj hf)
+        (λ t j j' hj. text-alike P b b' t word j j' f f' hb hj hf)
         hk hf e p le
     part-alike P b b' inner cuts (without quoting parameter removal pattern) ms k k' f f' hb hk hf e p le =
-        taken-alike P removal cuts (is_quoted quoting) parameter (values e parameter) ms (λ j e'. expand b true false pattern [] j f e') (λ j e'. expand b' true false pattern [] j f' e') k k' f f' (λ j j' hj. expand-alike P b b' true false pattern [] j j' f f' hb hj hf) hk hf e p le
+        let u : Use = use_of cuts (is_quoted quoting) parameter in
+        with_values-alike P u (values e parameter) ms (λ words e'. expand (manner_of b true false) pattern [] (taken removal u words ms k) f e') (λ words e'. expand (manner_of b' true false) pattern [] (taken removal u words ms k') f' e') k k' f f'
+        (λ words. expand-alike P b b' true false pattern [] (taken removal u words ms k) (taken removal u words ms k') f f' hb (taken-alike P removal u words ms k k' hk) hf) hk hf e p le
     part-alike P b b' inner cuts (output_of quoting n) ms k k' f f' hb hk hf e p le = substituted-alike P (b n) (b' n) (is_quoted quoting) ms k k' (hb n) hk e p le
     part-alike P b b' inner cuts (arithmetic quoting expression) ms k k' f f' hb hk hf e p le =
         expand-alike P b b' true false expression [] (λ xs e'. computed (is_quoted quoting) (text_of xs) ms k f e') (λ xs e'. computed (is_quoted quoting) (text_of xs) ms k' f' e') f f' hb (λ xs. computed-alike P (is_quoted quoting) (text_of xs) ms k k' f f' hk hf) hf e p le
 
-    word-alike : (P : ℕ) (b b' : ℕ → Body) (cuts quoted : Bool) (w : OperatorWord) (ms : Marks) (k k' : Ended) (f f' : Failed) → ((n : ℕ) → SameBody P (b n) (b' n)) → SameEnded P k k' → SameFailed P f f' → Goes P (expand_word b cuts quoted w ms k f) (expand_word b' cuts quoted w ms k' f')
+    word-alike : (P : ℕ) (b b' : ℕ → Body) (cuts quoted : Bool) (w : OperatorWord) (ms : Marks) (k k' : Ended) (f f' : Failed) → ((n : ℕ) → SameBody P (b n) (b' n)) → SameEnded P k k' → SameFailed P f f' → Goes P (expand_word (manner_of b true cuts) quoted w ms k f) (expand_word (manner_of b' true cuts) quoted w ms k' f')
     word-alike P b b' cuts quoted no_word ms k k' f f' hb hk hf e p le = hk (ms ++ given quoted []) e p le
     word-alike P b b' cuts quoted (the_word ps) ms k k' f f' hb hk hf e p le = expand-alike P b b' true cuts ps ms k k' f f' hb hk hf e p le
 

@@ -17,7 +17,7 @@ use Rattle.sh_expand.specs.declared.machine.Stage.TheVariants.{Piped}
 use Rattle.sh_expand.specs.declared.machine.Machine.{Machine}
 use Rattle.sh_expand.specs.declared.machine.Wants.{Wants}
 use Rattle.sh_expand.specs.declared.machine.Wants.TheVariants.{Pipe, Fault}
-use Rattle.sh_expand.specs.Expands.{Body, Ended, Failed, expand, expand_part}
+use Rattle.sh_expand.specs.Expands.{Body, Ended, Failed, manner_of, expand, expand_part}
 use Rattle.sh_expand.specs.Acting.{then_over, acted_on, Does, LeavesAs, acted_size, size, size_part}
 use Rattle.sh_expand.specs.Machine.{left_of, goes, context, stack_size, size_of, IsSmaller, ActedOn, EndsAs, Advances}
 
@@ -61,7 +61,7 @@ entered old new inner splits then e l m s =
           omega arith
           );
       talk = λ body k fail p.
-          ap (λ (c : Ended). expand body true splits (parts inner.value) old.marks.items c fail e p) (sym (ap (λ (fs : List Frame). context body fs k fail) s ∙ context-push body old.stack.items frame k fail)) ∙ (ap (λ (ms : Marks). expand body true splits (parts inner.value) ms (context body new.stack.items k fail) fail e p) (sym m) ∙ ap (λ (x : Level). goes body x (context body new.stack.items k fail) fail new.marks.items e p) (sym l));
+          ap (λ (c : Ended). expand (manner_of body true splits) (parts inner.value) old.marks.items c fail e p) (sym (ap (λ (fs : List Frame). context body fs k fail) s ∙ context-push body old.stack.items frame k fail)) ∙ (ap (λ (ms : Marks). expand (manner_of body true splits) (parts inner.value) ms (context body new.stack.items k fail) fail e p) (sym m) ∙ ap (λ (x : Level). goes body x (context body new.stack.items k fail) fail new.marks.items e p) (sym l));
     }
   where
     frame : Frame
@@ -72,12 +72,12 @@ pub asked : (old : Machine) (n : ℕ) (quoted : Bool) (e : Env) → ActedOn old 
 asked old n quoted e = record { smaller = tt; talk = λ body k fail p. refl }
 
 -- one part, and what comes after it
-pub part_goes : (old mid new : Machine) (part : PartTree) (acted : Acted) (e : Env) (r : Option Wants) → left_of old.level ≡ part_and part (left_of mid.level) → mid.level.inner ≡ old.level.inner → mid.level.splits ≡ old.level.splits → mid.stack.items ≡ old.stack.items → Does (λ body ms k fail e. expand_part body old.level.inner old.level.splits part ms k fail e) e old.marks.items mid.marks.items acted → acted_size acted < size_part part → ActedOn mid acted e new r → Advances old e new e r
+pub part_goes : (old mid new : Machine) (part : PartTree) (acted : Acted) (e : Env) (r : Option Wants) → left_of old.level ≡ part_and part (left_of mid.level) → mid.level.inner ≡ old.level.inner → mid.level.splits ≡ old.level.splits → mid.stack.items ≡ old.stack.items → Does (λ body ms k fail e. expand_part (manner_of body old.level.inner old.level.splits) part ms k fail e) e old.marks.items mid.marks.items acted → acted_size acted < size_part part → ActedOn mid acted e new r → Advances old e new e r
 part_goes old mid new part acted e r l i b s does less h =
     record {
       smaller = smaller r h.smaller;
       talk = λ body k fail p.
-          ap (λ (ps : PartsTree). expand body old.level.inner old.level.splits ps old.marks.items (context body old.stack.items k fail) fail e p) l ∙ (does body (λ ms e'. expand body old.level.inner old.level.splits (left_of mid.level) ms (context body old.stack.items k fail) fail e') fail p ∙ (ap (λ (x : Bool). acted_on body acted mid.marks.items (λ ms e'. expand body x old.level.splits (left_of mid.level) ms (context body old.stack.items k fail) fail e') fail e p) (sym i) ∙ (ap (λ (x : Bool). acted_on body acted mid.marks.items (λ ms e'. expand body mid.level.inner x (left_of mid.level) ms (context body old.stack.items k fail) fail e') fail e p) (sym b) ∙ (ap (λ (fs : List Frame). acted_on body acted mid.marks.items (goes body mid.level (context body fs k fail) fail) fail e p) (sym s) ∙ h.talk body k fail p))));
+          ap (λ (ps : PartsTree). expand (manner_of body old.level.inner old.level.splits) ps old.marks.items (context body old.stack.items k fail) fail e p) l ∙ (does body (λ ms e'. expand (manner_of body old.level.inner old.level.splits) (left_of mid.level) ms (context body old.stack.items k fail) fail e') fail p ∙ (ap (λ (x : Bool). acted_on body acted mid.marks.items (λ ms e'. expand (manner_of body x old.level.splits) (left_of mid.level) ms (context body old.stack.items k fail) fail e') fail e p) (sym i) ∙ (ap (λ (x : Bool). acted_on body acted mid.marks.items (λ ms e'. expand (manner_of body mid.level.inner x) (left_of mid.level) ms (context body old.stack.items k fail) fail e') fail e p) (sym b) ∙ (ap (λ (fs : List Frame). acted_on body acted mid.marks.items (goes body mid.level (context body fs k fail) fail) fail e p) (sym s) ∙ h.talk body k fail p))));
     }
   where
     total : size_of old ≡ size_part part + size_of mid
@@ -95,7 +95,7 @@ pub word_ends : (old new : Machine) (before_e e : Env) (r : Option Wants) → le
 word_ends old new before_e e r l h =
     record {
       smaller = smaller r h.smaller;
-      talk = λ body k fail p. ap (λ (ps : PartsTree). expand body old.level.inner old.level.splits ps old.marks.items (context body old.stack.items k fail) fail before_e p) l ∙ h.talk body k fail p;
+      talk = λ body k fail p. ap (λ (ps : PartsTree). expand (manner_of body old.level.inner old.level.splits) ps old.marks.items (context body old.stack.items k fail) fail before_e p) l ∙ h.talk body k fail p;
     }
   where
     smaller : (r : Option Wants) → IsSmaller r (stack_size old.stack.items) new → IsSmaller r (size_of old) new

@@ -11,8 +11,6 @@ use Rattle.sh_ast.specs.declared.parameter.Parameter.{Parameter}
 use Rattle.sh_ast.specs.declared.parameter.Parameter.TheVariants as p
 use Rattle.sh_ast.specs.declared.word.Quoting.{Quoting}
 use Rattle.sh_ast.specs.declared.word.Quoting.TheVariants.{Quoted, Unquoted}
-use Rattle.sh_ast.specs.declared.word.Substitute.{Substitute}
-use Rattle.sh_ast.specs.declared.word.Substitute.TheVariants.{Default, Assign, Fault, Alternative}
 use Rattle.sh_ast.specs.declared.word.Removal.{Removal}
 use Rattle.sh_ast.specs.Parameters.{spelling}
 use Rattle.sh_ast.specs.Words.{PartTree, literal, value_of, length_of, substitute, without, output_of, arithmetic, OperatorWord, no_word, the_word, PartsTree, no_parts, part_and}
@@ -25,8 +23,10 @@ use Rattle.sh_arith.specs.Meaning.{Ends}
 use Rattle.sh_arith.specs.Operators.{Worth}
 use Rattle.sh_arith.proofs.Worths.{worth_of}
 use Rattle.sh_expand.specs.Arithmetic.{variables_in, told_of, words_of}
+use Rattle.sh_expand.specs.Operators as outcome
+use Rattle.sh_expand.specs.Operators.{Outcome, table, cell}
 use Rattle.sh_expand.specs.Told.{numbered}
-use Rattle.sh_expand.specs.Values.{value, values, stay_apart, counts, separator, all_removed}
+use Rattle.sh_expand.specs.Values.{value, values, stay_apart, separator, all_removed}
 
 -- what goes on from a state
 abbrev pub Go_on : Type 0
@@ -80,9 +80,27 @@ unset false quoted parameter marks k fail e = k (marks ++ given quoted []) e
 abbrev pub shown : Bool → Bool → List Text → Env → Marks
 shown apart quoted words e = all_given apart quoted (separator e) words
 
-abbrev pub got : Bool → Bool → Parameter → Option (List Text) → Marks → Ended → Failed → Go_on
-got splits quoted parameter (Some words) marks k fail e = k (marks ++ shown (stay_apart splits quoted parameter) quoted words e) e
-got splits quoted parameter None marks k fail e = unset e.nounset quoted parameter marks k fail e
+-- a parameter as a word has it: in a word whose fields are split or not, quoted or not
+pub record Use : Type 0 where
+  pub splits : Bool
+  pub quoted : Bool
+  pub parameter : Parameter
+
+abbrev pub use_of : Bool → Bool → Parameter → Use
+use_of splits quoted parameter = record { splits = splits; quoted = quoted; parameter = parameter }
+
+-- values of such a parameter where they stand
+abbrev pub shown_of : Use → List Text → Env → Marks
+shown_of u words e = shown (stay_apart u.splits u.quoted u.parameter) u.quoted words e
+
+-- the values of a parameter that is set go on; one that is unset is as above
+abbrev pub with_values : Use → Option (List Text) → Marks → (List Text → Go_on) → Ended → Failed → Go_on
+with_values u (Some words) marks go k fail e = go words e
+with_values u None marks go k fail e = unset e.nounset u.quoted u.parameter marks k fail e
+
+-- substitute the parameter: its values stand there
+abbrev pub got : Use → Option (List Text) → Marks → Ended → Failed → Go_on
+got u o marks k fail e = with_values u o marks (λ words e'. k (marks ++ shown_of u words e') e') k fail e
 
 -- an unset parameter has no bytes, or under set -u it is a fault
 abbrev pub unmeasured : Bool → Bool → Parameter → Marks → Ended → Failed → Go_on
@@ -94,10 +112,10 @@ abbrev pub measured : Bool → Parameter → Option (List Text) → Marks → En
 measured quoted parameter (Some words) marks k fail e = k (marks ++ given quoted (decimal (length (joined (separator e) words)))) e
 measured quoted parameter None marks k fail e = unmeasured e.nounset quoted parameter marks k fail e
 
--- a variable takes a text, which stands there then; a readonly one is a fault
-abbrev pub put_by : Bool → Bool → Text → Text → Marks → Ended → Failed → Go_on
-put_by true quoted name text marks k fail e = fail name readonly e
-put_by false quoted name text marks k fail e = k (marks ++ given quoted text) (record e { vars = assigned name text e.vars })
+-- a variable takes a text, and these marks stand there then; a readonly one is a fault
+abbrev pub put_by : Bool → Text → Text → Marks → Ended → Failed → Go_on
+put_by true name text marks k fail e = fail name readonly e
+put_by false name text marks k fail e = k marks (record e { vars = assigned name text e.vars })
 
 -- what comes after the text of an operator's word
 abbrev pub With_text : Type 0
@@ -105,7 +123,7 @@ With_text = Text → Go_on
 
 -- only a variable can be set
 abbrev pub assigning : Bool → Parameter → Marks → (With_text → Go_on) → Ended → Failed → Go_on
-assigning quoted (p.Variable name) marks word k fail e = word (λ text e'. put_by (is_readonly e'.vars name) quoted name text marks k fail e') e
+assigning quoted (p.Variable name) marks word k fail e = word (λ text e'. put_by (is_readonly e'.vars name) name text (marks ++ given quoted text) k fail e') e
 assigning quoted (p.Positional digits) marks word k fail e = fail digits not_valid e
 assigning quoted p.At marks word k fail e = fail (spelling p.At) not_valid e
 assigning quoted p.Asterisk marks word k fail e = fail (spelling p.Asterisk) not_valid e
@@ -113,22 +131,23 @@ assigning quoted p.Count marks word k fail e = fail (spelling p.Count) not_valid
 assigning quoted p.Status marks word k fail e = fail (spelling p.Status) not_valid e
 assigning quoted p.Zero marks word k fail e = fail (spelling p.Zero) not_valid e
 
--- A parameter with an operator, by whether its value counts: the word stands here, or it is the text that is assigned,
--- or the message of a fault.
-abbrev pub used : Substitute → Bool → Bool → Bool → Parameter → Marks → (Marks → Ended → Go_on) → (With_text → Go_on) → (With_text → Go_on) → Ended → Failed → Go_on
-used Default true splits quoted parameter marks here text message k fail e = got splits quoted parameter (values e parameter) marks k fail e
-used Default false splits quoted parameter marks here text message k fail e = here marks k e
-used Assign true splits quoted parameter marks here text message k fail e = got splits quoted parameter (values e parameter) marks k fail e
-used Assign false splits quoted parameter marks here text message k fail e = assigning quoted parameter marks text k fail e
-used Fault true splits quoted parameter marks here text message k fail e = got splits quoted parameter (values e parameter) marks k fail e
-used Fault false splits quoted parameter marks here text message k fail e = message (λ t e'. fail (spelling parameter) t e') e
-used Alternative true splits quoted parameter marks here text message k fail e = here marks k e
-used Alternative false splits quoted parameter marks here text message k fail e = k (marks ++ given quoted []) e
+-- what an operator's word means: as it stands there, behind these marks; and as a text, which is this one where no word is
+pub record WordMeans : Type 0 where
+  pub here : Marks → Ended → Go_on
+  pub text : Text → With_text → Go_on
 
--- values without what a pattern matches, whose word means this
-abbrev pub taken : Removal → Bool → Bool → Parameter → Option (List Text) → Marks → (Ended → Go_on) → Ended → Failed → Go_on
-taken removal splits quoted parameter (Some words) marks pattern k fail e = pattern (λ ms e'. k (marks ++ shown (stay_apart splits quoted parameter) quoted (all_removed removal (pattern_of ms) words) e') e') e
-taken removal splits quoted parameter None marks pattern k fail e = unset e.nounset quoted parameter marks k fail e
+-- What the table has is done: the value, the word or null is substituted; the word is assigned, and substituted; or it is the
+-- message of an error.
+abbrev pub carried_out : Outcome → Use → WordMeans → Marks → Ended → Failed → Go_on
+carried_out outcome.Value u word marks k fail e = got u (values e u.parameter) marks k fail e
+carried_out outcome.Word u word marks k fail e = word.here marks k e
+carried_out outcome.Null u word marks k fail e = k (marks ++ given u.quoted []) e
+carried_out outcome.Assigns u word marks k fail e = assigning u.quoted u.parameter marks (word.text []) k fail e
+carried_out outcome.Error u word marks k fail e = word.text not_set (λ text e'. fail (spelling u.parameter) text e') e
+
+-- behind a pattern that was expanded: values without what it matches
+abbrev pub taken : Removal → Use → List Text → Marks → Ended → Ended
+taken removal u words marks k pattern e = k (marks ++ shown_of u (all_removed removal (pattern_of pattern) words) e) e
 
 -- a substitution: the pipe, the body, what it wrote
 abbrev pub substituted : Body → Bool → Marks → Ended → Go_on
@@ -148,34 +167,41 @@ left_put quoted text ends marks k fail e = worth_put quoted text ends.worth mark
 abbrev pub computed : Bool → Text → Marks → Ended → Failed → Go_on
 computed quoted text marks k fail e = left_put quoted text (worth_of e.nounset text (variables_in e.vars)) marks k fail e
 
-abbrev mutual
-  -- The parts of a word from left to right, after the marks so far, where bodies mean this; whether it is an operator's
-  -- word, and whether fields are split.
-  pub expand : (ℕ → Body) → Bool → Bool → PartsTree → Marks → Ended → Failed → Go_on
-  expand body inner splits no_parts marks k fail e = k marks e
-  expand body inner splits (part_and q qs) marks k fail e = expand_part body inner splits q marks (λ ms e'. expand body inner splits qs ms k fail e') fail e
+-- how parts are expanded: what bodies mean, whether they are an operator's word, and whether fields are split
+pub record Manner : Type 0 where
+  pub bodies : ℕ → Body
+  pub inner : Bool
+  pub splits : Bool
 
-  pub expand_part : (ℕ → Body) → Bool → Bool → PartTree → Marks → Ended → Failed → Go_on
-  expand_part body inner splits (literal quoting text) marks k fail e = k (marks ++ literal_marks inner quoting text) e
-  expand_part body inner splits (value_of quoting parameter) marks k fail e = got splits (is_quoted quoting) parameter (values e parameter) marks k fail e
-  expand_part body inner splits (length_of quoting parameter) marks k fail e = measured (is_quoted quoting) parameter (values e parameter) marks k fail e
-  expand_part body inner splits (substitute quoting parameter condition by word) marks k fail e =
-      used by (counts condition (value e parameter)) splits (is_quoted quoting) parameter marks
-      (λ ms k' e'. expand_word body splits (is_quoted quoting) word ms k' fail e')
-      (λ k' e'. expand_text body [] word k' fail e')
-      (λ k' e'. expand_text body not_set word k' fail e')
-      k fail e
-  expand_part body inner splits (without quoting parameter removal pattern) marks k fail e =
-      taken removal splits (is_quoted quoting) parameter (values e parameter) marks (λ k' e'. expand body true false pattern [] k' fail e') k fail e
-  expand_part body inner splits (output_of quoting n) marks k fail e = substituted (body n) (is_quoted quoting) marks k e
-  expand_part body inner splits (arithmetic quoting expression) marks k fail e = expand body true false expression [] (λ ms e'. computed (is_quoted quoting) (text_of ms) marks k fail e') fail e
+abbrev pub manner_of : (ℕ → Body) → Bool → Bool → Manner
+manner_of bodies inner splits = record { bodies = bodies; inner = inner; splits = splits }
+
+abbrev mutual
+  -- the parts of a word from left to right, after the marks so far
+  pub expand : Manner → PartsTree → Marks → Ended → Failed → Go_on
+  expand m no_parts marks k fail e = k marks e
+  expand m (part_and q qs) marks k fail e = expand_part m q marks (λ ms e'. expand m qs ms k fail e') fail e
+
+  pub expand_part : Manner → PartTree → Marks → Ended → Failed → Go_on
+  expand_part m (literal quoting text) marks k fail e = k (marks ++ literal_marks m.inner quoting text) e
+  expand_part m (value_of quoting parameter) marks k fail e = got (use_of m.splits (is_quoted quoting) parameter) (values e parameter) marks k fail e
+  expand_part m (length_of quoting parameter) marks k fail e = measured (is_quoted quoting) parameter (values e parameter) marks k fail e
+  expand_part m (substitute quoting parameter condition by word) marks k fail e =
+      carried_out (cell (table by condition) (value e parameter)) (use_of m.splits (is_quoted quoting) parameter)
+      (record { here = λ ms k' e'. expand_word (manner_of m.bodies true m.splits) (is_quoted quoting) word ms k' fail e'; text = λ otherwise k' e'. expand_text m.bodies otherwise word k' fail e' })
+      marks k fail e
+  expand_part m (without quoting parameter removal pattern) marks k fail e =
+      let u = use_of m.splits (is_quoted quoting) parameter in
+      with_values u (values e parameter) marks (λ words e'. expand (manner_of m.bodies true false) pattern [] (taken removal u words marks k) fail e') k fail e
+  expand_part m (output_of quoting n) marks k fail e = substituted (m.bodies n) (is_quoted quoting) marks k e
+  expand_part m (arithmetic quoting expression) marks k fail e = expand (manner_of m.bodies true false) expression [] (λ ms e'. computed (is_quoted quoting) (text_of ms) marks k fail e') fail e
 
   -- an operator's word where it stands; nothing where it is left out
-  pub expand_word : (ℕ → Body) → Bool → Bool → OperatorWord → Marks → Ended → Failed → Go_on
-  expand_word body splits quoted no_word marks k fail e = k (marks ++ given quoted []) e
-  expand_word body splits quoted (the_word parts) marks k fail e = expand body true splits parts marks k fail e
+  pub expand_word : Manner → Bool → OperatorWord → Marks → Ended → Failed → Go_on
+  expand_word m quoted no_word marks k fail e = k (marks ++ given quoted []) e
+  expand_word m quoted (the_word parts) marks k fail e = expand m parts marks k fail e
 
   -- the same as a text, or another text where it is left out
   pub expand_text : (ℕ → Body) → Text → OperatorWord → With_text → Failed → Go_on
-  expand_text body otherwise no_word k fail e = k otherwise e
-  expand_text body otherwise (the_word parts) k fail e = expand body true false parts [] (λ ms e'. k (text_of ms) e') fail e
+  expand_text bodies otherwise no_word k fail e = k otherwise e
+  expand_text bodies otherwise (the_word parts) k fail e = expand (manner_of bodies true false) parts [] (λ ms e'. k (text_of ms) e') fail e

@@ -5,6 +5,7 @@ pub mod Fields
 pub mod Globbing
 pub mod Machine
 pub mod Means
+pub mod Operators
 pub mod Stages
 pub mod Told
 pub mod Turns

@@ -18,7 +18,7 @@ use Rattle.sh_expand.specs.declared.machine.Wants.{Wants}
 use Rattle.sh_expand.specs.declared.machine.Wants.TheVariants as wants
 use Rattle.sh_expand.specs.declared.acts.Acted.{Acted}
 use Rattle.sh_expand.specs.Acting.{then_over, acted_on, acted_size, size}
-use Rattle.sh_expand.specs.Expands.{Go_on, Body, Ended, Failed, read_of, counted, expand}
+use Rattle.sh_expand.specs.Expands.{Go_on, Body, Ended, Failed, read_of, counted, manner_of, expand}
 
 -- what is left of parts behind so many
 abbrev pub after : ℕ → PartsTree → PartsTree
@@ -31,7 +31,7 @@ left_of l = after l.place (parts l.parts.value)
 
 -- the rest of a word
 abbrev pub goes : (ℕ → Body) → Level → Ended → Failed → Ended
-goes body l k fail marks e = expand body l.inner l.splits (left_of l) marks k fail e
+goes body l k fail marks e = expand (manner_of body l.inner l.splits) (left_of l) marks k fail e
 
 -- what comes after the word on top of these frames, the outermost first
 abbrev pub context : (ℕ → Body) → List Frame → Ended → Failed → Ended
@@ -42,19 +42,26 @@ context body (f ∷ fs) k fail = context body fs (then_over f.then (goes body f.
 abbrev pub before : (ℕ → Body) → Level → Marks → List Frame → Ended → Failed → Go_on
 before body l marks stack k fail e p = goes body l (context body stack k fail) fail marks e p
 
--- once a body was evaluated: its pipe is read
-abbrev pub reads_back : (ℕ → Body) → Bool → ℕ → Level → Marks → List Frame → Ended → Failed → Go_on
-reads_back body quoted from l marks stack k fail e =
-    ask (Read from) 1 (λ b. before body l (marks ++ given quoted (captured (read_of (brought b)))) stack k fail (counted b e))
+-- before the next part of this machine
+abbrev pub goes_on : (ℕ → Body) → Machine → Ended → Failed → Go_on
+goes_on body x k fail e p = before body x.level x.marks.items x.stack.items k fail e p
 
-abbrev pub at_stage : Stage → Level → Marks → List Frame → Answer → (ℕ → Body) → Ended → Failed → Go_on
-at_stage Before l marks stack a body k fail e = before body l marks stack k fail e
-at_stage (Piped n quoted from) l marks stack a body k fail e = body n e (reads_back body quoted from l marks stack k fail)
-at_stage (Evaluates quoted from) l marks stack a body k fail e = reads_back body quoted from l marks stack k fail e
-at_stage (Reads quoted) l marks stack a body k fail e = before body l (marks ++ given quoted (captured (read_of (brought a)))) stack k fail e
+-- what the pipe gave stands there
+abbrev pub put_back : (ℕ → Body) → Bool → Answer → Machine → Ended → Failed → Go_on
+put_back body quoted a x k fail e = before body x.level (x.marks.items ++ given quoted (captured (read_of (brought a)))) x.stack.items k fail e
+
+-- once a body was evaluated: its pipe is read
+abbrev pub reads_back : (ℕ → Body) → Bool → ℕ → Machine → Ended → Failed → Go_on
+reads_back body quoted from x k fail e = ask (Read from) 1 (λ b. put_back body quoted b x k fail (counted b e))
+
+abbrev pub at_stage : Stage → Machine → Answer → (ℕ → Body) → Ended → Failed → Go_on
+at_stage Before x a body k fail e = goes_on body x k fail e
+at_stage (Piped n quoted from) x a body k fail e = body n e (reads_back body quoted from x k fail)
+at_stage (Evaluates quoted from) x a body k fail e = reads_back body quoted from x k fail e
+at_stage (Reads quoted) x a body k fail e = put_back body quoted a x k fail e
 
 abbrev pub says : Machine → Answer → (ℕ → Body) → Ended → Failed → Go_on
-says x a body k fail e p = at_stage x.stage x.level x.marks.items x.stack.items a body k fail e p
+says x a body k fail e p = at_stage x.stage x a body k fail e p
 
 -- what it wants, and what it does afterwards
 abbrev pub after_wants : Wants → Machine → (ℕ → Body) → Ended → Failed → Go_on
@@ -71,10 +78,6 @@ stack_size (f ∷ fs) = size (left_of f.level) + 1 + stack_size fs
 -- how much is left, as a measure
 abbrev pub size_of : Machine → ℕ
 size_of x = size (left_of x.level) + stack_size x.stack.items
-
--- before the next part of this machine
-abbrev pub goes_on : (ℕ → Body) → Machine → Ended → Failed → Go_on
-goes_on body x k fail e p = before body x.level x.marks.items x.stack.items k fail e p
 
 -- it went by, or something is wanted
 abbrev pub turned : (ℕ → Body) → Option Wants → Machine → Ended → Failed → Go_on

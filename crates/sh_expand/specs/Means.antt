@@ -13,7 +13,7 @@ use Rattle.sh_expand.specs.declared.mode.Mode.{Mode}
 use Rattle.sh_expand.specs.declared.mode.Mode.TheVariants as mode
 use Rattle.sh_expand.specs.declared.mode.Expanded.{Expanded}
 use Rattle.sh_expand.specs.declared.mode.Expanded.TheVariants.{Fields, Value}
-use Rattle.sh_expand.specs.Expands.{Go_on, Body, Failed, expand}
+use Rattle.sh_expand.specs.Expands.{Go_on, Body, Failed, manner_of, expand}
 use Rattle.sh_expand.specs.Fields.{ifs, all_names}
 
 abbrev pub all_bytes : List Text → Text
@@ -44,7 +44,7 @@ splits mode.Pattern = false
 -- A word: its parts from left to right; then its fields are cut by the IFS of that moment and pathnames are expanded. A
 -- fault pays nothing for bytes.
 abbrev pub expand_in : Mode → (ℕ → Body) → PartsTree → With_expanded → Failed → Go_on
-expand_in m body parts k fail e = expand body false (splits m) parts [] (λ marks e'. finished m marks k e') fail e
+expand_in m body parts k fail e = expand (manner_of body false (splits m)) parts [] (λ marks e'. finished m marks k e') fail e
 
 -- the parts of a whole word
 abbrev pub parts_of : WordTree → PartsTree

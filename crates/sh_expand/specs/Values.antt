@@ -2,11 +2,8 @@
 use Rattle.std.specs.Prelude.{ℕ, ◌+◌, ◌-◌, ◌*◌, ◌==◌, List, [], ◌∷◌, length, take, drop, slice_get, Option, Some, None, Bool, true, false, not, ◌&&◌, if◌then◌else◌}
 use Rattle.std.specs.Fmt.{decimal}
 use Rattle.rk_base.specs.Text.{Text}
-use Rattle.rk_base.specs.Canonical.{is_empty}
 use Rattle.sh_ast.specs.declared.parameter.Parameter.{Parameter}
 use Rattle.sh_ast.specs.declared.parameter.Parameter.TheVariants as p
-use Rattle.sh_ast.specs.declared.word.Condition.{Condition}
-use Rattle.sh_ast.specs.declared.word.Condition.TheVariants.{Unset, UnsetOrNull}
 use Rattle.sh_ast.specs.declared.word.Removal.{Removal}
 use Rattle.sh_ast.specs.declared.word.Removal.TheVariants.{SmallestSuffix, LargestSuffix, SmallestPrefix, LargestPrefix}
 use Rattle.sh_pattern.specs.Best.{best_prefix, best_suffix}
@@ -70,13 +67,6 @@ stay_apart splits quoted p.Asterisk = splits && not quoted
 stay_apart splits quoted p.Count = true
 stay_apart splits quoted p.Status = true
 stay_apart splits quoted p.Zero = true
-
--- a value that counts for an operator: null may count as unset (XCU 2.6.2)
-abbrev pub counts : Condition → Option Text → Bool
-counts Unset None = false
-counts Unset (Some text) = true
-counts UnsetOrNull None = false
-counts UnsetOrNull (Some text) = not (is_empty text)
 
 -- a text without its front or end of so many bytes
 abbrev pub without_front : Text → Option ℕ → Text

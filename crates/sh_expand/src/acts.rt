@@ -75,7 +75,7 @@ fn assign(
     marks: &mut Vec<Mark>,
     env: &mut Env,
 ) -> Result<Option<(Bytes, Bytes)>, NoMemory>
-    ensures { IfOk result (λ r. (k : Ended) (fail : Failed) (p : ℕ) → put_by (is_readonly env.old.vars name) quoted name text.now marks.old.items k fail env.old p ≡ left_on r marks.new.items k fail env.new p) }
+    ensures { IfOk result (λ r. (k : Ended) (fail : Failed) (p : ℕ) → put_by (is_readonly env.old.vars name) name text.now (marks.old.items ++ given quoted text.now) k fail env.old p ≡ left_on r marks.new.items k fail env.new p) }
 {
     if env.vars.is_readonly(name.as_slice()) {
         let message = Bytes::from_slice(alloc, b"readonly")?;

@@ -2,7 +2,7 @@
 ghost use Rattle.std.specs.Prelude.{◌≡◌, ◌++◌, ◌∷◌, [], ℕ, IfOk, OnOk, Bool, true, false};
 ghost use Rattle.sh_ast.specs.Words.{parts};
 ghost use Rattle.sh_vars.specs.declared.env.Env.{Env};
-ghost use Rattle.sh_expand.specs.Expands.{Body, Ended, Failed, expand};
+ghost use Rattle.sh_expand.specs.Expands.{Body, Ended, Failed, manner_of, expand};
 ghost use Rattle.sh_expand.specs.Machine.{says, after_wants, ActedOn, EndsAs, Advances, Runs, IsNoBody, IsDue, bodies_at};
 
 use crate::acts::{Acted, Then, leave};
@@ -170,7 +170,7 @@ fn run(x: &mut Machine, env: &mut Env) -> Result<Wants, NoMemory>
 impl Machine {
     /// The parts of a word, whose fields are split or not.
     pub(crate) fn start(alloc: Global, word: Rc<Parts>, splits: bool) -> Machine
-        ensures { (body : ℕ → Body) (k : Ended) (fail : Failed) (e : Env) (p : ℕ) → says result Answer.Go body k fail e p ≡ expand body false splits (parts word.value) [] k fail e p }
+        ensures { (body : ℕ → Body) (k : Ended) (fail : Failed) (e : Env) (p : ℕ) → says result Answer.Go body k fail e p ≡ expand (manner_of body false splits) (parts word.value) [] k fail e p }
     {
         Machine {
             alloc,

@@ -1,7 +1,8 @@
 // Values of parameters.
 ghost use Rattle.std.specs.Prelude.{◌≡◌, ◌∷◌, [], length, IfOk, option_copied};
 ghost use Rattle.sh_split.specs.Joining.{joined};
-ghost use Rattle.sh_expand.specs.Values.{number, positional_at, separator, some_joined, value, alone, values, stay_apart, counts};
+ghost use Rattle.sh_expand.specs.Acting.{counts};
+ghost use Rattle.sh_expand.specs.Values.{number, positional_at, separator, some_joined, value, alone, values, stay_apart};
 
 use crate::decimal::{digits, number};
 use rk_base::{Bytes, NoMemory, WordList};

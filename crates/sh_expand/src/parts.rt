@@ -5,9 +5,9 @@ ghost use Rattle.sh_ast.specs.Parameters.{spelling};
 ghost use Rattle.sh_ast.specs.Words.{part, parts};
 ghost use Rattle.sh_split.specs.Marked.{text_of};
 ghost use Rattle.sh_vars.specs.declared.env.Env.{Env};
-ghost use Rattle.sh_expand.specs.Values.{values, value, counts};
-ghost use Rattle.sh_expand.specs.Expands.{Body, Ended, Failed, is_quoted, literal_marks, unset, got, unmeasured, measured, assigning, taken, computed, not_set, expand, expand_part, expand_word, expand_text};
-ghost use Rattle.sh_expand.specs.Acting.{Does, word_of, parts_in, used_by, acted_size, size, size_part, size_word};
+ghost use Rattle.sh_expand.specs.Values.{values, value};
+ghost use Rattle.sh_expand.specs.Expands.{Body, Ended, Failed, is_quoted, literal_marks, unset, use_of, with_values, got, unmeasured, measured, assigning, taken, computed, not_set, manner_of, expand, expand_part, expand_word, expand_text};
+ghost use Rattle.sh_expand.specs.Acting.{Does, word_of, parts_in, counts, outcome_by, used_as, acted_size, size, size_part, size_word};
 
 use crate::acts::{Acted, Then, take};
 use crate::parameters::{counts, is_apart, separator, value, values};
@@ -72,7 +72,7 @@ fn put_word(
     marks: &mut Vec<Mark>,
 ) -> Result<Acted, NoMemory>
     ensures less { IfOk result (λ acted. acted_size acted < size_word (word_of word.now) + 2) }
-    ensures does { IfOk result (λ acted. (e : Env) → Does (λ body ms k fail e'. expand_word body splits quoted (word_of word.now) ms k fail e') e marks.old.items marks.new.items acted) }
+    ensures does { IfOk result (λ acted. (e : Env) → Does (λ body ms k fail e'. expand_word (manner_of body true splits) quoted (word_of word.now) ms k fail e') e marks.old.items marks.new.items acted) }
 {
     match word {
         None => {
@@ -93,7 +93,7 @@ fn put_expression(
     marks: &mut Vec<Mark>,
 ) -> Result<Acted, NoMemory>
     ensures less { IfOk result (λ acted. acted_size acted < size (parts expression.now.value) + 2) }
-    ensures does { IfOk result (λ acted. (e : Env) → Does (λ body ms k fail e'. expand body true false (parts expression.now.value) [] (λ xs e''. computed quoted (text_of xs) ms k fail e'') fail e') e marks.old.items marks.new.items acted) }
+    ensures does { IfOk result (λ acted. (e : Env) → Does (λ body ms k fail e'. expand (manner_of body true false) (parts expression.now.value) [] (λ xs e''. computed quoted (text_of xs) ms k fail e'') fail e') e marks.old.items marks.new.items acted) }
 {
     let inner = share(expression)?;
     Ok(Acted::Enter(inner, false, Then::Compute(quoted, take(marks))))
@@ -143,7 +143,7 @@ impl<'a> ParameterUse<'a> {
     // Values where they stand.
     fn put_values(&self, marks: &mut Vec<Mark>) -> Result<Acted, NoMemory>
         ensures less { IfOk result (λ acted. acted_size acted < 1) }
-        ensures does { IfOk result (Does (λ body ms k fail e. got self.now.splits self.now.quoted self.now.parameter.now (values self.now.env.now self.now.parameter.now) ms k fail e) self.now.env.now marks.old.items marks.new.items) }
+        ensures does { IfOk result (Does (λ body ms k fail e. got (use_of self.now.splits self.now.quoted self.now.parameter.now) (values self.now.env.now self.now.parameter.now) ms k fail e) self.now.env.now marks.old.items marks.new.items) }
     {
         let words = values(self.alloc, self.env, self.parameter)?;
         match words {
@@ -200,7 +200,7 @@ impl<'a> ParameterUse<'a> {
         marks: &mut Vec<Mark>,
     ) -> Result<Acted, NoMemory>
         ensures less { IfOk result (λ acted. acted_size acted < size (parts pattern.now.value) + 2) }
-        ensures does { IfOk result (Does (λ body ms k fail e. taken removal self.now.splits self.now.quoted self.now.parameter.now (values self.now.env.now self.now.parameter.now) ms (λ k' e'. expand body true false (parts pattern.now.value) [] k' fail e') k fail e) self.now.env.now marks.old.items marks.new.items) }
+        ensures does { IfOk result (Does (λ body ms k fail e. with_values (use_of self.now.splits self.now.quoted self.now.parameter.now) (values self.now.env.now self.now.parameter.now) ms (λ words e'. expand (manner_of body true false) (parts pattern.now.value) [] (taken removal (use_of self.now.splits self.now.quoted self.now.parameter.now) words ms k) fail e') k fail e) self.now.env.now marks.old.items marks.new.items) }
     {
         let words = values(self.alloc, self.env, self.parameter)?;
         match words {
@@ -265,7 +265,7 @@ impl<'a> ParameterUse<'a> {
         marks: &mut Vec<Mark>,
     ) -> Result<Acted, NoMemory>
         ensures less { IfOk result (λ acted. acted_size acted < size_word (word_of word.now) + 2) }
-        ensures does { IfOk result (Does (used_by by true self.now.splits self.now.quoted self.now.parameter.now (word_of word.now)) self.now.env.now marks.old.items marks.new.items) }
+        ensures does { IfOk result (Does (used_as (outcome_by by true) (use_of self.now.splits self.now.quoted self.now.parameter.now) (word_of word.now)) self.now.env.now marks.old.items marks.new.items) }
     {
         match by {
             Substitute::Default => self.put_values(marks),
@@ -283,7 +283,7 @@ impl<'a> ParameterUse<'a> {
         marks: &mut Vec<Mark>,
     ) -> Result<Acted, NoMemory>
         ensures less { IfOk result (λ acted. acted_size acted < size_word (word_of word.now) + 2) }
-        ensures does { IfOk result (λ acted. (e : Env) → Does (used_by by false self.now.splits self.now.quoted self.now.parameter.now (word_of word.now)) e marks.old.items marks.new.items acted) }
+        ensures does { IfOk result (λ acted. (e : Env) → Does (used_as (outcome_by by false) (use_of self.now.splits self.now.quoted self.now.parameter.now) (word_of word.now)) e marks.old.items marks.new.items acted) }
     {
         match by {
             Substitute::Default => put_word(self.splits, self.quoted, word, marks),
@@ -305,7 +305,7 @@ impl<'a> ParameterUse<'a> {
         marks: &mut Vec<Mark>,
     ) -> Result<Acted, NoMemory>
         ensures less { IfOk result (λ acted. acted_size acted < size_word (word_of word.now) + 2) }
-        ensures does { IfOk result (Does (λ body ms k fail e. used_by by (counts condition (value e self.now.parameter.now)) self.now.splits self.now.quoted self.now.parameter.now (word_of word.now) body ms k fail e) self.now.env.now marks.old.items marks.new.items) }
+        ensures does { IfOk result (Does (λ body ms k fail e. used_as (outcome_by by (counts condition (value e self.now.parameter.now))) (use_of self.now.splits self.now.quoted self.now.parameter.now) (word_of word.now) body ms k fail e) self.now.env.now marks.old.items marks.new.items) }
     {
         let text = value(self.alloc, self.env, self.parameter)?;
         if counts(condition, text.as_ref()) {
@@ -325,7 +325,7 @@ pub(crate) fn act(
     marks: &mut Vec<Mark>,
 ) -> Result<Acted, NoMemory>
     ensures less { IfOk result (λ acted. acted_size acted < size_part (part it.now)) }
-    ensures does { IfOk result (Does (λ body ms k fail e. expand_part body inner splits (part it.now) ms k fail e) env.now marks.old.items marks.new.items) }
+    ensures does { IfOk result (Does (λ body ms k fail e. expand_part (manner_of body inner splits) (part it.now) ms k fail e) env.now marks.old.items marks.new.items) }
 {
     match it {
         Part::Literal(quoting, text) => {

@@ -10,7 +10,7 @@ returns-in_ok-wants-in-Before-clause-due c = none_due c.in_ok-wants-in-Before.wa
 pub returns-in-Piped-clause-talk : goal.returns-in-Piped-clause-talk
 returns-in-Piped-clause-talk c =
     λ body k fail p.
-    ap (λ (s : Stage). at_stage s c.args.self.now.level c.args.self.now.marks.items c.args.self.now.stack.items c.args.answer body k fail c.args.env.now p) (sym c.replace-stage.ensures.value ∙ c.in-Piped.is)
+    ap (λ (s : Stage). at_stage s c.args.self.now c.args.answer body k fail c.args.env.now p) (sym c.replace-stage.ensures.value ∙ c.in-Piped.is)
 
 pub returns-in-Piped-clause-due : goal.returns-in-Piped-clause-due
 returns-in-Piped-clause-due c =
