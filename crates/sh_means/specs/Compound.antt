@@ -11,8 +11,8 @@ use Rattle.sh_expand.specs.declared.mode.Mode.TheVariants as mode
 use Rattle.sh_redirect.specs.declared.descriptors.DescriptorTable.{DescriptorTable}
 use Rattle.sh_means.specs.declared.flow.Flow.TheVariants.{Normal}
 use Rattle.sh_means.specs.declared.flow.Place.{Place}
-use Rattle.sh_means.specs.State.{FunctionTree, Shell, with_slot, back, past_stage, define}
-use Rattle.sh_means.specs.Flows.{Next, Go_on, Means, asks, ends, and_then, by_status, in_loop, watched, inverted, ignoring, deeper}
+use Rattle.sh_means.specs.State.{FunctionTree, Shell, with_slot, past_stage, define}
+use Rattle.sh_means.specs.Flows.{Next, Go_on, Means, asks, ends, and_then, by_status, in_loop, out_of_subshell, watched, inverted, ignoring, deeper}
 use Rattle.sh_means.specs.Words.{WordMeant, RedirectMeant, expand_word, expand_words, value_of, named, redirect_all, unredirected, assigns}
 
 -- Lists.
@@ -56,7 +56,7 @@ with_input (Some n) e = with_slot 0 (Some n) e
 -- the last writes into a pipe that is made before it. The status is the last one's.
 abbrev pub stages_mean : Option ℕ → List Means → Place → Next → Go_on
 stages_mean input [] pl k e = k Normal e
-stages_mean input (m ∷ []) pl k e = m pl (with_input input e) (λ f e'. k Normal (back e e'))
+stages_mean input (m ∷ []) pl k e = m pl (with_input input e) (out_of_subshell e k)
 stages_mean input (m ∷ n ∷ ms) pl k e =
     asks Pipe 1 (λ a e'. m pl (with_slot 1 (Some (number_after e.env.next)) (with_input input e')) (λ f e''. stages_mean (Some e.env.next) (n ∷ ms) pl k (past_stage e' e''))) e
 
@@ -79,7 +79,7 @@ define_means name f pl e k = pay 1 (ends Normal 0 k (define name f e))
 
 -- of a subshell the status and the local numbers are kept
 abbrev pub subshell_means : Means → Means
-subshell_means m pl e k = m pl e (λ f e'. watched pl k Normal (back e e'))
+subshell_means m pl e k = m pl e (out_of_subshell e (watched pl k))
 
 pub record BranchMeant : Type 0 where
   pub condition : Means

@@ -10,7 +10,7 @@ use Rattle.sh_redirect.specs.DescriptorTable.{slot}
 use Rattle.sh_means.specs.declared.flow.Flow.{Flow}
 use Rattle.sh_means.specs.declared.flow.Flow.TheVariants.{Normal, Breaks, Continues, Returns, Exits}
 use Rattle.sh_means.specs.declared.flow.Place.{Place}
-use Rattle.sh_means.specs.State.{Shell, with_status, heard}
+use Rattle.sh_means.specs.State.{Shell, with_status, heard, back}
 
 -- what comes after a command
 abbrev pub Next : Type 0
@@ -90,6 +90,10 @@ returned k flow e = k flow e
 abbrev pub return_flow : Bool → Flow
 return_flow true = Returns
 return_flow false = Exits
+
+-- However a subshell ends, the shell that it is of goes on normally.
+abbrev pub out_of_subshell : Shell → Next → Next
+out_of_subshell e k flow e' = k Normal (back e e')
 
 -- `set -e`: the shell exits at a failing status, where the place doesn't ignore it.
 abbrev pub watch : Place → Shell → Flow
