@@ -1,7 +1,7 @@
 // Laws over the definitions alone.
 ghost use Rattle.sh_split.specs.Laws.{OneCutting};
 
-/// A word is cut into fields in exactly one way.
+/// The fields that a word means are the one cutting by the rules (XCU 2.6.5).
 pub fn one_cutting()
     ensures { OneCutting }
 {}
