@@ -1,6 +1,7 @@
 // Sessions of edits and builds over a folder in memory.
 mod arranging;
 mod asking;
+mod stopping;
 
 use crate::program::{Built, Cut, ENOUGH, End, Program, WHOLE, build_within};
 use rk_base::{NoMemory, Path};
@@ -353,6 +354,7 @@ impl<P: Program> Session<P> {
             StepKind::Starts => self.starts(rest),
             StepKind::Traced => self.traced(rest),
             StepKind::Talk => self.talk(rest, text),
+            StepKind::Stopped => self.stopped(rest),
             _ => self.tell("step", "unknown", rest),
         }
     }

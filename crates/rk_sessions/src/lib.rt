@@ -1,8 +1,9 @@
-//! What sessions of builds are made of: the steps of their files, records as text, bytes that are altered, what came as text,
-//! and what is drawn for made ones.
+//! What sessions of builds are made of: the steps of their files, records as text, bytes that are altered, folders that are
+//! copied, what came as text, and what is drawn for made ones.
 #![tactic(auto)]
 
 mod altering;
+mod copying;
 mod drawing;
 mod numbers;
 mod showing;
@@ -10,6 +11,7 @@ mod steps;
 mod talks;
 
 pub use altering::{altered, bytes_of, cut, turned};
+pub use copying::copied;
 pub use drawing::{Draws, SOURCES, script, source};
 pub use numbers::{number, size, status, turns};
 pub use showing::{

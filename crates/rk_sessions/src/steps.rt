@@ -75,6 +75,8 @@ pub enum StepKind {
     Traced,
     /// What a command asks, by what it is answered, and how it ends.
     Talk,
+    /// How many calls of the folder of each kind words ask for, and that they bear each of them to fail.
+    Stopped,
     /// No step has such a word.
     Unknown,
 }
@@ -135,6 +137,7 @@ fn kind_of_other(word: &str) -> StepKind {
         "starts" => StepKind::Starts,
         "traced" => StepKind::Traced,
         "talk" => StepKind::Talk,
+        "stopped" => StepKind::Stopped,
         _ => StepKind::Unknown,
     }
 }
