@@ -2,12 +2,14 @@
 //! for each file how many steps there were, and what came otherwise.
 #![tactic(auto)]
 
+mod alternating;
 mod folders;
 mod made;
 mod plans;
 mod real;
 mod recoveries;
 
+use crate::alternating::Alternations;
 use crate::folders::Held;
 use crate::made::Made;
 use crate::real::Real;
@@ -22,6 +24,7 @@ impl Subjects<HostRuntime> for Program {
     fn told_of(rt: &HostRuntime, name: &str, text: &str) -> Result<Option<Told>, NoMemory> {
         let alloc = rt.alloc();
         let told = match subject_of(text) {
+            "alternations" => steps_of(alloc, name, text, Alternations::new(alloc))?,
             "folder" => steps_of(alloc, name, text, Held::new(alloc))?,
             "made" => steps_of(alloc, name, text, Made::new(alloc))?,
             "recoveries" => steps_of(alloc, name, text, Recoveries::new(alloc))?,
