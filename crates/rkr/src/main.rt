@@ -6,6 +6,7 @@ ghost use Rattle.std.specs.Prelude.{◌≡◌, ◌<◌};
 use rk_base::Steps;
 use rk_real::{RealFolder, RealSink};
 use rk_top::{exit_code, rkr};
+use std::io::ErrorKind;
 use std::marker::Brand;
 use std::process::ExitCode;
 use std::sync::ledger::{Blank, Ledger};
@@ -20,6 +21,7 @@ fn call<L: Ledger>(rt: &HostRuntime, blank: Blank) -> io::Result<u8>
     // Words that are no text are wrong words.
     let words: Vec<String> = match env::args(rt) {
         Ok(words) => words.collect(rt.alloc())?,
+        Err(e) if e.kind() == ErrorKind::OutOfMemory => return Err(e),
         Err(_) => Vec::new(rt.alloc()),
     };
     let mut folder = RealFolder::new(rt.clone()?, String::from_str(rt.alloc(), ".")?);
