@@ -7,7 +7,7 @@ use crate::lasting::{Unsynced, dir_of, is_seal, is_sealing};
 use rk_base::{Bytes, Name, Path, PathFault};
 use rk_folder::{Folder, FolderErr, Got, Item, LONGEST_FILE};
 use std::alloc::Global;
-use std::fs::{File, Files, OpenFile, Permissions};
+use std::fs::{File, Files, Permissions};
 use std::io::{ErrorKind, Read, Write};
 use std::os::unix::fs::MetadataExt;
 use std::{fs, io, str};
@@ -27,8 +27,8 @@ const LONGEST_PIECE: usize = 1 << 20;
 const LISTING: usize = 1 << 12;
 
 /// The folder below one directory. Links, devices and the like are special, and a file name that
-/// is no name is odd. What was written is on the disk when its call answers; which names stand in a directory is there before
-/// a name in `.rkr` is put in place or taken away, and that when its call answers.
+/// is no name is odd. What was written, and which names stand in a directory, is on the disk before a name in `.rkr` is put in
+/// place or taken away, and that when its call answers.
 #[derive(Drop)]
 pub struct RealFolder<R: Files + AllocGlobal + Drop> {
     rt: R,
@@ -91,8 +91,7 @@ fn content(rt: &impl Files, alloc: Global, place: &str) -> io::Result<Got> {
 
 fn overwrite(rt: &impl Files, place: &str, bytes: &[u8]) -> io::Result<()> {
     let mut file = File::create(rt, place)?;
-    file.write_all(bytes)?;
-    file.sync_all()
+    file.write_all(bytes)
 }
 
 // A file of these bytes with this mode, in place of the name that the file there has here.
@@ -100,8 +99,7 @@ fn make_anew(rt: &impl Files, place: &str, mode: Permissions, bytes: &[u8]) -> i
     fs::remove_file(rt, place)?;
     let mut file = File::create_new(rt, place)?;
     file.write_all(bytes)?;
-    fs::set_permissions(rt, place, mode)?;
-    file.sync_all()
+    fs::set_permissions(rt, place, mode)
 }
 
 // What has another name too keeps its bytes there.
@@ -249,7 +247,7 @@ impl<R: Files + AllocGlobal + Drop> RealFolder<R> {
 // A name in its directory is to change.
 fn to_change(alloc: Global, top: &str, path: &Path, unsynced: &mut Unsynced) -> io::Result<String> {
     let place = place_of(alloc, top, path)?;
-    unsynced.add(alloc, dir_of(place.as_str()))?;
+    unsynced.add_dir(alloc, dir_of(place.as_str()))?;
     Ok(place)
 }
 
@@ -262,6 +260,7 @@ fn write_in(
     bytes: &[u8],
 ) -> io::Result<()> {
     let place = to_change(alloc, top, file, unsynced)?;
+    unsynced.add_file(alloc, place.as_str())?;
     put_content(rt, place.as_str(), bytes)
 }
 
@@ -289,7 +288,7 @@ fn remove_file_in(
         return fs::remove_file(rt, place.as_str());
     }
     unsynced.settle(rt)?;
-    unsynced.add(alloc, dir_of(place.as_str()))?;
+    unsynced.add_dir(alloc, dir_of(place.as_str()))?;
     fs::remove_file(rt, place.as_str())?;
     if is_seal(file) {
         unsynced.set_finishes(false);
@@ -319,8 +318,8 @@ fn rename_in(
     let old = to_change(alloc, top, from, unsynced)?;
     let new = to_change(alloc, top, to, unsynced)?;
     unsynced.settle(rt)?;
-    unsynced.add(alloc, dir_of(old.as_str()))?;
-    unsynced.add(alloc, dir_of(new.as_str()))?;
+    unsynced.add_dir(alloc, dir_of(old.as_str()))?;
+    unsynced.add_dir(alloc, dir_of(new.as_str()))?;
     fs::rename(rt, old.as_str(), new.as_str())?;
     unsynced.settle_made(rt)
 }

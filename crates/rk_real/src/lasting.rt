@@ -1,16 +1,18 @@
-// What makes the changes of a real directory last: a file that was written is synced at once, and the directories whose names
-// changed before the seal of an install is put in its place or taken away. Where a sealed list is read, a call that was killed
-// has made some of its changes and synced none of these directories, so each that is listed from there on is synced too.
+// What makes the changes of a real directory last: files that were written, and then the directories whose names changed, are
+// synced before the seal of an install is put in its place or taken away. One after another they cost little, since the system
+// writes down together what changed. Where a sealed list is read, a call that was killed has made some of its changes and
+// synced none of these directories, so each that is listed from there on is synced too; each file is written anew.
 use rk_base::Path;
 use std::alloc::Global;
 use std::fs::{File, Files, OpenFile};
 use std::io;
 use std::io::ErrorKind;
 
-/// Directories whose names changed since they were last synced.
+/// Files and directories that changed since they were last synced.
 #[derive(Drop)]
 pub(crate) struct Unsynced {
-    places: Vec<String>,
+    files: Vec<String>,
+    dirs: Vec<String>,
     // Whether a sealed list was read, and its seal still stands.
     finishes: bool,
 }
@@ -23,10 +25,10 @@ pub(crate) fn dir_of(place: &str) -> &str {
     }
 }
 
-// A directory that is gone has nothing to be synced, be it that a file stands in place of one before it.
-fn sync_dir(rt: &impl Files, place: &str) -> io::Result<()> {
+// What is gone has nothing to be synced, be it that a file stands in place of a directory before it.
+fn sync(rt: &impl Files, place: &str) -> io::Result<()> {
     match File::open(rt, place) {
-        Ok(dir) => dir.sync_all(),
+        Ok(it) => it.sync_all(),
         Err(e) if matches!(e.kind(), ErrorKind::NotFound | ErrorKind::NotADirectory) => Ok(()),
         Err(e) => Err(e),
     }
@@ -45,7 +47,8 @@ pub(crate) fn is_seal(path: &Path) -> bool {
 impl Unsynced {
     pub(crate) fn new(alloc: Global) -> Unsynced {
         Unsynced {
-            places: Vec::new(alloc),
+            files: Vec::new(alloc),
+            dirs: Vec::new(alloc),
             finishes: false,
         }
     }
@@ -60,32 +63,43 @@ impl Unsynced {
         if !self.finishes {
             return Ok(());
         }
-        self.add(alloc, dir)
+        self.add_dir(alloc, dir)
     }
 
     fn is_last(&self, dir: &str) -> bool {
-        match self.places.last() {
+        match self.dirs.last() {
             Some(place) => place.as_str() == dir,
             None => false,
         }
     }
 
     /// Keeps that a name in this directory is to change.
-    pub(crate) fn add(&mut self, alloc: Global, dir: &str) -> io::Result<()> {
+    pub(crate) fn add_dir(&mut self, alloc: Global, dir: &str) -> io::Result<()> {
         if self.is_last(dir) {
             return Ok(());
         }
         let place = String::from_str(alloc, dir)?;
-        self.places.push(place)?;
+        self.dirs.push(place)?;
         Ok(())
     }
 
-    /// Syncs each of them.
+    /// Keeps that this file is to be written.
+    pub(crate) fn add_file(&mut self, alloc: Global, file: &str) -> io::Result<()> {
+        let place = String::from_str(alloc, file)?;
+        self.files.push(place)?;
+        Ok(())
+    }
+
+    /// Syncs each of them, the files first.
     pub(crate) fn settle(&mut self, rt: &impl Files) -> io::Result<()> {
-        for place in &self.places {
-            sync_dir(rt, place.as_str())?;
+        for place in &self.files {
+            sync(rt, place.as_str())?;
         }
-        self.places.clear();
+        for place in &self.dirs {
+            sync(rt, place.as_str())?;
+        }
+        self.files.clear();
+        self.dirs.clear();
         Ok(())
     }
 
