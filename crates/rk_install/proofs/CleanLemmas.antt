@@ -1,10 +1,10 @@
 -- What an install leaves where a call of it had no memory: just what was made before.
-use Rattle.std.proofs.Common.{◌≡◌, inl, inr, List, [], ◌∷◌, Bool, true, false, not, cond, Option, Some, None, IfSome, OnErr, Result, Ok, Err, option_map, subst, ◌∙◌}
+use Rattle.std.proofs.Common.{ℕ, ◌≡◌, inl, inr, List, [], ◌∷◌, Bool, true, false, not, cond, Option, Some, None, IfSome, OnErr, Result, Ok, Err, option_map, subst, ◌∙◌}
 use Rattle.rk_folder.specs.Told.{Held}
 use Rattle.rk_seal.specs.declared.ops.Op.{Op}
 use Rattle.rk_install.specs.Calls.{OnNoMemory, after_all, step}
 use Rattle.rk_install.specs.Halfway.{IsFront}
-use Rattle.rk_install.specs.Install.{IsMoment, drafted, makes_hidden, others, rooted, sealed, step_other}
+use Rattle.rk_install.specs.Install.{IsMoment, IsReadable, ReadableOrNone, drafted, makes_hidden, others, rooted, sealed, step_other}
 use Rattle.rk_install.specs.declared.calling.InstallErr.{InstallErr}
 use Rattle.rk_install.specs.declared.calling.InstallErr.TheVariants.{WriteFault, NoMemory}
 
@@ -62,3 +62,9 @@ none-clean told new (Ok it) same = tt
 none-clean told new (Err WriteFault) same = tt
 none-clean None new (Err NoMemory) same = tt
 none-clean (Some held) new (Err NoMemory) same = same
+
+-- a list that is readable is so, however the install ends
+pub readable-all : (calls : Option (List Op)) (before now : ℕ) (result : Result (Unit {0}) InstallErr) → IsReadable calls → ReadableOrNone calls before now result
+readable-all calls before now (Ok it) is = is
+readable-all calls before now (Err WriteFault) is = is
+readable-all calls before now (Err NoMemory) is = inr is

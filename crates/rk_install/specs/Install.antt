@@ -3,7 +3,7 @@ use Rattle.std.specs.Prelude.{◌≡◌, ◌≢◌, ◌⊎◌, ◌<◌, ◌≤�
 use Rattle.std.specs.List.{filter, list_any}
 use Rattle.rk_base.specs.Text.{Text, same_text}
 use Rattle.rk_folder.specs.Hidden.{hidden_dir, install_file, fresh_list_file}
-use Rattle.rk_folder.specs.Told.{Held, can_make_dir, can_remove_file, can_rename, can_write, is_dir, is_file_or_nothing, renamed, standing, with_any, with_standing, without}
+use Rattle.rk_folder.specs.Told.{Held, can_make_dir, can_remove_file, can_rename, can_write, is_dir, is_file_or_nothing, longest_file, renamed, standing, with_any, with_standing, without}
 use Rattle.rk_folder.specs.Counts.{Rose}
 use Rattle.rk_folder.specs.Whole.{IsWhole}
 use Rattle.rk_folder.specs.declared.folder.Standing.TheVariants.{File, Dir}
@@ -88,6 +88,17 @@ abbrev pub OwnOrCaused : {T : Type 0} → Option Held → Option Held → ℕ �
 OwnOrCaused old new before now (Ok it) = now ≡ before
 OwnOrCaused old new before now (Err WriteFault) = now ≡ before
 OwnOrCaused old new before now (Err NoMemory) = ((new ≡ old) × (now ≡ before)) ⊎ ((before ≤ now) × Rose before now)
+
+-- the list's spelling is no longer than what a folder reads; of no calls there is none
+abbrev pub IsReadable : Option (List Op) → Type 0
+IsReadable None = Unit {0}
+IsReadable (Some ops) = length (install_spelling ops) ≤ longest_file
+
+-- a longer list isn't written: there is no memory for it, and the folder isn't asked
+abbrev pub ReadableOrNone : {T : Type 0} → Option (List Op) → ℕ → ℕ → Result T InstallErr → Type 0
+ReadableOrNone calls before now (Ok it) = IsReadable calls
+ReadableOrNone calls before now (Err WriteFault) = IsReadable calls
+ReadableOrNone calls before now (Err NoMemory) = (now ≡ before) ⊎ IsReadable calls
 
 -- Plans.
 

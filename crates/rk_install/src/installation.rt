@@ -1,5 +1,5 @@
 // An install that is sealed.
-ghost use Rattle.std.specs.Prelude.{◌≡◌, IfSome, IfOk, OnOk, OnErr, option_map, true, false};
+ghost use Rattle.std.specs.Prelude.{◌≡◌, Some, IfSome, IfOk, OnOk, OnErr, option_map, true, false};
 ghost use Rattle.std.specs.List.{list_any};
 ghost use Rattle.rk_folder.specs.Hidden as hidden;
 ghost use Rattle.rk_folder.specs.Told.{can_make_dir, can_remove_file, can_rename, renamed};
@@ -7,11 +7,11 @@ ghost use Rattle.rk_folder.specs.declared.folder.FolderCall.TheVariants as asks;
 ghost use Rattle.rk_install.specs.Asked.{CallsInOrder, CallsOrNone, IsAsked, calls_by, calls_of, clearing_calls, hidden_calls, install_calls, other_calls, plan_calls};
 ghost use Rattle.rk_install.specs.Calls.{AllowsAll, Caused, DamagedBy, MemoryCaused, OnNoMemory, Steadily, after_all, allowed};
 ghost use Rattle.rk_install.specs.Halfway.{IsFront, IsStopped};
-ghost use Rattle.rk_install.specs.Install.{AllowsCalls, AllowsInstall, AllowsPlan, IsAround, IsMoment, IsMomentOf, MomentOf, OwnOrCaused, StopsCalls, StopsPlan, StopsSo, carried, carried_out, cleared, installed, makes_hidden, others, rooted, step_other};
+ghost use Rattle.rk_install.specs.Install.{AllowsCalls, AllowsInstall, AllowsPlan, IsAround, IsMoment, IsMomentOf, IsReadable, MomentOf, OwnOrCaused, ReadableOrNone, StopsCalls, StopsPlan, StopsSo, carried, carried_out, cleared, installed, makes_hidden, others, rooted, step_other};
 
 use crate::calling::{InstallErr, call};
 use rk_base::{NoMemory, Path};
-use rk_folder::{Folder, FolderErr, fresh_list_file, hidden_dir, install_file};
+use rk_folder::{Folder, FolderErr, LONGEST_FILE, fresh_list_file, hidden_dir, install_file};
 use rk_seal::{InstallList, Op, Plan, encode};
 use std::alloc::Global;
 
@@ -26,9 +26,13 @@ struct Around {
 }
 
 fn all_around(alloc: Global, list: &InstallList) -> Result<Around, NoMemory>
-    ensures { IfOk result (IsAround list.now) }
+    ensures around { IfOk result (IsAround list.now) }
+    ensures readable { IfOk result (λ _. IsReadable (Some list.now)) }
 {
     let bytes = encode(alloc, list)?;
+    if bytes.len() as u64 > LONGEST_FILE {
+        return Err(NoMemory);
+    }
     Ok(Around {
         making: Op::MakeDir(hidden_dir(alloc)?),
         draft: Op::Write(fresh_list_file(alloc)?, bytes),
@@ -176,6 +180,7 @@ fn install_list<F: Folder>(
     ensures steady { Steadily (F.steady folder.old) (F.steady folder.new) result }
     ensures clean { OnNoMemory result (IfSome (F.told folder.old) (λ held. IsMoment list.now held (F.told folder.new))) }
     ensures calls { CallsOrNone (install_calls list.now) (F.schedule folder.old) (F.schedule folder.new) result }
+    ensures readable { ReadableOrNone (Some list.now) (F.memory_failures folder.old) (F.memory_failures folder.new) result }
     ensures reads { F.read_faults folder.new ≡ F.read_faults folder.old }
 {
     let around = all_around(alloc, list)?;
@@ -216,6 +221,7 @@ fn make_calls<F: Folder>(
     ensures steady { Steadily (F.steady folder.old) (F.steady folder.new) result }
     ensures clean { OnNoMemory result (IfSome (F.told folder.old) (λ held. MomentOf calls.now held (F.told folder.new))) }
     ensures calls { CallsOrNone (calls_by calls.now fresh_list) (F.schedule folder.old) (F.schedule folder.new) result }
+    ensures readable { ReadableOrNone calls.now (F.memory_failures folder.old) (F.memory_failures folder.new) result }
     ensures reads { F.read_faults folder.new ≡ F.read_faults folder.old }
 {
     match calls {
@@ -229,7 +235,8 @@ fn make_calls<F: Folder>(
 /// taken away. All memory that is its own is taken before its first call. Of a plan without calls a list that isn't sealed is
 /// removed, where one stands, and nothing else is done.
 ///
-/// `WriteFault` where a call of the folder was a fault, `NoMemory` where one had no memory, or the install itself had none.
+/// `WriteFault` where a call of the folder was a fault, `NoMemory` where one had no memory, or the install itself had none, as
+/// for a list that is longer than what a folder reads.
 /// The folder is then as before, but that the hidden directory and a list that isn't sealed may stand; or the list is sealed,
 /// and `recover` finishes it.
 pub fn install<F: Folder>(alloc: Global, folder: &mut F, plan: &Plan) -> Result<(), InstallErr>
@@ -244,6 +251,8 @@ pub fn install<F: Folder>(alloc: Global, folder: &mut F, plan: &Plan) -> Result<
     ensures clean { OnNoMemory result (IfSome (F.told folder.old) (λ held. IsMomentOf plan.now held (F.told folder.new))) }
     // Each call is made once, in their order; at an error up to the one that failed.
     ensures calls { CallsOrNone (plan_calls plan.now) (F.schedule folder.old) (F.schedule folder.new) result }
+    // What is written is read again: no list is longer than what a folder reads.
+    ensures readable { ReadableOrNone plan.now.calls (F.memory_failures folder.old) (F.memory_failures folder.new) result }
     ensures reads { F.read_faults folder.new ≡ F.read_faults folder.old }
 {
     make_calls(alloc, folder, &plan.calls, plan.fresh_list)

@@ -1,8 +1,8 @@
-use Rattle.std.proofs.Common.{List, Option, IfSome, subst}
+use Rattle.std.proofs.Common.{List, None, Option, IfSome, subst}
 use Rattle.rk_seal.specs.declared.ops.Op.{Op}
 use Rattle.rk_install.specs.Install.{AllowsCalls}
 use Rattle.rk_install.proofs.AskedLemmas.{none-stops}
-use Rattle.rk_install.proofs.CleanLemmas.{none-clean}
+use Rattle.rk_install.proofs.CleanLemmas.{none-clean, readable-all}
 use Rattle.rk_install.proofs.installation.make_calls.Goals as goal
 
 pub returns-in-None-clause-held : goal.returns-in-None-clause-held
@@ -34,3 +34,9 @@ clear-requires g c = subst (λ (o : Option (List Op)). IfSome (g.F.Folder.told c
 
 pub install_list-requires : goal.install_list-requires
 install_list-requires g c = subst (λ (o : Option (List Op)). IfSome (g.F.Folder.told c.args.folder.now) (AllowsCalls o c.args.fresh_list)) c.in-Some.is c.requires
+
+pub returns-in-None-clause-readable : goal.returns-in-None-clause-readable
+returns-in-None-clause-readable g c = rw c.in-None.is (readable-all None _ _ c.clear.result tt)
+
+pub returns-in-Some-clause-readable : goal.returns-in-Some-clause-readable
+returns-in-Some-clause-readable g c = rw c.in-Some.is c.install_list.ensures.readable
