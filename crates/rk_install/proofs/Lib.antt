@@ -3,6 +3,7 @@ pub mod CleanLemmas
 pub mod AllowLemmas
 pub mod HalfwayLemmas
 pub mod InstallLemmas
+pub mod KnownLemmas
 pub mod LookLemmas
 pub mod RecoveryLemmas
 pub mod SealLemmas

@@ -1,5 +1,5 @@
 -- What listings tell of a path, name by name.
-use Rattle.std.proofs.Common.{◌≡◌, ℕ, List, [], ◌∷◌, ◌++◌, Bool, true, false, ◌&&◌, not, cond, Option, Some, None, IfSome, option_map, is_some, drop, position, refl, sym, ap, subst, ◌∙◌, append_assoc}
+use Rattle.std.proofs.Common.{◌≡◌, ℕ, List, [], ◌∷◌, ◌++◌, Bool, true, false, ◌&&◌, not, cond, Option, Some, None, IfSome, is_some, drop, position, refl, sym, ap, subst, ◌∙◌, append_assoc}
 use Rattle.std.specs.List.{list_all, join_with_byte}
 use Rattle.std.proofs.lemmas.Bool.{eqb-true}
 use Rattle.std.proofs.lemmas.List.Splits.{join_with_byte-slice_split}
@@ -8,21 +8,18 @@ use Rattle.rk_base.specs.Canonical.{is_canonical, is_empty, is_name}
 use Rattle.rk_base.proofs.CanonicalLemmas.{both, components_alone, components_first, join-canonical, root-canonical}
 use Rattle.rk_base.proofs.PathLemmas.{join-not_root, parent-join}
 use Rattle.rk_base.proofs.WithinLemmas.{stem-below}
-use Rattle.rk_folder.specs.Told.{Held, standing, bytes_in, can_hold, can_list, can_make_dir, can_read, can_remove_dir, can_remove_file, can_write, is_dir, is_file, is_file_or_nothing, is_nothing, item_of, items_of}
+use Rattle.rk_folder.specs.Told.{Held, standing, bytes_in, can_hold, can_list, can_make_dir, can_read, can_remove_dir, can_remove_file, can_write, is_dir, is_file, is_file_or_nothing, is_nothing, items_of}
 use Rattle.rk_folder.specs.Whole.{IsWhole, TellsWhole}
 use Rattle.rk_folder.specs.Hidden.{install_file}
 use Rattle.rk_folder.specs.Calls.{Reads, got_of}
 use Rattle.rk_folder.specs.Looks.{lists, reads, state_listings}
 use Rattle.rk_folder.specs.Schedule.{MakesCalls, Schedule}
-use Rattle.rk_folder.specs.Steps.{item_named}
 use Rattle.rk_folder.proofs.CallsLemmas.{makes-first, makes-same, makes-then, reads-at}
 use Rattle.rk_folder.specs.declared.folder.Got.{Got}
 use Rattle.rk_folder.specs.declared.folder.Got.TheVariants.{Content, Absent}
-use Rattle.rk_folder.specs.declared.folder.Item.{Item}
 use Rattle.rk_folder.specs.declared.folder.Standing.{Standing}
 use Rattle.rk_folder.specs.declared.folder.Standing.TheVariants as standing
-use Rattle.rk_folder.proofs.ListingLemmas.{item_named-is}
-use Rattle.rk_install.specs.Looks.{content_of, is_dir_place, is_file_place, is_free_place, lists_down, may_hold, place_at, place_below, place_by, place_of}
+use Rattle.rk_install.specs.Looks.{content_of, is_dir_place, is_file_place, is_free_place, lists_down, may_hold, place_at, place_below, place_of}
 use Rattle.rk_install.specs.Recovery.{seal_looks, sealed_in}
 use Rattle.rk_install.specs.declared.looking.Place.{Place}
 use Rattle.rk_install.specs.declared.looking.Place.TheVariants.{Nowhere, Free}
@@ -35,19 +32,6 @@ pub moved-told : (P : Held → Type 0) (now told : Option Held) → now ≡ told
 moved-told P now told is h = subst (λ (t : Option Held). IfSome t P) is h
 
 -- A name of a directory.
-
-item_place : (name : Text) (o : Option Standing) → place_by (option_map (item_of name) o) ≡ place_of true o
-item_place name None = refl
-item_place name (Some (standing.File bytes)) = refl
-item_place name (Some standing.Dir) = refl
-item_place name (Some standing.Special) = refl
-
--- what is listed of a name tells what stands there
-pub told-place_in : (told : Option Held) (dir name : Text) (items same : List Item) (place : Place) → TellsWhole told → is_canonical dir ≡ true → is_name name ≡ true → IfSome told (λ held. items ≡ items_of held dir) → same ≡ items → place ≡ place_by (item_named name same)
-    → IfSome told (λ held. place ≡ place_of true (standing held (join dir name)))
-told-place_in None dir name items same place whole c n listed is found = tt
-told-place_in (Some held) dir name items same place whole c n listed is found =
-    found ∙ ap (λ (its : List Item). place_by (item_named name its)) (is ∙ listed) ∙ ap place_by (item_named-is held dir name whole c n) ∙ item_place name (standing held (join dir name))
 
 dir_place : (o : Option Standing) → is_dir_place (place_of true o) ≡ is_dir o
 dir_place None = refl

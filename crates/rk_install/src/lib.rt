@@ -5,6 +5,7 @@ mod calling;
 mod fault;
 mod finishing;
 mod installation;
+mod knowing;
 mod laws;
 mod looking;
 mod places;

@@ -1,13 +1,10 @@
 // What stands at a path, as listings tell it.
 ghost use Rattle.std.specs.Prelude.{◌≡◌, IfSome, option_copied, true};
-ghost use Rattle.rk_base.specs.Text.{join};
 ghost use Rattle.rk_base.specs.Canonical as base;
-ghost use Rattle.rk_base.specs.Canonical.{is_canonical, is_name};
-ghost use Rattle.rk_folder.specs.Told.{bytes_in, can_list, can_read, is_dir, items_of, standing};
+ghost use Rattle.rk_folder.specs.Told.{bytes_in, can_list, can_read, items_of, standing};
 ghost use Rattle.rk_folder.specs.Looks.{lists, reads};
 ghost use Rattle.rk_folder.specs.Schedule.{MakesCalls};
-ghost use Rattle.rk_folder.specs.Steps as steps;
-ghost use Rattle.rk_install.specs.Looks.{Tells, ReadCaused, MemoryCounted, Steadily, content_of, is_dir_place, is_file_place, is_free_place, place_by, place_of};
+ghost use Rattle.rk_install.specs.Looks.{Tells, ReadCaused, MemoryCounted, Steadily, content_of, is_dir_place, is_file_place, is_free_place, place_by};
 ghost use Rattle.rk_install.specs.declared.looking.LookErr.TheVariants as err;
 
 use rk_base::{Bytes, NoMemory, Path};
@@ -80,31 +77,8 @@ impl Place {
     }
 }
 
-fn is_named(name: &[u8], item: &Item) -> bool
-    ensures { result ≡ steps.is_named name.now item.now }
-{
-    match item {
-        Item::File(n) => n.as_slice() == name,
-        Item::Dir(n) => n.as_slice() == name,
-        Item::Special(n) => n.as_slice() == name,
-        Item::Odd => false,
-    }
-}
-
-// The first item of this name.
-fn named<'a>(items: &'a [Item], name: &[u8]) -> Option<&'a Item>
-    ensures { option_copied result ≡ steps.item_named name.now items.now }
-{
-    for item in items {
-        if is_named(name, item) {
-            return Some(item);
-        }
-    }
-    None
-}
-
-// What an item of its name tells.
-fn place_by(item: Option<&Item>) -> Place
+/// What an item of its name tells.
+pub(crate) fn place_by(item: Option<&Item>) -> Place
     ensures { result ≡ place_by (option_copied item.entry) }
 {
     match item {
@@ -116,8 +90,12 @@ fn place_by(item: Option<&Item>) -> Place
     }
 }
 
-// What is listed in a directory.
-fn listed<F: Folder>(alloc: Global, folder: &mut F, dir: &Path) -> Result<Vec<Item>, LookErr>
+/// What is listed in a directory.
+pub(crate) fn listed<F: Folder>(
+    alloc: Global,
+    folder: &mut F,
+    dir: &Path,
+) -> Result<Vec<Item>, LookErr>
     requires { IfSome (F.told folder.old) (λ held. can_list dir.now held ≡ true) }
     ensures items { Tells (F.told folder.old) (λ held items. items.items ≡ items_of held dir.now) result }
     ensures cause { ReadCaused (F.read_faults folder.old) (F.read_faults folder.new) result }
@@ -155,28 +133,6 @@ pub(crate) fn is_bare<F: Folder>(alloc: Global, folder: &mut F, dir: &Path) -> R
 {
     let items = listed(alloc, folder, dir)?;
     Ok(is_empty(&items))
-}
-
-/// What is found under a name of a directory.
-pub(crate) fn place_in<F: Folder>(
-    alloc: Global,
-    folder: &mut F,
-    dir: &Path,
-    name: &[u8],
-) -> Result<Place, LookErr>
-    requires dir { IfSome (F.told folder.old) (λ held. is_dir (standing held dir.now) ≡ true) }
-    requires canonical { is_canonical dir.now ≡ true }
-    requires name { is_name name.now ≡ true }
-    ensures told { Tells (F.told folder.old) (λ held place. place ≡ place_of true (standing held (join dir.now name.now))) result }
-    ensures cause { ReadCaused (F.read_faults folder.old) (F.read_faults folder.new) result }
-    ensures memory { MemoryCounted (F.memory_failures folder.old) (F.memory_failures folder.new) result }
-    ensures steady { Steadily (F.steady folder.old) (F.steady folder.new) result }
-    ensures held { F.told folder.new ≡ F.told folder.old }
-    ensures writes { F.write_faults folder.new ≡ F.write_faults folder.old }
-    ensures calls { MakesCalls (lists dir.now) (F.schedule folder.old) (F.schedule folder.new) }
-{
-    let items = listed(alloc, folder, dir)?;
-    Ok(place_by(named(&items, name)))
 }
 
 fn content_of(got: Got) -> Option<Bytes>

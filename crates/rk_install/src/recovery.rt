@@ -11,6 +11,7 @@ ghost use Rattle.rk_install.specs.Recovery.{ReadCaused, WriteCaused, MemoryCount
 
 use crate::fault::{RecoverErr, of_codec};
 use crate::finishing::{finish, make};
+use crate::knowing::Known;
 use crate::looking::{LookErr, bytes_of};
 use crate::places::place_at;
 use rk_base::Bytes;
@@ -29,7 +30,8 @@ fn sealed<F: Folder>(alloc: Global, folder: &mut F) -> Result<Option<Bytes>, Loo
     ensures calls { MakesCalls seal_looks (F.schedule folder.old) (F.schedule folder.new) }
 {
     let path = install_file(alloc)?;
-    let place = place_at(alloc, folder, &path)?;
+    let mut known = Known::new(alloc);
+    let place = place_at(alloc, folder, &mut known, &path)?;
     if !place.is_file() {
         return Ok(None);
     }
@@ -129,7 +131,7 @@ fn recover_seal<F: Folder>(
 
 /// Finishes a sealed list of calls, where one stands: a file `install` in a directory `.rkr`. Each of its calls that the
 /// folder allows now is made, in their order, and any other is passed over; so each of its files is written whole. Then the
-/// file is removed. What the folder allows is looked at by listings alone, from the root on.
+/// file is removed. What the folder allows is looked at by listings alone, from the root on, of each directory once.
 ///
 /// `Damaged` exactly where it stands and is the spelling of no list, unless it couldn't be looked at. At a fault, or want of
 /// memory, some of the calls are made, and the file still stands.

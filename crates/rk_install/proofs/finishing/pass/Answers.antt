@@ -1,8 +1,8 @@
 use Rattle.rk_install.proofs.StepLemmas.{allowed-now, damage-none}
 use Rattle.rk_install.proofs.finishing.pass.Goals as goal
 
-pub make_where-requires : goal.make_where-requires
-make_where-requires g c = allowed-now _ _ c.args.op.now c.in-Ok.is_allowed c.in-Ok.ensures.held c.in-Ok.ensures.told
+pub make_where-requires-clause-allowed : goal.make_where-requires-clause-allowed
+make_where-requires-clause-allowed g c = allowed-now _ _ c.args.op.now c.in-Ok.is_allowed c.in-Ok.ensures.held c.in-Ok.ensures.told
 
 pub returns-in-Err-ReadFault-clause-left : goal.returns-in-Err-ReadFault-clause-left
 returns-in-Err-ReadFault-clause-left g c = damage-none c.args.op.now _ _ c.in-Err-ReadFault.ensures.held

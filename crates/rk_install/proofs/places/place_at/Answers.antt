@@ -16,11 +16,12 @@ names-init g c =
       memory = search rules;
       steady = search rules;
       writes = search rules;
+      known = c.requires.known;
       canonical = ap is_canonical c.in_ok-dir.ensures ∙ root-canonical;
-      named = ap (λ (t : Text). list_all is_name (components t)) text ∙ names-are c.args.path.now c.text.ensures.canonical c.requires;
+      named = ap (λ (t : Text). list_all is_name (components t)) text ∙ names-are c.args.path.now c.text.ensures.canonical c.requires.below_root;
       dir_stands = told-root_dir _ c.in_ok-dir.dir (g.met.F.Folder.whole c.args.folder.now) c.in_ok-dir.ensures;
       calls = λ now calls. calls-start c.args.path.now c.in_ok-dir.dir c.below_root-names.result.now _ now c.in_ok-dir.ensures text calls;
-      place = told-from_root _ c.args.path.now c.in_ok-dir.dir c.below_root-names.result.now (g.met.F.Folder.whole c.args.folder.now) c.text.ensures.canonical c.requires c.in_ok-dir.ensures text;
+      place = told-from_root _ c.args.path.now c.in_ok-dir.dir c.below_root-names.result.now (g.met.F.Folder.whole c.args.folder.now) c.text.ensures.canonical c.requires.below_root c.in_ok-dir.ensures text;
     }
 
 pub names-preserved : goal.names-preserved
@@ -34,6 +35,7 @@ names-preserved g c =
       memory = search rules;
       steady = search rules;
       writes = search rules;
+      known = c.in_ok-enter.ensures.known;
       canonical = ap is_canonical path ∙ join-canonical c.names.dir c.in-Some.name.now c.names.invariant.canonical (first-named c.in-Some.name.now c.in-Some.rest.now c.names.names.now c.in-Some.ensures.found c.names.invariant.named);
       named = rest-named c.in-Some.name.now c.in-Some.rest.now c.names.names.now c.in-Some.ensures.found c.names.invariant.named;
       dir_stands = told-entered_dir told c.names.dir c.in-Some.name.now c.in-Some-2.next path entered;
