@@ -1,4 +1,6 @@
 pub mod FoldLemmas
+pub mod Typed
+pub mod Built
 pub mod Owed
 pub mod Fewer
 pub mod Chosen

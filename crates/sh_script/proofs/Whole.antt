@@ -4,7 +4,7 @@ use Rattle.std.specs.Prelude.{nat_lt, if◌then◌else◌}
 use Rattle.std.proofs.lemmas.Bool.{ltb-true, ltb-false}
 use Rattle.rk_base.specs.Text.{Text}
 use Rattle.sh_rules.specs.Grammar.{Want, Parses, no_parses, leaves_all}
-use Rattle.sh_rules.specs.Reading.{ReadsAll, Halt}
+use Rattle.sh_rules.specs.Reading.{Spelled, ReadsAll, Halt}
 use Rattle.sh_rules.specs.Checked.{FirstAll, Checked, ModesAgree}
 use Rattle.sh_rules.proofs.Keeps.{Consistent, Inv}
 use Rattle.sh_rules.proofs.Stopping.{stops_all}
@@ -19,7 +19,7 @@ use Rattle.sh_rules.specs.Rules.{Rule, Token, shell, script}
 use Rattle.sh_rules.specs.LookAhead.{sets}
 use Rattle.sh_rules.proofs.Tables.{checked, productive}
 use Rattle.sh_ast.specs.Commands.{CommandsTree}
-use Rattle.sh_grammar.specs.Marks.{Mark}
+use Rattle.sh_grammar.specs.Marks.{Mark, flat_all}
 use Rattle.sh_token.specs.Places.{Place, begin}
 use Rattle.sh_token.specs.Steps.{lex, over}
 use Rattle.sh_token.specs.declared.fault.ScriptFault.{ScriptFault}
@@ -29,9 +29,12 @@ use Rattle.sh_token.proofs.Modes.{modes_agree}
 use Rattle.sh_token.proofs.Sizes.{shorter}
 use Rattle.sh_script.specs.TextReader.{text_reader}
 use Rattle.sh_script.specs.Outcomes.{IsRead, IsStuck}
-use Rattle.sh_script.specs.Folds.{script_of, script_marked}
+use Rattle.sh_script.specs.Trees.{Trees}
+use Rattle.sh_script.specs.Meanings.{script_of}
+use Rattle.sh_script.specs.Folds.{script_marked}
 use Rattle.sh_script.specs.Scripts.{longest, Spells, StopsAt, IsScript, IsFaulty}
-use Rattle.sh_script.proofs.FoldLemmas.{script_by_marks}
+use Rattle.sh_script.proofs.Typed.{untyped, are_parses, tokens_are, typed}
+use Rattle.sh_script.proofs.Built.{script_by_marks}
 use Rattle.sh_script.specs.Predicting.{End, Read, Stuck, end_of}
 use Rattle.sh_script.specs.Reads.{Reading, Script, Faulty, fault_words, reading_of, reads}
 use Rattle.sh_script.proofs.Existing.{Shortens, EndsSo, each_ends}
@@ -50,9 +53,17 @@ consistent agree = ((λ j h. by_end j h), (λ h. h.0), tt)
     by_end j (inl e) = subst (λ j. sets.follow p.opt_list j ≡ true) e refl
     by_end j (inr h) = absurd h.0
 
-pub spells : Agrees → (qs : Parses Rule Token) (a b : Place) → ReadsAll shell text_reader qs script a b → Spells qs a b
+-- a tree of the table that is read is one of the shell's
+pub tree_there : Agrees → (qs : Parses Rule Token) (a b : Place) → ReadsAll shell text_reader qs script a b → (tree : Trees script) × Spells tree a b × (untyped tree ≡ qs)
 unfolding Spells
-spells agree qs a b h = sound_all TokenKind Part Rule Token Mode Place shell text_reader sets ok agree qs script a b h
+tree_there agree qs a b h =
+    let s = sound_all TokenKind Part Rule Token Mode Place shell text_reader sets ok agree qs script a b h in
+    let t = typed qs script s.0 in
+    (t.0, subst (λ ts. Spelled shell text_reader ts a b) (ap (λ (xs : Parses Rule Token). leaves_all xs) (sym t.1) ∙ tokens_are t.0) s.1, t.1)
+
+untyped_spelled : (tree : Trees script) (a b : Place) → Spells tree a b → Spelled shell text_reader (leaves_all (untyped tree)) a b
+unfolding Spells
+untyped_spelled tree a b h = subst (λ ts. Spelled shell text_reader ts a b) (sym (tokens_are tree)) h
 
 pub stuck_stops : Agrees → (a m : Place) (h : Halt Token) → IsStuck a m h → StopsAt a m h
 unfolding IsStuck StopsAt
@@ -65,16 +76,21 @@ pub one_stop : Agrees → (a m n : Place) (h i : Halt Token) → StopsAt a m h �
 unfolding StopsAt
 one_stop agree a m n h i x y = stops_once TokenKind Part Rule Token Mode Place shell text_reader sets ok agree productive script a m n h i (consistent agree) x y
 
-pub no_both : Agrees → (qs : Parses Rule Token) (a b m : Place) (h : Halt Token) → Spells qs a b → StopsAt a m h → ⊥
-unfolding StopsAt Spells
-no_both agree qs a b m h s x = whole_stops_not TokenKind Part Rule Token Mode Place shell text_reader sets ok agree productive script a (leaves_all qs) b m h (consistent agree) s.1 (qs, s.0, refl) x
+pub no_both : Agrees → (tree : Trees script) (a b m : Place) (h : Halt Token) → Spells tree a b → StopsAt a m h → ⊥
+unfolding StopsAt
+no_both agree tree a b m h s x =
+    whole_stops_not TokenKind Part Rule Token Mode Place shell text_reader sets ok agree productive script a (leaves_all (untyped tree)) b m h (consistent agree) (untyped_spelled tree a b s) (untyped tree, are_parses tree, refl) x
 
-reads_all_of : Agrees → (qs : Parses Rule Token) (a b : Place) → Spells qs a b → ReadsAll shell text_reader qs script a b
-unfolding Spells
-reads_all_of agree qs a b h = reads_all TokenKind Part Rule Token Mode Place shell text_reader sets ok agree qs script no_parses [] a b b h.0 tt (consistent agree) h.1 refl
+reads_all_of : Agrees → (tree : Trees script) (a b : Place) → Spells tree a b → ReadsAll shell text_reader (untyped tree) script a b
+reads_all_of agree tree a b h =
+    reads_all TokenKind Part Rule Token Mode Place shell text_reader sets ok agree (untyped tree) script no_parses [] a b b (are_parses tree) tt (consistent agree) (untyped_spelled tree a b h) refl
 
-one_tree : Agrees → (qs xs : Parses Rule Token) (a b c : Place) → Spells qs a b → Spells xs a c → qs ≡ xs
-one_tree agree qs xs a b c h k = (once_all TokenKind Part Rule Token Mode Place shell text_reader sets ok agree qs xs script a b c (reads_all_of agree qs a b h) (reads_all_of agree xs a c k)).0
+one_tree : Agrees → (tree other : Trees script) (a b c : Place) → Spells tree a b → Spells other a c → untyped tree ≡ untyped other
+one_tree agree tree other a b c h k =
+    (once_all TokenKind Part Rule Token Mode Place shell text_reader sets ok agree (untyped tree) (untyped other) script a b c (reads_all_of agree tree a b h) (reads_all_of agree other a c k)).0
+
+same_script : (tree other : Trees script) → untyped tree ≡ untyped other → script_of tree ≡ script_of other
+same_script tree other e = sym (script_by_marks tree) ∙ ap (λ (xs : Parses Rule Token). script_marked (flat_all xs)) e ∙ script_by_marks other
 
 not_both_lengths : (n m : ℕ) → n ≤ m → m < n → ⊥
 not_both_lengths n m a b = omega (arith, a, b)
@@ -82,7 +98,7 @@ not_both_lengths n m a b = omega (arith, a, b)
 -- a text is one script at most
 pub one_script : Agrees → (text : List ℕ) (s t : CommandsTree) → IsScript text s → IsScript text t → s ≡ t
 unfolding IsScript
-one_script agree text s t x y = sym x.1.3 ∙ ap script_of (one_tree agree x.1.0 y.1.0 (begin text) x.1.1 y.1.1 x.1.2 y.1.2) ∙ y.1.3
+one_script agree text s t x y = sym x.1.3 ∙ same_script x.1.0 y.1.0 (one_tree agree x.1.0 y.1.0 (begin text) x.1.1 y.1.1 x.1.2 y.1.2) ∙ y.1.3
 
 -- it has one fault at most
 pub one_fault : Agrees → (text : List ℕ) (f g : ScriptFault) → IsFaulty text f → IsFaulty text g → f ≡ g
@@ -103,7 +119,9 @@ not_both agree text s f x (inr y) = no_both agree x.1.0 (begin text) x.1.1 y.1.0
 -- what was read, by its marks
 pub script_read : Agrees → (text : List ℕ) (q : Place) (marks : List Mark) (s : CommandsTree) → length text ≤ longest → IsRead (begin text) q marks → s ≡ script_marked marks → IsScript text s
 unfolding IsScript IsRead
-script_read agree text q marks s l r e = (l, (r.0, q, spells agree r.0 (begin text) q r.1, sym (script_by_marks r.0) ∙ ap script_marked r.2 ∙ sym e))
+script_read agree text q marks s l r e =
+    let t = tree_there agree r.0 (begin text) q r.1 in
+    (l, (t.0, q, t.1, sym (script_by_marks t.0) ∙ ap (λ (xs : Parses Rule Token). script_marked (flat_all xs)) t.2 ∙ ap script_marked r.2 ∙ sym e))
 
 pub fault_read : Agrees → (text : List ℕ) (m : Place) (h : Halt Token) (f : ScriptFault) → length text ≤ longest → IsStuck (begin text) m h → f ≡ fault_of m h → IsFaulty text f
 unfolding IsFaulty

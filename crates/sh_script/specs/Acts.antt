@@ -1,28 +1,27 @@
--- What each rule makes of the values of its symbols.
-use Rattle.std.specs.Prelude.{ℕ, ◌-◌, ◌==◌, List, [], ◌∷◌, ◌++◌, length, take, drop, Option, Some, None, Bool, true, false, if◌then◌else◌}
-use Rattle.rk_base.specs.Text.{Text}
+-- What each rule does to what the code keeps: it takes the values of its symbols from the front, and puts its own there. That this is
+-- what `make` says of the rule, proves proofs/FoldLemmas.antt.
+use Rattle.std.specs.Prelude.{List, [], ◌∷◌, ◌++◌, length, drop, Bool, true, false}
 use Rattle.sh_ast.specs.declared.command.Connector.{Connector}
 use Rattle.sh_ast.specs.declared.command.Connector.TheVariants.{And, Or}
 use Rattle.sh_ast.specs.declared.command.LoopKind.{LoopKind}
 use Rattle.sh_ast.specs.declared.command.LoopKind.TheVariants.{While, Until}
-use Rattle.sh_ast.specs.declared.command.RedirectOperator.{RedirectOperator}
 use Rattle.sh_ast.specs.declared.command.RedirectOperator.TheVariants.{HereDocument}
 use Rattle.sh_ast.specs.declared.word.Quoting.{Quoting}
 use Rattle.sh_ast.specs.declared.word.Quoting.TheVariants.{Quoted, Unquoted}
 use Rattle.sh_ast.specs.Words as w
-use Rattle.sh_ast.specs.Words.{PartTree, OperatorWord, parts_of}
+use Rattle.sh_ast.specs.Words.{PartTree, parts_of}
 use Rattle.sh_ast.specs.Commands as c
-use Rattle.sh_ast.specs.Commands.{CommandTree, CommandsTree, WordTree, RedirectTree, commands_of, words_of, bodies_of, assignments_of, redirects_of, branches_of, case_items_of}
+use Rattle.sh_ast.specs.Commands.{CommandTree, CommandsTree, commands_of, words_of, bodies_of, assignments_of, redirects_of, branches_of, case_items_of}
 use Rattle.sh_rules.specs.Rules as r
 use Rattle.sh_rules.specs.Rules.{Rule}
 use Rattle.sh_script.specs.Values.{Value, nothing, parts, word, words, redirects, pieces, commands, joined, compound, branches, items, text_in, parts_in, word_in, words_in, redirects_in, assignments_in, arguments_in, redirections_in, commands_in, connectors_in, pipelines_in, compound_in, branches_in, otherwise_in, items_in}
-use Rattle.sh_script.specs.States.{State, top, less, with, second, third, fourth, fifth, sixth, for_one, for_two, for_three, for_four, for_five, for_six, one_command, front, word_opened, word_closed, with_body, body_opened, body_closed, with_document, last, without_document}
-use Rattle.sh_script.specs.Texts.{plain_parameter, braced_parameter, operand, operator, condition_of, substitute_of, removal_of, descriptor_of, numberless, operator_of}
+use Rattle.sh_script.specs.States.{State, top, less, with, second, third, fourth, fifth, sixth, for_one, for_two, for_three, for_four, for_five, for_six, one_command, front, word_opened, word_closed, with_body, body_opened, body_closed, with_document, without_document}
+use Rattle.sh_script.specs.Texts.{plain_parameter, braced_parameter, operand, operator, removal_of, descriptor_of, numberless, operator_of}
+pub use Rattle.sh_script.specs.Words.{literal, quoted, escaped, between, in_quotes, operator_word, substitution}
+pub use Rattle.sh_script.specs.Documents.{last, document}
+pub use Rattle.sh_script.specs.Makes.{redirect, name_of}
 
 -- PARTS OF WORDS (XCU 2.2, 2.6)
-
-abbrev pub literal : Quoting → Text → PartTree
-literal quoting text = w.literal quoting text
 
 -- text that stands for itself, and a byte behind a backslash, in front of parts
 abbrev pub text_part : Quoting → State → State
@@ -37,16 +36,6 @@ no_parts s = for_one (parts []) s
 abbrev pub join_parts : State → State
 join_parts s = for_two (parts (parts_in (top s) ++ parts_in (second s))) s
 
--- an expansion in double quotes
-abbrev pub quoted : PartTree → PartTree
-quoted (w.literal q t) = w.literal Quoted t
-quoted (w.value_of q p) = w.value_of Quoted p
-quoted (w.length_of q p) = w.length_of Quoted p
-quoted (w.substitute q p c s x) = w.substitute Quoted p c s x
-quoted (w.without q p r x) = w.without Quoted p r x
-quoted (w.output_of q n) = w.output_of Quoted n
-quoted (w.arithmetic q x) = w.arithmetic Quoted x
-
 abbrev pub quoted_first : List PartTree → List PartTree → List PartTree
 quoted_first [] rest = rest
 quoted_first (p ∷ ps) rest = quoted p ∷ rest
@@ -54,34 +43,14 @@ quoted_first (p ∷ ps) rest = quoted p ∷ rest
 abbrev pub quoted_expansion : State → State
 quoted_expansion s = for_two (parts (quoted_first (parts_in (top s)) (parts_in (second s)))) s
 
--- a backslash and a byte; at the text's end the backslash alone, which is itself
-abbrev pub escaped : Text → Text
-escaped text = if length text == 1 then text else drop 1 text
-
 abbrev pub escape : State → State
 escape s = for_one (parts (literal Quoted (escaped (text_in (top s))) ∷ [])) s
-
-abbrev pub between : Text → Text
-between text = drop 1 (take (length text - 1) text)
 
 abbrev pub single : State → State
 single s = for_one (parts (literal Quoted (between (text_in (top s))) ∷ [])) s
 
--- what double quotes hold: an empty pair of them is one quoted literal of no bytes
-abbrev pub in_quotes : List PartTree → List PartTree
-in_quotes [] = literal Quoted [] ∷ []
-in_quotes (p ∷ ps) = p ∷ ps
-
 abbrev pub double : State → State
 double s = for_two (parts (in_quotes (parts_in (second s)))) s
-
--- the word of an operator, where one stands
-abbrev pub operator_word : List PartTree → OperatorWord
-operator_word [] = w.no_word
-operator_word (p ∷ ps) = w.the_word (parts_of (p ∷ ps))
-
-abbrev pub substitution : Quoting → Text → List PartTree → PartTree
-substitution quoting text ps = w.substitute quoting (operand text) (condition_of (operator text)) (substitute_of (operator text)) (operator_word ps)
 
 abbrev pub braces : State → State
 braces s = for_two (parts (substitution Unquoted (text_in (top s)) (parts_in (second s)) ∷ [])) s
@@ -137,15 +106,8 @@ literal_body s = with nothing (with_document (c.word_of (parts_of (literal Quote
 
 -- SIMPLE COMMANDS (XCU 2.9.1) and redirections (XCU 2.7)
 
-abbrev pub redirect : ℕ → RedirectOperator → WordTree → RedirectTree
-redirect n by operand = record { descriptor = n; operator = by; operand = operand }
-
 abbrev pub to_file : State → State
 to_file s = for_two (redirects (redirect (descriptor_of (text_in (top s))) (operator_of (numberless (text_in (top s)))) (word_in (second s)) ∷ [])) s
-
-abbrev pub document : Option WordTree → WordTree
-document None = c.word_of (parts_of []) c.no_bodies
-document (Some body) = body
 
 -- a here-document has the last body behind it that no operator behind it has
 abbrev pub here : State → State
@@ -159,9 +121,6 @@ more_redirects s = for_two (redirects (redirects_in (top s) ++ redirects_in (sec
 
 abbrev pub no_pieces : State → State
 no_pieces s = with (pieces [] [] []) s
-
-abbrev pub name_of : Text → Text
-name_of text = take (length text - 1) text
 
 abbrev pub assigned : State → State
 assigned s =

@@ -1,32 +1,32 @@
 -- Scripts, and faulty texts (XCU 2.2 to 2.10).
 use Rattle.std.specs.Prelude.{◌≡◌, ◌<◌, ◌≤◌, ◌⊎◌, ℕ, List, length}
-use Rattle.sh_rules.specs.Grammar.{Parses, leaves_all, AreParses}
 use Rattle.sh_rules.specs.Reading.{Spelled, Halt, IsStop}
-use Rattle.sh_rules.specs.Rules.{Rule, Token, shell, script}
+use Rattle.sh_rules.specs.Rules.{Token, shell, script}
 use Rattle.sh_ast.specs.Commands.{CommandsTree}
 use Rattle.sh_token.specs.Places.{Place, begin}
 use Rattle.sh_token.specs.declared.fault.Why.TheVariants.{Long}
 use Rattle.sh_token.specs.declared.fault.ScriptFault.{ScriptFault}
 use Rattle.sh_token.specs.Faults.{fault, fault_of}
-use Rattle.sh_script.specs.Folds.{script_of}
+use Rattle.sh_script.specs.Trees.{Trees, tokens}
+use Rattle.sh_script.specs.Meanings.{script_of}
 use Rattle.sh_script.specs.TextReader.{text_reader}
 
 -- the most bytes that a script may have
 abbrev pub longest : ℕ
 longest = 1048576
 
--- From a place to another one the text spells the parse tree of a script.
-unfoldable pub Spells : Parses Rule Token → Place → Place → Type 0
-Spells qs p q = AreParses shell qs script × Spelled shell text_reader (leaves_all qs) p q
+-- From a place to another one the text spells a parse tree of a script.
+unfoldable pub Spells : Trees script → Place → Place → Type 0
+Spells tree p q = Spelled shell text_reader (tokens tree) p q
 
 -- From a place on the text stops being a script at another one: what stands before begins one, and there no token goes on, or
 -- one does that opens a level too many.
 unfoldable pub StopsAt : Place → Place → Halt Token → Type 0
 StopsAt p m h = IsStop shell text_reader script p m h
 
--- THE TEXT IS A SCRIPT: it isn't too long, and it spells a parse tree whose value is the script.
+-- THE TEXT IS A SCRIPT: it isn't too long, and it spells a parse tree that is the script.
 unfoldable pub IsScript : List ℕ → CommandsTree → Type 0
-IsScript text commands = (length text ≤ longest) × ((qs : Parses Rule Token) × (q : Place) × Spells qs (begin text) q × (script_of qs ≡ commands))
+IsScript text commands = (length text ≤ longest) × ((tree : Trees script) × (q : Place) × Spells tree (begin text) q × (script_of tree ≡ commands))
 
 -- THE TEXT IS FAULTY: it is too long, or it stops being a script, with the fault of the place where it does.
 unfoldable pub IsFaulty : List ℕ → ScriptFault → Type 0

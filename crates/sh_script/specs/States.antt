@@ -1,10 +1,11 @@
--- What is built, from the end of a text to its beginning.
-use Rattle.std.specs.Prelude.{List, [], ◌∷◌, ◌++◌, Option, Some, None}
+-- What the code keeps while it builds a script, from the end of a text to its beginning.
+use Rattle.std.specs.Prelude.{List, [], ◌∷◌, ◌++◌}
 use Rattle.sh_ast.specs.Commands.{CommandTree, CommandsTree, WordTree}
 use Rattle.sh_script.specs.Values.{Value, nothing, commands}
+pub use Rattle.sh_script.specs.Documents.{last, but_last}
 
 -- The values of what was read, that of the first symbol in front; for each word that is being read, and then the one around
--- it, the bodies of its substitutions from the last to the first of the text; and for each here-document's body that is being
+-- it, and last for what stands in no word, the bodies of its substitutions from the last to the first of the text; and for each here-document's body that is being
 -- read, and then for the text around it, the here-documents' bodies that no operator has yet, in their order.
 pub record State : Type 0 where
   pub values : List Value
@@ -12,7 +13,7 @@ pub record State : Type 0 where
   pub documents : List (List WordTree)
 
 abbrev pub start : State
-start = record { values = []; bodies = []; documents = [] ∷ [] }
+start = record { values = []; bodies = [] ∷ []; documents = [] ∷ [] }
 
 abbrev pub head : List Value → Value
 head [] = nothing
@@ -104,17 +105,6 @@ put_first x (xs ∷ more) = (x ∷ xs) ∷ more
 
 unfoldable pub with_document : WordTree → State → State
 with_document body s = record s { documents = put_first body s.documents }
-
--- the last of a list, and the list without it
-abbrev pub last : {A : Type 0} → List A → Option A
-last [] = None
-last (x ∷ []) = Some x
-last (x ∷ (y ∷ xs)) = last (y ∷ xs)
-
-abbrev pub but_last : {A : Type 0} → List A → List A
-but_last [] = []
-but_last (x ∷ []) = []
-but_last (x ∷ (y ∷ xs)) = x ∷ but_last (y ∷ xs)
 
 abbrev pub last_taken : {A : Type 0} → List (List A) → List (List A)
 last_taken [] = []

@@ -16,8 +16,8 @@ use std::alloc::Global;
 use std::collections::VecDeque;
 use std::rc::Rc;
 
-/// The values of what was read, that of the first symbol on top; for each word that is being read, and the one around it,
-/// the bodies of its substitutions; for the text, and each body of a here-document around what is read, the
+/// The values of what was read, that of the first symbol on top; for what stands in no word, and each word that is being
+/// read, the bodies of its substitutions; for the text, and each body of a here-document around what is read, the
 /// here-documents' bodies that no operator has yet; and what nodes share.
 #[derive(Drop)]
 pub struct Builder {
@@ -33,11 +33,13 @@ impl Builder {
     pub fn new(alloc: Global) -> Result<Builder, NoMemory>
         ensures { IfOk result (λ b. state b ≡ st.start) }
     {
+        let mut bodies = Vec::new(alloc);
+        bodies.push(Vec::new(alloc))?;
         let mut documents = Vec::new(alloc);
         documents.push(VecDeque::new(alloc))?;
         Ok(Builder {
             values: Vec::new(alloc),
-            bodies: Vec::new(alloc),
+            bodies,
             documents,
             shared: Shared::new(alloc)?,
         })
