@@ -1,5 +1,5 @@
 -- What the code keeps leads to the script of the tree: each part of the syntax puts there what it comes to.
-use Rattle.std.proofs.Common.{◌≡◌, List, [], ◌∷◌, ◌++◌, Option, Some, None, refl, ap, ◌∙◌}
+use Rattle.std.proofs.Common.{◌≡◌, List, [], ◌∷◌, Option, Some, None, refl, ap, ◌∙◌}
 use Rattle.sh_ast.specs.declared.command.Connector.{Connector}
 use Rattle.sh_ast.specs.Commands.{CommandTree, CommandsTree, WordTree, commands_of, for_each}
 use Rattle.sh_rules.specs.Grammar.{Symbol, Want, Do, Parse, Leaf, Node, Parses, no_parses, parse_and}

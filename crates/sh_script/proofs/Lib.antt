@@ -6,5 +6,7 @@ pub mod Fewer
 pub mod Chosen
 pub mod Turning
 pub mod Existing
+pub mod Levels
+pub mod InOrder
 pub mod Whole
 pub mod ReadAs

@@ -8,6 +8,7 @@ pub mod Trees
 pub mod Meanings
 pub mod TextReader
 pub mod Scripts
+pub mod InOrder
 pub mod Values
 pub mod States
 pub mod Acts

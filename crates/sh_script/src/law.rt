@@ -1,8 +1,13 @@
 // The law of scripts and faults.
-ghost use Rattle.std.specs.Prelude.{◌≡◌, ◌⊎◌, List, ℕ};
+ghost use Rattle.std.specs.Prelude.{◌≡◌, ◌⊎◌, List, ℕ, length};
 ghost use Rattle.sh_ast.specs.Commands as c;
 ghost use Rattle.sh_token.specs.declared.fault.ScriptFault as faults;
-ghost use Rattle.sh_script.specs.Scripts.{IsScript, IsFaulty};
+ghost use Rattle.sh_rules.specs.Rules as rules;
+ghost use Rattle.sh_token.specs.Places.{Place, begin};
+ghost use Rattle.sh_script.specs.Trees.{Trees};
+ghost use Rattle.sh_script.specs.Meanings.{script_of};
+ghost use Rattle.sh_script.specs.InOrder.{tree_in_order, script_in_order};
+ghost use Rattle.sh_script.specs.Scripts.{IsScript, IsFaulty, Spells};
 ghost use Rattle.sh_script.specs.Reads.{Script, Faulty, fault_words, reads};
 
 /// A text is one script, or it has one fault; and it reads as that script, or as the words of that fault.
@@ -13,4 +18,11 @@ pub fn one_script_or_fault()
     ensures not_both { (text : List ℕ) (s : c.CommandsTree) (f : faults.ScriptFault) → IsScript text s → IsFaulty text f → ⊥ }
     ensures script_read { (text : List ℕ) (s : c.CommandsTree) → IsScript text s → Script s ≡ reads text }
     ensures fault_read { (text : List ℕ) (f : faults.ScriptFault) → IsFaulty text f → Faulty (fault_words text f) ≡ reads text }
+{}
+
+/// A parse tree that a text spells has as many here-document operators as bodies of here-documents, and the script that it is
+/// is the one in which the n-th operator has the n-th body, in the text and in each body that is expanded (XCU 2.7.4).
+pub fn documents_in_order()
+    ensures as_many { (text : List ℕ) (tree : Trees rules.script) (q : Place) → Spells tree (begin text) q → (tree_in_order tree).operators ≡ length (tree_in_order tree).bodies }
+    ensures in_order { (text : List ℕ) (tree : Trees rules.script) (q : Place) → Spells tree (begin text) q → script_of tree ≡ script_in_order tree }
 {}
