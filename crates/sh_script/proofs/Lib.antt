@@ -10,3 +10,6 @@ pub mod Levels
 pub mod InOrder
 pub mod Whole
 pub mod ReadAs
+pub mod Within
+pub mod FaultCases
+pub mod NamedThere

@@ -1,7 +1,9 @@
 // The law of scripts and faults.
-ghost use Rattle.std.specs.Prelude.{◌≡◌, ◌⊎◌, List, ℕ, length};
+ghost use Rattle.std.specs.Prelude.{◌≡◌, ◌++◌, ◌⊎◌, List, ℕ, drop, length, take};
 ghost use Rattle.sh_ast.specs.Commands as c;
 ghost use Rattle.sh_token.specs.declared.fault.ScriptFault as faults;
+ghost use Rattle.sh_token.specs.declared.fault.Why.TheVariants.{NotInProfile};
+ghost use Rattle.sh_token.specs.Folded.{folded};
 ghost use Rattle.sh_rules.specs.Rules as rules;
 ghost use Rattle.sh_token.specs.Places.{Place, begin};
 ghost use Rattle.sh_script.specs.Trees.{Trees};
@@ -25,4 +27,10 @@ pub fn one_script_or_fault()
 pub fn documents_in_order()
     ensures as_many { (text : List ℕ) (tree : Trees rules.script) (q : Place) → Spells tree (begin text) q → (tree_in_order tree).operators ≡ length (tree_in_order tree).bodies }
     ensures in_order { (text : List ℕ) (tree : Trees rules.script) (q : Place) → Spells tree (begin text) q → script_of tree ≡ script_in_order tree }
+{}
+
+/// What a fault names as left out of the profile stands at the fault's place: from there the text goes on, to its end or to that
+/// of a here-document's body, with bytes that, without their joined lines, begin with what is named.
+pub fn named_stands_there()
+    ensures { (text : List ℕ) (f : faults.ScriptFault) (name : List ℕ) → IsFaulty text f → f.why ≡ NotInProfile name → (left : List ℕ) × ((rest : List ℕ) × (left ++ rest ≡ drop f.at text)) × (name ≡ take (length name) (folded left)) }
 {}
