@@ -13,3 +13,5 @@ pub mod ReadAs
 pub mod Within
 pub mod FaultCases
 pub mod NamedThere
+pub mod Rising
+pub mod Outermost

@@ -9,6 +9,7 @@ pub mod Meanings
 pub mod TextReader
 pub mod Scripts
 pub mod InOrder
+pub mod Openings
 pub mod Values
 pub mod States
 pub mod Acts

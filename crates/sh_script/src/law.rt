@@ -2,14 +2,16 @@
 ghost use Rattle.std.specs.Prelude.{◌≡◌, ◌++◌, ◌⊎◌, List, ℕ, drop, length, take};
 ghost use Rattle.sh_ast.specs.Commands as c;
 ghost use Rattle.sh_token.specs.declared.fault.ScriptFault as faults;
-ghost use Rattle.sh_token.specs.declared.fault.Why.TheVariants.{NotInProfile};
+ghost use Rattle.sh_token.specs.declared.fault.Why.TheVariants.{NotInProfile, Unclosed};
 ghost use Rattle.sh_token.specs.Folded.{folded};
 ghost use Rattle.sh_rules.specs.Rules as rules;
+ghost use Rattle.sh_rules.specs.Reading.{Halt};
 ghost use Rattle.sh_token.specs.Places.{Place, begin};
 ghost use Rattle.sh_script.specs.Trees.{Trees};
 ghost use Rattle.sh_script.specs.Meanings.{script_of};
 ghost use Rattle.sh_script.specs.InOrder.{tree_in_order, script_in_order};
-ghost use Rattle.sh_script.specs.Scripts.{IsScript, IsFaulty, Spells};
+ghost use Rattle.sh_script.specs.Openings.{AllFrom, IsOneOf, openings};
+ghost use Rattle.sh_script.specs.Scripts.{IsScript, IsFaulty, Spells, StopsAt};
 ghost use Rattle.sh_script.specs.Reads.{Script, Faulty, fault_words, reads};
 
 /// A text is one script, or it has one fault; and it reads as that script, or as the words of that fault.
@@ -33,4 +35,10 @@ pub fn documents_in_order()
 /// of a here-document's body, with bytes that, without their joined lines, begin with what is named.
 pub fn named_stands_there()
     ensures { (text : List ℕ) (f : faults.ScriptFault) (name : List ℕ) → IsFaulty text f → f.why ≡ NotInProfile name → (left : List ℕ) × ((rest : List ℕ) × (left ++ rest ≡ drop f.at text)) × (name ≡ take (length name) (folded left)) }
+{}
+
+/// A fault of what isn't closed stands at the first of what is open where the text stops: quotes, substitutions and braces,
+/// here-documents that are awaited, and what has begun last.
+pub fn unclosed_is_outermost()
+    ensures { (text : List ℕ) (f : faults.ScriptFault) → IsFaulty text f → f.why ≡ Unclosed → (p : Place) × (h : Halt rules.Token) × StopsAt (begin text) p h × IsOneOf f.at (openings p) × AllFrom f.at (openings p) }
 {}

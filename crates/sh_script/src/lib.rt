@@ -5,7 +5,7 @@
 mod law;
 mod parameters;
 
-pub use law::{documents_in_order, named_stands_there, one_script_or_fault};
+pub use law::{documents_in_order, named_stands_there, one_script_or_fault, unclosed_is_outermost};
 pub use parameters::{
     braced_parameter, byte_at, descriptor_of, operation, plain_parameter, removal, without_ends,
     without_first, without_last,
