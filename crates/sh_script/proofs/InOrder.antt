@@ -24,6 +24,7 @@ use Rattle.sh_script.specs.Meanings.{Comes, Meanings, through, meaning_by, meani
 use Rattle.sh_script.specs.InOrder.{Ordered, Orders, in_order, order_by, orders_of, tree_in_order, script_in_order}
 use Rattle.sh_script.specs.TextReader.{text_reader}
 use Rattle.sh_script.specs.Scripts.{Spells}
+use Rattle.sh_script.proofs.Standing.{spelled_of}
 use Rattle.sh_script.proofs.Levels.{awaits, Level, level_there}
 
 -- LISTS
@@ -285,7 +286,7 @@ each_paired (rule_and q below ts) a b h =
 all_paired : (text : List ℕ) (tree : Trees script) (q : Place) → Spells tree (begin text) q → Pair (Values script) (through script (meanings_of tree)) (in_order script (orders_of tree)) [] 0
 unfolding Spells
 all_paired text tree q h =
-    let e = each_paired tree (begin text) q h in
+    let e = each_paired tree (begin text) q (spelled_of (tokens tree) (begin text) q h) in
     let at_end : 0 ≡ awaits q = sym (ap length e.2.1.2) ∙ sym (ap length e.2.1.0) ∙ ap (λ (x : Place). awaits x) e.2.3 in
     (flat_pair script tt (meanings_of tree) (orders_of tree) (begin text) q e).1 [] at_end
 

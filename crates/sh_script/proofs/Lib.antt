@@ -1,5 +1,6 @@
 pub mod FoldLemmas
 pub mod Typed
+pub mod Standing
 pub mod Built
 pub mod Owed
 pub mod Fewer

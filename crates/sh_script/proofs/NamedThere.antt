@@ -11,6 +11,7 @@ use Rattle.sh_token.specs.Places.{Place, begin}
 use Rattle.sh_token.specs.Faults.{fault, unclosed, bracket_fault, told, is_over, fault_of}
 use Rattle.sh_token.proofs.Folding.{folded-past}
 use Rattle.sh_script.specs.Scripts.{longest, StopsAt, IsFaulty}
+use Rattle.sh_script.proofs.Standing.{spelled_of}
 use Rattle.sh_script.proofs.Within.{GoesOn, further, within_text}
 use Rattle.sh_script.proofs.FaultCases.{each_fault}
 
@@ -123,7 +124,7 @@ there : (text : List ℕ) (p : Place) (h : Halt Token) (f : ScriptFault) (name :
 unfolding StopsAt
 there text p h f name s e why =
     let x = told_named (is_over h) p name (sym (ap (λ (g : ScriptFault). g.why) e) ∙ why) in
-    let g = within_text text s.0 p s.1 in (
+    let g = within_text text s.0 p (spelled_of s.0 (begin text) p s.1) in (
       drop x.0 p.text,
       subst (λ n. GoesOn text n (drop x.0 p.text)) (sym (ap (λ (g : ScriptFault). g.at) e ∙ x.1)) (further text p.at x.0 p.text g),
       x.2,

@@ -26,6 +26,7 @@ use Rattle.sh_token.proofs.Sizes.{look_within}
 use Rattle.sh_script.specs.TextReader.{text_reader}
 use Rattle.sh_script.specs.Scripts.{StopsAt, IsFaulty}
 use Rattle.sh_script.specs.Openings.{operators_at, openings, IsOneOf, AllFrom}
+use Rattle.sh_script.proofs.Standing.{spelled_of}
 use Rattle.sh_script.proofs.FaultCases.{each_fault}
 use Rattle.sh_script.proofs.Rising.{AllTo, Rising, to_more, to_last, rising_last, to_popped, rising_popped, operators_last, rising_rest, to_rest, joins_within, blanks_within, line_within, ended, ended_twice}
 
@@ -345,5 +346,5 @@ unclosed_there text f (inr x) why =
     let h = x.1.1 in
     let s = x.1.2 in
     let at : f.at ≡ open_at p = ap (λ (g : ScriptFault). g.at) x.1.3 ∙ told_there (is_over h) p (sym (ap (λ (g : ScriptFault). g.why) x.1.3) ∙ why) in
-    let o = outermost p (spelled_ok s.0 (begin text) p s.1 (begin_ok text)) in
+    let o = outermost p (spelled_ok s.0 (begin text) p (spelled_of s.0 (begin text) p s.1) (begin_ok text)) in
     (p, h, s, subst (λ n. IsOneOf n (openings p)) (sym at) o.0, subst (λ n. AllFrom n (openings p)) (sym at) o.1)

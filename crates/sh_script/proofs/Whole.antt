@@ -29,11 +29,12 @@ use Rattle.sh_token.proofs.Modes.{modes_agree}
 use Rattle.sh_token.proofs.Sizes.{shorter}
 use Rattle.sh_script.specs.TextReader.{text_reader}
 use Rattle.sh_script.specs.Outcomes.{IsRead, IsStuck}
-use Rattle.sh_script.specs.Trees.{Trees}
+use Rattle.sh_script.specs.Trees.{Trees, tokens}
 use Rattle.sh_script.specs.Meanings.{script_of}
 use Rattle.sh_script.specs.Folds.{script_marked}
 use Rattle.sh_script.specs.Scripts.{longest, Spells, StopsAt, IsScript, IsFaulty}
 use Rattle.sh_script.proofs.Typed.{untyped, are_parses, tokens_are, typed}
+use Rattle.sh_script.proofs.Standing.{spelled_of, stand_of, stop_of, stops_at_of}
 use Rattle.sh_script.proofs.Built.{script_by_marks}
 use Rattle.sh_script.specs.Predicting.{End, Read, Stuck, end_of}
 use Rattle.sh_script.specs.Reads.{Reading, Script, Faulty, fault_words, reading_of, reads}
@@ -59,27 +60,27 @@ unfolding Spells
 tree_there agree qs a b h =
     let s = sound_all TokenKind Part Rule Token Mode Place shell text_reader sets ok agree qs script a b h in
     let t = typed qs script s.0 in
-    (t.0, subst (λ ts. Spelled shell text_reader ts a b) (ap (λ (xs : Parses Rule Token). leaves_all xs) (sym t.1) ∙ tokens_are t.0) s.1, t.1)
+    (t.0, stand_of (tokens t.0) a b (subst (λ ts. Spelled shell text_reader ts a b) (ap (λ (xs : Parses Rule Token). leaves_all xs) (sym t.1) ∙ tokens_are t.0) s.1), t.1)
 
 untyped_spelled : (tree : Trees script) (a b : Place) → Spells tree a b → Spelled shell text_reader (leaves_all (untyped tree)) a b
 unfolding Spells
-untyped_spelled tree a b h = subst (λ ts. Spelled shell text_reader ts a b) (sym (tokens_are tree)) h
+untyped_spelled tree a b h = subst (λ ts. Spelled shell text_reader ts a b) (sym (tokens_are tree)) (spelled_of (tokens tree) a b h)
 
 pub stuck_stops : Agrees → (a m : Place) (h : Halt Token) → IsStuck a m h → StopsAt a m h
-unfolding IsStuck StopsAt
+unfolding IsStuck
 stuck_stops agree a m h x =
-    stops_all TokenKind Part Rule Token Mode Place shell text_reader sets ok agree productive script a [] x.0 script [] a m h x.1
+    stops_at_of a m h
+    (stops_all TokenKind Part Rule Token Mode Place shell text_reader sets ok agree productive script a [] x.0 script [] a m h x.1
     (subst (λ α. Inv TokenKind Part Rule Token Mode Place shell text_reader sets ok agree script a [] α a) (sym (append-nil script))
-    (begun TokenKind Part Rule Token Mode Place shell text_reader sets ok agree productive script a (consistent agree)))
+    (begun TokenKind Part Rule Token Mode Place shell text_reader sets ok agree productive script a (consistent agree))))
 
 pub one_stop : Agrees → (a m n : Place) (h i : Halt Token) → StopsAt a m h → StopsAt a n i → (m ≡ n) × (h ≡ i)
-unfolding StopsAt
-one_stop agree a m n h i x y = stops_once TokenKind Part Rule Token Mode Place shell text_reader sets ok agree productive script a m n h i (consistent agree) x y
+one_stop agree a m n h i x y =
+    stops_once TokenKind Part Rule Token Mode Place shell text_reader sets ok agree productive script a m n h i (consistent agree) (stop_of a m h x) (stop_of a n i y)
 
 pub no_both : Agrees → (tree : Trees script) (a b m : Place) (h : Halt Token) → Spells tree a b → StopsAt a m h → ⊥
-unfolding StopsAt
 no_both agree tree a b m h s x =
-    whole_stops_not TokenKind Part Rule Token Mode Place shell text_reader sets ok agree productive script a (leaves_all (untyped tree)) b m h (consistent agree) (untyped_spelled tree a b s) (untyped tree, are_parses tree, refl) x
+    whole_stops_not TokenKind Part Rule Token Mode Place shell text_reader sets ok agree productive script a (leaves_all (untyped tree)) b m h (consistent agree) (untyped_spelled tree a b s) (untyped tree, are_parses tree, refl) (stop_of a m h x)
 
 reads_all_of : Agrees → (tree : Trees script) (a b : Place) → Spells tree a b → ReadsAll shell text_reader (untyped tree) script a b
 reads_all_of agree tree a b h =

@@ -6,6 +6,7 @@ pub mod Made
 pub mod Makes
 pub mod Trees
 pub mod Meanings
+pub mod Standing
 pub mod TextReader
 pub mod Scripts
 pub mod InOrder
