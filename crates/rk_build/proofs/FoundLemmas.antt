@@ -1,10 +1,5 @@
 -- What a build finds in a folder.
-use Rattle.std.proofs.Common.{◌≡◌, Bool, List, Option, Some, None, IfSome, Result, Ok, Err, ap, subst}
-use Rattle.rk_base.specs.Text.{Text}
-use Rattle.tr_record.specs.declared.records.Record.{Record}
-use Rattle.tr_parts.specs.Reads.{IsSealed}
-use Rattle.tr_codec.specs.Spelling.{body, table_piece}
-use Rattle.tr_codec.proofs.SealLemmas.{seal_right}
+use Rattle.std.proofs.Common.{◌≡◌, Bool, Option, Some, None, Result, Ok, Err, ap, subst}
 use Rattle.rk_folder.specs.Told.{Held}
 use Rattle.rk_folder.specs.declared.hidden_files.State.{State}
 use Rattle.rk_changes.specs.Imported.{holding_of}
@@ -56,13 +51,9 @@ look-stops-so request told e fresh same look = look-stops request told e (asked 
 pub kept-stops-so : (request : Request) (told : Option Held) (holding : Holding) (e : BuildErr) (fresh : Bool) → fresh ≡ is_fresh request → LooksSo fresh told (Ok holding) → ReadsState holding.state (Err e) → FindsSo request told (Err e)
 kept-stops-so request told holding e fresh same look kept = kept-stops request told holding e (asked told (Ok holding) fresh (is_fresh request) same look) kept
 
--- a database that was read ends with its digest
-spelling-sealed : (db : Option Text) (table : List Record) → Spells db table → IfSome db IsSealed
-spelling-sealed None table spells = tt
-spelling-sealed (Some bytes) table spells = seal_right bytes (body (table_piece table)) spells.1
-
-pub kept-sealed : (state : State) (kept : KeptState) → ReadsState state (Ok kept) → IfSome state.db IsSealed
-kept-sealed state kept reads = spelling-sealed state.db kept.old reads.1.0
+-- the database that was read is the spelling of the records
+pub kept-spells : (state : State) (kept : KeptState) → ReadsState state (Ok kept) → Spells state.db kept.old
+kept-spells state kept reads = reads.1.0
 
 -- all was found
 found-asked : (request : Request) (told : Option Held) (found : Found) → LooksSo (is_fresh request) told (Ok found.holding) → ReadsState found.holding.state (Ok (record { attrs = found.attrs; old = found.old })) → FindsSo request told (Ok found)

@@ -1,5 +1,7 @@
 -- What a build has come to before anything is put out.
-use Rattle.std.proofs.Common.{◌≡◌, ◌<◌, Bool, true, false, true≢false, IsSome, is_some, refl, ℕ, ◌+◌, ◌++◌, ◌≤◌, List, length, Option, Some, None, Ok, Err, sym, ap, subst, ◌∙◌, arith}
+use Rattle.std.proofs.Common.{◌≡◌, ◌<◌, Bool, true, false, true≢false, IsSome, is_some, refl, ℕ, ◌+◌, ◌++◌, ◌≤◌, List, length, Option, Some, None, Result, Ok, Err, sym, ap, subst, ◌∙◌, arith}
+use Rattle.std.specs.Prelude.{IfOk, OnOk}
+use Rattle.rk_base.specs.declared.memory.NoMemory.{NoMemory}
 use Rattle.rk_calls.specs.Keys.{KeyValue}
 use Rattle.rk_calls.specs.Talk.{Says}
 use Rattle.rk_kernel.specs.World.{World}
@@ -26,6 +28,7 @@ use Rattle.rk_build.specs.Explained.{explanation}
 use Rattle.std.specs.List.{AllByRecursion}
 use Rattle.tr_codec.specs.Fits.{Fits}
 use Rattle.tr_codec.specs.Sound.{IsSound}
+use Rattle.tr_codec.specs.Spelling.{db_spelling}
 use Rattle.rk_build.specs.Outcomes.{ChecksMany}
 use Rattle.rk_build.specs.Run.{fresh_run, IsRun, Runs}
 use Rattle.rk_build.specs.Stages.{FindsSo, PreparesSo}
@@ -96,6 +99,15 @@ in-memory (Some bytes) small = let few : length bytes ≤ longest_file = small i
 
 both-in-memory : (world : World) (table : List Record) → AreReadable world table → AreInMemory world table
 both-in-memory world table small = (in-memory (held_after world table).state.attrs small.0, in-memory (held_after world table).state.db small.1)
+
+-- bytes that were read are the spelling of the table that a run leaves, where it is the one that was read
+pub kept-spelling : (found : Result Text NoMemory) (was : Text) (old table : List Record) → IfOk found (λ bytes. bytes ≡ was) → was ≡ db_spelling old → table ≡ old → IfOk found (λ bytes. bytes ≡ db_spelling table)
+kept-spelling (Ok bytes) was old table same spells is = same ∙ spells ∙ ap db_spelling (sym is)
+kept-spelling (Err want) was old table same spells is = tt
+
+pub kept-fit : (found : Result Text NoMemory) (old table : List Record) → Fits old → table ≡ old → OnOk found (AllByRecursion IsSound table → Fits table)
+kept-fit (Ok bytes) old table fit is = λ sound. subst Fits (sym is) fit
+kept-fit (Err want) old table fit is = tt
 
 -- there is a plan
 pub never-none : {X : Type 0} (found : Option X) → IsSome found → found ≡ None → ⊥

@@ -1,9 +1,9 @@
 // What a build finds in a folder.
-ghost use Rattle.std.specs.Prelude.{◌≡◌, IfOk, IfSome, OnOk};
+ghost use Rattle.std.specs.Prelude.{◌≡◌, IfOk, OnOk};
 ghost use Rattle.rk_folder.specs.Looks.{LooksInOrder, looks};
 ghost use Rattle.rk_tree.specs.Entries.{IsWholeSnapshot};
 ghost use Rattle.rk_request.specs.Asked.{is_fresh};
-ghost use Rattle.tr_parts.specs.Reads.{IsSealed};
+ghost use Rattle.rk_build.specs.Kept.{Spells};
 ghost use Rattle.rk_build.specs.Stages.{FindsSo, ReadsCounted, Steadily};
 
 use crate::kept::{KeptState, kept};
@@ -40,8 +40,8 @@ pub(crate) fn find<F: Folder>(
     ensures steady { Steadily (F.steady folder.old) (F.steady folder.new) result }
     ensures finds { FindsSo request.now (F.told folder.old) result }
     ensures whole { IfOk result (λ found. IsWholeSnapshot found.holding.entries) }
-    // A database that was read ends with its digest.
-    ensures sealed { IfOk result (λ found. IfSome found.holding.state.db IsSealed) }
+    // The bytes that were read are the spelling of the records.
+    ensures spells { IfOk result (λ found. Spells found.holding.state.db found.old) }
 {
     let holding = look(alloc, folder, is_fresh(request))?;
     let KeptState { attrs, old } = kept(alloc, &holding.state)?;

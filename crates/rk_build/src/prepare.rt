@@ -1,5 +1,5 @@
 // What is to be done once the script has run.
-ghost use Rattle.std.specs.Prelude.{◌≡◌, ◌+◌, ◌<◌, ◌≤◌, IfOk, IfSome, OnOk, length, option_copied};
+ghost use Rattle.std.specs.Prelude.{◌≡◌, ◌+◌, ◌<◌, ◌≤◌, IfOk, OnOk, length};
 ghost use Rattle.rk_folder.specs.Looks.{LooksInOrder, looks};
 ghost use Rattle.rk_folder.specs.Told.{longest_file};
 ghost use Rattle.rk_tree.specs.Entries.{IsWholeSnapshot};
@@ -9,11 +9,12 @@ ghost use Rattle.rk_changes.specs.Planned.{IsPlan};
 ghost use Rattle.std.specs.List.{AllByRecursion};
 ghost use Rattle.tr_codec.specs.Fits.{Fits};
 ghost use Rattle.tr_codec.specs.Sound.{IsSound};
-ghost use Rattle.tr_parts.specs.Reads.{IsSealed};
 ghost use Rattle.tr_codec.specs.Spelling.{db_spelling};
+ghost use Rattle.rk_replay.specs.Ran.{AreKept, ran_of};
 ghost use Rattle.rk_request.specs.Asked.{is_fresh, turns};
 ghost use Rattle.rk_build.specs.Stages.{StartsSo, PreparesSo, ReadsCounted, Steadily};
 ghost use Rattle.rk_build.specs.Fresh.{IsReadable, attrs_bytes, held_after};
+ghost use Rattle.rk_build.specs.Kept.{Spells};
 
 use crate::checked::check_old;
 use crate::explain::error_text;
@@ -24,13 +25,14 @@ use rk_base::{Bytes, NoMemory, Steps};
 use rk_calls::Maker;
 use rk_changes::{Holding, attrs_of, plan};
 use rk_folder::{Folder, LONGEST_FILE, State};
+use rk_replay::is_as_found;
 use rk_request::Request;
 use rk_seal::Plan;
 use rk_tree::Snapshot;
 use std::alloc::Global;
 use std::sync::ledger::Ledger;
 use tr_attrs::write_attrs;
-use tr_codec::{write_db, write_db_as};
+use tr_codec::write_db;
 use tr_record::Table;
 
 /// A run that ended, and the calls that lead the folder to what it leaves.
@@ -69,23 +71,57 @@ fn attrs_bytes(alloc: Global, entries: &Snapshot) -> Result<Option<Bytes>, NoMem
     }
 }
 
-// db as it is to stand. Where it is just what was read, its digest isn't computed again.
-fn db_bytes(alloc: Global, table: &Table, was: Option<&Bytes>) -> Result<Bytes, NoMemory>
-    requires { IfSome (option_copied was) IsSealed }
-    ensures bytes { IfOk result (λ bytes. bytes ≡ db_spelling table.now) }
-    ensures fits { OnOk result (AllByRecursion IsSound table.now → Fits table.now) }
+// The spelling of the records that a run leaves, where these bytes spell the old ones: the very bytes, where it leaves those.
+fn kept_bytes(
+    alloc: Global,
+    finished: &Finished,
+    old: &Table,
+    was: &Bytes,
+) -> Result<Bytes, NoMemory>
+    requires fit { Fits old.now }
+    requires spells { was.now ≡ db_spelling old.now }
+    requires kept { AreKept old.now finished.now.table }
+    requires ran { finished.now.ran ≡ ran_of old.now finished.now.table }
+    ensures bytes { IfOk result (λ bytes. bytes ≡ db_spelling finished.now.table) }
+    ensures fits { OnOk result (AllByRecursion IsSound finished.now.table → Fits finished.now.table) }
+{
+    if is_as_found(old, &finished.table, &finished.ran) {
+        return was.copy();
+    }
+    write_db(alloc, &finished.table)
+}
+
+// db as it is to stand, where these were its bytes, and they spell the old records.
+fn db_bytes(
+    alloc: Global,
+    finished: &Finished,
+    old: &Table,
+    was: &Option<Bytes>,
+) -> Result<Bytes, NoMemory>
+    requires spells { Spells was.now old.now }
+    requires kept { AreKept old.now finished.now.table }
+    requires ran { finished.now.ran ≡ ran_of old.now finished.now.table }
+    ensures bytes { IfOk result (λ bytes. bytes ≡ db_spelling finished.now.table) }
+    ensures fits { OnOk result (AllByRecursion IsSound finished.now.table → Fits finished.now.table) }
     ensures readable { IfOk result (λ bytes. length bytes ≤ longest_file) }
 {
     let bytes = match was {
-        None => write_db(alloc, table)?,
-        Some(bytes) => write_db_as(alloc, table, bytes)?,
+        None => write_db(alloc, &finished.table)?,
+        Some(was) => kept_bytes(alloc, finished, old, was)?,
     };
     readable(bytes)
 }
 
-// What the folder is to hold after the run, where these were the bytes of the database.
-fn held_after(alloc: Global, finished: &Finished, was: Option<&Bytes>) -> Result<Holding, NoMemory>
-    requires { IfSome (option_copied was) IsSealed }
+// What the folder is to hold after the run, where these were the bytes of the database, and they spell the old records.
+fn held_after(
+    alloc: Global,
+    finished: &Finished,
+    old: &Table,
+    was: &Option<Bytes>,
+) -> Result<Holding, NoMemory>
+    requires spells { Spells was.now old.now }
+    requires kept { AreKept old.now finished.now.table }
+    requires ran { finished.now.ran ≡ ran_of old.now finished.now.table }
     ensures holding { IfOk result (λ holding. holding ≡ held_after finished.now.world finished.now.table) }
     ensures built { IfOk result IsBuilt }
     ensures whole { IfOk result (λ holding. IsWholeSnapshot holding.entries) }
@@ -94,7 +130,7 @@ fn held_after(alloc: Global, finished: &Finished, was: Option<&Bytes>) -> Result
 {
     let entries = finished.world.snapshot()?;
     let attrs = attrs_bytes(alloc, &entries)?;
-    let db = db_bytes(alloc, &finished.table, was)?;
+    let db = db_bytes(alloc, finished, old, was)?;
     Ok(Holding {
         entries,
         rkr: true,
@@ -148,7 +184,7 @@ pub(crate) fn prepare<M: Maker, F: Folder, L: Ledger>(
     } = find(alloc, request, folder)?;
     check_old(maker, request, &old)?;
     let finished = run(alloc, maker, request, &before.entries, &attrs, &old, live)?;
-    let after = held_after(alloc, &finished, before.state.db.as_ref())?;
+    let after = held_after(alloc, &finished, &old, &before.state.db)?;
     let plan = planned(alloc, &before, &after)?;
     let error_text = error_text(alloc, request, &finished)?;
     Ok(Prepared {

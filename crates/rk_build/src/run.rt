@@ -3,6 +3,7 @@ ghost use Rattle.std.specs.Prelude.{◌≡◌, ◌+◌, ◌<◌, ◌≤◌, ◌^
 ghost use Rattle.rk_tree.specs.Entries.{IsWholeSnapshot};
 ghost use Rattle.rk_folder.specs.Attributes.{with_rows};
 ghost use Rattle.rk_request.specs.Asked.{turns};
+ghost use Rattle.rk_replay.specs.Ran.{AreKept};
 ghost use Rattle.rk_build.specs.Run.{Runs, StartsRun};
 
 use crate::options::turns;
@@ -64,6 +65,7 @@ pub(crate) fn run<M: Maker, L: Ledger>(
     requires whole { IsWholeSnapshot entries.now }
     requires some { 0 < turns request.now }
     ensures runs { Runs M.first request.now (with_rows entries.now attrs.now) old.now live.old live.new result }
+    ensures kept { IfOk result (λ f. AreKept old.now f.table) }
     ensures at_least { live.old ≤ live.new }
     ensures at_most { live.new ≤ live.old + turns request.now }
     ensures starts { StartsRun request.now old.now (M.starts maker.old) (M.starts maker.new) result }

@@ -1,74 +1,106 @@
--- What didn't run is the old table's.
-use Rattle.std.proofs.Common.{◌≡◌, ℕ, zero, suc, ◌<◌, Bool, true, false, ◌&&◌, ◌==◌, cond, if◌then◌else◌, List, [], ◌∷◌, length, refl, sym, ◌∙◌, ap, subst, arith, Option, Some, None, get_or}
-use Rattle.std.specs.Prelude.{find}
-use Rattle.rk_calls.specs.Talk.{Says}
-use Rattle.rk_calls.specs.Keys.{KeyValue, same_key}
+-- What didn't run is the old table's, once it has exited.
+use Rattle.std.proofs.Common.{◌≡◌, ◌≢◌, ℕ, ◌+◌, ◌≤◌, ◌<◌, inl, inr, List, [], ◌∷◌, ◌++◌, length, sym, ◌∙◌, ap, subst, arith, None}
+use Rattle.std.proofs.lemmas.Bool.{cases_eq, cases_lt}
+use Rattle.rk_calls.specs.declared.drive.Spoke.{Spoke}
+use Rattle.rk_calls.specs.declared.drive.Spoke.TheVariants.{Exit as Exits}
+use Rattle.rk_calls.specs.Keys.{KeyValue}
 use Rattle.tr_record.specs.declared.records.Record.{Record}
 use Rattle.tr_record.specs.declared.steps.Step.{Step}
-use Rattle.tr_record.specs.Rec.{rec_at, fresh_rec, no_key, found}
-use Rattle.rk_runs.specs.Lasting.{AllLast}
-use Rattle.rk_runs.specs.Spoken.{IsSpoken, AreSpoken}
-use Rattle.rk_runs.specs.Differences.{AnswerAlike}
-use Rattle.rk_runs.specs.CheckLaws.{spoken-alike}
-use Rattle.rk_replay.specs.declared.ran.Cause.{Cause}
-use Rattle.rk_replay.specs.declared.ran.Cause.TheVariants.{Differs}
-use Rattle.rk_replay.specs.Answers.{same_answer}
-use Rattle.rk_replay.specs.Ran.{first_difference, cause_by, cause_of, IsRecorded, AreKept}
-use Rattle.rk_replay.proofs.Differing.{same-answer}
-use Rattle.tr_record.proofs.KeyLemmas.{same_key-Decides}
+use Rattle.tr_record.specs.Rec.{rec_at, begun, stepped, ended, with_exit}
+use Rattle.rk_runs.specs.declared.active.Active.{Active}
+use Rattle.rk_runs.specs.declared.active.Frame.{Frame}
+use Rattle.rk_runs.specs.Places.{length-begun, length-stepped, length-ended, rec-begun, rec-stepped, rec-ended, rec-ended_same}
+use Rattle.rk_replay.specs.declared.activity.Activity.{Activity}
+use Rattle.rk_replay.specs.Activities.{Speaks_on}
+use Rattle.rk_replay.specs.Ran.{cause_of, IsRecorded, AreKept}
+use Rattle.rk_replay.proofs.Linking.{ends-recorded}
+use Rattle.rk_replay.proofs.Replaying.{Replaying}
 
--- what is found stands somewhere, and passes the test
-record Stands {X : Type 0} (test : X → Bool) (xs : List X) (d x : X) : Type 0 where
-  place : ℕ
-  here : place < length xs
-  is : get_or xs place d ≡ x
-  passes : test x ≡ true
+-- it is the old table's, if its command didn't run
+abbrev pub IsKept : List Record → Record → Type 0
+IsKept old rec = cause_of old rec ≡ None → IsRecorded old rec
 
-found-at : {X : Type 0} (test : X → Bool) (xs : List X) (d x : X) → find test xs ≡ Some x → Stands test xs d x
-found-at test [] d x e = cc
-found-at {X} test (y ∷ ys) d x e = by_test (test y) refl e (found-at test ys d x)
-  where
-    by_test : (b : Bool) → test y ≡ b → cond b (Some y) (find test ys) ≡ Some x → (find test ys ≡ Some x → Stands test ys d x) → Stands test (y ∷ ys) d x
-    by_test true t e k = let same : y ≡ x = cc in record { place = 0; here = omega arith; is = same; passes = ap test (sym same) ∙ t }
-    by_test false t e k =
-        let s = k e in
-        let lt : s.place < length ys = s.here in
-        record { place = suc s.place; here = omega arith; is = s.is; passes = s.passes }
+-- no waiting command stands at this place
+abbrev pub IsApart : {S : Type 0} → ℕ → List (Frame S) → Type 0
+IsApart i [] = Unit {0}
+IsApart i (f ∷ fs) = (i ≢ f.waiting.place) × IsApart i fs
 
-both-true : (a b : Bool) → (a && b) ≡ true → a ≡ true
-both-true true b h = refl
-both-true false b h = cc
+-- of the commands that have exited, beside the one that goes on and those that wait
+pub record Keeps {S : Type 0} (old t : List Record) (m : Active S) (fs : List (Frame S)) : Type 0 where
+  pub each : (i : ℕ) → i < length t → i ≢ m.place → IsApart i fs → IsKept old (rec_at i t)
 
-if-none : (b : Bool) (x : Option Cause) (c : Cause) → (if b then x else Some c) ≡ None → (b ≡ true) × (x ≡ None)
-if-none true x c e = (refl, e)
-if-none false x c e = cc
+apart-push : {S : Type 0} (i : ℕ) (fs : List (Frame S)) (f : Frame S) → IsApart i fs → i ≢ f.waiting.place → IsApart i (fs ++ f ∷ [])
+apart-push i [] f a h = (h, tt)
+apart-push i (x ∷ fs) f a h = (a.0, apart-push i fs f a.1 h)
 
--- no difference is told only where the answers are the same
-alike : (n : ℕ) (xs ys : List Step) → first_difference n xs ys ≡ None → AnswerAlike xs ys
-alike n [] ys e i h = let lt : i < length (let none : List Step = [] in none) = h.0 in absurd (omega arith)
-alike n (x ∷ xs) [] e i h = let lt : i < length (let none : List Step = [] in none) = h.1 in absurd (omega arith)
-alike n (x ∷ xs) (y ∷ ys) e zero h = same-answer x.answer y.answer (if-none (same_answer x.answer y.answer) (first_difference (suc n) xs ys) (Differs n x.answer y.answer) e).0
-alike n (x ∷ xs) (y ∷ ys) e (suc i) h =
-    alike (suc n) xs ys (if-none (same_answer x.answer y.answer) (first_difference (suc n) xs ys) (Differs n x.answer y.answer) e).1 i
-    ((let lt : suc i < suc (length xs) = h.0 in omega arith), (let lt : suc i < suc (length ys) = h.1 in omega arith))
+apart-pop : {S : Type 0} (i : ℕ) (fs : List (Frame S)) (f : Frame S) → IsApart i (fs ++ f ∷ []) → (i ≢ f.waiting.place) × IsApart i fs
+apart-pop i [] f a = (a.0, tt)
+apart-pop i (x ∷ fs) f a = let r = apart-pop i fs f a.1 in (r.0, (a.0, r.1))
 
-module _ (first : KeyValue → Says) (lasts : AllLast first) (old : List Record) (spoken : AreSpoken first old) (rec : Record) (said : IsSpoken first rec) where
-  found-kept : (x : Record) → found old rec.key rec.ordinal ≡ Some x → first_difference 1 x.steps rec.steps ≡ None → IsRecorded old rec
-  unfolding found
-  found-kept x ef e =
-      let s = found-at (λ r. same_key r.key rec.key && (r.ordinal == rec.ordinal)) old (fresh_rec no_key 0) x ef in
-      let ek = (same_key-Decides x.key rec.key).0 (both-true (same_key x.key rec.key) (x.ordinal == rec.ordinal) s.passes) in
-      let was = subst (IsSpoken first) s.is (spoken s.place s.here) in
-      let same = spoken-alike first lasts x rec was said ek (alike 1 x.steps rec.steps e) in
-      (x, ef, same.0, same.1, same.2)
+apart-none : {S : Type 0} (i : ℕ) (fs : List (Frame S)) → length fs ≡ 0 → IsApart i fs
+apart-none i [] z = tt
+apart-none i (f ∷ fs) z = absurd (omega arith)
 
-  by-found : (o : Option Record) → found old rec.key rec.ordinal ≡ o → cause_by o rec.steps ≡ None → IsRecorded old rec
-  by-found None ef e = cc
-  by-found (Some x) ef e = found-kept x ef e
+-- the first command is launched
+pub Keeps-start : {S : Type 0} (old t0 t : List Record) (key : KeyValue) (m : Active S) (fs : List (Frame S)) → t0 ≡ [] → m.place ≡ length t0 → t ≡ begun key t0 → Keeps old t m fs
+Keeps-start old t0 t key m fs e0 ep et =
+    let none : length t0 ≡ 0 = ap length e0 in
+    let one : length t ≡ length t0 + 1 = ap length et ∙ length-begun key t0 in
+    record { each = λ i h ne apart. let here : i ≡ m.place = omega (arith, h, one, none, ep) in absurd (ne here) }
 
-  is-kept : cause_of old rec ≡ None → IsRecorded old rec
-  unfolding cause_of
-  is-kept e = by-found (found old rec.key rec.ordinal) refl e
+module _ {S : Type 0} (old t : List Record) (m : Active S) (fs : List (Frame S)) (k : Keeps old t m fs) where
+  -- another command is launched
+  pub Keeps-launch : (now : S) (key : KeyValue) (map : List (ℕ × ℕ)) (c : ℕ) (child : Active S) (t' : List Record) (fs' : List (Frame S)) → child.place ≡ length t → t' ≡ begun key t → fs' ≡ fs ++ record { waiting = record { place = m.place; refs = m.refs; machine = now }; key = key; map = map; cost = c } ∷ [] → Keeps old t' child fs'
+  Keeps-launch now key map c child t' fs' ep et ef =
+      let f : Frame S = record { waiting = record { place = m.place; refs = m.refs; machine = now }; key = key; map = map; cost = c } in
+      let long : length t' ≡ length t + 1 = ap length et ∙ length-begun key t in
+      record {
+        each = λ i h ne apart. elim (cases_lt i (length t)) [
+          | inl lt ↦
+              let a = apart-pop i fs f (subst (IsApart i) ef apart) in
+              let same : rec_at i t' ≡ rec_at i t = ap (rec_at i) et ∙ rec-begun i key t lt in
+              subst (IsKept old) (sym same) (k.each i lt a.0 a.1)
+          | inr ge ↦ let here : i ≡ child.place = omega (arith, h, long, ge, ep) in absurd (ne here)
+        ];
+      }
 
-pub all-kept : (first : KeyValue → Says) → AllLast first → (old t : List Record) → AreSpoken first old → AreSpoken first t → AreKept old t
-all-kept first lasts old t spoken said i h e = is-kept first lasts old spoken (rec_at i t) (said i h) e
+  -- the command that goes on takes an answer
+  pub Keeps-ask : (st : Step) (t' : List Record) (next : Active S) → t' ≡ stepped m.place st t → next.place ≡ m.place → Keeps old t' next fs
+  Keeps-ask st t' next et ep =
+      let long : length t' ≡ length t = ap length et ∙ length-stepped m.place st t in
+      record {
+        each = λ i h ne apart.
+            let lt : i < length t = omega (arith, h, long) in
+            let other : i ≢ m.place = λ e. ne (e ∙ sym ep) in
+            let same : rec_at i t' ≡ rec_at i t = ap (rec_at i) et ∙ rec-stepped i m.place st t other in
+            subst (IsKept old) (sym same) (k.each i lt other apart);
+      }
+
+module _ {S : Type 0} (old t : List Record) (m : Active (Activity S)) (fs : List (Frame (Activity S))) (i : Replaying old t m fs) (k : Keeps old t m fs) (now : Activity S) (s : Spoke) (on : Speaks_on old m.machine now s) (status n c : ℕ) (t' : List Record) (es : s ≡ Exits status n) (ec : c ≡ n) (et : t' ≡ ended m.place status c t) where
+  exit-kept : (j : ℕ) → j < length t' → IsApart j fs → IsKept old (rec_at j t')
+  exit-kept j h apart =
+      let long : length t' ≡ length t = ap length et ∙ length-ended m.place status c t in
+      elim (cases_eq j m.place) [
+        | inl e ↦
+            let same : rec_at j t' ≡ with_exit (rec_at m.place t) status c = ap (rec_at j) et ∙ ap (λ p. rec_at p (ended m.place status c t)) e ∙ rec-ended_same m.place status c t i.here in
+            subst (IsKept old) (sym same) (ends-recorded old (rec_at m.place t) status c n m.machine now s es ec i.linked on)
+        | inr ne ↦
+            let same : rec_at j t' ≡ rec_at j t = ap (rec_at j) et ∙ rec-ended j m.place status c t ne in
+            subst (IsKept old) (sym same) (k.each j (omega (arith, h, long)) ne apart)
+      ]
+
+  -- the last command exits
+  pub all-kept : length fs ≡ 0 → AreKept old t'
+  all-kept z = λ j h. exit-kept j h (apart-none j fs z)
+
+  -- a command exits, and the one that waited for it goes on
+  pub Keeps-join : (fs' : List (Frame (Activity S))) (f : Frame (Activity S)) → fs ≡ fs' ++ f ∷ [] → (st : Step) (t'' : List Record) (next : Active (Activity S)) → t'' ≡ stepped f.waiting.place st t' → next.place ≡ f.waiting.place → Keeps old t'' next fs'
+  Keeps-join fs' f ef st t'' next et' ep =
+      let long : length t'' ≡ length t' = ap length et' ∙ length-stepped f.waiting.place st t' in
+      record {
+        each = λ j h ne apart.
+            let lt : j < length t' = omega (arith, h, long) in
+            let other : j ≢ f.waiting.place = λ e. ne (e ∙ sym ep) in
+            let same : rec_at j t'' ≡ rec_at j t' = ap (rec_at j) et' ∙ rec-stepped j f.waiting.place st t' other in
+            subst (IsKept old) (sym same) (exit-kept j lt (subst (IsApart j) (sym ef) (apart-push j fs' f apart other)));
+      }

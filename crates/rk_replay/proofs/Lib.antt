@@ -1,3 +1,4 @@
+pub mod AsFound
 pub mod Causing
 pub mod Differing
 pub mod Finding

@@ -1,5 +1,6 @@
 -- Commands and what stands in their records.
 use Rattle.std.proofs.Common.{◌≡◌, ◌≢◌, ℕ, ◌+◌, ◌≤◌, ◌<◌, List, [], ◌∷◌, ◌++◌, length, take, refl, sym, ◌∙◌, ap, subst, arith, Option, Some, None}
+use Rattle.std.proofs.lemmas.List.{take_all}
 use Rattle.rk_calls.specs.declared.call.Call.{Call}
 use Rattle.rk_calls.specs.declared.answer.Answer.{Answer}
 use Rattle.rk_calls.specs.declared.drive.Spoke.{Spoke}
@@ -17,7 +18,7 @@ use Rattle.rk_replay.specs.declared.activity.Activity.{Activity}
 use Rattle.rk_replay.specs.declared.activity.Activity.TheVariants.{Runs, Replays}
 use Rattle.rk_replay.specs.declared.ran.Cause.{Cause}
 use Rattle.rk_replay.specs.declared.ran.Cause.TheVariants.{NoRecord, Differs}
-use Rattle.rk_replay.specs.Ran.{cause_by, cause_of, own_for}
+use Rattle.rk_replay.specs.Ran.{cause_by, cause_of, own_for, IsRecorded}
 use Rattle.rk_replay.specs.Activities.{IsReady, IsWaiting, IsLaunched, IsRunning, IsNext, Speaks_on, Takes, made, given_up, counted, exit_counted}
 use Rattle.rk_replay.proofs.Causing.{cause-found, cause-missing}
 use Rattle.rk_replay.proofs.Differing.{first_difference-prefix, first_difference-stable, first_difference-next}
@@ -166,3 +167,17 @@ ends {S} old r status c n (Replays rec at) now s z es l h =
     let e = cause-ended old r status c ∙ k in
     let still : Changes old r (with_exit r status c) 0 0 = record { ran = rw (e, k) refl; live = rw (e, k) refl } in
     subst (λ now. Changes old r (with_exit r status c) 0 (exit_counted now c)) (sym h.0) still
+
+-- and where its command didn't run, it is the old table's then
+recorded : (old : List Record) (r : Record) (status c rec at : ℕ) → found old r.key r.ordinal ≡ Some (rec_at rec old) → r.steps ≡ take at (rec_at rec old).steps → at ≡ length (rec_at rec old).steps → status ≡ (rec_at rec old).exit → c ≡ (rec_at rec old).exit_cost → IsRecorded old (with_exit r status c)
+recorded old r status c rec at ef es ea ex ec =
+    let all : take at (rec_at rec old).steps ≡ (rec_at rec old).steps = take_all at (rec_at rec old).steps (omega arith) in
+    (rec_at rec old, ef, sym (es ∙ all), sym ex, sym ec)
+
+pub ends-recorded : {S : Type 0} (old : List Record) (r : Record) (status c n : ℕ) (was now : Activity S) (s : Spoke) → s ≡ Exits status n → c ≡ n → IsLinked old r was → Speaks_on old was now s → cause_of old (with_exit r status c) ≡ None → IsRecorded old (with_exit r status c)
+ends-recorded old r status c n (Runs m) now s es ec l h none =
+    let ran : Some l.0 ≡ None = sym l.1 ∙ sym (cause-ended old r status c) ∙ none in
+    cc
+ends-recorded old r status c n (Replays rec at) now s es ec l h none =
+    let x = subst (IsNext (rec_at rec old) at) es h.1 in
+    recorded old r status c rec at l.2 l.3 x.0 x.1 (ec ∙ x.2)

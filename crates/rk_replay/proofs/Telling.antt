@@ -44,8 +44,3 @@ one (Some before) (Some now) P Q t h = h before now t
 -- what doesn't speak of what it means now
 pub told-first : {V : Type 0} (first last : Option V) (P : V → V → Type 0) (Q : V → Type 0) → Told first last P → ((before now : V) → P before now → Q before) → IfSome first Q
 told-first first last P Q t h = one first last P Q t.holds h
-
--- what follows, where it tells
-pub told-kept : {V : Type 0} (first : Option V) (Q P R : Type 0) → IfSome first (λ _. Q → P) → (Q → P → R) → IfSome first (λ _. Q → R)
-told-kept None Q P R t h = tt
-told-kept (Some before) Q P R t h = λ q. h q (t q)

@@ -49,10 +49,10 @@ abbrev pub IsRunning : {S : Type 0} → Activity S → Type 0
 IsRunning (Runs machine) = Unit {0}
 IsRunning (Replays rec at) = ⊥
 
--- what is asked is the next step of a record
+-- what is asked is the next step of a record, or its exit behind the last one
 abbrev pub IsNext : Record → ℕ → Spoke → Type 0
 IsNext rec at (Calls call cost) = (at < length rec.steps) × (call ≡ (step_at at rec.steps).call) × (cost ≡ (step_at at rec.steps).cost)
-IsNext rec at (Exits status cost) = Unit {0}
+IsNext rec at (Exits status cost) = (at ≡ length rec.steps) × (status ≡ rec.exit) × (cost ≡ rec.exit_cost)
 IsNext rec at Short = Unit {0}
 
 -- as it speaks, its machine runs on, or its record stays

@@ -35,6 +35,10 @@ IsRecorded old rec =
 abbrev pub AreKept : List Record → List Record → Type 0
 AreKept old table = (i : ℕ) → i < length table → cause_of old (rec_at i table) ≡ None → IsRecorded old (rec_at i table)
 
+-- under the key and ordinal of this record the old table has the one at this place
+abbrev pub StandsAt : List Record → Record → ℕ → Type 0
+StandsAt old rec i = (found old rec.key rec.ordinal ≡ Some (rec_at i old)) × ((rec_at i old).key ≡ rec.key) × ((rec_at i old).ordinal ≡ rec.ordinal)
+
 abbrev pub ran_for : Record → Option Cause → Option Ran
 ran_for rec None = None
 ran_for rec (Some cause) = Some (record { key = rec.key; ordinal = rec.ordinal; cause = cause })

@@ -48,16 +48,16 @@ pub fn build_with<K: Maker, W: Answerer, L: Ledger>(
     live: &mut Steps<L>,
 ) -> Result<Built, ReplayErr<W::Stop>>
     // Where the world tells what it means, it ends as the run in which nothing is recorded yet, and leaves the same
-    // records. What didn't run is the old table's.
+    // records.
     ensures done { IfOk result (λ b. IfSome (W.told world.old) (λ before. IsSomeAnd (W.told world.new) (λ now. AreSpoken K.first old.now → fresh (game K.first W.given) (left budget.old) key.now top_refs before ≡ Done now b.status (left budget.new) b.table))) }
     ensures spoken { IfOk result (λ b. IfSome (W.told world.old) (λ _. AreSpoken K.first old.now → AreSpoken K.first b.table)) }
-    ensures kept { IfOk result (λ b. IfSome (W.told world.old) (λ _. AreSpoken K.first old.now → AreKept old.now b.table)) }
     ensures stops { IfErr result (Stops K.first old.now (IfSome (W.told world.old) (λ before. fresh (game K.first W.given) (left budget.old) key.now top_refs before ≡ Spent)) (W.Stops world.old world.new)) }
 
-    // Whatever the world and the old table: what ran, and why; a machine was started for each, and their costs were
-    // counted. Where it stops, no more machines were started than one for each command that ran so far, of which no more
+    // Whatever the world and the old table: what ran, and why, and what didn't run is the old table's; a machine was
+    // started for each that ran, and their costs were counted. Where it stops, no more machines were started than one for each command that ran so far, of which no more
     // were launched than turns were paid, and one for each record that was looked at.
     ensures ran { IfOk result (λ b. b.ran ≡ ran_of old.now b.table) }
+    ensures kept { IfOk result (λ b. AreKept old.now b.table) }
     ensures starts { IfOk result (λ b. K.starts maker.new ≡ started (length b.ran) (K.starts maker.old)) }
     ensures launched { IfOk result (λ b. length b.table ≤ total b.table + 1) }
     ensures stopped { IfErr result (StartsStopped old.now (budget.new.used - budget.old.used) (K.starts maker.old) (K.starts maker.new)) }

@@ -3,6 +3,7 @@
 #![tactic(auto)]
 
 mod activity;
+mod as_found;
 mod build;
 mod causes;
 mod hearing;
@@ -12,6 +13,7 @@ mod script;
 mod stop;
 mod turns;
 
+pub use as_found::is_as_found;
 pub use build::{Built, build_with};
 pub use paying::paid;
 pub use ran::{Cause, Ran, RanList};

@@ -1,5 +1,5 @@
 use Rattle.std.proofs.lemmas.Result.{err_from_is_err_and}
-use Rattle.rk_build.proofs.FoundLemmas.{look-stops-so, kept-stops-so, kept-sealed, is_found}
+use Rattle.rk_build.proofs.FoundLemmas.{look-stops-so, kept-stops-so, kept-spells, is_found}
 use Rattle.rk_build.proofs.found.find.Goals as goal
 
 pub returns-in_err-holding-clause-finds : goal.returns-in_err-holding-clause-finds
@@ -16,5 +16,5 @@ pub returns-clause-finds : goal.returns-clause-finds
 returns-clause-finds g c =
     is_found c.args.request.now _ (record { holding = c.in_ok-holding.holding; attrs = c.in_ok-attrs.field-0.attrs; old = c.in_ok-attrs.field-0.old }) c.is_fresh.result c.is_fresh.ensures c.in_ok-holding.ensures.look c.in_ok-attrs.ensures
 
-pub returns-clause-sealed : goal.returns-clause-sealed
-returns-clause-sealed g c = kept-sealed c.in_ok-holding.holding.state _ c.in_ok-attrs.ensures
+pub returns-clause-spells : goal.returns-clause-spells
+returns-clause-spells g c = kept-spells c.in_ok-holding.holding.state _ c.in_ok-attrs.ensures

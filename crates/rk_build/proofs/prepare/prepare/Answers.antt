@@ -15,6 +15,15 @@ returns-in_err-finished-clause-prepares g c =
     let p = err_from_is_err_and c.from_residual-in_err-finished.result c.from_residual-in_err-finished.ensures.1 in
     rw (p.1, p.2) (run-stops g.M.Maker.first c.args.request.now _ c.in_ok-before.field-0 _ _ _ c.in_ok-before.ensures.finds c.in_err-finished.ensures.runs c.in_ok-check_old.ensures.checked c.run.ensures.at_most)
 
+pub held_after-requires-clause-spells : goal.held_after-requires-clause-spells
+held_after-requires-clause-spells g c = c.in_ok-before.ensures.spells
+
+pub held_after-requires-clause-kept : goal.held_after-requires-clause-kept
+held_after-requires-clause-kept g c = c.in_ok-finished.ensures.kept
+
+pub held_after-requires-clause-ran : goal.held_after-requires-clause-ran
+held_after-requires-clause-ran g c = c.in_ok-finished.ensures.runs.ran
+
 pub returns-clause-prepares : goal.returns-clause-prepares
 returns-clause-prepares g c =
     is_prepared g.M.Maker.first c.args.request.now _ c.in_ok-before.field-0 c.in_ok-after.after _ _ c.in_ok-finished.finished c.in_ok-plan.plan c.in_ok-error_text.error_text (g.met.F.Folder.whole c.args.folder.now)

@@ -22,6 +22,9 @@ returns-in-Ok-clause-runs g c =
       ticked = e.live;
     }
 
+pub returns-in-Ok-clause-kept : goal.returns-in-Ok-clause-kept
+returns-in-Ok-clause-kept g c = c.in-Ok.ensures.kept
+
 pub returns-in-Err-Spent-clause-runs : goal.returns-in-Err-Spent-clause-runs
 returns-in-Err-Spent-clause-runs g c =
     let s = spent-is g.M.Maker.first _ _ _ _ c.in-Err-Spent.field-0-is c.in-Err-Spent.ensures.stops in

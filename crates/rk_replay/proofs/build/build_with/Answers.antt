@@ -7,11 +7,11 @@ use Rattle.rk_runs.specs.Purse.{left}
 use Rattle.rk_runs.specs.Run.{game}
 use Rattle.rk_runs.specs.Speaking.{fresh-spoken}
 use Rattle.rk_replay.proofs.Replaying.{ready, Replaying-start, Pays-start, Waiting-ask, Replaying-ask, Pays-ask, Causes-ask, Replaying-launch, Pays-launch, Pays-end, Causes-end, join-place, join-noted, Waiting-join, Replaying-join, Causes-join, Pays-join, pend, pend-push, pend-none, pend-empty, starts-first, starts-next, few-counted}
-use Rattle.rk_replay.proofs.Keeping.{all-kept}
+use Rattle.rk_replay.proofs.Keeping.{Keeps-start, Keeps-launch, Keeps-ask, Keeps-join, all-kept}
 use Rattle.rk_replay.proofs.Noting.{causes-none, begun-causes}
 use Rattle.rk_replay.proofs.Stopping.{told-forged, stops-want, stops-forged, stops-since}
 use Rattle.rk_replay.proofs.Starting.{few-ran, fewer-ran, paid-some, ran-all, stopped-asked, stopped-checked, stopped-handed, stopped-launch, stopped-want}
-use Rattle.rk_replay.proofs.Telling.{told-start, told-still, told-last, told-asked, told-first, told-kept}
+use Rattle.rk_replay.proofs.Telling.{told-start, told-still, told-last, told-asked, told-first}
 use Rattle.rk_replay.proofs.Totalling.{ran_count-length}
 use Rattle.rk_replay.proofs.build.build_with.Goals as goal
 
@@ -23,6 +23,7 @@ turns-init g c =
       goes = told-start _ _ (λ before. Freshing-start _ _ _ _ _ _ _ _ _ _ _ _ _ c.new-table.ensures c.in_ok-top.ensures.place c.in_ok-top.ensures.refs c.in_ok-refs.ensures c.in_ok-top.ensures.table c.in_ok-top.ensures.says c.new-stack.ensures.items);
       since = λ now stop h. h;
       replays = Replaying-start _ _ _ _ _ _ c.new-table.ensures c.new-stack.ensures.items c.in_ok-top.ensures.launched c.in_ok-top.ensures.place c.in_ok-top.ensures.table;
+      keeps = Keeps-start _ _ _ _ _ _ c.new-table.ensures c.in_ok-top.ensures.place c.in_ok-top.ensures.table;
       causes = begun-causes _ _ _ _ _ _ _ c.in_ok-top.ensures.launched c.in_ok-top.ensures.table (causes-none _ _ _ c.new-table.ensures c.new-causes.ensures) c.in_ok-top.ensures.noted;
       starts = starts-first _ _ _ _ c.in_ok-top.ensures.starts p.0;
       live = omega (arith, p.1);
@@ -91,6 +92,9 @@ turns-preserved-in-Launch g c =
           Replaying-launch _ _ _ _ c.turns.invariant.replays _ _ c.in_ok-call.ensures.on _ _ _ _ _ _ _ _ c.in-Call.is c.pay-cost.ensures.cost c.in-Launch.is
           c.in_ok-launch_below-in-Launch.ensures.launched c.in_ok-launch_below-in-Launch.ensures.place c.in_ok-launch_below-in-Launch.ensures.table
           c.in_ok-launch_below-in-Launch.ensures.stack;
+      keeps =
+          Keeps-launch _ _ _ _ c.turns.invariant.keeps _ _ _ _ _ _ _ c.in_ok-launch_below-in-Launch.ensures.place c.in_ok-launch_below-in-Launch.ensures.table
+          c.in_ok-launch_below-in-Launch.ensures.stack;
       causes = begun-causes _ _ _ _ _ _ _ c.in_ok-launch_below-in-Launch.ensures.launched c.in_ok-launch_below-in-Launch.ensures.table c.turns.invariant.causes c.in_ok-launch_below-in-Launch.ensures.noted;
       starts = starts-next _ _ _ _ _ _ _ c.turns.invariant.starts c.in_ok-call.ensures.starts c.in_ok-launch_below-in-Launch.ensures.starts p.counts.ran;
       live = omega (arith, p.counts.live);
@@ -121,6 +125,7 @@ turns-preserved-in_default g c =
       replays =
           Replaying-ask _ _ _ _ c.turns.invariant.replays _ _ c.in_ok-call.ensures.on _ _ _ _ _ _ c.in-Call.is c.pay-cost.ensures.cost
           c.in_ok-answer-in_default.ensures.table c.in_ok-answer-in_default.ensures.place c.in_ok-answer-in_default.ensures.takes;
+      keeps = Keeps-ask _ _ _ _ c.turns.invariant.keeps _ _ _ c.in_ok-answer-in_default.ensures.table c.in_ok-answer-in_default.ensures.place;
       causes =
           Causes-ask _ _ _ _ c.turns.invariant.replays _ _ c.in_ok-call.ensures.on _ _ _ _ _ _ _ _ c.in-Call.is c.pay-cost.ensures.cost
           c.in_ok-answer-in_default.ensures.table c.in_ok-answer-in_default.ensures.takes c.turns.invariant.causes c.in_ok-answer-in_default.ensures.noted;
@@ -186,8 +191,8 @@ returns-in-None-clause-spoken g c =
 
 pub returns-in-None-clause-kept : goal.returns-in-None-clause-kept
 returns-in-None-clause-kept g c =
-    told-kept (g.W.Answerer.told c.args.world.now) _ _ _ (returns-in-None-clause-spoken g c)
-    (λ q spoken. all-kept g.K.Maker.first (all-last g.K.Maker.first g.met.K.Maker.command) _ _ q spoken)
+    let z : length c.turns.stack.items ≡ 0 = omega (arith, c.in-None.ensures.cases.0, c.turns.stack.ok.0) in
+    all-kept _ _ _ _ c.turns.invariant.replays c.turns.invariant.keeps _ _ c.in_ok-call.ensures.on _ _ _ _ c.in-Exit.is c.pay-cost-in-Exit.ensures.cost c.end.ensures z
 
 pub returns-in-None-clause-ran : goal.returns-in-None-clause-ran
 returns-in-None-clause-ran g c = c.in_ok-ran-in-None.ensures _ (Causes-end _ _ _ _ c.turns.invariant.replays _ _ c.in_ok-call.ensures.on _ _ _ _ c.end.ensures c.turns.invariant.causes)
@@ -247,6 +252,9 @@ turns-preserved g c =
       replays =
           Replaying-join _ _ _ _ c.turns.invariant.replays _ _ c.in_ok-call.ensures.on _ _ _ _ _ _ c.in-Exit.is c.end.ensures c.in-Some.ensures.items
           _ _ c.in_ok-top-in-Some.ensures.table c.in_ok-top-in-Some.ensures.place c.in_ok-top-in-Some.ensures.takes;
+      keeps =
+          Keeps-join _ _ _ _ c.turns.invariant.replays c.turns.invariant.keeps _ _ c.in_ok-call.ensures.on _ _ _ _ c.in-Exit.is c.pay-cost-in-Exit.ensures.cost c.end.ensures
+          _ _ c.in-Some.ensures.items _ _ _ c.in_ok-top-in-Some.ensures.table c.in_ok-top-in-Some.ensures.place;
       causes =
           Causes-join _ _ _ _ c.turns.invariant.replays _ _ c.in_ok-call.ensures.on _ _ _ _ _ _ c.in-Exit.is c.end.ensures c.in-Some.ensures.items
           _ _ _ _ c.in_ok-top-in-Some.ensures.table c.in_ok-top-in-Some.ensures.takes c.turns.invariant.causes c.in_ok-top-in-Some.ensures.noted;

@@ -10,6 +10,7 @@ use Rattle.rk_replay.specs.Activities.{stands, waits}
 use Rattle.rk_replay.specs.Causes.{AreCauses}
 use Rattle.rk_replay.specs.Ran.{ran_total}
 use Rattle.rk_replay.proofs.Totalling.{ran_count}
+use Rattle.rk_replay.proofs.Keeping.{Keeps}
 use Rattle.rk_replay.proofs.Replaying.{Replaying, pend}
 use Rattle.rk_replay.proofs.Telling.{Told}
 use Rattle.rk_replay.proofs.build.build_with.Given as goal
@@ -21,6 +22,7 @@ invariant-turns g l =
       goes : Told (g.W.Answerer.told l.fn.world) (g.W.Answerer.told l.world) (λ before now. Freshing (AreSpoken g.K.Maker.first l.fn.old) (stands g.K.Made.Machine.talk g.K.Maker.first l.fn.old) (waits g.K.Made.Machine.talk g.K.Maker.first l.fn.old) a (fresh a (left l.fn.budget) l.fn.key top_refs before) (left l.budget) l.top l.answer now l.table l.stack.items);
       since : (now : _) (stop : _) → g.W.Answerer.Stops l.world now stop → g.W.Answerer.Stops l.fn.world now stop;
       replays : Replaying l.fn.old l.table l.top l.stack.items;
+      keeps : Keeps l.fn.old l.table l.top l.stack.items;
       causes : AreCauses l.fn.old l.table l.causes;
       starts : g.K.Maker.starts l.maker ≡ started (ran_count l.fn.old l.table) (g.K.Maker.starts l.fn.maker);
       live : l.live ≡ l.fn.live + ran_total l.fn.old l.table;
