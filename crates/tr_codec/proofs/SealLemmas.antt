@@ -10,7 +10,7 @@ use Rattle.tr_codec.specs.Spelling.{table_piece, record_piece, magic, body, seal
 use Rattle.tr_codec.specs.Fits.{Fits}
 use Rattle.tr_codec.specs.Reading.{table_at}
 use Rattle.tr_codec.proofs.TableAgain.{body_again}
-pub use Rattle.tr_parts.proofs.SealLemmas.{front_is, seal_is, one_front, seal_right, resealed, unopened, unopened_tells, unopened_short, unopened_digest, whole_finds, whole_tells, fails_finds, num_length}
+pub use Rattle.tr_parts.proofs.SealLemmas.{front_is, seal_is, one_front, seal_right, unopened, unopened_tells, unopened_short, unopened_digest, whole_finds, whole_tells, fails_finds, num_length}
 
 pub parsed : (front : List ℕ) (table : List Record) → Fits table → length front < 2 ^ 64 → front ≡ body (table_piece table) → table_at (drop 4 front) ≡ Some table
 parsed front table fits small e = ap (λ (f : List ℕ). table_at (drop 4 f)) e ∙ body_again table fits (subst (λ (f : List ℕ). length f < 2 ^ 64) e small)

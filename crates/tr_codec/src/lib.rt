@@ -19,4 +19,4 @@ mod writing;
 pub use laws::{one_table, read_back};
 pub use reading::read_db;
 pub use tr_parts::{CodecErr, Damage};
-pub use writing::{write_db, write_db_as};
+pub use writing::write_db;

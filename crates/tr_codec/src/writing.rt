@@ -2,7 +2,6 @@
 ghost use Rattle.std.specs.Prelude.{◌≡◌, ◌<◌, ◌^◌, length, IfOk, OnOk};
 ghost use Rattle.std.specs.List.{AllByRecursion};
 ghost use Rattle.tr_codec.specs.Fits.{Fits};
-ghost use Rattle.tr_parts.specs.Reads.{IsSealed};
 ghost use Rattle.tr_codec.specs.Sound.{IsSound};
 ghost use Rattle.tr_codec.specs.Spelling.{body, table_piece, db_spelling};
 
@@ -10,7 +9,7 @@ use crate::pieces::put_table;
 use crate::writer::Writer;
 use rk_base::{Bytes, NoMemory};
 use std::alloc::Global;
-use tr_parts::{seal, seal_as};
+use tr_parts::seal;
 use tr_record::Table;
 
 // All but the digest.
@@ -32,16 +31,4 @@ pub fn write_db(alloc: Global, table: &Table) -> Result<Bytes, NoMemory>
 {
     let out = body_of(alloc, table)?;
     seal(out)
-}
-
-/// The same, where bytes are at hand that end with the digest of those before: where they are the spelling, they are shared, and
-/// nothing is hashed.
-pub fn write_db_as(alloc: Global, table: &Table, kept: &Bytes) -> Result<Bytes, NoMemory>
-    requires { IsSealed kept.now }
-    ensures bytes { IfOk result (λ bytes. bytes ≡ db_spelling table.now) }
-    ensures fits { OnOk result (AllByRecursion IsSound table.now → Fits table.now) }
-    ensures memory { IfOk result (λ bytes. length bytes < 2 ^ 64) }
-{
-    let out = body_of(alloc, table)?;
-    seal_as(out, kept)
 }

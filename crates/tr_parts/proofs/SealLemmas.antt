@@ -1,6 +1,6 @@
 -- What a digest at the end of bytes tells, and what reading finds.
-use Rattle.std.proofs.Common.{◌≡◌, ℕ, ◌-◌, ◌<◌, ◌≤◌, List, ◌++◌, length, Option, Some, Result, Err, refl, sym, ap, ◌∙◌, arith}
-use Rattle.std.proofs.lemmas.List.{take_at, drop_at, length-append, take-append-drop}
+use Rattle.std.proofs.Common.{◌≡◌, ℕ, ◌-◌, ◌<◌, ◌≤◌, List, length, Option, Some, Result, Err, refl, sym, ap, ◌∙◌, arith}
+use Rattle.std.proofs.lemmas.List.{take_at, drop_at, length-append}
 use Rattle.sha2.specs.Sha256.{sha256}
 use Rattle.sha2.proofs.Facts256.{length-sha256}
 use Rattle.tr_parts.specs.declared.fault.PartErr.{PartErr}
@@ -11,7 +11,7 @@ use Rattle.tr_parts.specs.declared.fault.CodecErr.{CodecErr}
 use Rattle.tr_parts.specs.Piece.{num}
 use Rattle.tr_parts.specs.Sealed.{sealed}
 use Rattle.tr_parts.specs.Whole.{whole}
-use Rattle.tr_parts.specs.Reads.{Fails, FindsPart, Finds, Tells, IsDamage, Opens, IsSealed, front_of, seal_of}
+use Rattle.tr_parts.specs.Reads.{Fails, FindsPart, Finds, Tells, IsDamage, Opens, front_of, seal_of}
 
 -- ---- the digest
 
@@ -30,10 +30,6 @@ one_front bytes a b e f = sym (front_is bytes a e) ∙ front_is bytes b f
 -- a right digest is that of what stands before it
 pub seal_right : (bytes front : List ℕ) → bytes ≡ sealed front → seal_of bytes ≡ sha256 (front_of bytes)
 seal_right bytes front e = seal_is bytes front e ∙ ap sha256 (sym (front_is bytes front e))
-
--- where bytes are sealed, they are their front, sealed
-pub resealed : (bytes front : List ℕ) → IsSealed bytes → front ≡ front_of bytes → bytes ≡ sealed front
-resealed bytes front is e = sym (take-append-drop (length bytes - 32) bytes) ∙ ap (λ (s : List ℕ). front_of bytes ++ s) is ∙ ap sealed (sym e)
 
 -- what isn't opened has no right digest, or too few bytes
 pub unopened : (least : ℕ) (bytes front : List ℕ) (d : Damage) → Opens least bytes (Err d) → least ≤ length bytes → bytes ≡ sealed front → ⊥

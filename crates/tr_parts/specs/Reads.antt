@@ -26,10 +26,6 @@ front_of bytes = take (length bytes - 32) bytes
 abbrev pub seal_of : List ℕ → List ℕ
 seal_of bytes = drop (length bytes - 32) bytes
 
--- the last 32 bytes are the digest of those before
-abbrev pub IsSealed : List ℕ → Type 0
-IsSealed bytes = seal_of bytes ≡ sha256 (front_of bytes)
-
 -- which damage it is: too short, else another digest, else the form
 abbrev pub IsDamage : ℕ → List ℕ → Damage → Type 0
 IsDamage least bytes (damage.Short n) = (n ≡ length bytes) × (n < least)

@@ -9,4 +9,4 @@ mod sealing;
 pub use fault::{CodecErr, Damage, PartErr};
 pub use pushing::{push_number, push_string};
 pub use reading::{byte_of, cost_of, count_of, mode_of, number_of, path_of, string_of};
-pub use sealing::{is_same, open_seal, seal, seal_as};
+pub use sealing::{is_same, open_seal, seal};

@@ -1,7 +1,7 @@
 // The digest at the end of a file.
 ghost use Rattle.std.specs.Prelude.{◌≡◌, ◌↔◌, ◌<◌, ◌≤◌, ◌^◌, IsTrue, IfOk, length};
 ghost use Rattle.tr_parts.specs.Sealed.{sealed};
-ghost use Rattle.tr_parts.specs.Reads.{IsSealed, Opens};
+ghost use Rattle.tr_parts.specs.Reads.{Opens};
 
 use crate::fault::Damage;
 use rk_base::{Bytes, NoMemory};
@@ -17,25 +17,6 @@ pub fn seal(mut out: Vec<u8>) -> Result<Bytes, NoMemory>
     let alloc = *out.allocator();
     let bytes = Bytes::new(alloc, out)?;
     Ok(bytes)
-}
-
-/// The same. Where these bytes stand in the kept ones before their digest, these are shared, and nothing is hashed.
-#[tactic(auto, using(crate::proofs::SealLemmas::resealed))]
-pub fn seal_as(out: Vec<u8>, kept: &Bytes) -> Result<Bytes, NoMemory>
-    requires { IsSealed kept.now }
-    ensures bytes { IfOk result (λ bytes. bytes ≡ sealed out.items) }
-    ensures memory { IfOk result (λ bytes. length bytes < 2 ^ 64) }
-{
-    let bytes = kept.as_slice();
-    if bytes.len() < 32 {
-        return seal(out);
-    }
-    let (front, _) = bytes.split_at(bytes.len() - 32);
-    if is_same(out.as_slice(), front) {
-        kept.copy()
-    } else {
-        seal(out)
-    }
 }
 
 /// Whether both are the same bytes.
