@@ -14,7 +14,7 @@ impl World {
     {
         let p = self.pipes.len();
         let d = self.opens.len();
-        let pipe = Pipe::new(self.allocator());
+        let pipe = Pipe::new();
         self.pipes.push(pipe)?;
         self.opens.push(Description::read_end(p))?;
         self.opens.push(Description::write_end(p))?;

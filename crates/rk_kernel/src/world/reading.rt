@@ -23,7 +23,17 @@ fn after(text: &[u8], n: usize) -> &[u8]
     }
 }
 
-// What is left in a pipe; nothing where there is no pipe.
+// What is left in a pipe, shared where nothing of it was read; nothing where there is no pipe.
+fn left_of(alloc: Global, pipe: Option<&Pipe>) -> Result<Bytes, NoMemory>
+    ensures { IfOk result (λ b. b ≡ text_of (option_copied pipe.entry)) }
+{
+    match pipe {
+        Some(pipe) => pipe.left(alloc),
+        None => Bytes::from_slice(alloc, b""),
+    }
+}
+
+// Its bytes.
 fn left_in(pipe: Option<&Pipe>) -> &[u8]
     ensures { result.now ≡ text_of (option_copied pipe.entry) }
 {
@@ -96,7 +106,7 @@ impl World {
     {
         match source {
             Source::Node(n) => self.file_from(alloc, n, offset),
-            Source::Pipe(p) => Bytes::from_slice(alloc, left_in(self.pipes.get(p))),
+            Source::Pipe(p) => left_of(alloc, self.pipes.get(p)),
             Source::Output => Bytes::from_slice(alloc, b""),
             Source::ErrorText => Bytes::from_slice(alloc, b""),
             Source::Nothing => Bytes::from_slice(alloc, b""),

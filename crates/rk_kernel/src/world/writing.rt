@@ -14,7 +14,7 @@ use rk_tree::NodeId;
 
 impl World {
     // Into a pipe.
-    fn push(&mut self, p: usize, bytes: &[u8]) -> Result<(), NoMemory>
+    fn push(&mut self, p: usize, bytes: &Bytes) -> Result<(), NoMemory>
         ensures { OnOk result (self.new ≡ record self.old { pipes = slice_set self.old.pipes p (text_of (slice_get self.old.pipes p) ++ bytes.now) }) }
     {
         push_in(&mut self.pipes, p, bytes)?;
@@ -43,12 +43,12 @@ impl World {
         Ok(())
     }
 
-    fn after_write(&mut self, k: usize, d: Description, bytes: &[u8]) -> Result<(), NoMemory>
+    fn after_write(&mut self, k: usize, d: Description, bytes: &Bytes) -> Result<(), NoMemory>
         ensures { OnOk result (self.new ≡ after_write self.old k d bytes.now d.source) }
     {
         match d.source {
             Source::Node(n) => {
-                self.write_file(k, d, n, bytes)?;
+                self.write_file(k, d, n, bytes.as_slice())?;
                 Ok(())
             }
             Source::Pipe(p) => {
@@ -56,11 +56,11 @@ impl World {
                 Ok(())
             }
             Source::Output => {
-                self.out.extend_from_slice(bytes)?;
+                self.out.extend_from_slice(bytes.as_slice())?;
                 Ok(())
             }
             Source::ErrorText => {
-                self.err.extend_from_slice(bytes)?;
+                self.err.extend_from_slice(bytes.as_slice())?;
                 Ok(())
             }
             Source::Nothing => Ok(()),
@@ -68,10 +68,10 @@ impl World {
     }
 
     // No bytes change nothing.
-    fn writes(&mut self, k: usize, d: Description, bytes: &[u8]) -> Result<(), NoMemory>
+    fn writes(&mut self, k: usize, d: Description, bytes: &Bytes) -> Result<(), NoMemory>
         ensures { OnOk result (self.new ≡ (if is_empty bytes.now then self.old else after_write self.old k d bytes.now d.source)) }
     {
-        if bytes.is_empty() {
+        if bytes.as_slice().is_empty() {
             return Ok(());
         }
         self.after_write(k, d, bytes)?;
@@ -90,7 +90,7 @@ impl World {
                     if !d.write {
                         return Ok(Answer::No(Errno::BadRef));
                     }
-                    self.writes(k, d, bytes.as_slice())?;
+                    self.writes(k, d, bytes)?;
                     Ok(Answer::Done)
                 }
             },
