@@ -1,5 +1,5 @@
 -- The run that was made is the fresh run.
-use Rattle.std.proofs.Common.{◌≡◌, ◌+◌, ◌-◌, ◌≤◌, ℕ, List, [], length, sym, ap, subst, ◌∙◌, arith}
+use Rattle.std.proofs.Common.{◌≡◌, ◌+◌, ◌-◌, ◌≤◌, ℕ, List, length, sym, ap, subst, ◌∙◌, arith}
 use Rattle.rk_base.specs.Paid.{Paid}
 use Rattle.rk_calls.specs.Keys.{KeyValue}
 use Rattle.rk_calls.specs.Refs.{top_refs}
@@ -7,11 +7,6 @@ use Rattle.rk_calls.specs.Talk.{Says}
 use Rattle.rk_tree.specs.Entries.{Entries}
 use Rattle.rk_tree.specs.Hierarchy.{Hierarchy}
 use Rattle.rk_tree.specs.Copies.{tree_of}
-use Rattle.rk_tree.specs.Rows.{map_of}
-use Rattle.rk_tree.specs.Node.{Node}
-use Rattle.rk_tree.proofs.RowsLemmas.{get-found, puts, puts-map_of, same_maps}
-use Rattle.rk_base.specs.Text.{Text}
-use Rattle.std.specs.FinMap.{empty, entries, entries_sorted, get-entries}
 use Rattle.rk_kernel.specs.World.{World, fresh as fresh_of}
 use Rattle.rk_kernel.specs.Do.{answered}
 use Rattle.rk_runs.specs.Purse.{left}
@@ -75,9 +70,3 @@ starts-stopped old paid most before now e reason h is s = upto-within paid most 
 -- there was no memory yet
 pub starts-none : (most up before now : ℕ) → now ≡ before → StartsUpTo most up before now
 starts-none most up before now e = record { looked = 0; within = omega arith; starts = record { ran = 0; few = omega arith; now_is = e } }
-
--- what is put in turn is the whole
-pub copied : (copy it : Entries) (left : List (Text × Node)) → puts copy left ≡ puts empty (entries it) → left ≡ [] → copy ≡ it
-copied copy it left so_far done =
-    sym (ap (λ (rows : List (Text × Node)). puts copy rows) done) ∙ so_far ∙ puts-map_of (entries it) (entries_sorted it)
-    ∙ same_maps (map_of (entries it)) it (λ q. get-found (entries it) q ∙ sym (get-entries it q))

@@ -9,7 +9,7 @@ ghost use Rattle.rk_build.specs.Run.{Runs, StartsRun};
 use crate::options::turns;
 use crate::stop::BuildErr;
 use rk_attrs::Attrs;
-use rk_base::{Budget, NoMemory, Steps};
+use rk_base::{Budget, Steps};
 use rk_calls::Maker;
 use rk_folder::tree_of;
 use rk_kernel::World;
@@ -40,16 +40,6 @@ fn budget(request: &Request) -> Budget
     Budget::new(turns(request)).unwrap()
 }
 
-fn copy_of(alloc: Global, entries: &Snapshot) -> Result<Snapshot, NoMemory>
-    ensures { IfOk result (λ copy. copy ≡ entries.now) }
-{
-    let mut copy = Snapshot::new(alloc);
-    for (path, it) in entries.rows() {
-        copy.put(path.copy()?, it.entry().copy()?)?;
-    }
-    Ok(copy)
-}
-
 /// Runs the script, by the machines of the maker, on a tree of these entries with these rows, within the turns that are asked
 /// for. The commands of the old table whose answers still hold don't run.
 #[tactic(auto, unfolding(crate::specs::Run::fresh_run))]
@@ -70,8 +60,7 @@ pub(crate) fn run<M: Maker, L: Ledger>(
     ensures at_most { live.new ≤ live.old + turns request.now }
     ensures starts { StartsRun request.now old.now (M.starts maker.old) (M.starts maker.new) result }
 {
-    let copy = copy_of(alloc, entries)?;
-    let tree = tree_of(alloc, copy, attrs)?;
+    let tree = tree_of(alloc, entries, attrs)?;
     let mut world = World::new(alloc, tree)?;
     let key = script_key(alloc)?;
     let mut budget = budget(request);

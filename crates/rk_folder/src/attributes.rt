@@ -108,19 +108,49 @@ fn put_rows(snapshot: &mut Snapshot, rows: &[(Path, AttrRow)]) -> Result<(), NoM
     Ok(())
 }
 
-/// The tree of a folder with the rows of its attributes. A mode is applied where a file or directory stands, as its
-/// row says, and a link stands where nothing else does, in a directory; any other row is dropped.
-pub fn tree_of(alloc: Global, snapshot: Snapshot, attrs: &Attrs) -> Result<Tree, NoMemory>
-    requires { IsWholeSnapshot snapshot }
-    ensures tree { IfOk result (λ t. t ≡ tree.tree_of (with_rows snapshot attrs.now)) }
-    // Its snapshot is what the folder holds with the rows, which is whole.
-    ensures again { IfOk result (λ t. tree.snapshot_of t ≡ with_rows snapshot attrs.now) }
-    ensures whole { IsWholeSnapshot (with_rows snapshot attrs.now) }
+// The same entries; bytes are shared.
+fn copy_of(alloc: Global, entries: &Snapshot) -> Result<Snapshot, NoMemory>
+    ensures { IfOk result (λ copy. copy ≡ entries.now) }
 {
-    let mut entries = snapshot;
+    let mut copy = Snapshot::new(alloc);
+    for (path, it) in entries.rows() {
+        copy.put(path.copy()?, it.entry().copy()?)?;
+    }
+    Ok(copy)
+}
+
+// The tree of the entries with the rows, which are put on a copy.
+fn tree_with(alloc: Global, snapshot: &Snapshot, attrs: &Attrs) -> Result<Tree, NoMemory>
+    requires { IsWholeSnapshot snapshot.now }
+    ensures tree { IfOk result (λ t. t ≡ tree.tree_of (with_rows snapshot.now attrs.now)) }
+    ensures again { IfOk result (λ t. tree.snapshot_of t ≡ with_rows snapshot.now attrs.now) }
+{
+    let mut entries = copy_of(alloc, snapshot)?;
     put_rows(&mut entries, attrs.as_slice())?;
     let tree = Tree::of_snapshot(alloc, &entries)?;
     Ok(tree)
+}
+
+/// The tree of a folder with the rows of its attributes. A mode is applied where a file or directory stands, as its
+/// row says, and a link stands where nothing else does, in a directory; any other row is dropped. Where there are no
+/// rows, no entry is copied.
+pub fn tree_of(alloc: Global, snapshot: &Snapshot, attrs: &Attrs) -> Result<Tree, NoMemory>
+    requires { IsWholeSnapshot snapshot.now }
+    ensures tree { IfOk result (λ t. t ≡ tree.tree_of (with_rows snapshot.now attrs.now)) }
+    // Its snapshot is what the folder holds with the rows, which is whole.
+    ensures again { IfOk result (λ t. tree.snapshot_of t ≡ with_rows snapshot.now attrs.now) }
+    ensures whole { IsWholeSnapshot (with_rows snapshot.now attrs.now) }
+{
+    match attrs.as_slice() {
+        [] => {
+            let tree = Tree::of_snapshot(alloc, snapshot)?;
+            Ok(tree)
+        }
+        [_, ..] => {
+            let tree = tree_with(alloc, snapshot, attrs)?;
+            Ok(tree)
+        }
+    }
 }
 
 /// Each row alone says what stands at its path. It does nothing.

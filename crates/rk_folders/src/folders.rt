@@ -290,7 +290,7 @@ fn set_shown(alloc: Global, is_set: bool) -> Result<String, NoMemory> {
 fn tree_step(alloc: Global, found: Imported, attrs: &Attrs) -> Result<Tree, NoMemory>
     requires { IsWholeSnapshot found.entries }
 {
-    tree_of(alloc, found.entries, attrs)
+    tree_of(alloc, &found.entries, attrs)
 }
 
 // A snapshot, and the rows that keep what of it the folder doesn't.

@@ -1,7 +1,4 @@
-use Rattle.std.proofs.Common.{◌∙◌, sym, ap, subst, arith}
-use Rattle.rk_folder.specs.Attributes.{with_rows}
-use Rattle.rk_tree.specs.Copies.{tree_of}
-use Rattle.rk_tree.specs.Entries.{Entries, IsWholeSnapshot}
+use Rattle.std.proofs.Common.{◌∙◌, arith}
 use Rattle.rk_calls.specs.Views.{talk-proper}
 use Rattle.rk_runs.specs.Purse.{left}
 use Rattle.rk_build.proofs.ReadBackLemmas.{sound, small}
@@ -9,13 +6,13 @@ use Rattle.rk_build.proofs.RunLemmas.{few-ran, fresh_run-is, paid-within, spent-
 use Rattle.rk_build.proofs.run.run.Goals as goal
 
 pub tree_of-requires : goal.tree_of-requires
-tree_of-requires g c = subst IsWholeSnapshot (sym c.in_ok-copy.ensures) c.requires.whole
+tree_of-requires g c = c.requires.whole
 
 pub returns-in-Ok-clause-runs : goal.returns-in-Ok-clause-runs
 returns-in-Ok-clause-runs g c =
     let e = c.in-Ok.ensures in
     record {
-      ends = λ spoken. (left c.build_with.new.budget, fresh_run-is g.M.Maker.first c.args.request.now _ _ _ _ _ _ c.budget-budget.ensures.limit c.budget-budget.ensures.used c.in_ok-key.ensures (c.in_ok-tree.ensures.tree ∙ ap (λ (s : Entries). tree_of (with_rows s c.args.attrs.now)) c.in_ok-copy.ensures) c.in_ok-world.ensures (e.done spoken));
+      ends = λ spoken. (left c.build_with.new.budget, fresh_run-is g.M.Maker.first c.args.request.now _ _ _ _ _ _ c.budget-budget.ensures.limit c.budget-budget.ensures.used c.in_ok-key.ensures c.in_ok-tree.ensures.tree c.in_ok-world.ensures (e.done spoken));
       spoken = e.spoken;
       sound = λ spoken. sound g.M.Maker.first _ (λ key. talk-proper (g.M.Maker.first key) (g.met.M.Maker.command key)) (e.spoken spoken) (small _ _ _ _ _ e.paid c.budget-budget.ensures.used e.within (e.limit ∙ c.budget-budget.ensures.limit) c.budget-budget.ensures.few);
       ran = e.ran;
@@ -28,7 +25,7 @@ returns-in-Ok-clause-kept g c = c.in-Ok.ensures.kept
 pub returns-in-Err-Spent-clause-runs : goal.returns-in-Err-Spent-clause-runs
 returns-in-Err-Spent-clause-runs g c =
     let s = spent-is g.M.Maker.first _ _ _ _ c.in-Err-Spent.field-0-is c.in-Err-Spent.ensures.stops in
-    (s.0, fresh_run-is g.M.Maker.first c.args.request.now _ _ _ _ _ _ c.budget-budget.ensures.limit c.budget-budget.ensures.used c.in_ok-key.ensures (c.in_ok-tree.ensures.tree ∙ ap (λ (s : Entries). tree_of (with_rows s c.args.attrs.now)) c.in_ok-copy.ensures) c.in_ok-world.ensures s.1)
+    (s.0, fresh_run-is g.M.Maker.first c.args.request.now _ _ _ _ _ _ c.budget-budget.ensures.limit c.budget-budget.ensures.used c.in_ok-key.ensures c.in_ok-tree.ensures.tree c.in_ok-world.ensures s.1)
 
 pub returns-in-Ok-clause-starts : goal.returns-in-Ok-clause-starts
 returns-in-Ok-clause-starts g c =

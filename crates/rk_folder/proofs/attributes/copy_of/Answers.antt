@@ -1,5 +1,5 @@
-use Rattle.rk_build.proofs.RunLemmas.{copied}
-use Rattle.rk_build.proofs.run.copy_of.Goals as goal
+use Rattle.rk_folder.proofs.AttributesLemmas.{copied}
+use Rattle.rk_folder.proofs.attributes.copy_of.Goals as goal
 
 pub returns : goal.returns
 returns c = copied c.loop-path.copy c.args.entries.now c.loop-path.path-iterator c.loop-path.invariant c.in-None.ensures.steps.0
