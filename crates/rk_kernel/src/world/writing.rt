@@ -1,8 +1,9 @@
 // Write.
-ghost use Rattle.std.specs.Prelude.{◌≡◌, ◌++◌, IfOk, OnOk, if◌then◌else◌, slice_get, slice_set};
+ghost use Rattle.std.specs.Prelude.{◌≡◌, ◌++◌, IfOk, IsTrue, OnOk, if◌then◌else◌, length, slice_get, slice_set};
 ghost use Rattle.rk_base.specs.Canonical.{is_empty};
 ghost use Rattle.rk_calls.specs.declared.call.Call.TheVariants.{Write};
-ghost use Rattle.rk_kernel.specs.World.{after_write, text_of};
+ghost use Rattle.rk_tree.specs.Hierarchy.{file_bytes, node, write};
+ghost use Rattle.rk_kernel.specs.World.{after_write, text_of, with_tree};
 ghost use Rattle.rk_kernel.specs.Do as all;
 ghost use Rattle.rk_kernel.specs.declared.description.Source.TheVariants as source;
 
@@ -21,12 +22,34 @@ impl World {
         Ok(())
     }
 
+    // Whether a file that is written from this place on has no bytes, and the place is its first.
+    fn begins(&self, n: usize, at: usize) -> bool
+        ensures place { IsTrue result → at ≡ 0 }
+        ensures none { IsTrue result → length (file_bytes (node self.now.tree n)) ≡ 0 }
+    {
+        at == 0 && self.file(n).is_empty()
+    }
+
+    // Into a file from a place on. One without bytes shares these.
+    #[tactic(auto, using(crate::proofs::FileLemmas::set_written))]
+    fn put(&mut self, n: usize, at: usize, bytes: &Bytes) -> Result<(), NoMemory>
+        ensures { OnOk result (self.new ≡ with_tree self.old (write self.old.tree n at bytes.now)) }
+    {
+        if self.begins(n, at) {
+            let bytes = bytes.copy()?;
+            self.tree.set_bytes(NodeId::new(n), bytes);
+            return Ok(());
+        }
+        self.tree.write(NodeId::new(n), at, bytes.as_slice())?;
+        Ok(())
+    }
+
     fn write_file(
         &mut self,
         k: usize,
         d: Description,
         n: usize,
-        bytes: &[u8],
+        bytes: &Bytes,
     ) -> Result<(), NoMemory>
         ensures { OnOk result (self.new ≡ after_write self.old k d bytes.now (source.Node n)) }
     {
@@ -38,7 +61,7 @@ impl World {
         let Some(end) = at.checked_add(bytes.len()) else {
             return Err(NoMemory);
         };
-        self.tree.write(NodeId::new(n), at, bytes)?;
+        self.put(n, at, bytes)?;
         self.set_offset(k, d, end);
         Ok(())
     }
@@ -48,7 +71,7 @@ impl World {
     {
         match d.source {
             Source::Node(n) => {
-                self.write_file(k, d, n, bytes.as_slice())?;
+                self.write_file(k, d, n, bytes)?;
                 Ok(())
             }
             Source::Pipe(p) => {
