@@ -1,4 +1,4 @@
-use Rattle.std.proofs.Common.{ℕ, ◌<◌, length, arith, ap}
+use Rattle.std.proofs.Common.{◌<◌, length, arith, ap}
 use Rattle.std.proofs.lemmas.Bool.{false≢true}
 use Rattle.rk_replay.proofs.AsFound.{stands-more}
 use Rattle.rk_replay.proofs.as_found.stand_alike.Goals as goal
