@@ -31,7 +31,6 @@ impl World {
     }
 
     // Into a file from a place on. One without bytes shares these.
-    #[tactic(auto, using(crate::proofs::FileLemmas::set_written))]
     fn put(&mut self, n: usize, at: usize, bytes: &Bytes) -> Result<(), NoMemory>
         ensures { OnOk result (self.new ≡ with_tree self.old (write self.old.tree n at bytes.now)) }
     {
