@@ -6,7 +6,7 @@ use Rattle.std.specs.Ordering.{eq_by_cmp, is_eq, is_lt}
 use Rattle.std.specs.declared.cmp.Ordering.{Ordering}
 use Rattle.std.specs.declared.cmp.Ordering.TheVariants.{Less, Equal, Greater}
 use Rattle.std.specs.Cmp.Lexicographic.{nat_list_cmp_total}
-use Rattle.std.specs.FinMap.{get, find, get-insert, empty, entries, entries_sorted, get-entries}
+use Rattle.std.specs.FinMap.{get, find, get-insert}
 use Rattle.std.proofs.lemmas.Bool.{leb-true}
 use Rattle.std.proofs.lemmas.List.{nil_from_length}
 use Rattle.rk_base.specs.Text.{Text, text_cmp, root, hidden, join, parent, is_root, is_within}
@@ -15,8 +15,6 @@ use Rattle.rk_base.proofs.CanonicalLemmas.{both, denied}
 use Rattle.rk_tree.specs.Copies.{put_found}
 use Rattle.rk_tree.specs.Entries.{Entries, is_dir, IsFit, IsWholeSnapshot}
 use Rattle.rk_tree.specs.Node.{Node as Entry, File, Dir, Link}
-use Rattle.rk_tree.specs.Rows.{map_of}
-use Rattle.rk_tree.proofs.RowsLemmas.{get-found, puts, puts-map_of, same_maps}
 use Rattle.rk_tree.proofs.TextLemmas.{told_apart, ties_itself}
 use Rattle.rk_attrs.specs.Rows.{file_mode, dir_mode, is_mode, is_link_text, suits, is_row, ascend_from, ascend}
 use Rattle.rk_attrs.specs.declared.rows.AttrRow.{AttrRow}
@@ -194,9 +192,3 @@ pub with_rows-none : (snapshot : Entries) (rows found : List (Text × AttrRow)) 
 with_rows-none snapshot rows found same few =
     let none : length found ≡ 0 = omega (arith, few) in
     ap (with_rows snapshot) (sym same ∙ nil_from_length found none)
-
--- What is put in turn is the whole.
-pub copied : (copy it : Entries) (left : List (Text × Entry)) → puts copy left ≡ puts empty (entries it) → left ≡ [] → copy ≡ it
-copied copy it left so_far done =
-    sym (ap (λ (rows : List (Text × Entry)). puts copy rows) done) ∙ so_far ∙ puts-map_of (entries it) (entries_sorted it)
-    ∙ same_maps (map_of (entries it)) it (λ q. get-found (entries it) q ∙ sym (get-entries it q))

@@ -1,4 +1,5 @@
 pub mod AttributesLemmas
+pub mod CopyLemmas
 pub mod CallsLemmas
 pub mod FirstLemmas
 pub mod HeldLemmas

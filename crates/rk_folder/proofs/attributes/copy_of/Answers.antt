@@ -1,4 +1,4 @@
-use Rattle.rk_folder.proofs.AttributesLemmas.{copied}
+use Rattle.rk_folder.proofs.CopyLemmas.{copied}
 use Rattle.rk_folder.proofs.attributes.copy_of.Goals as goal
 
 pub returns : goal.returns

@@ -1,4 +1,4 @@
-use Rattle.std.proofs.Common.{◌≡◌, ℕ, List, ◌∙◌, ap}
+use Rattle.std.proofs.Common.{ℕ, List, ◌∙◌, ap}
 use Rattle.rk_tree.specs.Hierarchy.{Hierarchy, set_bytes}
 use Rattle.rk_kernel.specs.World.{World, with_tree}
 use Rattle.rk_kernel.proofs.FileLemmas.{set_written}
