@@ -1,12 +1,12 @@
 -- From a directory up to the root.
-use Rattle.std.proofs.Common.{Bor, ◌≡◌, ◌+◌, ◌++◌, ◌<◌, ℕ, List, [], ◌∷◌, Bool, true, false, inl, inr, Option, Some, None, refl, sym, ap, subst, ◌∙◌, arith}
+use Rattle.std.proofs.Common.{Bor, ◌≡◌, ◌+◌, ◌++◌, ◌<◌, ℕ, List, [], ◌∷◌, Bool, true, false, inl, inr, Option, Some, None, refl, sym, ap, subst, ◌∙◌, append_assoc, arith}
 use Rattle.std.specs.Prelude.{slice_get}
 use Rattle.std.specs.Option.{option_map, option_copied, is_some}
 use Rattle.std.specs.FinMap.{get}
-use Rattle.rk_base.specs.Text.{Text, root, is_root, join, depth, is_within}
+use Rattle.rk_base.specs.Text.{Text, root, is_root, or_root, stem, join, depth, is_within}
 use Rattle.rk_base.specs.Canonical.{is_name, is_canonical}
-use Rattle.rk_base.proofs.PathLemmas.{depth-join, parent-join}
-use Rattle.rk_base.proofs.WithinLemmas.{stem-back, within-down, within-itself, within-join, within-not_root}
+use Rattle.rk_base.proofs.PathLemmas.{depth-join, join-not_root, parent-join}
+use Rattle.rk_base.proofs.WithinLemmas.{stem-back, stem-below, within-down, within-itself, within-join, within-not_root}
 use Rattle.rk_tree.specs.declared.inode.Inode.{Inode}
 use Rattle.rk_tree.specs.declared.tree.Tree.TheInside.{Inside}
 use Rattle.rk_tree.specs.contracts.tree.Tree.{the_view, the_invariant}
@@ -95,6 +95,26 @@ up_higher tree n up name s =
     let one : depth_at (path_of tree n) ≡ depth s.path + 1 = ap depth_at s.at ∙ depth-join s.path name s.named in
     let two : depth_at (path_of tree up) ≡ depth s.path = ap depth_at s.up_at in
     omega arith
+
+-- A text, after which a name is put.
+
+after_slash : (text name : Text) → or_root (text ++ 47 ∷ name) ≡ text ++ 47 ∷ name
+after_slash [] name = refl
+after_slash (b ∷ bs) name = refl
+
+-- a slash is put after it, and then the name
+with_name : (text slashed more name : Text) → slashed ≡ text ++ 47 ∷ [] → more ≡ slashed ++ name → more ≡ text ++ 47 ∷ name
+with_name text slashed more name one two = two ∙ ap (λ (t : Text). t ++ name) one ∙ append_assoc text (47 ∷ []) name
+
+pub text_on : (text slashed more name : Text) → stem (or_root text) ≡ text → slashed ≡ text ++ 47 ∷ [] → more ≡ slashed ++ name → or_root more ≡ join (or_root text) name
+unfolding join
+text_on text slashed more name is one two = ap or_root (with_name text slashed more name one two) ∙ after_slash text name ∙ ap (λ (t : Text). t ++ 47 ∷ name) (sym is)
+
+pub stem_on : (text slashed more name : Text) → stem (or_root text) ≡ text → slashed ≡ text ++ 47 ∷ [] → more ≡ slashed ++ name → is_name name ≡ true → stem (or_root more) ≡ more
+stem_on text slashed more name is one two named =
+    let joined = text_on text slashed more name is one two in
+    let whole = with_name text slashed more name one two in
+    ap stem joined ∙ stem-below (join (or_root text) name) (join-not_root (or_root text) name named) ∙ sym joined ∙ ap or_root whole ∙ after_slash text name ∙ sym whole
 
 -- The names of a path.
 

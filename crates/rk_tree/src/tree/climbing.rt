@@ -1,7 +1,8 @@
 // From a directory up to the root.
 ghost use Rattle.std.specs.Prelude.{◌≡◌, IfOk, true, Some};
 ghost use Rattle.std.specs.Option.{option_map};
-ghost use Rattle.rk_base.specs.Text.{root};
+ghost use Rattle.rk_base.specs.Canonical.{is_canonical};
+ghost use Rattle.rk_base.specs.Text.{or_root, root};
 ghost use Rattle.rk_tree.specs.Entries.{is_dir};
 ghost use Rattle.rk_tree.specs.Hierarchy as hierarchy;
 ghost use Rattle.rk_tree.specs.Names.{path_by};
@@ -9,18 +10,50 @@ ghost use Rattle.rk_tree.specs.Refusals.{is_there};
 
 use crate::inode::place_at;
 use crate::{NodeId, Tree};
-use rk_base::{Name, NoMemory, Path};
+use rk_base::{Name, NoMemory, Path, PathFault};
 use std::alloc::Global;
 
-// The path of names, the last one first.
+fn or_root(text: &[u8]) -> &[u8]
+    ensures { result.now ≡ or_root text.now }
+{
+    match text {
+        [] => b"/",
+        text => text,
+    }
+}
+
+// The path of a canonical text.
+fn parsed(alloc: Global, text: &[u8]) -> Result<Path, NoMemory>
+    requires { is_canonical text.now ≡ true }
+    ensures { IfOk result (λ path. path ≡ text.now) }
+{
+    match Path::parse(alloc, text) {
+        Ok(path) => Ok(path),
+        Err(PathFault::NoMemory) => Err(NoMemory),
+        Err(PathFault::Invalid) => unreachable!(),
+    }
+}
+
+// The text of names, the last one first, each after a slash; nothing for the root.
+fn text_by(alloc: Global, names: Vec<Name>) -> Result<Vec<u8>, NoMemory>
+    ensures text { IfOk result (λ text. or_root text.items ≡ path_by root names.items) }
+    ensures canonical { IfOk result (λ text. is_canonical (or_root text.items) ≡ true) }
+{
+    let mut text = Vec::new(alloc);
+    let mut left = names;
+    'names: while let Some(name) = left.pop() {
+        text.push(b'/')?;
+        text.extend_from_slice(name.as_slice())?;
+    }
+    Ok(text)
+}
+
+// The path of names, the last one first, put together in one text.
 fn path_by(alloc: Global, names: Vec<Name>) -> Result<Path, NoMemory>
     ensures { IfOk result (λ path. path ≡ path_by root names.items) }
 {
-    let mut path = Path::root(alloc)?;
-    let mut left = names;
-    'names: while let Some(name) = left.pop() {
-        path = path.join(alloc, &name)?;
-    }
+    let text = text_by(alloc, names)?;
+    let path = parsed(alloc, or_root(&text))?;
     Ok(path)
 }
 

@@ -1,12 +1,10 @@
-use Rattle.std.proofs.Common.{◌∙◌, sym, ap}
-use Rattle.rk_base.specs.Text.{Text}
-use Rattle.rk_tree.specs.Names.{path_by}
-use Rattle.rk_tree.proofs.ClimbingLemmas.{joined-last}
+use Rattle.std.proofs.Common.{◌∙◌, ap}
+use Rattle.rk_base.specs.Canonical.{is_canonical}
+use Rattle.rk_base.specs.Text.{or_root}
 use Rattle.rk_tree.proofs.tree.climbing.path_by.Goals as goal
 
-pub names-preserved : goal.names-preserved
-names-preserved c =
-    ap (λ (path : Text). path_by path c.pop.new.self.items) c.in_ok-path-2.ensures.path
-    ∙ sym (joined-last c.names.path c.pop.new.self.items c.in-Some.name)
-    ∙ ap (path_by c.names.path) (sym c.in-Some.ensures.items)
-    ∙ c.names.invariant
+pub parsed-requires : goal.parsed-requires
+parsed-requires c = ap is_canonical (c.or_root.ensures ∙ ap or_root c.deref.ensures.value) ∙ c.in_ok-text.ensures.canonical
+
+pub returns : goal.returns
+returns c = c.in_ok-path.ensures ∙ c.or_root.ensures ∙ ap or_root c.deref.ensures.value ∙ c.in_ok-text.ensures.text
