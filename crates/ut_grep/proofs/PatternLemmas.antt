@@ -6,7 +6,7 @@ use Rattle.ut_grep.specs.declared.grep.Manner.{Manner}
 use Rattle.ut_grep.specs.declared.pattern.Pattern.{Pattern}
 use Rattle.ut_grep.specs.Greps.{PatternValue}
 use Rattle.ut_grep.specs.Chosen.{patterns_of}
-use Rattle.ut_grep.specs.Values.{pattern_value}
+use Rattle.ut_grep.specs.Patterns.{pattern_value}
 
 -- behind these patterns
 abbrev pub behind : List PatternValue → Result (List PatternValue) Text → Result (List PatternValue) Text

@@ -2,7 +2,9 @@ pub mod Chosen
 pub mod Gathering
 pub mod Greps
 pub mod Laws
+pub mod Ordered
 pub mod Passing
+pub mod Sought
 pub mod Starts
 pub mod Utilities
 pub mod Values

@@ -1,16 +1,10 @@
 -- What the code's `grep` is.
 use Rattle.std.specs.Prelude.{map}
-use Rattle.ut_bre.specs.Expressions.{expression}
 use Rattle.ut_filter.specs.Filters.{Job}
 use Rattle.ut_grep.specs.declared.grep.Grep.{Grep}
-use Rattle.ut_grep.specs.declared.pattern.Pattern.{Pattern}
-use Rattle.ut_grep.specs.declared.pattern.Pattern.TheVariants.{Fixed, Basic}
 use Rattle.ut_grep.specs.Chosen.{grep_of}
-use Rattle.ut_grep.specs.Greps.{PatternValue, fixed, basic, GrepValue, value_job}
-
-abbrev pub pattern_value : Pattern → PatternValue
-pattern_value (Fixed text) = fixed text
-pattern_value (Basic bre) = basic (expression bre)
+use Rattle.ut_grep.specs.Greps.{GrepValue, value_job}
+use Rattle.ut_grep.specs.Patterns.{pattern_value}
 
 abbrev pub grep_value : Grep → GrepValue
 grep_value g = grep_of g.manner (map pattern_value g.patterns.items)

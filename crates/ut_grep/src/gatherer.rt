@@ -94,7 +94,7 @@ fn seek(gathered: Gathered) -> Result<Move, NoMemory>
     match patterns_of(alloc, gathered.manner, gathered.patterns.as_slice())? {
         Err(text) => refuse_pattern(alloc, &text),
         Ok(patterns) => {
-            let grep = Grep::new(patterns, gathered.manner);
+            let grep = Grep::new(alloc, patterns, gathered.manner)?;
             let inputs = or_dash(alloc, gathered.operands)?;
             let machine = Filter::from_number(alloc, &gathered.wd, grep, &inputs, gathered.next)?;
             filter(machine, Answer::Go)

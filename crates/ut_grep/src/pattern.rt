@@ -4,8 +4,7 @@ ghost use Rattle.ut_bre.specs.Reading.{read_folded};
 ghost use Rattle.ut_grep.specs.Chosen.{basic_of, pattern_of, patterns_of};
 ghost use Rattle.ut_grep.specs.Greps.{folded, is_whole};
 ghost use Rattle.ut_grep.specs.Passing.{needed_by, IsNeededBy};
-ghost use Rattle.ut_grep.specs.Patterns.{IsPattern, ArePatterns};
-ghost use Rattle.ut_grep.specs.Values.{pattern_value};
+ghost use Rattle.ut_grep.specs.Patterns.{pattern_value, IsPattern, ArePatterns};
 
 use crate::grep::Manner;
 use crate::occurs::lower_all;

@@ -6,9 +6,10 @@ ghost use Rattle.ut_filter.specs.Lines.{lines_of};
 ghost use Rattle.ut_grep.specs.Values.{grep_value};
 ghost use Rattle.ut_grep.specs.Greps.{selects, prefix, number_of, row, rows, selected, count_line, told, name_of, brought_told, told_all, some_of, status};
 
-use crate::grep::{Grep, Memory};
+use crate::grep::Grep;
 use crate::occurs::is_same;
 use crate::passing::next_number;
+use crate::selects::Memory;
 use rk_base::{Bytes, NoMemory};
 use std::alloc::Global;
 use ut_filter::Input;

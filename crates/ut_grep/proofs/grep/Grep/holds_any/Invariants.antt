@@ -1,7 +1,8 @@
 use Rattle.std.proofs.Common.{◌≡◌, drop, map}
 use Rattle.std.specs.List.{list_any}
 use Rattle.ut_grep.specs.Greps.{holds, matches}
-use Rattle.ut_grep.specs.Values.{grep_value, pattern_value}
+use Rattle.ut_grep.specs.Patterns.{pattern_value}
+use Rattle.ut_grep.specs.Values.{grep_value}
 use Rattle.ut_grep.proofs.grep.Grep.holds_any.Given as goal
 
 abbrev pub invariant-loop-pattern : goal.invariant-loop-pattern

@@ -1,0 +1,22 @@
+-- Many patterns, of which one is sought in a line.
+use Rattle.std.specs.Prelude.{◌≡◌, Bool, List, map, ◌||◌}
+use Rattle.rk_base.specs.Text.{Text}
+use Rattle.ut_grep.specs.declared.grep.Manner.{Manner}
+use Rattle.ut_grep.specs.declared.pattern.Pattern.{Pattern}
+use Rattle.ut_grep.specs.declared.sought.Sought.{Sought}
+use Rattle.ut_grep.specs.Chosen.{grep_of}
+use Rattle.ut_grep.specs.Greps.{folded, matches}
+use Rattle.ut_grep.specs.Ordered.{stands_any}
+use Rattle.ut_grep.specs.Patterns.{pattern_value}
+
+-- whether one of them stands in a line, or is the whole of it
+abbrev pub sought_in : Sought → Text → Bool
+sought_in s line = stands_any s.short.whole s.short.patterns.items line || stands_any s.short.whole s.long.items line
+
+-- they stand in the same lines as these
+abbrev pub IsSoughtFor : Sought → Bool → List Text → Type 0
+IsSoughtFor s whole patterns = (line : Text) → sought_in s line ≡ stands_any whole patterns line
+
+-- one of them is sought in a line, in place of these patterns
+abbrev pub IsSoughtInstead : Sought → Manner → List Pattern → Type 0
+IsSoughtInstead s m patterns = (line : Text) → sought_in s (folded m.folded line) ≡ matches (grep_of m (map pattern_value patterns)) line
