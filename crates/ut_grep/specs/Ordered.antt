@@ -1,4 +1,4 @@
--- Many texts, of which one is sought in a line.
+-- Patterns in their order, of which none leads the next.
 use Rattle.std.specs.Prelude.{◌≡◌, ℕ, List, [], ◌∷◌, Bool, true, false, not, ◌&&◌, if◌then◌else◌}
 use Rattle.std.specs.List.{list_any}
 use Rattle.std.specs.List.Sorted.{IsPartitionPoint}
@@ -22,6 +22,7 @@ stands_any whole patterns line = list_any (stands whole line) patterns
 abbrev pub StandAlike : Bool → List Text → List Text → Type 0
 StandAlike whole patterns others = (line : Text) → stands_any whole patterns line ≡ stands_any whole others line
 
+-- in the order of their bytes
 abbrev pub is_at_most : Text → Text → Bool
 is_at_most a b = not (is_gt (text_cmp a b))
 

@@ -1,4 +1,4 @@
-// Many patterns, sought at once.
+// Patterns in their order, of which at most one can lead a text.
 ghost use Rattle.std.specs.Prelude.{◌≡◌, ◌≤◌, IfOk, true, false, length};
 ghost use Rattle.std.specs.List.{list_any, dedup};
 ghost use Rattle.ut_grep.specs.Ordered.{leads, stands_any, StandAlike, is_at_most, are_apart, IsCut};

@@ -1,10 +1,11 @@
 // Which lines `grep` selects.
-ghost use Rattle.std.specs.Prelude.{◌≡◌, map, IfOk, if◌then◌else◌};
+ghost use Rattle.std.specs.Prelude.{◌≡◌, map, is_some, IfOk, if◌then◌else◌};
 ghost use Rattle.rk_base.specs.Text.{same_text};
 ghost use Rattle.ut_bre.specs.Expressions.{expression};
 ghost use Rattle.ut_grep.specs.Chosen.{grep_of};
 ghost use Rattle.ut_grep.specs.Greps.{folded, occurs, basic, holds, matches, selects};
 ghost use Rattle.ut_grep.specs.Patterns.{pattern_value};
+ghost use Rattle.ut_grep.specs.Sought.{are_many};
 ghost use Rattle.ut_grep.specs.Values.{grep_value};
 
 use crate::grep::{Grep, Manner};
@@ -37,7 +38,8 @@ impl Grep {
         patterns: Vec<Pattern>,
         manner: Manner,
     ) -> Result<Grep, NoMemory>
-        ensures { IfOk result (λ g. grep_value g ≡ grep_of manner (map pattern_value patterns.items)) }
+        ensures value { IfOk result (λ g. grep_value g ≡ grep_of manner (map pattern_value patterns.items)) }
+        ensures together { IfOk result (λ g. is_some g.sought ≡ are_many patterns.items) }
     {
         let sought = sought_for(alloc, manner, patterns.as_slice())?;
         Ok(Grep {

@@ -1,9 +1,10 @@
 // Many patterns, of which one is sought in a line.
-ghost use Rattle.std.specs.Prelude.{◌≡◌, map, IfOk, IfSome};
+ghost use Rattle.std.specs.Prelude.{◌≡◌, map, is_some, IfOk, IfSome};
+ghost use Rattle.std.specs.List.{list_all};
 ghost use Rattle.ut_grep.specs.Greps.{fixed};
 ghost use Rattle.ut_grep.specs.Ordered.{stands, stands_any};
 ghost use Rattle.ut_grep.specs.Patterns.{pattern_value};
-ghost use Rattle.ut_grep.specs.Sought.{sought_in, IsSoughtFor, IsSoughtInstead};
+ghost use Rattle.ut_grep.specs.Sought.{sought_in, IsSoughtFor, is_text, are_many, IsSoughtInstead};
 
 use crate::grep::Manner;
 use crate::occurs::{is_same, occurs};
@@ -12,7 +13,7 @@ use crate::pattern::Pattern;
 use rk_base::{Bytes, NoMemory};
 use std::alloc::Global;
 
-// So many patterns are sought all at once.
+// From so many on patterns are sought together; fewer are found as fast one by one.
 const MANY: usize = 16;
 
 /// Many patterns: the short ones are sought all at once, and each long one by itself. A pattern is long where its length
@@ -80,7 +81,8 @@ impl Sought {
 
 // The texts that patterns are, where all are texts.
 fn texts_of(alloc: Global, patterns: &[Pattern]) -> Result<Option<Vec<Bytes>>, NoMemory>
-    ensures { IfOk result (λ o. IfSome o (λ texts. map pattern_value patterns.now ≡ map fixed texts.items)) }
+    ensures all { IfOk result (λ o. is_some o ≡ list_all is_text patterns.now) }
+    ensures texts { IfOk result (λ o. IfSome o (λ texts. map pattern_value patterns.now ≡ map fixed texts.items)) }
 {
     let mut texts = Vec::new(alloc);
     'patterns: for pattern in patterns {
@@ -98,7 +100,8 @@ pub(crate) fn sought_for(
     manner: Manner,
     patterns: &[Pattern],
 ) -> Result<Option<Sought>, NoMemory>
-    ensures { IfOk result (λ o. IfSome o (λ s. IsSoughtInstead s manner patterns.now)) }
+    ensures many { IfOk result (λ o. is_some o ≡ are_many patterns.now) }
+    ensures instead { IfOk result (λ o. IfSome o (λ s. IsSoughtInstead s manner patterns.now)) }
 {
     if patterns.len() < MANY {
         return Ok(None);
