@@ -8,3 +8,4 @@ pub mod Sizes
 pub mod Walking
 pub mod Lines
 pub mod FirstBytes
+pub mod ByRules

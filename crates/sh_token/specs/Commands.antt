@@ -31,7 +31,14 @@ is_in All text = is_word (codes "in") text
 is_in Closers text = is_word (codes "in") text
 is_in Ordinary text = false
 
--- a name and the equals sign
+-- a descriptor's number of one digit in front of < or > (XCU 2.7)
+abbrev pub is_numbered : List ℕ → Bool
+is_numbered text = is_digit (slice_index text 0) also (slice_index text 1 == 60 or slice_index text 1 == 62)
+
+-- a name and an equals sign (XCU 2.10.2, rule 7)
+abbrev pub is_assignment : List ℕ → Bool
+is_assignment text = is_letter (slice_index text 0) also slice_index text (run is_name text) == 61
+
 abbrev pub assignment : List ℕ → Look
 assignment text = token k.Assignment (suc (run is_name text))
 

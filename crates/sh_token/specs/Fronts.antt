@@ -1,7 +1,6 @@
 -- What a place begins with, whatever is looked for there.
 use Rattle.std.specs.Prelude.{ℕ, ◌==◌, List, [], ◌∷◌, slice_index, codes, Bool, true, false, if◌then◌else◌, Some, None}
 use Rattle.sh_token.specs.declared.place.Words.{Words}
-use Rattle.sh_token.specs.declared.place.Words.TheVariants.{All, Closers, Ordinary}
 use Rattle.sh_token.specs.declared.front.Front.{Front}
 use Rattle.sh_token.specs.declared.front.Front.TheVariants as f
 use Rattle.sh_token.specs.declared.front.Break as b
@@ -10,28 +9,15 @@ use Rattle.sh_token.specs.declared.front.Quote as q
 use Rattle.sh_token.specs.declared.front.Quote.TheVariants as qu
 use Rattle.sh_token.specs.declared.front.Plain as p
 use Rattle.sh_token.specs.declared.front.Plain.TheVariants as pl
-use Rattle.sh_token.specs.Bytes.{◌or◌, ◌also◌, is_digit, is_letter, is_name, is_end, is_quoting}
-use Rattle.sh_token.specs.Folded.{run}
+use Rattle.sh_token.specs.Bytes.{◌or◌, ◌also◌, is_end, is_quoting}
 use Rattle.sh_token.specs.Reserved.{is_word, closer}
+pub use Rattle.sh_token.specs.Reserved.{reserves}
 use Rattle.sh_token.specs.Tokens.{Look}
-
--- words that close or go on are reserved, but not among arguments (XCU 2.4)
-abbrev pub reserves : Words → Bool
-reserves All = true
-reserves Closers = true
-reserves Ordinary = false
+pub use Rattle.sh_token.specs.Commands.{is_assignment, is_numbered}
 
 abbrev pub is_found : Look → Bool
 is_found None = false
 is_found (Some x) = true
-
--- a name and an equals sign (XCU 2.10.2, rule 7)
-abbrev pub is_assignment : List ℕ → Bool
-is_assignment text = is_letter (slice_index text 0) also slice_index text (run is_name text) == 61
-
--- a descriptor's number of one digit in front of < or > (XCU 2.7)
-abbrev pub is_numbered : List ℕ → Bool
-is_numbered text = is_digit (slice_index text 0) also (slice_index text 1 == 60 or slice_index text 1 == 62)
 
 unfoldable pub plain_of : Words → List ℕ → p.Plain
 plain_of words text =

@@ -1,59 +1,25 @@
--- Which token stands at a place.
-use Rattle.std.specs.Prelude.{ℕ, ◌-◌, ◌==◌, nat_lt, List, [], ◌∷◌, Bool, true, false, if◌then◌else◌, slice_index, Option, Some, None, length}
-use Rattle.sh_rules.specs.declared.token_kind.TokenKind.{TokenKind}
+-- Which token stands at a place, by the table of what is tried there. It is the one that Recognition.antt has.
+use Rattle.std.specs.Prelude.{ℕ, List, Bool, slice_index, None}
 use Rattle.sh_rules.specs.declared.token_kind.Mode.{Mode}
 use Rattle.sh_rules.specs.declared.token_kind.TokenKind.TheVariants as k
 use Rattle.sh_token.specs.declared.recognizer.Recognizer.{Recognizer}
 use Rattle.sh_token.specs.declared.recognizer.Recognizer.TheVariants as r
-use Rattle.sh_token.specs.declared.delimiter.Within.TheVariants as w
 use Rattle.sh_token.specs.declared.place.Words.{Words}
-use Rattle.sh_token.specs.Bytes.{◌also◌, is_quoted_text, is_brace_text, is_quoted_brace_text, is_body_text, is_arithmetic_text}
-use Rattle.sh_token.specs.Folded.{folded, run_on, behind}
+use Rattle.sh_token.specs.Bytes.{is_quoted_text, is_brace_text, is_quoted_brace_text, is_body_text, is_arithmetic_text}
+use Rattle.sh_token.specs.Folded.{folded, run_on}
 use Rattle.sh_token.specs.Tokens.{Look, token}
-use Rattle.sh_token.specs.Operators.{operator}
+pub use Rattle.sh_token.specs.Tokens.{token_if, is_raw, extent, measured}
 use Rattle.sh_token.specs.Reserved.{closer}
 use Rattle.sh_token.specs.Expansions.{dollar}
 use Rattle.sh_token.specs.Brackets.{text_look}
 use Rattle.sh_token.specs.Quoting.{escape, single}
 use Rattle.sh_token.specs.Commands.{command_word, prefix_word, argument_word, text_of, name_look, case_in, redirection, assignment}
 use Rattle.sh_token.specs.Words.{is_quotable, is_quotable_in_braces, is_quotable_in_body, backslash}
-use Rattle.sh_token.specs.HereDocuments.{Awaited, walk, body}
+use Rattle.sh_token.specs.HereDocuments.{Awaited}
+pub use Rattle.sh_token.specs.Recognition.{operator_look, pattern_bar, closing, delimiter_look, body_found, body_look, bodies_look}
 use Rattle.sh_token.specs.Fronts.{front_of}
 use Rattle.sh_token.specs.Recognizers.{recognizer}
 use Rattle.sh_token.specs.Places.{Place, is_closed, is_nested, is_whole}
-
--- the delimiter of a here-document has a byte at least
-abbrev pub delimiter_look : List ℕ → Look
-delimiter_look text = let x = walk w.Bare text in if (x.ends also nat_lt 0 x.count) then token k.Delimiter x.count else None
-
--- a body, literal where its delimiter is quoted
-abbrev pub body_found : Bool → Option ℕ → Look
-body_found literal None = None
-body_found true (Some n) = token k.LiteralBody n
-body_found false (Some n) = token k.BodyOpen n
-
-abbrev pub body_look : Awaited → List ℕ → Look
-body_look d text = body_found d.quoted (body d true text)
-
-abbrev pub bodies_look : List Awaited → List ℕ → Look
-bodies_look [] text = token k.NoBody 0
-bodies_look (d ∷ ds) text = body_look d text
-
-abbrev pub operator_look : List ℕ → Look
-operator_look text = operator (slice_index text 0) (slice_index text 1)
-
--- one bar alone
-abbrev pub pattern_bar : List ℕ → Look
-pattern_bar text = if slice_index text 1 == 124 then None else token k.PatternBar 1
-
-abbrev pub token_if : Bool → TokenKind → ℕ → Look
-token_if true kind n = token kind n
-token_if false kind n = None
-
--- a closing parenthesis closes those that are open there; where none are, two of them end the expansion, and one stands for itself
-abbrev pub closing : Bool → ℕ → Look
-closing true next = token k.ParenthesisClose 1
-closing false next = if next == 41 then token k.ArithmeticClose 2 else token k.ArithmeticText 1
 
 -- what a recognizer finds, and how many bytes it has: as the text is read, or as it stands (is_raw); by whether the whole text,
 -- or what is read by itself, may end there, by whether parentheses are open in an arithmetic expansion, by which words are reserved, and by the here-documents to come
@@ -103,28 +69,6 @@ recognized r.Name whole closed nested words awaited text = name_look (folded tex
 recognized r.FunctionOpen whole closed nested words awaited text = token k.FunctionOpen 1
 recognized r.FunctionClose whole closed nested words awaited text = token k.FunctionClose 1
 recognized r.Delimiter whole closed nested words awaited text = delimiter_look text
-
--- tokens in which joined lines stay, or are looked at in another way
-abbrev pub is_raw : TokenKind → Bool
-is_raw k.Escape = true
-is_raw k.Single = true
-is_raw k.QuotedEscape = true
-is_raw k.QuotedBraceEscape = true
-is_raw k.BodyEscape = true
-is_raw k.ArithmeticEscape = true
-is_raw k.LiteralBody = true
-is_raw k.BodyOpen = true
-is_raw k.Delimiter = true
-is_raw other = false
-
--- how many bytes of the text a token has
-abbrev pub extent : Bool → ℕ → List ℕ → ℕ
-extent true n text = if nat_lt n (length text) then n else length text
-extent false n text = length text - length (behind n text)
-
-abbrev pub measured : List ℕ → Look → Look
-measured text None = None
-measured text (Some x) = Some (x.0, extent (is_raw x.0) x.1 text)
 
 -- THE TOKEN that stands at a place in a mode, and how many bytes of the text it has
 unfoldable pub look : Mode → Place → Look

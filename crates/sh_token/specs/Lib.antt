@@ -13,6 +13,7 @@ pub mod HereDocuments
 pub mod Fronts
 pub mod Recognizers
 pub mod Places
+pub mod Recognition
 pub mod Lexemes
 pub mod Effects
 pub mod Steps

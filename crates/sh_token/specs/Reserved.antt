@@ -1,6 +1,8 @@
 -- Reserved words (XCU 2.4).
-use Rattle.std.specs.Prelude.{ℕ, ◌==◌, List, [], ◌∷◌, drop, slice_index, codes, Bool, if◌then◌else◌, None}
+use Rattle.std.specs.Prelude.{ℕ, ◌==◌, List, [], ◌∷◌, drop, slice_index, codes, Bool, true, false, if◌then◌else◌, None}
 use Rattle.sh_rules.specs.declared.token_kind.TokenKind.TheVariants as k
+use Rattle.sh_token.specs.declared.place.Words.{Words}
+use Rattle.sh_token.specs.declared.place.Words.TheVariants.{All, Closers, Ordinary}
 use Rattle.sh_token.specs.Bytes.{◌or◌, ◌also◌, is_end}
 use Rattle.sh_token.specs.Tokens.{Look, token}
 
@@ -8,6 +10,12 @@ use Rattle.sh_token.specs.Tokens.{Look, token}
 abbrev pub is_word : List ℕ → List ℕ → Bool
 is_word [] text = is_end (slice_index text 0)
 is_word (w ∷ ws) text = (slice_index text 0 == w) also is_word ws (drop 1 text)
+
+-- where they are recognized: all where a command may begin, those that close or go on behind a compound command, none among arguments
+abbrev pub reserves : Words → Bool
+reserves All = true
+reserves Closers = true
+reserves Ordinary = false
 
 -- the first bytes of those that begin a command
 abbrev pub may_open : ℕ → Bool

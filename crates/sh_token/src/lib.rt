@@ -13,6 +13,7 @@ pub mod fault;
 pub mod folded;
 pub mod front;
 pub mod kinds;
+pub mod laws;
 pub mod place;
 pub mod quotes;
 pub mod recognizer;
