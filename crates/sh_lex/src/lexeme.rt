@@ -108,7 +108,7 @@ fn recognized(
     awaited: &Queue,
     text: &Unread,
 ) -> Look
-    ensures { result ≡ lem.recognized recognizer whole closed nested words awaited.now text.now }
+    ensures { result ≡ lem.recognized recognizer (lem.surrounded whole closed nested words awaited.now) text.now }
 {
     let bytes = text.bytes();
     match recognizer {
@@ -200,7 +200,7 @@ pub(crate) fn measured(
     awaited: &Queue,
     text: &Unread,
 ) -> Look
-    ensures found { result ≡ lem.measured text.now (lem.recognized recognizer whole closed nested words awaited.now text.now) }
+    ensures found { result ≡ lem.measured text.now (lem.recognized recognizer (lem.surrounded whole closed nested words awaited.now) text.now) }
     ensures within { IfSome result (λ x. x.1 ≤ length text.now) }
 {
     match recognized(recognizer, whole, closed, nested, words, awaited, text) {

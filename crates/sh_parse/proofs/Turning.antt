@@ -23,7 +23,7 @@ use Rattle.sh_script.proofs.Chosen.{chosen_part}
 use Rattle.sh_script.proofs.Fewer.{chosen_fewer}
 use Rattle.sh_script.proofs.Turning.{keeps_taken, fewer_taken, halts_deep, halts_want, keeps_chosen, halts_none, halts_unwanted, whole_stuck}
 use Rattle.sh_parse.specs.Tokens.{Took}
-use Rattle.sh_parse.specs.Turns.{Halted, Turns, StopsBy}
+use Rattle.sh_parse.specs.Turns.{Halted, reached, Turns, StopsBy}
 use Rattle.sh_parse.specs.declared.source.ParseErr.{ParseErr}
 use Rattle.sh_parse.specs.declared.source.ParseErr.TheVariants as stop
 
@@ -35,7 +35,7 @@ turn_not_taken kind n p q stop.Deep h k = (k.0, (token_of kind n p, halts_deep k
 pub not_expanded : (s : Symbol TokenKind Part) (p q : Place) (e : ParseErr) → e ≡ stop.Memory → Halted s p q e
 not_expanded s p q e h = subst (λ e. Halted s p q e) (sym h) tt
 
-pub turn_taken : {X : Type 0} (kind : TokenKind) (n : ℕ) (ss : List (Symbol TokenKind Part)) (marks marks' : List Mark) (p q : Place) (text : List ℕ) (r : Result X ParseErr) → StandsThere kind n p → Took kind n p q (Ok text) → Shrinks (may_be_empty kind) (size p) (size q) → MatchResult r (λ _. marks' ≡ marks ++ (leaf text ∷ [])) (λ e. e ≡ stop.Memory) → Turns (Want kind) ss ss marks marks' p q r
+pub turn_taken : {X : Type 0} (kind : TokenKind) (n : ℕ) (ss : List (Symbol TokenKind Part)) (marks marks' : List Mark) (p q : Place) (text : List ℕ) (r : Result X ParseErr) → StandsThere kind n p → Took kind n p q (Ok text) → Shrinks (may_be_empty kind) (size p) (size q) → MatchResult r (λ _. marks' ≡ marks ++ (leaf text ∷ [])) (λ e. e ≡ stop.Memory) → Turns (Want kind) (reached ss marks p) (reached ss marks' q) r
 turn_taken kind n ss marks marks' p q text (Ok x) h k s m =
     let is : marks' ≡ marks ++ (leaf (token_of kind n p).text ∷ []) = m ∙ ap (λ t. marks ++ (leaf t ∷ [])) k.2 in (
       subst (λ ms. Keeps (Want kind ∷ ss) marks p ss ms q) (sym is) (subst (λ q. Keeps (Want kind ∷ ss) marks p ss (marks ++ (leaf (token_of kind n p).text ∷ [])) q) (sym k.0) (keeps_taken kind n ss marks p h k.1)),

@@ -19,10 +19,19 @@ Halted s p q stop.Memory = Unit {0}
 Halted s p q stop.Blocked = (q ≡ p) × HaltsAt s p Blocked
 Halted s p q stop.Deep = (q ≡ p) × ((t : Token) × HaltsAt s p (Over t))
 
--- ONE TURN: reading goes on from what is left, of which there is less; or it halts at the first symbol
-abbrev pub Turns : {X : Type 0} → Symbol TokenKind Part → List (Symbol TokenKind Part) → List (Symbol TokenKind Part) → List Mark → List Mark → Place → Place → Result X ParseErr → Type 0
-Turns s ss todo marks marks' p q (Ok x) = Keeps (s ∷ ss) marks p todo marks' q × Fewer (s ∷ ss) p todo q
-Turns s ss todo marks marks' p q (Err e) = Halted s p q e
+-- how far reading has come: the symbols that are still to be read, the marks that were left, and the place
+pub record Reached : Type 0 where
+  pub todo : List (Symbol TokenKind Part)
+  pub marks : List Mark
+  pub place : Place
+
+abbrev pub reached : List (Symbol TokenKind Part) → List Mark → Place → Reached
+reached todo marks place = record { todo = todo; marks = marks; place = place }
+
+-- ONE TURN, at a symbol with what is behind it: reading goes on from what is left, of which there is less; or it halts at the symbol
+abbrev pub Turns : {X : Type 0} → Symbol TokenKind Part → Reached → Reached → Result X ParseErr → Type 0
+Turns s old new (Ok x) = Keeps (s ∷ old.todo) old.marks old.place new.todo new.marks new.place × Fewer (s ∷ old.todo) old.place new.todo new.place
+Turns s old new (Err e) = Halted s old.place new.place e
 
 -- THE WHOLE: it stops
 abbrev pub StopsBy : Place → Place → ParseErr → Type 0

@@ -11,7 +11,7 @@ ghost use Rattle.sh_grammar.specs.Marks.{node as node_mark, leaf as leaf_mark};
 ghost use Rattle.sh_script.specs.TextReader.{StandsThere, NotOf, HaltsAt};
 ghost use Rattle.sh_script.specs.Outcomes.{IsRead};
 ghost use Rattle.sh_parse.specs.Finding.{Ahead};
-ghost use Rattle.sh_parse.specs.Turns.{Turns, StopsBy};
+ghost use Rattle.sh_parse.specs.Turns.{reached, Turns, StopsBy};
 
 use crate::ahead::{Found, length_ahead, look_for};
 use crate::source::{ParseErr, Source};
@@ -70,7 +70,7 @@ fn leaf<S: Source>(
     marks: &mut Marks,
 ) -> Result<(), ParseErr>
     requires { Ahead ahead (S.place s.old) }
-    ensures { (rest : List (Symbol' kinds.TokenKind parts.Part)) → Turns (Want kind) rest rest marks.old marks.new (S.place s.old) (S.place s.new) result }
+    ensures { (rest : List (Symbol' kinds.TokenKind parts.Part)) → Turns (Want kind) (reached rest marks.old (S.place s.old)) (reached rest marks.new (S.place s.new)) result }
 {
     match length_of(s, kind, ahead) {
         None => Err(ParseErr::Blocked),
@@ -104,7 +104,7 @@ fn node<S: Source>(
     marks: &mut Marks,
 ) -> Result<Found, ParseErr>
     requires { Ahead ahead (S.place s.now) }
-    ensures turns { Turns (Do (part_named part)) todo.old todo.new marks.old marks.new (S.place s.now) (S.place s.now) result }
+    ensures turns { Turns (Do (part_named part)) (reached todo.old marks.old (S.place s.now)) (reached todo.new marks.new (S.place s.now)) result }
     ensures found { IfOk result (λ x. Ahead (Some x) (S.place s.now)) }
 {
     match look_for(s, part, ahead) {
@@ -129,7 +129,7 @@ fn turn<S: Source>(
     marks: &mut Marks,
 ) -> Result<Option<Found>, ParseErr>
     requires { Ahead ahead (S.place s.old) }
-    ensures turns { Turns (symbol_named symbol) todo.old todo.new marks.old marks.new (S.place s.old) (S.place s.new) result }
+    ensures turns { Turns (symbol_named symbol) (reached todo.old marks.old (S.place s.old)) (reached todo.new marks.new (S.place s.new)) result }
     ensures found { IfOk result (λ x. Ahead x (S.place s.new)) }
 {
     match symbol {

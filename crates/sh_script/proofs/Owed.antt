@@ -1,7 +1,7 @@
 -- One turn of reading keeps what is owed.
 use Rattle.std.proofs.Common.{◌≡◌, List, [], ◌∷◌, ◌++◌, false, refl, sym, ap, ◌∙◌, ◌⊎◌, inl, inr, append_assoc, append-nil}
 use Rattle.sh_rules.specs.Grammar.{Symbol, Want, Do, Leaf, Node, Parses, no_parses, parse_and}
-use Rattle.sh_rules.specs.Reading.{Reader, Stands, Chooses, ReadsAll, Halt, Halts, Here, Within, Stops, In_first, After, StuckAll}
+use Rattle.sh_rules.specs.Reading.{Reader, Stands, Chooses, ReadsAll, Halt, Halts, Here, Within, Stops, In_first, After, At, StuckAll}
 use Rattle.sh_rules.specs.declared.token_kind.TokenKind.{TokenKind}
 use Rattle.sh_rules.specs.declared.token_kind.Mode.{Mode}
 use Rattle.sh_rules.specs.Parts.{Part}
@@ -23,9 +23,9 @@ module _ {P : Type 0} (l : Reader TokenKind Part Rule Token Mode P) where
       (parse_and x a.0, a.1, a.2, (h.0, h.1, a.3), a.4, ap (λ ms. flat x ++ ms) a.5 ∙ sym (append_assoc (flat x) (flat_all a.0) (flat_all a.1)))
 
   StuckApart : List (Symbol TokenKind Part) → List (Symbol TokenKind Part) → P → P → Halt Token → Type 0
-  StuckApart ss rest p m h = ((y : Stops Rule Token) × StuckAll shell l y ss p m h) ⊎ ((cs : Parses Rule Token) × (c : P) × (y : Stops Rule Token) × ReadsAll shell l cs ss p c × StuckAll shell l y rest c m h)
+  StuckApart ss rest p m h = ((y : Stops Rule Token) × StuckAll shell l y ss p (At m h)) ⊎ ((cs : Parses Rule Token) × (c : P) × (y : Stops Rule Token) × ReadsAll shell l cs ss p c × StuckAll shell l y rest c (At m h))
 
-  stuck_apart : (ss rest : List (Symbol TokenKind Part)) (x : Stops Rule Token) (p m : P) (h : Halt Token) → StuckAll shell l x (ss ++ rest) p m h → StuckApart ss rest p m h
+  stuck_apart : (ss rest : List (Symbol TokenKind Part)) (x : Stops Rule Token) (p m : P) (h : Halt Token) → StuckAll shell l x (ss ++ rest) p (At m h) → StuckApart ss rest p m h
   unfolding StuckApart
   stuck_apart [] rest x p m h k = inr (no_parses, p, x, refl, k)
   stuck_apart (s ∷ ss) rest (In_first x) p m h k = inl (In_first x, k)
@@ -58,11 +58,11 @@ module _ {P : Type 0} (l : Reader TokenKind Part Rule Token Mode P) where
         (λ x m h k. stuck (stuck_apart (spelling r) ss x p m h k)),
       )
     where
-      stuck : {m : P} {h : Halt Token} → StuckApart (spelling r) ss p m h → (y : Stops Rule Token) × StuckAll shell l y script start m h
+      stuck : {m : P} {h : Halt Token} → StuckApart (spelling r) ss p m h → (y : Stops Rule Token) × StuckAll shell l y script start (At m h)
       stuck {m = m} {h = h} (inl a) = o.1 (In_first (Within r a.0)) m h (ap Do (sym e), c, a.1)
       stuck {m = m} {h = h} (inr a) = o.1 (After (Node r a.0) a.2) m h (a.1, (ap Do (sym e), c, a.3), a.4)
 
-  pub owed_stops : (start : P) (s : Symbol TokenKind Part) (ss : List (Symbol TokenKind Part)) (marks : List Mark) (p : P) (h : Halt Token) → Owes l start (s ∷ ss) marks p → Halts shell l s p h → (y : Stops Rule Token) × StuckAll shell l y script start p h
+  pub owed_stops : (start : P) (s : Symbol TokenKind Part) (ss : List (Symbol TokenKind Part)) (marks : List Mark) (p : P) (h : Halt Token) → Owes l start (s ∷ ss) marks p → Halts shell l s p h → (y : Stops Rule Token) × StuckAll shell l y script start (At p h)
   unfolding Owes
   owed_stops start s ss marks p h o k = o.1 (In_first Here) p h (refl, k)
 

@@ -70,4 +70,4 @@ whole_read start marks q w = owed_nothing text_reader start marks q w
 
 pub whole_stuck : (start : Place) (s : Symbol TokenKind Part) (ss : List (Symbol TokenKind Part)) (marks : List Mark) (p q : Place) (h : Halt Token) → Owes text_reader start (s ∷ ss) marks p → q ≡ p → HaltsAt s p h → IsStuck start q h
 unfolding IsStuck HaltsAt
-whole_stuck start s ss marks p q h w e k = subst (λ q. (y : Rattle.sh_rules.specs.Reading.Stops Rule Token) × Rattle.sh_rules.specs.Reading.StuckAll shell text_reader y script start q h) (sym e) (owed_stops text_reader start s ss marks p h w k)
+whole_stuck start s ss marks p q h w e k = subst (λ q. (y : Rattle.sh_rules.specs.Reading.Stops Rule Token) × Rattle.sh_rules.specs.Reading.StuckAll shell text_reader y script start (Rattle.sh_rules.specs.Reading.At q h)) (sym e) (owed_stops text_reader start s ss marks p h w k)

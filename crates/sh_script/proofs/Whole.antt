@@ -44,7 +44,7 @@ use Rattle.sh_script.proofs.Existing.{Shortens, EndsSo, each_ends}
 abbrev pub Agrees : Type 0
 Agrees = ModesAgree shell text_reader sets
 
-ok : Checked TokenKind Part Rule Token Mode Place shell text_reader sets
+ok : Checked shell text_reader sets
 ok = checked Place lex over
 
 consistent : (agree : ModesAgree shell text_reader sets) → Consistent TokenKind Part Rule Token Mode Place shell text_reader sets ok agree script

@@ -1,7 +1,7 @@
 -- What is still to be read, and what reading of it comes to.
 use Rattle.std.specs.Prelude.{◌≡◌, ◌<◌, ℕ, ◌+◌, ◌*◌, List, [], ◌∷◌, ◌++◌, Bool, true, false}
 use Rattle.sh_rules.specs.Grammar.{Symbol, Want, Do, Parses}
-use Rattle.sh_rules.specs.Reading.{Reader, ReadsAll, Halt, Stops, StuckAll}
+use Rattle.sh_rules.specs.Reading.{Reader, ReadsAll, Halt, Stops, At, StuckAll}
 use Rattle.sh_rules.specs.declared.token_kind.TokenKind.{TokenKind}
 use Rattle.sh_rules.specs.declared.token_kind.Mode.{Mode}
 use Rattle.sh_rules.specs.Parts as p
@@ -17,7 +17,7 @@ use Rattle.sh_script.specs.TextReader.{text_reader}
 unfoldable pub Owes : {P : Type 0} → Reader TokenKind Part Rule Token Mode P → P → List (Symbol TokenKind Part) → List Mark → P → Type 0
 Owes {P = P} l start todo marks here =
     ((xs : Parses Rule Token) (q : P) → ReadsAll shell l xs todo here q → (qs : Parses Rule Token) × ReadsAll shell l qs script start q × (flat_all qs ≡ marks ++ flat_all xs)) ×
-    ((x : Stops Rule Token) (m : P) (h : Halt Token) → StuckAll shell l x todo here m h → (y : Stops Rule Token) × StuckAll shell l y script start m h)
+    ((x : Stops Rule Token) (m : P) (h : Halt Token) → StuckAll shell l x todo here (At m h) → (y : Stops Rule Token) × StuckAll shell l y script start (At m h))
 
 -- what was owed is owed
 unfoldable pub Keeps : List (Symbol TokenKind Part) → List Mark → Place → List (Symbol TokenKind Part) → List Mark → Place → Type 0

@@ -22,13 +22,13 @@ use Rattle.sh_token.specs.Brackets.{text_look}
 use Rattle.sh_token.specs.Commands.{command_word, prefix_word, argument_word, text_of, redirection, assignment, is_assignment, is_numbered}
 use Rattle.sh_token.specs.Fronts.{front_of, plain_of, break_of, end_of, is_found}
 use Rattle.sh_token.specs.Recognizers.{recognizer}
-use Rattle.sh_token.specs.Lexemes.{recognized, look}
-use Rattle.sh_token.specs.Places.{Place, is_none, is_whole, is_closed, is_nested}
+use Rattle.sh_token.specs.Lexemes.{surroundings, recognized, look}
+use Rattle.sh_token.specs.Places.{Place, is_none}
 use Rattle.sh_token.specs.Recognition.{Double_quotes, Quoted_braces, Document, Arithmetic, quoted_text, begins_operator, quoted_by, at_quoted, at_operator, at_blank, at_tilde, first_part, word_among, at_word, at_unquoted, at_other, reserved, is_esac, recognition, token_at}
 
 -- what is found with a front
 abbrev found : Mode → Place → Front → Look
-found mode p x = recognized (recognizer mode x) (is_whole p) (is_closed p) (is_nested p) p.words p.awaited p.text
+found mode p x = recognized (recognizer mode x) (surroundings p) p.text
 
 -- a byte that quotes ends no word
 ends_none : (c : ℕ) → is_quoting c ≡ true → is_end c ≡ false

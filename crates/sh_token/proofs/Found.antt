@@ -21,7 +21,7 @@ use Rattle.sh_token.specs.Quoting.{escape, single, not_quote}
 use Rattle.sh_token.specs.Commands.{command_word, prefix_word, argument_word, text_of, name_look, redirection, opening, is_in, name_or_text, function_name, long_number, opens_parenthesis}
 use Rattle.sh_token.specs.Words.{backslash}
 use Rattle.sh_token.specs.HereDocuments.{Awaited, walk, body}
-use Rattle.sh_token.specs.Lexemes.{recognized, token_if, body_found, bodies_look, delimiter_look, closing}
+use Rattle.sh_token.specs.Lexemes.{Surroundings, recognized, token_if, body_found, bodies_look, delimiter_look, closing}
 
 -- tokens that may have no byte
 abbrev pub may_have_none : TokenKind → Bool
@@ -301,50 +301,50 @@ kinds_by r.FunctionOpen = 14 ∷ []
 kinds_by r.FunctionClose = 15 ∷ []
 kinds_by r.Delimiter = 44 ∷ []
 
-pub of_recognized : (x : Recognizer) (whole closed nested : Bool) (words : Words) (awaited : List Awaited) (text : List ℕ) → Of (kinds_by x) (recognized x whole closed nested words awaited text)
+pub of_recognized : (x : Recognizer) (s : Surroundings) (text : List ℕ) → Of (kinds_by x) (recognized x s text)
 unfolding recognized
-of_recognized r.Nothing whole closed nested words awaited text = tt
-of_recognized r.AtEnd whole closed nested words awaited text = of_token_if (73 ∷ []) whole k.End 0 refl tt
-of_recognized r.Newline whole closed nested words awaited text = (refl, some_bytes _)
-of_recognized r.Operator whole closed nested words awaited text = of_operator (slice_index (folded text) 0) (slice_index (folded text) 1)
-of_recognized r.Redirects whole closed nested words awaited text = of_redirection (folded text)
-of_recognized r.LeftParen whole closed nested words awaited text = (refl, some_bytes _)
-of_recognized r.Escape whole closed nested words awaited text = of_escape text
-of_recognized r.Single whole closed nested words awaited text = of_single text
-of_recognized r.QuoteOpen whole closed nested words awaited text = (refl, some_bytes _)
-of_recognized r.Expands whole closed nested words awaited text = of_dollar k.Brace (folded text) (refl, refl)
-of_recognized r.ExpandsQuoted whole closed nested words awaited text = of_dollar k.QuotedBrace (folded text) (refl, refl)
-of_recognized r.Closer whole closed nested words awaited text = of_closer (folded text)
-of_recognized r.Esac whole closed nested words awaited text = (refl, some_bytes _)
-of_recognized r.Assignment whole closed nested words awaited text = (refl, some_bytes _)
-of_recognized r.CommandWord whole closed nested words awaited text = of_command_word words (folded text)
-of_recognized r.PrefixWord whole closed nested words awaited text = of_prefix_word (folded text)
-of_recognized r.ArgumentWord whole closed nested words awaited text = of_argument_word words (folded text)
-of_recognized r.PatternOpen whole closed nested words awaited text = (refl, some_bytes _)
-of_recognized r.PatternText whole closed nested words awaited text = of_text (38 ∷ []) is_plain k.PatternText (folded text) (refl, refl)
-of_recognized r.CaseIn whole closed nested words awaited text = of_if (35 ∷ []) (is_word (codes "in") (folded text)) _ _ (refl, some_bytes _) tt
-of_recognized r.PatternClose whole closed nested words awaited text = (refl, some_bytes _)
-of_recognized r.PatternBar whole closed nested words awaited text = of_if (40 ∷ []) (slice_index (folded text) 1 == 124) _ _ tt (refl, some_bytes _)
-of_recognized r.Bodies whole closed nested words awaited text = of_bodies awaited text
-of_recognized r.BodyClose whole closed nested words awaited text = of_token_if (5 ∷ []) closed k.BodyClose 0 refl tt
-of_recognized r.BodyBackslash whole closed nested words awaited text = of_backslash (6 ∷ 7 ∷ []) _ k.BodyEscape k.BodyText (refl, refl) (refl, refl)
-of_recognized r.BodyText whole closed nested words awaited text = (refl, some_bytes _)
-of_recognized r.WordEnd whole closed nested words awaited text = (refl, tt)
-of_recognized r.ValueText whole closed nested words awaited text = of_text (48 ∷ []) is_plain k.ValueText (folded text) (refl, refl)
-of_recognized r.Text whole closed nested words awaited text = of_text (49 ∷ []) is_plain k.Text (folded text) (refl, refl)
-of_recognized r.QuoteClose whole closed nested words awaited text = (refl, some_bytes _)
-of_recognized r.QuotedBackslash whole closed nested words awaited text = of_backslash (60 ∷ 61 ∷ []) _ k.QuotedEscape k.QuotedText (refl, refl) (refl, refl)
-of_recognized r.QuotedText whole closed nested words awaited text = (refl, some_bytes _)
-of_recognized r.BraceClose whole closed nested words awaited text = (refl, some_bytes _)
-of_recognized r.BraceStartText whole closed nested words awaited text = of_text (63 ∷ []) is_brace_text k.BraceStartText (folded text) (refl, refl)
-of_recognized r.BraceText whole closed nested words awaited text = of_text (64 ∷ []) is_brace_text k.BraceText (folded text) (refl, refl)
-of_recognized r.QuotedBraceBackslash whole closed nested words awaited text = of_backslash (65 ∷ 66 ∷ []) _ k.QuotedBraceEscape k.QuotedBraceText (refl, refl) (refl, refl)
-of_recognized r.QuotedBraceText whole closed nested words awaited text = (refl, some_bytes _)
-of_recognized r.ArithmeticBackslash whole closed nested words awaited text = of_backslash (68 ∷ 69 ∷ []) _ k.ArithmeticEscape k.ArithmeticText (refl, refl) (refl, refl)
-of_recognized r.ArithmeticText whole closed nested words awaited text = (refl, some_bytes _)
-of_recognized r.ParenthesisOpen whole closed nested words awaited text = (refl, some_bytes _)
-of_recognized r.ParenthesisClose whole closed nested words awaited text = of_closing nested (slice_index (folded text) 1)
-of_recognized r.Name whole closed nested words awaited text = of_name (folded text)
-of_recognized r.FunctionOpen whole closed nested words awaited text = (refl, some_bytes _)
-of_recognized r.FunctionClose whole closed nested words awaited text = (refl, some_bytes _)
-of_recognized r.Delimiter whole closed nested words awaited text = of_delimiter text
+of_recognized r.Nothing s text = tt
+of_recognized r.AtEnd s text = of_token_if (73 ∷ []) s.whole k.End 0 refl tt
+of_recognized r.Newline s text = (refl, some_bytes _)
+of_recognized r.Operator s text = of_operator (slice_index (folded text) 0) (slice_index (folded text) 1)
+of_recognized r.Redirects s text = of_redirection (folded text)
+of_recognized r.LeftParen s text = (refl, some_bytes _)
+of_recognized r.Escape s text = of_escape text
+of_recognized r.Single s text = of_single text
+of_recognized r.QuoteOpen s text = (refl, some_bytes _)
+of_recognized r.Expands s text = of_dollar k.Brace (folded text) (refl, refl)
+of_recognized r.ExpandsQuoted s text = of_dollar k.QuotedBrace (folded text) (refl, refl)
+of_recognized r.Closer s text = of_closer (folded text)
+of_recognized r.Esac s text = (refl, some_bytes _)
+of_recognized r.Assignment s text = (refl, some_bytes _)
+of_recognized r.CommandWord s text = of_command_word s.words (folded text)
+of_recognized r.PrefixWord s text = of_prefix_word (folded text)
+of_recognized r.ArgumentWord s text = of_argument_word s.words (folded text)
+of_recognized r.PatternOpen s text = (refl, some_bytes _)
+of_recognized r.PatternText s text = of_text (38 ∷ []) is_plain k.PatternText (folded text) (refl, refl)
+of_recognized r.CaseIn s text = of_if (35 ∷ []) (is_word (codes "in") (folded text)) _ _ (refl, some_bytes _) tt
+of_recognized r.PatternClose s text = (refl, some_bytes _)
+of_recognized r.PatternBar s text = of_if (40 ∷ []) (slice_index (folded text) 1 == 124) _ _ tt (refl, some_bytes _)
+of_recognized r.Bodies s text = of_bodies s.awaited text
+of_recognized r.BodyClose s text = of_token_if (5 ∷ []) s.closed k.BodyClose 0 refl tt
+of_recognized r.BodyBackslash s text = of_backslash (6 ∷ 7 ∷ []) _ k.BodyEscape k.BodyText (refl, refl) (refl, refl)
+of_recognized r.BodyText s text = (refl, some_bytes _)
+of_recognized r.WordEnd s text = (refl, tt)
+of_recognized r.ValueText s text = of_text (48 ∷ []) is_plain k.ValueText (folded text) (refl, refl)
+of_recognized r.Text s text = of_text (49 ∷ []) is_plain k.Text (folded text) (refl, refl)
+of_recognized r.QuoteClose s text = (refl, some_bytes _)
+of_recognized r.QuotedBackslash s text = of_backslash (60 ∷ 61 ∷ []) _ k.QuotedEscape k.QuotedText (refl, refl) (refl, refl)
+of_recognized r.QuotedText s text = (refl, some_bytes _)
+of_recognized r.BraceClose s text = (refl, some_bytes _)
+of_recognized r.BraceStartText s text = of_text (63 ∷ []) is_brace_text k.BraceStartText (folded text) (refl, refl)
+of_recognized r.BraceText s text = of_text (64 ∷ []) is_brace_text k.BraceText (folded text) (refl, refl)
+of_recognized r.QuotedBraceBackslash s text = of_backslash (65 ∷ 66 ∷ []) _ k.QuotedBraceEscape k.QuotedBraceText (refl, refl) (refl, refl)
+of_recognized r.QuotedBraceText s text = (refl, some_bytes _)
+of_recognized r.ArithmeticBackslash s text = of_backslash (68 ∷ 69 ∷ []) _ k.ArithmeticEscape k.ArithmeticText (refl, refl) (refl, refl)
+of_recognized r.ArithmeticText s text = (refl, some_bytes _)
+of_recognized r.ParenthesisOpen s text = (refl, some_bytes _)
+of_recognized r.ParenthesisClose s text = of_closing s.nested (slice_index (folded text) 1)
+of_recognized r.Name s text = of_name (folded text)
+of_recognized r.FunctionOpen s text = (refl, some_bytes _)
+of_recognized r.FunctionClose s text = (refl, some_bytes _)
+of_recognized r.Delimiter s text = of_delimiter text

@@ -26,8 +26,8 @@ use Rattle.sh_token.specs.Tokens.{Look, token}
 use Rattle.sh_token.specs.Expansions.{dollar, braced, operation, operated, length_look, parameter_in_braces, or_else, is_special, substitutes}
 use Rattle.sh_token.specs.Fronts.{front_of}
 use Rattle.sh_token.specs.Recognizers.{recognizer}
-use Rattle.sh_token.specs.Lexemes.{recognized, is_raw, extent, measured, look}
-use Rattle.sh_token.specs.Places.{Place, is_whole, is_closed, is_nested}
+use Rattle.sh_token.specs.Lexemes.{surroundings, recognized, is_raw, extent, measured, look}
+use Rattle.sh_token.specs.Places.{Place}
 use Rattle.sh_token.specs.Steps.{lexed, lex, over, token_of}
 use Rattle.sh_token.proofs.Found.{Of, kinds_by, of_recognized}
 
@@ -333,7 +333,7 @@ like_dollar c d text h =
     (like_if (slice_index text 1 == 123) _ _ _ _ (like_braced c d text h) (like_same _)))))
 
 abbrev pub found : Recognizer → Place → Look
-found x p = recognized x (is_whole p) (is_closed p) (is_nested p) p.words p.awaited p.text
+found x p = recognized x (surroundings p) p.text
 
 dollars_like : (x y : Recognizer) (p : Place) → (x ≡ r.Expands) ⊎ (x ≡ r.ExpandsQuoted) → (y ≡ r.Expands) ⊎ (y ≡ r.ExpandsQuoted) → Like (found y p) (found x p)
 unfolding recognized
@@ -360,7 +360,7 @@ finds x y p j n h e = by (either_cases (nat_eq (num x) (num y)) (both (both (exp
         dollars_like x y p (which x t.0) (which y t.1) j n s.1 e
 
 pub kind_of : (x : Recognizer) (p : Place) (j : TokenKind) (n : ℕ) → found x p ≡ Some (j, n) → member (number j) (kinds_by x) ≡ true
-kind_of x p j n e = (subst (Of (kinds_by x)) e (of_recognized x (is_whole p) (is_closed p) (is_nested p) p.words p.awaited p.text)).0
+kind_of x p j n e = (subst (Of (kinds_by x)) e (of_recognized x (surroundings p) p.text)).0
 
 from_both : (a b : Bool) → a ≡ true → b ≡ true → both a b ≡ true
 from_both a b h i = ap (λ a. both a b) h ∙ i

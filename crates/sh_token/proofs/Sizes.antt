@@ -23,9 +23,9 @@ use Rattle.sh_token.specs.Tokens.{token}
 use Rattle.sh_token.specs.HereDocuments.{Awaited, piece, closes, counted_body, counted_line, more_by, one_piece, body, line}
 use Rattle.sh_token.specs.Fronts.{front_of}
 use Rattle.sh_token.specs.Recognizers.{recognizer}
-use Rattle.sh_token.specs.Lexemes.{recognized, token_if, body_found, bodies_look, is_raw, extent, look}
+use Rattle.sh_token.specs.Lexemes.{Surroundings, surroundings, recognized, token_if, body_found, bodies_look, is_raw, extent, look}
 use Rattle.sh_token.specs.Effects.{effect_of}
-use Rattle.sh_token.specs.Places.{Place, Around, last_paren, moved, is_whole, is_closed, is_nested, size, left_around}
+use Rattle.sh_token.specs.Places.{Place, Around, last_paren, moved, size, left_around}
 use Rattle.sh_token.specs.Steps.{lex, after, popped, last_around, paren_closed, body_passed, body_taken, past_tabs_if, aside, put_aside, body_begun, body_opened, body_closed, next}
 use Rattle.sh_token.proofs.Found.{Of, Wide, may_have_none, kinds_by, of_recognized}
 use Rattle.sh_token.proofs.Modes.{found, front_at_place, unmeasured, unlexed, found_by_itself, kind_or, count_or, place_or}
@@ -91,27 +91,27 @@ no_body (d ∷ ds) j n e = by d.quoted e
     by true e = cc
     by false e = cc
 
-at_the_end : (m : Mode) (whole closed nested : Bool) (words : Words) (awaited : List Awaited) (j : TokenKind) (n : ℕ) → recognized (recognizer m f.End) whole closed nested words awaited [] ≡ Some (j, n) → may_have_none j ≡ true
+at_the_end : (m : Mode) (s : Surroundings) (j : TokenKind) (n : ℕ) → recognized (recognizer m f.End) s [] ≡ Some (j, n) → may_have_none j ≡ true
 unfolding recognized recognizer
-at_the_end m.CommandStart whole closed nested words awaited j n e = if_so whole k.End j 0 n e refl
-at_the_end m.Prefix whole closed nested words awaited j n e = if_so whole k.End j 0 n e refl
-at_the_end m.Argument whole closed nested words awaited j n e = if_so whole k.End j 0 n e refl
-at_the_end m.PatternStart whole closed nested words awaited j n e = cc
-at_the_end m.CaseIn whole closed nested words awaited j n e = cc
-at_the_end m.PatternRest whole closed nested words awaited j n e = cc
-at_the_end m.Bodies whole closed nested words awaited j n e = no_body awaited j n e
-at_the_end m.BodyText whole closed nested words awaited j n e = if_so closed k.BodyClose j 0 n e refl
-at_the_end m.Value whole closed nested words awaited j n e = if_so true k.WordEnd j 0 n e refl
-at_the_end m.InWord whole closed nested words awaited j n e = if_so true k.WordEnd j 0 n e refl
-at_the_end m.InQuotes whole closed nested words awaited j n e = cc
-at_the_end m.BraceStart whole closed nested words awaited j n e = cc
-at_the_end m.InBraces whole closed nested words awaited j n e = cc
-at_the_end m.InQuotedBraces whole closed nested words awaited j n e = cc
-at_the_end m.InArithmetic whole closed nested words awaited j n e = cc
-at_the_end m.ForName whole closed nested words awaited j n e = cc
-at_the_end m.FunctionOpen whole closed nested words awaited j n e = cc
-at_the_end m.FunctionClose whole closed nested words awaited j n e = cc
-at_the_end m.HereDelimiter whole closed nested words awaited j n e = cc
+at_the_end m.CommandStart s j n e = if_so s.whole k.End j 0 n e refl
+at_the_end m.Prefix s j n e = if_so s.whole k.End j 0 n e refl
+at_the_end m.Argument s j n e = if_so s.whole k.End j 0 n e refl
+at_the_end m.PatternStart s j n e = cc
+at_the_end m.CaseIn s j n e = cc
+at_the_end m.PatternRest s j n e = cc
+at_the_end m.Bodies s j n e = no_body s.awaited j n e
+at_the_end m.BodyText s j n e = if_so s.closed k.BodyClose j 0 n e refl
+at_the_end m.Value s j n e = if_so true k.WordEnd j 0 n e refl
+at_the_end m.InWord s j n e = if_so true k.WordEnd j 0 n e refl
+at_the_end m.InQuotes s j n e = cc
+at_the_end m.BraceStart s j n e = cc
+at_the_end m.InBraces s j n e = cc
+at_the_end m.InQuotedBraces s j n e = cc
+at_the_end m.InArithmetic s j n e = cc
+at_the_end m.ForName s j n e = cc
+at_the_end m.FunctionOpen s j n e = cc
+at_the_end m.FunctionClose s j n e = cc
+at_the_end m.HereDelimiter s j n e = cc
 
 no_front : (words : Words) → front_of words (folded []) ≡ f.End
 unfolding front_of
@@ -122,20 +122,20 @@ wide_is true n h w = cc
 wide_is false n h w = w
 
 -- a token of another kind has a byte
-measured_some : (m : Mode) (whole closed nested : Bool) (words : Words) (awaited : List Awaited) (text : List ℕ) (j : TokenKind) (i : ℕ) → recognized (recognizer m (front_of words (folded text))) whole closed nested words awaited text ≡ Some (j, i) → may_have_none j ≡ false → 1 ≤ extent (is_raw j) i text
-measured_some m whole closed nested words awaited [] j i e h =
-    let s : may_have_none j ≡ true = at_the_end m whole closed nested words awaited j i (subst (λ x. recognized (recognizer m x) whole closed nested words awaited [] ≡ Some (j, i)) (no_front words) e) in
+measured_some : (m : Mode) (s : Surroundings) (text : List ℕ) (j : TokenKind) (i : ℕ) → recognized (recognizer m (front_of s.words (folded text))) s text ≡ Some (j, i) → may_have_none j ≡ false → 1 ≤ extent (is_raw j) i text
+measured_some m s [] j i e h =
+    let empty : may_have_none j ≡ true = at_the_end m s j i (subst (λ x. recognized (recognizer m x) s [] ≡ Some (j, i)) (no_front s.words) e) in
     cc
-measured_some m whole closed nested words awaited (c ∷ cs) j i e h =
-    let x = recognizer m (front_of words (folded (c ∷ cs))) in
-    let w = (subst (Of (kinds_by x)) e (of_recognized x whole closed nested words awaited (c ∷ cs))).1 in
+measured_some m s (c ∷ cs) j i e h =
+    let x = recognizer m (front_of s.words (folded (c ∷ cs))) in
+    let w = (subst (Of (kinds_by x)) e (of_recognized x s (c ∷ cs))).1 in
     extent_some (is_raw j) i (c ∷ cs) (wide_is (may_have_none j) i h w) (omega arith)
 
 pub has_byte : (m : Mode) (p : Place) (j : TokenKind) (n : ℕ) → look m p ≡ Some (j, n) → may_have_none j ≡ false → 1 ≤ n
 unfolding look
 has_byte m p j n e h =
     let u = unmeasured p.text (found (recognizer m (front_at_place p)) p) j n e in
-    subst (λ n. 1 ≤ n) (sym u.2) (measured_some m (is_whole p) (is_closed p) (is_nested p) p.words p.awaited p.text j u.0 u.1 h)
+    subst (λ n. 1 ≤ n) (sym u.2) (measured_some m (surroundings p) p.text j u.0 u.1 h)
 
 -- what is left behind a token, of effects that go on in the same text
 abbrev passes : Effect → Bool

@@ -21,56 +21,69 @@ use Rattle.sh_token.specs.Fronts.{front_of}
 use Rattle.sh_token.specs.Recognizers.{recognizer}
 use Rattle.sh_token.specs.Places.{Place, is_closed, is_nested, is_whole}
 
--- what a recognizer finds, and how many bytes it has: as the text is read, or as it stands (is_raw); by whether the whole text,
--- or what is read by itself, may end there, by whether parentheses are open in an arithmetic expansion, by which words are reserved, and by the here-documents to come
-unfoldable pub recognized : Recognizer → Bool → Bool → Bool → Words → List Awaited → List ℕ → Look
-recognized r.Nothing whole closed nested words awaited text = None
-recognized r.AtEnd whole closed nested words awaited text = token_if whole k.End 0
-recognized r.Newline whole closed nested words awaited text = token k.Newline 1
-recognized r.Operator whole closed nested words awaited text = operator_look (folded text)
-recognized r.Redirects whole closed nested words awaited text = redirection (folded text)
-recognized r.LeftParen whole closed nested words awaited text = token k.LeftParen 1
-recognized r.Escape whole closed nested words awaited text = escape text
-recognized r.Single whole closed nested words awaited text = single text
-recognized r.QuoteOpen whole closed nested words awaited text = token k.QuoteOpen 1
-recognized r.Expands whole closed nested words awaited text = dollar k.Brace (folded text)
-recognized r.ExpandsQuoted whole closed nested words awaited text = dollar k.QuotedBrace (folded text)
-recognized r.Closer whole closed nested words awaited text = closer (folded text)
-recognized r.Esac whole closed nested words awaited text = token k.Esac 4
-recognized r.Assignment whole closed nested words awaited text = assignment (folded text)
-recognized r.CommandWord whole closed nested words awaited text = command_word words (folded text)
-recognized r.PrefixWord whole closed nested words awaited text = prefix_word (folded text)
-recognized r.ArgumentWord whole closed nested words awaited text = argument_word words (folded text)
-recognized r.PatternOpen whole closed nested words awaited text = token k.PatternOpen 1
-recognized r.PatternText whole closed nested words awaited text = text_of k.PatternText (folded text)
-recognized r.CaseIn whole closed nested words awaited text = case_in (folded text)
-recognized r.PatternClose whole closed nested words awaited text = token k.PatternClose 1
-recognized r.PatternBar whole closed nested words awaited text = pattern_bar (folded text)
-recognized r.Bodies whole closed nested words awaited text = bodies_look awaited text
-recognized r.BodyClose whole closed nested words awaited text = token_if closed k.BodyClose 0
-recognized r.BodyBackslash whole closed nested words awaited text = backslash (is_quotable_in_body (slice_index text 1)) k.BodyEscape k.BodyText
-recognized r.BodyText whole closed nested words awaited text = token k.BodyText (run_on is_body_text (folded text))
-recognized r.WordEnd whole closed nested words awaited text = token k.WordEnd 0
-recognized r.ValueText whole closed nested words awaited text = text_of k.ValueText (folded text)
-recognized r.Text whole closed nested words awaited text = text_of k.Text (folded text)
-recognized r.QuoteClose whole closed nested words awaited text = token k.QuoteClose 1
-recognized r.QuotedBackslash whole closed nested words awaited text = backslash (is_quotable (slice_index text 1)) k.QuotedEscape k.QuotedText
-recognized r.QuotedText whole closed nested words awaited text = token k.QuotedText (run_on is_quoted_text (folded text))
-recognized r.BraceClose whole closed nested words awaited text = token k.BraceClose 1
-recognized r.BraceStartText whole closed nested words awaited text = text_look is_brace_text k.BraceStartText (folded text)
-recognized r.BraceText whole closed nested words awaited text = text_look is_brace_text k.BraceText (folded text)
-recognized r.QuotedBraceBackslash whole closed nested words awaited text = backslash (is_quotable_in_braces (slice_index text 1)) k.QuotedBraceEscape k.QuotedBraceText
-recognized r.QuotedBraceText whole closed nested words awaited text = token k.QuotedBraceText (run_on is_quoted_brace_text (folded text))
-recognized r.ArithmeticBackslash whole closed nested words awaited text = backslash (is_quotable_in_body (slice_index text 1)) k.ArithmeticEscape k.ArithmeticText
-recognized r.ArithmeticText whole closed nested words awaited text = token k.ArithmeticText (run_on is_arithmetic_text (folded text))
-recognized r.ParenthesisOpen whole closed nested words awaited text = token k.ParenthesisOpen 1
-recognized r.ParenthesisClose whole closed nested words awaited text = closing nested (slice_index (folded text) 1)
-recognized r.Name whole closed nested words awaited text = name_look (folded text)
-recognized r.FunctionOpen whole closed nested words awaited text = token k.FunctionOpen 1
-recognized r.FunctionClose whole closed nested words awaited text = token k.FunctionClose 1
-recognized r.Delimiter whole closed nested words awaited text = delimiter_look text
+-- What a place is besides its text, for a recognizer: whether the whole text may end there, or what is read by itself; whether parentheses
+-- are open in an arithmetic expansion; which words are reserved; and the here-documents to come.
+pub record Surroundings : Type 0 where
+  pub whole : Bool
+  pub closed : Bool
+  pub nested : Bool
+  pub words : Words
+  pub awaited : List Awaited
+
+abbrev pub surrounded : Bool → Bool → Bool → Words → List Awaited → Surroundings
+surrounded whole closed nested words awaited = record { whole = whole; closed = closed; nested = nested; words = words; awaited = awaited }
+
+abbrev pub surroundings : Place → Surroundings
+surroundings p = surrounded (is_whole p) (is_closed p) (is_nested p) p.words p.awaited
+
+-- what a recognizer finds, and how many bytes it has: as the text is read, or as it stands (is_raw)
+unfoldable pub recognized : Recognizer → Surroundings → List ℕ → Look
+recognized r.Nothing s text = None
+recognized r.AtEnd s text = token_if s.whole k.End 0
+recognized r.Newline s text = token k.Newline 1
+recognized r.Operator s text = operator_look (folded text)
+recognized r.Redirects s text = redirection (folded text)
+recognized r.LeftParen s text = token k.LeftParen 1
+recognized r.Escape s text = escape text
+recognized r.Single s text = single text
+recognized r.QuoteOpen s text = token k.QuoteOpen 1
+recognized r.Expands s text = dollar k.Brace (folded text)
+recognized r.ExpandsQuoted s text = dollar k.QuotedBrace (folded text)
+recognized r.Closer s text = closer (folded text)
+recognized r.Esac s text = token k.Esac 4
+recognized r.Assignment s text = assignment (folded text)
+recognized r.CommandWord s text = command_word s.words (folded text)
+recognized r.PrefixWord s text = prefix_word (folded text)
+recognized r.ArgumentWord s text = argument_word s.words (folded text)
+recognized r.PatternOpen s text = token k.PatternOpen 1
+recognized r.PatternText s text = text_of k.PatternText (folded text)
+recognized r.CaseIn s text = case_in (folded text)
+recognized r.PatternClose s text = token k.PatternClose 1
+recognized r.PatternBar s text = pattern_bar (folded text)
+recognized r.Bodies s text = bodies_look s.awaited text
+recognized r.BodyClose s text = token_if s.closed k.BodyClose 0
+recognized r.BodyBackslash s text = backslash (is_quotable_in_body (slice_index text 1)) k.BodyEscape k.BodyText
+recognized r.BodyText s text = token k.BodyText (run_on is_body_text (folded text))
+recognized r.WordEnd s text = token k.WordEnd 0
+recognized r.ValueText s text = text_of k.ValueText (folded text)
+recognized r.Text s text = text_of k.Text (folded text)
+recognized r.QuoteClose s text = token k.QuoteClose 1
+recognized r.QuotedBackslash s text = backslash (is_quotable (slice_index text 1)) k.QuotedEscape k.QuotedText
+recognized r.QuotedText s text = token k.QuotedText (run_on is_quoted_text (folded text))
+recognized r.BraceClose s text = token k.BraceClose 1
+recognized r.BraceStartText s text = text_look is_brace_text k.BraceStartText (folded text)
+recognized r.BraceText s text = text_look is_brace_text k.BraceText (folded text)
+recognized r.QuotedBraceBackslash s text = backslash (is_quotable_in_braces (slice_index text 1)) k.QuotedBraceEscape k.QuotedBraceText
+recognized r.QuotedBraceText s text = token k.QuotedBraceText (run_on is_quoted_brace_text (folded text))
+recognized r.ArithmeticBackslash s text = backslash (is_quotable_in_body (slice_index text 1)) k.ArithmeticEscape k.ArithmeticText
+recognized r.ArithmeticText s text = token k.ArithmeticText (run_on is_arithmetic_text (folded text))
+recognized r.ParenthesisOpen s text = token k.ParenthesisOpen 1
+recognized r.ParenthesisClose s text = closing s.nested (slice_index (folded text) 1)
+recognized r.Name s text = name_look (folded text)
+recognized r.FunctionOpen s text = token k.FunctionOpen 1
+recognized r.FunctionClose s text = token k.FunctionClose 1
+recognized r.Delimiter s text = delimiter_look text
 
 -- THE TOKEN that stands at a place in a mode, and how many bytes of the text it has
 unfoldable pub look : Mode → Place → Look
-look mode p =
-    measured p.text (recognized (recognizer mode (front_of p.words (folded p.text))) (is_whole p) (is_closed p) (is_nested p) p.words p.awaited p.text)
+look mode p = measured p.text (recognized (recognizer mode (front_of p.words (folded p.text))) (surroundings p) p.text)
