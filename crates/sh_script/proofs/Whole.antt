@@ -16,7 +16,7 @@ use Rattle.sh_rules.specs.declared.token_kind.Mode.{Mode}
 use Rattle.sh_rules.specs.Parts.{Part}
 use Rattle.sh_rules.specs.Parts as p
 use Rattle.sh_rules.specs.Rules.{Rule, Token, shell, script}
-use Rattle.sh_rules.specs.LookAhead.{sets}
+use Rattle.sh_rules.proofs.Sets.{sets}
 use Rattle.sh_rules.proofs.Tables.{checked, productive}
 use Rattle.sh_ast.specs.Commands.{CommandsTree}
 use Rattle.sh_grammar.specs.Marks.{Mark, flat_all}

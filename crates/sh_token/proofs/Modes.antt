@@ -8,7 +8,8 @@ use Rattle.sh_rules.specs.declared.token_kind.Mode.{Mode}
 use Rattle.sh_rules.specs.declared.token_kind.TokenKind.TheVariants as k
 use Rattle.sh_rules.specs.declared.token_kind.Mode.TheVariants as m
 use Rattle.sh_rules.specs.Rules.{Token, shell}
-use Rattle.sh_rules.specs.LookAhead.{number, member, all_kinds, either, mode_of, sets, reader}
+use Rattle.sh_rules.specs.LookAhead.{number, member, all_kinds, either, mode_of, reader}
+use Rattle.sh_rules.proofs.Sets.{sets}
 use Rattle.sh_rules.proofs.Tables.{both, implies, implied, each, every}
 use Rattle.sh_token.specs.declared.recognizer.Recognizer.{Recognizer}
 use Rattle.sh_token.specs.declared.recognizer.Recognizer.TheVariants as r
