@@ -151,8 +151,8 @@ at_dollar Unquoted text = dollar k.Brace text
 at_dollar No_part text = None
 at_dollar quoting text = dollar k.QuotedBrace text
 
--- BLANKS AND COMMENTS (rules 7 and 9): in front of a token they are passed over (`past_blanks` of Places.antt), so a blank stands
--- at a place only within a word, which it ends, and within braces, where it is text. A `#` begins a comment only there, too.
+-- BLANKS AND COMMENTS (rules 7 and 9): in front of a token they are passed over (`past_blanks` of Places.antt), and a `#` begins a
+-- comment nowhere else. So a blank stands at a place only within a word, which it ends, and within braces, where it is text.
 abbrev pub at_blank : Mode → Place → Look
 at_blank m.Value p = token k.WordEnd 0
 at_blank m.InWord p = token k.WordEnd 0
@@ -245,6 +245,7 @@ at_unquoted mode c p =
     else if c == 126 then at_tilde mode p  -- ~
     else at_word mode c p
 
+-- any byte that neither quotes nor expands, nor is the end
 abbrev pub at_other : Quoting → Mode → ℕ → Place → Look
 at_other Unquoted mode c p = at_unquoted mode c p
 at_other No_part mode c p = at_unquoted mode c p

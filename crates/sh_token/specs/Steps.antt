@@ -176,7 +176,7 @@ abbrev pub lexed : Place → Look → Option (Token × Place)
 lexed p None = None
 lexed p (Some x) = Some (token_of x.0 x.1 p, after (effect_of x.0) x.1 p)
 
--- THE TOKEN at a place, and the place behind it
+-- THE TOKEN at a place, which is that of Recognition.antt (`look` is `token_at`), and the place behind it
 unfoldable pub lex : Mode → Place → Option (Token × Place)
 lex mode p = lexed p (look mode p)
 
