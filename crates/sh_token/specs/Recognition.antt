@@ -1,18 +1,18 @@
 -- Which token stands at a place: the rules of XCU 2.3, over the text as it is read, without its joined lines (XCU 2.2.1).
 -- A word isn't one token here: its parts are, what quotes, what expands and the texts between these, and its end.
 --
--- A token is looked for by what the grammar has come to:
---   CommandStart   where a command may begin           Value           where the value of an assignment begins
---   Prefix         in front of a command's name,       InWord          behind the first part of a word
---                  behind an assignment                InQuotes        within double quotes
---   Argument       behind a word or a command          BraceStart      where the word of a parameter begins
---   PatternStart   where an item of a case or one      InBraces        behind the first part of that word
---                  of its patterns begins              InQuotedBraces  in that word within double quotes
---   PatternRest    behind a pattern                    InArithmetic    within an arithmetic expansion
---   CaseIn         behind the word of a case           BodyText        within a here-document
---   ForName        behind `for`                        Bodies          behind a newline: bodies of here-documents
---   FunctionOpen   behind a function's name            HereDelimiter   behind << and <<-
---   FunctionClose  behind its opening parenthesis
+-- Where a token is looked for, by what the grammar has come to (XCU 2.10):
+--   CommandStart    where a command may begin, or a list of commands end
+--   Prefix          behind an assignment or a redirection, in front of a command's name
+--   Argument        behind a word, a command, or an operator that takes a word
+--   PatternStart    where an item of a case begins; PatternRest behind a pattern
+--   CaseIn          behind the word of a case; ForName behind `for`
+--   FunctionOpen    behind a function's name; FunctionClose behind its opening parenthesis
+--   Value           behind an assignment's equals sign; InWord behind a part of a word
+--   InQuotes        within double quotes
+--   BraceStart      where the word of a parameter begins; InBraces behind a part of it; InQuotedBraces in either place within double quotes
+--   InArithmetic    within an arithmetic expansion
+--   HereDelimiter   behind << and <<-; Bodies behind a newline; BodyText within a here-document that is expanded
 use Rattle.std.specs.Prelude.{ℕ, ◌==◌, nat_lt, List, [], ◌∷◌, codes, Bool, true, false, if◌then◌else◌, slice_index, Option, Some, None}
 use Rattle.sh_rules.specs.declared.token_kind.TokenKind.{TokenKind}
 use Rattle.sh_rules.specs.declared.token_kind.TokenKind.TheVariants as k
