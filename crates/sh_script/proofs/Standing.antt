@@ -1,10 +1,9 @@
 -- The shell's tokens, scripts and stops are those of the laws for any table of rules.
-use Rattle.std.proofs.Common.{◌≡◌, List, [], ◌∷◌, ◌++◌, sym, ap, ◌∙◌}
+use Rattle.std.proofs.Common.{List, [], ◌∷◌, ◌++◌, sym, ap, ◌∙◌}
 use Rattle.sh_rules.specs.Grammar.{Parses, leaves_all, Continues, IsWhole}
 use Rattle.sh_rules.specs.Reading.{Spelled, Halt, Blocked, Over, StopsBy, IsStop}
 use Rattle.sh_rules.specs.Rules.{Rule, Token, shell, script}
 use Rattle.sh_token.specs.Places.{Place}
-use Rattle.sh_script.specs.Trees.{Trees, tokens}
 use Rattle.sh_script.specs.Standing.{AllStand, AreAll, AreFirst, NoneGoesOn}
 use Rattle.sh_script.specs.TextReader.{text_reader}
 use Rattle.sh_script.specs.Scripts.{StopsAt}
