@@ -11,7 +11,7 @@ use Rattle.rk_calls.specs.Talk.{Says}
 use Rattle.rk_calls.specs.Turns.{turns}
 use Rattle.rk_calls.specs.Views.{View, Alike, alike-ask, alike-pay}
 use Rattle.sh_vars.specs.declared.env.Env.{Env}
-use Rattle.sh_builtin.specs.Doing.{Slots, Ended, Doing, heard, at_slot, ends, pays, asks}
+use Rattle.sh_builtin.specs.Doing.{Ended, Doing, heard, at_slot, ends, pays, asks}
 use Rattle.sh_builtin.specs.Telling.{tells}
 use Rattle.sh_builtin.specs.Laws.{EndsAlike, BothAlike, IsAlike}
 

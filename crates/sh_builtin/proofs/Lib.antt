@@ -6,3 +6,5 @@ pub mod Refusing
 pub mod AlikeLemmas
 pub mod ReadLemmas
 pub mod LawLemmas
+pub mod LineLemmas
+pub mod ValueLemmas

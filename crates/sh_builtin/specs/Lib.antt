@@ -8,6 +8,9 @@ pub mod Laws
 pub mod Lines
 pub mod Names
 pub mod Prints
+pub mod ReadLaws
+pub mod ReadLines
+pub mod ReadValues
 pub mod Reads
 pub mod Stages
 pub mod Telling

@@ -21,6 +21,6 @@ pub use builtin::Builtin;
 pub use command::BuiltinCommand;
 pub use laws::{
     builtins_by_name_say_what_commands_may, builtins_keep_what_is_alike,
-    builtins_say_what_commands_may,
+    builtins_say_what_commands_may, one_line, one_value_each,
 };
 pub use name::is_builtin;

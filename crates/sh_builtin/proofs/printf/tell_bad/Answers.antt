@@ -1,4 +1,3 @@
-use Rattle.std.proofs.Common.{arith}
 use Rattle.sh_builtin.proofs.Refusing.{no_call_fewer}
 use Rattle.sh_builtin.proofs.printf.tell_bad.Goals as goal
 
