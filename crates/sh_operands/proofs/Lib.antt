@@ -1,4 +1,5 @@
 pub mod Capping
 pub mod Filling
+pub mod FormatLemmas
 pub mod Values
 pub mod Widths

@@ -7,7 +7,7 @@ use Rattle.std.proofs.lemmas.Bool.Decides.{leb_tells}
 use Rattle.rk_base.specs.Text.{Text}
 use Rattle.sh_operands.specs.Numbers.{value_on, no_more}
 
-rises : (n : ℕ) (bs : Text) → n ≤ value_on n bs
+pub rises : (n : ℕ) (bs : Text) → n ≤ value_on n bs
 rises n [] = omega arith
 rises n (b ∷ bs) = omega (arith, rises (10 * n + (b - 48)) bs)
 

@@ -10,7 +10,7 @@ use Rattle.sh_operands.specs.declared.format.Specifier.TheVariants as specifier
 use Rattle.sh_operands.specs.declared.format.Piece.{Piece}
 use Rattle.sh_operands.specs.declared.format.Piece.TheVariants.{Literal, Converted}
 use Rattle.sh_operands.specs.declared.length.Measure.{Measure}
-use Rattle.sh_operands.specs.Formats.{specifier_takes}
+use Rattle.sh_operands.specs.Elements.{specifier_takes}
 use Rattle.sh_operands.specs.Lengths.{measure_of, counted, measured, measures}
 use Rattle.sh_operands.specs.Made.{MadeValue, with_text}
 use Rattle.sh_operands.specs.Numbers.{number}

@@ -1,35 +1,13 @@
--- Formats of `printf` (XBD 5 and XCU 4, `printf`).
+-- Formats of `printf`, read byte by byte.
 use Rattle.std.specs.Prelude.{ℕ, ◌+◌, ◌-◌, ◌*◌, ◌%◌, ◌==◌, List, [], ◌∷◌, ◌++◌, Bool, true, false, ◌&&◌, Option, Some, None, if◌then◌else◌, nat_lt, nat_le}
 use Rattle.rk_base.specs.Text.{Text}
-use Rattle.rk_base.specs.Variables.{is_between}
 use Rattle.sh_operands.specs.declared.format.Specifier.{Specifier}
-use Rattle.sh_operands.specs.declared.format.Specifier.TheVariants as specifier
 use Rattle.sh_operands.specs.declared.format.Piece.{Piece}
 use Rattle.sh_operands.specs.declared.format.Piece.TheVariants.{Literal, Converted}
 use Rattle.sh_operands.specs.declared.format.Reading.{Reading}
 use Rattle.sh_operands.specs.declared.format.Reading.TheVariants.{Plain, Escape, Octal, Flags, Width}
+use Rattle.sh_operands.specs.Elements.{escape_of, specifier_of, is_octal}
 use Rattle.sh_operands.specs.Numbers.{is_digit}
-
-abbrev pub byte_found : {A : Type 0} → ℕ → List (ℕ × A) → Option A
-byte_found b [] = None
-byte_found b (row ∷ rows) = if b == row.0 then Some row.1 else byte_found b rows
-
--- `\\ \a \b \f \n \r \t \v`
-abbrev pub escapes : List (ℕ × ℕ)
-escapes = (92, 92) ∷ (97, 7) ∷ (98, 8) ∷ (102, 12) ∷ (110, 10) ∷ (114, 13) ∷ (116, 9) ∷ (118, 11) ∷ []
-
--- `s d o x c %`
-abbrev pub specifiers : List (ℕ × Specifier)
-specifiers = (115, specifier.Text) ∷ (100, specifier.Decimal) ∷ (111, specifier.Octal) ∷ (120, specifier.Hexadecimal) ∷ (99, specifier.Byte) ∷ (37, specifier.Percent) ∷ []
-
-abbrev pub escape_of : ℕ → Option ℕ
-escape_of b = byte_found b escapes
-
-abbrev pub specifier_of : ℕ → Option Specifier
-specifier_of b = byte_found b specifiers
-
-abbrev pub is_octal : ℕ → Bool
-is_octal b = is_between 48 55 b
 
 -- the pieces so far, and how the next byte is read; None where it makes no conversion
 pub record Step : Type 0 where
@@ -103,13 +81,3 @@ pieces_from reading (b ∷ bs) done = goes_on (step reading b done) (λ next don
 -- the pieces of a format; None where a `%` in it begins no conversion, or one that is too wide
 abbrev pub pieces : Text → Option (List Piece)
 pieces format = pieces_from Plain format []
-
--- Which pieces take an operand: each conversion but `%%`.
-
-abbrev pub specifier_takes : Specifier → Bool
-specifier_takes specifier.Percent = false
-specifier_takes k = true
-
-abbrev pub takes : Piece → Bool
-takes (Literal b) = false
-takes (Converted c) = specifier_takes c.specifier

@@ -5,7 +5,7 @@ use Rattle.sh_operands.specs.declared.format.Conversion.{Conversion}
 use Rattle.sh_operands.specs.declared.format.Piece.{Piece}
 use Rattle.sh_operands.specs.declared.format.Piece.TheVariants.{Literal, Converted}
 use Rattle.sh_operands.specs.declared.length.Measure.{Measure}
-use Rattle.sh_operands.specs.Formats.{specifier_takes}
+use Rattle.sh_operands.specs.Elements.{specifier_takes}
 use Rattle.sh_operands.specs.Made.{MadeValue, nothing}
 use Rattle.sh_operands.specs.Printed.{converted, noted}
 

@@ -1,5 +1,7 @@
 pub mod Counts
+pub mod Elements
 pub mod Formats
+pub mod Laws
 pub mod Lengths
 pub mod Made
 pub mod Modes

@@ -9,7 +9,7 @@ use Rattle.sh_operands.specs.declared.format.Conversion.{Conversion}
 use Rattle.sh_operands.specs.declared.format.Piece.{Piece}
 use Rattle.sh_operands.specs.declared.format.Piece.TheVariants.{Literal, Converted}
 use Rattle.sh_operands.specs.declared.number.Number.{Number}
-use Rattle.sh_operands.specs.Formats.{takes, specifier_takes}
+use Rattle.sh_operands.specs.Elements.{takes, specifier_takes}
 use Rattle.sh_operands.specs.Made.{MadeValue, nothing, with_text, with_bad}
 use Rattle.sh_operands.specs.Numbers.{number}
 

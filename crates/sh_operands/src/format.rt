@@ -1,6 +1,7 @@
 // Formats of `printf`.
 ghost use Rattle.std.specs.Prelude.{◌≡◌, ◌+◌, ◌-◌, ◌*◌, ◌%◌, ◌++◌, ◌∷◌, [], IfOk, OnOk, count_by};
-ghost use Rattle.sh_operands.specs.Formats.{escape_of, specifier_of, is_octal, with_byte, plain, known, escaped, octal, converts, wider, with_width, widened, flagged, step, finished, pieces, specifier_takes, takes};
+ghost use Rattle.sh_operands.specs.Elements.{escape_of, specifier_of, is_octal, specifier_takes, takes};
+ghost use Rattle.sh_operands.specs.Formats.{with_byte, plain, known, escaped, octal, converts, wider, with_width, widened, flagged, step, finished, pieces};
 
 use crate::number::is_digit;
 use rk_base::NoMemory;

@@ -5,6 +5,7 @@
 mod convert;
 mod count;
 mod format;
+mod laws;
 mod length;
 mod made;
 mod number;
@@ -15,6 +16,7 @@ mod words;
 
 pub use count::count_of;
 pub use format::{Conversion, Format, Piece, Specifier, pieces};
+pub use laws::one_format;
 pub use length::measured;
 pub use made::Made;
 pub use number::{Number, number_of};
