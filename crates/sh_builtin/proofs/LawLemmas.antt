@@ -34,7 +34,7 @@ use Rattle.sh_builtin.specs.Prints.{bad_line, writes_made, puts_made, tells_bad,
 use Rattle.sh_builtin.proofs.ReadLemmas.{alike-reads}
 use Rattle.sh_builtin.specs.Telling.{complains, usage_line, written, puts}
 use Rattle.sh_builtin.specs.Tests.{holds, status_of, inverted_if, judges, is_closing, tests, brackets}
-use Rattle.sh_operands.specs.Printed.{prints_of}
+use Rattle.sh_operands.specs.Passes.{prints_of}
 use Rattle.sh_operands.specs.Verdicts.{decides}
 
 alike-complains : (n : Name) (operand what : Text) (status : ℕ) → IsAlike (complains n operand what status)

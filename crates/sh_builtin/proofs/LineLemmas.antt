@@ -7,8 +7,8 @@ use Rattle.sh_builtin.specs.declared.line.Scan.{Scan}
 use Rattle.sh_builtin.specs.declared.line.Scan.TheVariants as scan
 use Rattle.sh_builtin.specs.declared.line.End.{End}
 use Rattle.sh_builtin.specs.declared.line.End.TheVariants.{Whole, Short, Continued}
-use Rattle.sh_builtin.specs.Lines.{Step, Line, plain, quoted, unquoted, escaped, step, scanned, line_of}
-use Rattle.sh_builtin.specs.ReadLines.{Piece, Byte, Escaped, Joint, IsPiece, ArePieces, spelling, spelt, marks_of, is_joint, joined_last, EndsBy, IsReadLine}
+use Rattle.sh_builtin.specs.Lines.{Step, unquoted, escaped, step, scanned, line_of}
+use Rattle.sh_builtin.specs.ReadLines.{Line, plain, quoted, Piece, Byte, Escaped, Joint, IsPiece, ArePieces, spelling, spelt, marks_of, is_joint, joined_last, EndsBy, IsReadLine}
 
 -- how the next byte is read, behind a joint or not
 abbrev at : Bool → Scan

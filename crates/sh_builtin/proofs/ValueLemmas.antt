@@ -10,9 +10,10 @@ use Rattle.rk_base.specs.Canonical.{is_empty}
 use Rattle.sh_split.specs.declared.mark.MarkKind.{MarkKind}
 use Rattle.sh_split.specs.declared.mark.MarkKind.TheVariants.{White, Hard, Matter, Break}
 use Rattle.sh_split.specs.Cutting.{IsRun, NotFirst, IsHard, Delimits}
+use Rattle.sh_split.specs.Marks.{contains, is_blank}
 use Rattle.sh_builtin.specs.declared.marks.Marked.{Marked}
-use Rattle.sh_builtin.specs.Fields.{contains, is_blank, delimits, is_white, belongs, bytes_of, past_white, field, past_hard, rest, trimmed, last_value, value_before, values_from, values}
-use Rattle.sh_builtin.specs.ReadValues.{kind_in, Part, whole, AreParts, IsCutInto, IsTrimmed, IsValue, others, HaveValues, AreReadValues}
+use Rattle.sh_builtin.specs.Fields.{delimits, is_white, belongs, past_white, field, past_hard, rest, trimmed, last_value, value_before, values_from, values}
+use Rattle.sh_builtin.specs.ReadValues.{bytes_of, kind_in, Part, whole, AreParts, IsCutInto, IsTrimmed, IsValue, others, HaveValues, AreReadValues}
 
 -- What the tests of a byte say of its kind.
 

@@ -1,15 +1,11 @@
--- The fields that `read` cuts a line into, one for each variable (XCU 2.6.5 and 4, `read`).
-use Rattle.std.specs.Prelude.{ℕ, ◌-◌, ◌==◌, List, [], ◌∷◌, map, reverse, take, drop, length, Bool, not, ◌&&◌, ◌||◌, Option, Some, None, if◌then◌else◌}
-use Rattle.std.specs.List.{take_while, list_any}
+-- The values of the variables of `read`, by how far the tests of bytes go.
+use Rattle.std.specs.Prelude.{ℕ, ◌-◌, List, [], ◌∷◌, reverse, take, drop, length, Bool, not, ◌&&◌, if◌then◌else◌}
+use Rattle.std.specs.List.{take_while}
 use Rattle.rk_base.specs.Text.{Text}
 use Rattle.rk_base.specs.Canonical.{is_empty}
+use Rattle.sh_split.specs.Marks.{contains, is_blank}
 use Rattle.sh_builtin.specs.declared.marks.Marked.{Marked}
-
-abbrev pub contains : Text → ℕ → Bool
-contains ifs b = list_any (λ c. c == b) ifs
-
-abbrev pub is_blank : ℕ → Bool
-is_blank b = (b == 32) || (b == 9) || (b == 10)
+use Rattle.sh_builtin.specs.ReadValues.{bytes_of}
 
 -- a byte of IFS that isn't quoted
 abbrev pub delimits : Text → Marked → Bool
@@ -21,9 +17,6 @@ is_white ifs m = delimits ifs m && is_blank m.byte
 
 abbrev pub belongs : Text → Marked → Bool
 belongs ifs m = not (delimits ifs m)
-
-abbrev pub bytes_of : List Marked → Text
-bytes_of = map (λ (m : Marked). m.byte)
 
 -- behind IFS white space
 abbrev pub past_white : Text → List Marked → List Marked
@@ -65,8 +58,3 @@ values_from ifs (x ∷ xs) ms = value_before xs ifs ms ∷ values_from ifs xs (r
 
 abbrev pub values : Text → List Text → List Marked → List Text
 values ifs names ms = values_from ifs names (past_white ifs ms)
-
--- where IFS is unset it is a blank, a tab and a newline
-abbrev pub ifs_or_default : Option Text → Text
-ifs_or_default None = 32 ∷ 9 ∷ 10 ∷ []
-ifs_or_default (Some ifs) = ifs

@@ -1,17 +1,12 @@
--- The lines that `read` reads (XCU 4, `read`).
-use Rattle.std.specs.Prelude.{ℕ, ◌==◌, List, [], ◌∷◌, ◌++◌, Bool, true, false, not, ◌&&◌, Option, Some, None, if◌then◌else◌}
+-- A text, scanned byte by byte for the line at its front.
+use Rattle.std.specs.Prelude.{ℕ, ◌==◌, List, [], ◌∷◌, ◌++◌, Bool, not, ◌&&◌, Option, Some, None, if◌then◌else◌}
 use Rattle.rk_base.specs.Text.{Text}
 use Rattle.sh_builtin.specs.declared.marks.Marked.{Marked}
 use Rattle.sh_builtin.specs.declared.line.Scan.{Scan}
 use Rattle.sh_builtin.specs.declared.line.Scan.TheVariants.{Plain, Escaped, Joined}
 use Rattle.sh_builtin.specs.declared.line.End.{End}
 use Rattle.sh_builtin.specs.declared.line.End.TheVariants.{Whole, Short, Continued}
-
-abbrev pub plain : ℕ → Marked
-plain b = record { byte = b; quoted = false }
-
-abbrev pub quoted : ℕ → Marked
-quoted b = record { byte = b; quoted = true }
+use Rattle.sh_builtin.specs.ReadLines.{Line, plain, quoted}
 
 -- what a byte adds to the line, and how the next one is read; None where it ends the line
 pub record Step : Type 0 where
@@ -33,10 +28,6 @@ abbrev pub step : Bool → Scan → ℕ → Step
 step raw Plain b = unquoted raw b
 step raw Escaped b = escaped b
 step raw Joined b = unquoted raw b
-
-pub record Line : Type 0 where
-  pub marks : List Marked
-  pub end : End
 
 -- where the input ends after a joined line, more is asked for; a last backslash that quotes nothing goes
 abbrev pub end_of : Scan → End

@@ -9,7 +9,7 @@ use Rattle.rk_calls.specs.Turns.{turns}
 use Rattle.sh_operands.specs.declared.format.Piece.{Piece}
 use Rattle.sh_operands.specs.Formats.{pieces}
 use Rattle.sh_operands.specs.Made.{MadeValue}
-use Rattle.sh_operands.specs.Printed.{prints_of}
+use Rattle.sh_operands.specs.Passes.{prints_of}
 use Rattle.sh_builtin.specs.declared.name.Name.TheVariants.{Printf}
 use Rattle.sh_builtin.specs.Doing.{Doing, ends, pays, asks}
 use Rattle.sh_builtin.specs.Telling.{complains, tells, usage_line, written}

@@ -3,8 +3,8 @@ use Rattle.std.specs.Prelude.{◌≡◌, List, Bool}
 use Rattle.rk_base.specs.Text.{Text}
 use Rattle.sh_builtin.specs.declared.marks.Marked.{Marked}
 use Rattle.sh_builtin.specs.Fields.{values}
-use Rattle.sh_builtin.specs.Lines.{Line, line_of}
-use Rattle.sh_builtin.specs.ReadLines.{IsReadLine}
+use Rattle.sh_builtin.specs.Lines.{line_of}
+use Rattle.sh_builtin.specs.ReadLines.{Line, IsReadLine}
 use Rattle.sh_builtin.specs.ReadValues.{AreReadValues}
 
 -- the line that a text is scanned for is the line at its front, and there is no other

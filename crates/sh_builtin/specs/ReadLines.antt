@@ -4,7 +4,17 @@ use Rattle.rk_base.specs.Text.{Text}
 use Rattle.sh_builtin.specs.declared.marks.Marked.{Marked}
 use Rattle.sh_builtin.specs.declared.line.End.{End}
 use Rattle.sh_builtin.specs.declared.line.End.TheVariants.{Whole, Short, Continued}
-use Rattle.sh_builtin.specs.Lines.{Line, plain, quoted}
+
+abbrev pub plain : ℕ → Marked
+plain b = record { byte = b; quoted = false }
+
+abbrev pub quoted : ℕ → Marked
+quoted b = record { byte = b; quoted = true }
+
+-- the bytes of a line, with those that a backslash quoted marked, and how it ended
+pub record Line : Type 0 where
+  pub marks : List Marked
+  pub end : End
 
 -- What a line is made of: bytes, bytes that a backslash quotes, and joints, a backslash and a newline by which a line goes on.
 pub data Piece : Type 0 where

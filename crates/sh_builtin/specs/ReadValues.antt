@@ -1,12 +1,14 @@
 -- Which values the variables of `read` have, by the fields of its line (XCU 4, `read`).
-use Rattle.std.specs.Prelude.{◌≡◌, List, [], ◌∷◌, ◌++◌, reverse, if◌then◌else◌}
+use Rattle.std.specs.Prelude.{◌≡◌, List, [], ◌∷◌, ◌++◌, map, reverse, if◌then◌else◌}
 use Rattle.rk_base.specs.Text.{Text}
 use Rattle.sh_split.specs.declared.mark.MarkKind.{MarkKind}
 use Rattle.sh_split.specs.declared.mark.MarkKind.TheVariants.{White, Matter}
 use Rattle.sh_split.specs.Cutting.{IsRun, NotFirst, Delimits}
 use Rattle.sh_split.specs.Marks.{kind_of}
 use Rattle.sh_builtin.specs.declared.marks.Marked.{Marked}
-use Rattle.sh_builtin.specs.Fields.{bytes_of}
+
+abbrev pub bytes_of : List Marked → Text
+bytes_of = map (λ (m : Marked). m.byte)
 
 -- a byte of the line is to the cutting what it is where an expansion gave it, but one that a backslash quoted delimits nothing
 abbrev pub kind_in : Text → Marked → MarkKind

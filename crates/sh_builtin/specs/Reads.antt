@@ -16,7 +16,7 @@ use Rattle.sh_builtin.specs.declared.line.End.{End}
 use Rattle.sh_builtin.specs.declared.line.End.TheVariants.{Whole, Short, Continued}
 use Rattle.sh_builtin.specs.Cds.{sets}
 use Rattle.sh_builtin.specs.Doing.{Slots, Ended, Doing, ends, asks}
-use Rattle.sh_builtin.specs.Fields.{values, ifs_or_default}
+use Rattle.sh_builtin.specs.Fields.{values}
 use Rattle.sh_builtin.specs.Lines.{line_of}
 use Rattle.sh_builtin.specs.Telling.{complains, tells, usage_line}
 
@@ -29,6 +29,11 @@ first_value (value ∷ values) = value
 abbrev pub assigns : List Text → List Text → ℕ → Doing
 assigns [] values status = ends status
 assigns (x ∷ xs) values status = sets name.Read x (first_value values) (assigns xs (drop 1 values) status)
+
+-- where IFS is unset it is a blank, a tab and a newline
+abbrev pub ifs_or_default : Option Text → Text
+ifs_or_default None = 32 ∷ 9 ∷ 10 ∷ []
+ifs_or_default (Some ifs) = ifs
 
 abbrev pub ifs_of : Env → Text
 ifs_of env = ifs_or_default (value_at env.vars (codes "IFS"))

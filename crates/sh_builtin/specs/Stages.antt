@@ -12,7 +12,7 @@ use Rattle.sh_builtin.specs.declared.builtin.Builtin.{Builtin}
 use Rattle.sh_builtin.specs.Builtins.{does}
 use Rattle.sh_builtin.specs.Cds.{walked}
 use Rattle.sh_builtin.specs.Doing.{Slots, Ended, Doing, ends, after}
-use Rattle.sh_operands.specs.Printed.{prints_of}
+use Rattle.sh_operands.specs.Passes.{prints_of}
 use Rattle.sh_builtin.specs.Prints.{tells_bad, writes_made}
 use Rattle.sh_builtin.specs.Reads.{line_read, reads_on}
 use Rattle.sh_builtin.specs.Telling.{written}

@@ -1,7 +1,9 @@
 // The fields of a line that is read.
 ghost use Rattle.std.specs.Prelude.{◌≡◌, IfOk, length, reverse};
 ghost use Rattle.std.specs.List.{take_while};
-ghost use Rattle.sh_builtin.specs.Fields.{contains, is_blank, delimits, is_white, belongs, bytes_of, past_white, field_length, field, past_hard, rest, trimmed, last_value, value_before, values};
+ghost use Rattle.sh_split.specs.Marks.{contains, is_blank};
+ghost use Rattle.sh_builtin.specs.ReadValues.{bytes_of};
+ghost use Rattle.sh_builtin.specs.Fields.{delimits, is_white, belongs, past_white, field_length, field, past_hard, rest, trimmed, last_value, value_before, values};
 
 use crate::marks::Marked;
 use rk_base::{Bytes, NoMemory, WordList};

@@ -3,7 +3,7 @@ ghost use Rattle.std.specs.Prelude.{◌≡◌, ℕ, ◌-◌, IfOk, codes, drop, 
 ghost use Rattle.rk_calls.specs.Costly.{IsCostly};
 ghost use Rattle.sh_vars.specs.declared.env.Env.{Env};
 ghost use Rattle.sh_builtin.specs.declared.name.Name.TheVariants.{Printf};
-ghost use Rattle.sh_operands.specs.Printed.{prints_of};
+ghost use Rattle.sh_operands.specs.Passes.{prints_of};
 ghost use Rattle.sh_builtin.specs.Prints.{bad_line, writes_made, puts_made, tells_bad, status_of, prints_pieces, prints};
 ghost use Rattle.sh_builtin.specs.Refused.{IsFewer, refusals};
 ghost use Rattle.sh_builtin.specs.Stages.{IsDoneBy};

@@ -14,7 +14,8 @@ use Rattle.sh_operands.specs.Elements.{specifier_takes}
 use Rattle.sh_operands.specs.Lengths.{measure_of, counted, measured, measures}
 use Rattle.sh_operands.specs.Made.{MadeValue, with_text}
 use Rattle.sh_operands.specs.Numbers.{number}
-use Rattle.sh_operands.specs.Printed.{padded, zero_filled, filled, number_in, is_none, with_bad_in, sign_of, in_64_bits, text_in, converted, is_numeric, converts, pass, passes}
+use Rattle.sh_operands.specs.Passes.{passes}
+use Rattle.sh_operands.specs.Printed.{padded, zero_filled, filled, number_in, is_none, with_bad_in, sign_of, in_64_bits, text_in, converted, is_numeric, converts, pass}
 
 max_nought : (n : ℕ) → max 0 n ≡ n
 max_nought n = sym (sub-add-eq-max 0 n) ∙ omega arith

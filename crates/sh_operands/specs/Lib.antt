@@ -6,7 +6,9 @@ pub mod Lengths
 pub mod Made
 pub mod Modes
 pub mod Numbers
+pub mod Passes
 pub mod Primaries
 pub mod Printed
+pub mod Uses
 pub mod Verdicts
 pub mod Words

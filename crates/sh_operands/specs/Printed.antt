@@ -1,7 +1,6 @@
 -- What `printf` makes of the pieces of a format and operands (XCU 4, `printf`).
-use Rattle.std.specs.Prelude.{ℕ, zero, suc, ◌+◌, ◌-◌, ◌*◌, ◌==◌, max, List, [], ◌∷◌, ◌++◌, codes, take, drop, replicate, length, slice_get, Bool, true, false, not, ◌&&◌, Option, Some, None, if◌then◌else◌, count_by}
+use Rattle.std.specs.Prelude.{ℕ, ◌+◌, ◌-◌, List, [], ◌∷◌, ◌++◌, codes, take, drop, replicate, length, slice_get, Bool, true, false, not, ◌&&◌, Option, Some, None, if◌then◌else◌}
 use Rattle.std.specs.Fmt.{digits, decimal}
-use Rattle.std.specs.Int.{div_ceil}
 use Rattle.rk_base.specs.Text.{Text}
 use Rattle.sh_operands.specs.declared.format.Specifier.{Specifier}
 use Rattle.sh_operands.specs.declared.format.Specifier.TheVariants as specifier
@@ -9,8 +8,8 @@ use Rattle.sh_operands.specs.declared.format.Conversion.{Conversion}
 use Rattle.sh_operands.specs.declared.format.Piece.{Piece}
 use Rattle.sh_operands.specs.declared.format.Piece.TheVariants.{Literal, Converted}
 use Rattle.sh_operands.specs.declared.number.Number.{Number}
-use Rattle.sh_operands.specs.Elements.{takes, specifier_takes}
-use Rattle.sh_operands.specs.Made.{MadeValue, nothing, with_text, with_bad}
+use Rattle.sh_operands.specs.Elements.{specifier_takes}
+use Rattle.sh_operands.specs.Made.{MadeValue, with_text, with_bad}
 use Rattle.sh_operands.specs.Numbers.{number}
 
 -- Widths.
@@ -89,19 +88,3 @@ pass [] operands made = made
 pass (Literal b ∷ ps) operands made = pass ps operands (with_text (b ∷ []) made)
 pass (Converted c ∷ ps) operands made =
     if specifier_takes c.specifier then pass ps (drop 1 operands) (converts c (slice_get operands 0) made) else pass ps operands (converts c None made)
-
--- The format is used again as long as operands remain and it takes any.
-
--- how often, where it takes so many of so many
-abbrev pub how_often : ℕ → ℕ → ℕ
-how_often n operands = if n == 0 then 1 else max 1 (div_ceil operands n)
-
-abbrev pub passes : ℕ → ℕ → List Piece → List Text → MadeValue
-passes zero n ps operands = nothing
-passes (suc i) n ps operands = pass ps (drop (i * n) operands) (passes i n ps operands)
-
-abbrev pub taken : List Piece → ℕ
-taken ps = count_by takes ps
-
-abbrev pub prints_of : List Piece → List Text → MadeValue
-prints_of ps operands = passes (how_often (taken ps) (length operands)) (taken ps) ps operands

@@ -2,7 +2,8 @@
 ghost use Rattle.std.specs.Prelude.{◌≡◌, ◌+◌, ◌*◌, length, IfOk, OnOk, option_copied};
 ghost use Rattle.sh_operands.specs.Lengths.{counted, longer, measured, measure_of};
 ghost use Rattle.sh_operands.specs.Made.{nothing};
-ghost use Rattle.sh_operands.specs.Printed.{converted, prints_of};
+ghost use Rattle.sh_operands.specs.Passes.{prints_of};
+ghost use Rattle.sh_operands.specs.Printed.{converted};
 
 use crate::convert::{converted, noted};
 use crate::format::{Conversion, Piece, taken, takes_operand};

@@ -16,7 +16,7 @@ mod words;
 
 pub use count::count_of;
 pub use format::{Conversion, Format, Piece, Specifier, pieces};
-pub use laws::one_format;
+pub use laws::{one_format, one_output};
 pub use length::measured;
 pub use made::Made;
 pub use number::{Number, number_of};

@@ -1,6 +1,7 @@
 // What `printf` makes of its operands.
 ghost use Rattle.std.specs.Prelude.{◌≡◌, ◌*◌, IfOk, OnOk, drop};
-ghost use Rattle.sh_operands.specs.Printed.{pass, how_often, passes, taken, prints_of};
+ghost use Rattle.sh_operands.specs.Passes.{how_often, prints_of};
+ghost use Rattle.sh_operands.specs.Printed.{pass};
 
 use crate::convert::converts;
 use crate::format::{Piece, taken, takes_operand};

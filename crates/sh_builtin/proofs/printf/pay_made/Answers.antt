@@ -2,7 +2,7 @@ use Rattle.std.proofs.Common.{◌≡◌, ℕ, List, length, sym, ap, ◌∙◌}
 use Rattle.rk_base.specs.Text.{Text}
 use Rattle.rk_calls.specs.Talk.{pay}
 use Rattle.sh_operands.specs.declared.format.Piece.{Piece}
-use Rattle.sh_operands.specs.Printed.{prints_of}
+use Rattle.sh_operands.specs.Passes.{prints_of}
 use Rattle.sh_builtin.specs.Doing.{Doing}
 use Rattle.sh_builtin.specs.Prints.{writes_made}
 use Rattle.sh_builtin.proofs.Paying.{made_paid}

@@ -1,5 +1,5 @@
 use Rattle.std.proofs.Common.{◌≡◌, ◌*◌, drop}
-use Rattle.sh_operands.specs.Printed.{passes}
+use Rattle.sh_operands.specs.Passes.{passes}
 use Rattle.sh_operands.proofs.print.printed.Given as goal
 
 abbrev pub invariant-passes : goal.invariant-passes
