@@ -13,7 +13,7 @@ use Rattle.sh_split.specs.Cutting.{IsRun, NotFirst, IsHard, Delimits}
 use Rattle.sh_split.specs.Marks.{contains, is_blank}
 use Rattle.sh_builtin.specs.declared.marks.Marked.{Marked}
 use Rattle.sh_builtin.specs.Fields.{delimits, is_white, belongs, past_white, field, past_hard, rest, trimmed, last_value, value_before, values_from, values}
-use Rattle.sh_builtin.specs.ReadValues.{bytes_of, kind_in, Part, whole, AreParts, IsCutInto, IsTrimmed, IsValue, others, HaveValues, AreReadValues}
+use Rattle.sh_builtin.specs.ReadValues.{bytes_of, kind_in, Part, whole, AreParts, IsCutInto, IsTrimmed, IsValue, behind_first, HaveValues, AreReadValues}
 
 -- What the tests of a byte say of its kind.
 
@@ -209,11 +209,11 @@ module _ (ifs : Text) where
 
   -- The values that are computed are theirs.
 
-  others_are : (ps : List Part) → AreParts ifs ps → AreParts ifs (others ps)
+  others_are : (ps : List Part) → AreParts ifs ps → AreParts ifs (behind_first ps)
   others_are [] a = tt
   others_are (p ∷ ps) a = a.2
 
-  rest_others : (ps : List Part) → AreParts ifs ps → rest ifs (whole ps) ≡ whole (others ps)
+  rest_others : (ps : List Part) → AreParts ifs ps → rest ifs (whole ps) ≡ whole (behind_first ps)
   rest_others [] a = refl
   rest_others (p ∷ ps) a = rest_is p.field p.delimiter (whole ps) a.0 a.1
 
@@ -262,7 +262,7 @@ module _ (ifs : Text) where
   have (x ∷ xs) ps [] a h = absurd h
   have (x ∷ xs) ps (v ∷ vs) a h =
       ap (λ (y : Text). y ∷ vs) (value_is xs ps v a h.0)
-      ∙ ap (λ (ys : List Text). value_before xs ifs (whole ps) ∷ ys) (have xs (others ps) vs (others_are ps a) h.1 ∙ ap (values_from ifs xs) (sym (rest_others ps a)))
+      ∙ ap (λ (ys : List Text). value_before xs ifs (whole ps) ∷ ys) (have xs (behind_first ps) vs (others_are ps a) h.1 ∙ ap (values_from ifs xs) (sym (rest_others ps a)))
 
   pub values_are : (names : List Text) (line : List Marked) (vs : List Text) → AreReadValues ifs names line vs → vs ≡ values ifs names line
   values_are names line vs h =
@@ -385,7 +385,7 @@ module _ (ifs : Text) where
 
   all_valued : (xs : List Text) (ps : List Part) → (vs : List Text) × HaveValues ifs xs ps vs
   all_valued [] ps = ([], refl)
-  all_valued (x ∷ xs) ps = ((valued xs ps).0 ∷ (all_valued xs (others ps)).0, ((valued xs ps).1, (all_valued xs (others ps)).1))
+  all_valued (x ∷ xs) ps = ((valued xs ps).0 ∷ (all_valued xs (behind_first ps)).0, ((valued xs ps).1, (all_valued xs (behind_first ps)).1))
 
   pub are_values : (names : List Text) (line : List Marked) → AreReadValues ifs names line (values ifs names line)
   are_values names line =

@@ -44,24 +44,24 @@ pub record IsTrimmed (ifs : Text) (text value : List Marked) : Type 0 where
   pub white : IsRun (kind_in ifs) White tail
   pub no_more : NotFirst (kind_in ifs) White (reverse value)
 
--- The value of a variable, by the fields from its own on, where these variables come after it: no bytes where there are no
--- fields left; its field; but where it is the last and there are more, its field, what delimits that, and the other fields
--- with their delimiters, without white space at the end.
+-- The value of a variable, by the fields from its own on, where these variables come after it: no bytes where no field is
+-- left; its field; but where it is the last and there are more fields, its field, what delimits that, and the other fields with
+-- their delimiters, without white space at the end.
 abbrev pub IsValue : Text → List Text → List Part → Text → Type 0
-IsValue ifs others [] value = value ≡ []
-IsValue ifs others (p ∷ []) value = value ≡ bytes_of p.field
+IsValue ifs later [] value = value ≡ []
+IsValue ifs later (p ∷ []) value = value ≡ bytes_of p.field
 IsValue ifs [] (p ∷ q ∷ ps) value = (marks : List Marked) × IsTrimmed ifs (whole (p ∷ q ∷ ps)) marks × (value ≡ bytes_of marks)
-IsValue ifs (x ∷ others) (p ∷ q ∷ ps) value = value ≡ bytes_of p.field
+IsValue ifs (x ∷ later) (p ∷ q ∷ ps) value = value ≡ bytes_of p.field
 
-abbrev pub others : List Part → List Part
-others [] = []
-others (p ∷ ps) = ps
+abbrev pub behind_first : List Part → List Part
+behind_first [] = []
+behind_first (p ∷ ps) = ps
 
 -- a value for each variable, from left to right
 abbrev pub HaveValues : Text → List Text → List Part → List Text → Type 0
 HaveValues ifs [] parts values = values ≡ []
 HaveValues ifs (x ∷ xs) parts [] = ⊥
-HaveValues ifs (x ∷ xs) parts (value ∷ values) = IsValue ifs xs parts value × HaveValues ifs xs (others parts) values
+HaveValues ifs (x ∷ xs) parts (value ∷ values) = IsValue ifs xs parts value × HaveValues ifs xs (behind_first parts) values
 
 -- these are the values of these variables, by the fields of the line
 pub record AreReadValues (ifs : Text) (names : List Text) (line : List Marked) (values : List Text) : Type 0 where
