@@ -1,7 +1,7 @@
 // Contents, each with a number.
-ghost use Rattle.std.specs.Prelude.{◌≡◌, [], IfOk, OnOk, OnErr, Some, slice_get, option_copied};
+ghost use Rattle.std.specs.Prelude.{◌≡◌, ◌↔◌, [], IfOk, IsTrue, OnOk, OnErr, Some, slice_get, option_copied};
 ghost use Rattle.std.specs.List.{IsDistinct};
-ghost use Rattle.rk_base.specs.Text.{same_text};
+ghost use Rattle.rk_base.specs.Text.{Text, same_text};
 ghost use Rattle.rk_content.specs.Contents.{Keeps, with_text};
 
 use indexmap::IndexSet;
@@ -81,6 +81,14 @@ impl Contents {
         ensures { option_copied result ≡ slice_get self.now id }
     {
         self.texts.get_index(id.number)
+    }
+
+    /// Whether two of them are the same, by their numbers alone.
+    pub fn is_same(&self, a: ContentId, b: ContentId) -> bool
+        ensures { (text other : Text) → slice_get self.now a ≡ Some text → slice_get self.now b ≡ Some other → (IsTrue result ↔ (text ≡ other)) }
+    {
+        let _ = &self.texts;
+        a.number == b.number
     }
 
     /// All of them, in the order of their numbers. No two are the same.

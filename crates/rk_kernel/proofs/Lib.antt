@@ -1,3 +1,4 @@
+pub mod NumberLemmas
 pub mod FileLemmas
 pub mod PipeLemmas
 pub mod RowLemmas

@@ -8,6 +8,7 @@ ghost use Rattle.rk_kernel.specs.World.{fresh, text_of, with_offset};
 mod answering;
 mod asking;
 mod changing;
+mod files;
 mod opening;
 mod piping;
 mod reading;

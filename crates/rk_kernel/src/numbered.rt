@@ -1,0 +1,238 @@
+// A world with numbers for the contents that were read of its files.
+ghost use Rattle.std.specs.Prelude.{◌≡◌, [], IfOk, IfSome, OnOk, Some, is_some, slice_get, true};
+ghost use Rattle.rk_base.specs.Text.{Text};
+ghost use Rattle.rk_content.specs.Contents.{IsContent, Keeps};
+ghost use Rattle.rk_tree.specs.Hierarchy.{file_bytes, node};
+ghost use Rattle.rk_kernel.specs.Do.{answered};
+ghost use Rattle.rk_kernel.specs.Numbers.{AreNumbered, IsFileContent, file_changed, file_read, without_number};
+ghost use Rattle.rk_kernel.specs.World.{fresh};
+
+use crate::World;
+use rk_base::{Bytes, NoMemory};
+use rk_calls::{Answer, Answerer, Call, Refs};
+use rk_content::{ContentId, Contents, Numbering};
+use rk_tree::Tree;
+use std::alloc::Global;
+use std::marker::Model;
+use std::mem;
+
+/// A world, and the contents that were read of its files, by numbers. Beside each file stands the number of its bytes, once
+/// they were read whole and until it is written; so a file's bytes are hashed once, however often they are read.
+#[derive(Drop)]
+pub struct NumberedWorld {
+    world: World,
+    contents: Contents,
+    numbers: Vec<Option<ContentId>>,
+}
+
+impl Model for NumberedWorld {
+    ghost use Rattle.rk_kernel.specs.Numbers.{AreNumbered, Numbered};
+
+    ghost Value = { Numbered };
+
+    ghost use Rattle.rk_kernel.specs.Numbers.{numbered_code};
+    ghost use Rattle.rk_kernel.specs.World.{world_code};
+    ghost use Rattle.rk_kernel.specs.contracts.description.Description as description;
+    ghost use Rattle.rk_tree.specs.Hierarchy.{hierarchy_code};
+
+    ghost coded = { numbered_code (world_code hierarchy_code description.the_row.coded) };
+
+    ghost view = { λ w. record { world = w.world; contents = w.contents } };
+
+    ghost invariant = { λ w. AreNumbered w.contents w.numbers.items w.world.tree };
+}
+
+// The numbers, without that of a file.
+fn without_number(numbers: &mut Vec<Option<ContentId>>, file: Option<usize>)
+    ensures { numbers.new.items ≡ without_number file numbers.old.items }
+{
+    match file {
+        None => {}
+        Some(n) => match numbers.get_mut(n) {
+            None => {}
+            Some(number) => *number = None,
+        },
+    }
+}
+
+// A number stands beside a file.
+fn put_number(
+    numbers: &mut Vec<Option<ContentId>>,
+    contents: &Contents,
+    world: &World,
+    n: usize,
+    id: ContentId,
+) -> Result<(), NoMemory>
+    requires numbered { AreNumbered contents.now numbers.old.items world.now.tree }
+    requires number { slice_get contents.now id ≡ Some (file_bytes (node world.now.tree n)) }
+    ensures { OnOk result (AreNumbered contents.now numbers.new.items world.now.tree) }
+{
+    let Some(len) = n.checked_add(1) else {
+        return Ok(());
+    };
+    if numbers.len() < len {
+        numbers.resize(len, None)?;
+    }
+    numbers[n] = Some(id);
+    Ok(())
+}
+
+impl NumberedWorld {
+    /// The world of a tree in which nothing has run, and no contents.
+    pub fn new(alloc: Global, tree: Tree) -> Result<NumberedWorld, NoMemory>
+        ensures { IfOk result (λ w. w ≡ record { world = fresh tree; contents = [] }) }
+    {
+        let world = World::new(alloc, tree)?;
+        Ok(NumberedWorld {
+            world,
+            contents: Contents::new(alloc),
+            numbers: Vec::new(alloc),
+        })
+    }
+
+    /// The world alone.
+    pub fn into_world(self) -> World
+        ensures { result ≡ self.world }
+    {
+        let NumberedWorld { world, .. } = self;
+        world
+    }
+
+    // The number that stands beside a file.
+    fn number_at(&self, n: usize) -> Option<ContentId>
+        ensures { IfSome result (λ id. slice_get self.now.contents id ≡ Some (file_bytes (node self.now.world.tree n))) }
+    {
+        match self.numbers.get(n) {
+            None => None,
+            Some(number) => *number,
+        }
+    }
+
+    /// The number of a content, which gets one if it has none. The world stays as it is.
+    pub fn intern(&mut self, bytes: &Bytes) -> Result<ContentId, NoMemory>
+        ensures world { self.new.world ≡ self.old.world }
+        ensures number { IfOk result (λ id. slice_get self.new.contents id ≡ Some bytes.now) }
+        ensures kept { Keeps self.old.contents self.new.contents }
+    {
+        let id = self.contents.put(bytes)?;
+        Ok(id)
+    }
+
+    // The number of a file's bytes.
+    fn number_of(&mut self, n: usize, bytes: &Bytes) -> Result<ContentId, NoMemory>
+        requires { bytes.now ≡ file_bytes (node self.old.world.tree n) }
+        ensures world { self.new.world ≡ self.old.world }
+        ensures number { IfOk result (λ id. slice_get self.new.contents id ≡ Some bytes.now) }
+        ensures kept { Keeps self.old.contents self.new.contents }
+    {
+        if let Some(id) = self.number_at(n) {
+            return Ok(id);
+        }
+        let id = self.intern(bytes)?;
+        let alloc = *self.numbers.allocator();
+        let mut numbers = mem::replace(&mut self.numbers, Vec::new(alloc));
+        put_number(&mut numbers, &self.contents, &self.world, n, id)?;
+        self.numbers = numbers;
+        Ok(id)
+    }
+
+    // The answer to a call. A file that it may change loses its number.
+    fn asks(&mut self, refs: &mut Refs, call: &Call) -> Result<Answer, NoMemory>
+        ensures given { IfOk result (λ a. record { answer = a; refs = refs.new; world = self.new.world } ≡ answered self.old.world refs.old call.now) }
+        ensures contents { self.new.contents ≡ self.old.contents }
+    {
+        let alloc = *self.numbers.allocator();
+        let changed = self.world.file_changed(refs, call);
+        let mut numbers = mem::replace(&mut self.numbers, Vec::new(alloc));
+        without_number(&mut numbers, changed);
+        let answer = self.world.answer(refs, call)?;
+        self.numbers = numbers;
+        Ok(answer)
+    }
+
+    // The number of the content that an answer is, which is all that a file has.
+    fn content_id(&mut self, n: usize, answer: &Answer) -> Result<Option<ContentId>, NoMemory>
+        requires { IsFileContent self.old.world.tree n answer.now }
+        ensures world { self.new.world ≡ self.old.world }
+        ensures number { IfOk result (λ it. IfSome it (λ id. IsContent self.new.contents id answer.now)) }
+        ensures some { IfOk result (λ it. is_some it ≡ true) }
+        ensures kept { Keeps self.old.contents self.new.contents }
+    {
+        match answer {
+            Answer::Content(bytes) => {
+                let id = self.number_of(n, bytes)?;
+                Ok(Some(id))
+            }
+            _ => unreachable!(),
+        }
+    }
+
+    /// The answer to a call, and the number of the content that it is: where a file was read whole by one Read, and nowhere
+    /// else.
+    pub fn answer_id(
+        &mut self,
+        refs: &mut Refs,
+        call: &Call,
+    ) -> Result<(Answer, Option<ContentId>), NoMemory>
+        ensures given { IfOk result (λ r. record { answer = r.0; refs = refs.new; world = self.new.world } ≡ answered self.old.world refs.old call.now) }
+        ensures number { IfOk result (λ r. IfSome r.1 (λ id. IsContent self.new.contents id r.0)) }
+        ensures some { IfOk result (λ r. is_some r.1 ≡ is_some (file_read self.old.world refs.old call.now)) }
+        ensures kept { Keeps self.old.contents self.new.contents }
+    {
+        let file = self.world.file_read(refs, call);
+        let answer = self.asks(refs, call)?;
+        match file {
+            None => Ok((answer, None)),
+            Some(n) => {
+                let id = self.content_id(n, &answer)?;
+                Ok((answer, id))
+            }
+        }
+    }
+}
+
+impl Answerer for NumberedWorld {
+    ghost use Rattle.std.specs.Prelude.{Some};
+    ghost use Rattle.rk_kernel.specs.World.{World};
+    ghost use Rattle.rk_kernel.specs.Do.{answered};
+    ghost use Rattle.rk_kernel.specs.Fitting.{answered-fits};
+
+    type Stop = NoMemory;
+
+    ghost Meaning = { World };
+
+    ghost told = { λ it. Some it.world };
+
+    ghost given = { answered };
+
+    // Want of memory alone stops it, which says nothing.
+    ghost Stops = { λ before now stop. Unit {0} };
+
+    fn answer(&mut self, refs: &mut Refs, call: &Call) -> Result<Answer, NoMemory> {
+        self.asks(refs, call)
+    }
+
+    ghost fitting = { answered-fits };
+
+    ghost memory = { λ before now want stop gives. tt };
+}
+
+impl Numbering for NumberedWorld {
+    ghost contents = { λ it. it.contents };
+
+    fn answer_id(
+        &mut self,
+        refs: &mut Refs,
+        call: &Call,
+    ) -> Result<(Answer, Option<ContentId>), NoMemory> {
+        NumberedWorld::answer_id(self, refs, call)
+    }
+
+    fn intern(&mut self, bytes: &Bytes) -> Result<ContentId, NoMemory> {
+        NumberedWorld::intern(self, bytes)
+    }
+
+    fn is_same(&self, a: ContentId, b: ContentId) -> bool {
+        self.contents.is_same(a, b)
+    }
+}
