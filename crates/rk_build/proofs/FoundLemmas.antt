@@ -56,10 +56,10 @@ pub kept-spells : (state : State) (kept : KeptState) → ReadsState state (Ok ke
 kept-spells state kept reads = reads.1.0
 
 -- all was found
-found-asked : (request : Request) (told : Option Held) (found : Found) → LooksSo (is_fresh request) told (Ok found.holding) → ReadsState found.holding.state (Ok (record { attrs = found.attrs; old = found.old })) → FindsSo request told (Ok found)
+found-asked : (request : Request) (told : Option Held) (found : Found) → LooksSo (is_fresh request) told (Ok found.holding) → ReadsState found.holding.state (Ok (record { attrs = found.attrs; old = found.old; contents = found.contents })) → FindsSo request told (Ok found)
 found-asked request None found look kept = tt
 found-asked request (Some held) found look kept =
     (look.0, look.1, subst (λ s. IsKept s found.attrs found.old) (state-same (is_fresh request) held found.holding look.1) kept)
 
-pub is_found : (request : Request) (told : Option Held) (found : Found) (fresh : Bool) → fresh ≡ is_fresh request → LooksSo fresh told (Ok found.holding) → ReadsState found.holding.state (Ok (record { attrs = found.attrs; old = found.old })) → FindsSo request told (Ok found)
+pub is_found : (request : Request) (told : Option Held) (found : Found) (fresh : Bool) → fresh ≡ is_fresh request → LooksSo fresh told (Ok found.holding) → ReadsState found.holding.state (Ok (record { attrs = found.attrs; old = found.old; contents = found.contents })) → FindsSo request told (Ok found)
 is_found request told found fresh same look kept = found-asked request told found (asked told (Ok found.holding) fresh (is_fresh request) same look) kept

@@ -1,5 +1,5 @@
 -- The run that was made is the fresh run.
-use Rattle.std.proofs.Common.{◌≡◌, ◌+◌, ◌-◌, ◌≤◌, ℕ, List, length, sym, ap, subst, ◌∙◌, arith}
+use Rattle.std.proofs.Common.{◌≡◌, ◌+◌, ◌-◌, ◌≤◌, ℕ, List, length, refl, sym, ap, subst, ◌∙◌, arith}
 use Rattle.rk_base.specs.Paid.{Paid}
 use Rattle.rk_calls.specs.Keys.{KeyValue}
 use Rattle.rk_calls.specs.Refs.{top_refs}
@@ -54,6 +54,10 @@ paid-within request budget later limit same within = omega arith
 
 ran-within : (paid most looked before now : ℕ) → paid ≤ most → StartsRan paid looked before now → StartsRan most looked before now
 ran-within paid most looked before now h s = let few : s.ran ≤ paid + 1 = s.few in record { ran = s.ran; few = omega arith; now_is = s.now_is }
+
+-- where nothing was started yet
+pub none-started : (paid most count : ℕ) → StartsUpTo paid most count count
+none-started paid most count = record { looked = 0; within = omega arith; starts = record { ran = 0; few = omega arith; now_is = refl } }
 
 upto-within : (paid most up before now : ℕ) → paid ≤ most → StartsUpTo paid up before now → StartsUpTo most up before now
 upto-within paid most up before now h s = record { looked = s.looked; within = s.within; starts = ran-within paid most s.looked before now h s.starts }

@@ -2,6 +2,7 @@
 ghost use Rattle.std.specs.Prelude.{◌≡◌, IfOk, OnOk};
 ghost use Rattle.rk_folder.specs.Looks.{LooksInOrder, looks};
 ghost use Rattle.rk_tree.specs.Entries.{IsWholeSnapshot};
+ghost use Rattle.tr_record.specs.Contents.{AreContents};
 ghost use Rattle.rk_request.specs.Asked.{is_fresh};
 ghost use Rattle.rk_build.specs.Kept.{Spells};
 ghost use Rattle.rk_build.specs.Stages.{FindsSo, ReadsCounted, Steadily};
@@ -15,14 +16,16 @@ use rk_changes::Holding;
 use rk_folder::Folder;
 use rk_request::Request;
 use std::alloc::Global;
-use tr_record::Table;
+use tr_record::{RecordedContents, Table};
 
-/// What the folder holds, and the rows of attributes and the records that its state files keep.
+/// What the folder holds, and the rows of attributes and the records that its state files keep, with the contents that the
+/// answers of these are.
 #[derive(Drop)]
 pub(crate) struct Found {
     pub holding: Holding,
     pub attrs: Attrs,
     pub old: Table,
+    pub contents: RecordedContents,
 }
 
 /// Lists and reads the folder, and reads what its state files keep; of a build that begins afresh the database is passed
@@ -42,12 +45,18 @@ pub(crate) fn find<F: Folder>(
     ensures whole { IfOk result (λ found. IsWholeSnapshot found.holding.entries) }
     // The bytes that were read are the spelling of the records.
     ensures spells { IfOk result (λ found. Spells found.holding.state.db found.old) }
+    ensures contents { IfOk result (λ found. AreContents found.contents found.old) }
 {
     let holding = look(alloc, folder, is_fresh(request))?;
-    let KeptState { attrs, old } = kept(alloc, &holding.state)?;
+    let KeptState {
+        attrs,
+        old,
+        contents,
+    } = kept(alloc, &holding.state)?;
     Ok(Found {
         holding,
         attrs,
         old,
+        contents,
     })
 }

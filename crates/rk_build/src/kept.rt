@@ -1,5 +1,6 @@
 // What the state files keep.
-ghost use Rattle.std.specs.Prelude.{◌≡◌};
+ghost use Rattle.std.specs.Prelude.{◌≡◌, IfOk};
+ghost use Rattle.tr_record.specs.Contents.{AreContents};
 ghost use Rattle.rk_build.specs.Kept.{ReadsAttrs, ReadsDb, ReadsState};
 ghost use Rattle.rk_build.specs.declared.stop.Refusal.TheVariants as refusal;
 ghost use Rattle.rk_build.specs.declared.stop.BuildErr.TheVariants as stop;
@@ -11,14 +12,15 @@ use rk_base::Bytes;
 use rk_folder::State;
 use std::alloc::Global;
 use tr_attrs::read_attrs;
-use tr_codec::{CodecErr, Damage, read_db};
-use tr_record::Table;
+use tr_codec::{CodecErr, Damage, ReadTable, read_db};
+use tr_record::{RecordedContents, Table};
 
-/// The rows of attributes and the records.
+/// The rows of attributes, the records, and the contents that their answers are.
 #[derive(Drop)]
 pub(crate) struct KeptState {
     pub attrs: Attrs,
     pub old: Table,
+    pub contents: RecordedContents,
 }
 
 fn damaged(file: StateFile, damage: Damage) -> BuildErr
@@ -41,11 +43,11 @@ fn attrs_in(alloc: Global, attrs: &Option<Bytes>) -> Result<Attrs, BuildErr>
 }
 
 /// The records of the database, none where it is absent. It answers `Damaged` or `NoMemory`.
-pub fn table_in(alloc: Global, db: &Option<Bytes>) -> Result<Table, BuildErr>
+pub fn table_in(alloc: Global, db: &Option<Bytes>) -> Result<ReadTable, BuildErr>
     ensures { ReadsDb db.now result }
 {
     match db {
-        None => Ok(Table::new(alloc)),
+        None => Ok(ReadTable::none(alloc)),
         Some(bytes) => match read_db(alloc, bytes.as_slice()) {
             Ok(table) => Ok(table),
             Err(CodecErr::Damaged(damage)) => Err(damaged(StateFile::Db, damage)),
@@ -56,9 +58,15 @@ pub fn table_in(alloc: Global, db: &Option<Bytes>) -> Result<Table, BuildErr>
 
 /// Decodes the state files that were read, attrs before the database, and gives what they keep.
 pub(crate) fn kept(alloc: Global, state: &State) -> Result<KeptState, BuildErr>
-    ensures { ReadsState state.now result }
+    ensures reads { ReadsState state.now result }
+    ensures contents { IfOk result (λ kept. AreContents kept.contents kept.old) }
 {
     let attrs = attrs_in(alloc, &state.attrs)?;
-    let old = table_in(alloc, &state.db)?;
-    Ok(KeptState { attrs, old })
+    let read = table_in(alloc, &state.db)?;
+    let (old, contents) = read.into_parts();
+    Ok(KeptState {
+        attrs,
+        old,
+        contents,
+    })
 }

@@ -181,9 +181,19 @@ pub(crate) fn prepare<M: Maker, F: Folder, L: Ledger>(
         holding: before,
         attrs,
         old,
+        contents,
     } = find(alloc, request, folder)?;
     check_old(maker, request, &old)?;
-    let finished = run(alloc, maker, request, &before.entries, &attrs, &old, live)?;
+    let finished = run(
+        alloc,
+        maker,
+        request,
+        &before.entries,
+        &attrs,
+        &old,
+        &contents,
+        live,
+    )?;
     let after = held_after(alloc, &finished, &old, &before.state.db)?;
     let plan = planned(alloc, &before, &after)?;
     let error_text = error_text(alloc, request, &finished)?;

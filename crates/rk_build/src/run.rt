@@ -3,6 +3,7 @@ ghost use Rattle.std.specs.Prelude.{◌≡◌, ◌+◌, ◌<◌, ◌≤◌, ◌^
 ghost use Rattle.rk_tree.specs.Entries.{IsWholeSnapshot};
 ghost use Rattle.rk_folder.specs.Attributes.{with_rows};
 ghost use Rattle.rk_request.specs.Asked.{turns};
+ghost use Rattle.tr_record.specs.Contents.{AreContents};
 ghost use Rattle.rk_replay.specs.Ran.{AreKept};
 ghost use Rattle.rk_build.specs.Run.{Runs, StartsRun};
 
@@ -12,13 +13,13 @@ use rk_attrs::Attrs;
 use rk_base::{Budget, Steps};
 use rk_calls::Maker;
 use rk_folder::tree_of;
-use rk_kernel::World;
+use rk_kernel::{NumberedWorld, World};
 use rk_replay::{Built, RanList, build_with, script_key};
 use rk_request::Request;
 use rk_tree::Snapshot;
 use std::alloc::Global;
 use std::sync::ledger::Ledger;
-use tr_record::Table;
+use tr_record::{RecordedContents, Table};
 
 /// A run that ended: the world that it left, the script's status, the records of its commands, and those of them that ran,
 /// each with why.
@@ -50,10 +51,12 @@ pub(crate) fn run<M: Maker, L: Ledger>(
     entries: &Snapshot,
     attrs: &Attrs,
     old: &Table,
+    contents: &RecordedContents,
     live: &mut Steps<L>,
 ) -> Result<Finished, BuildErr>
     requires whole { IsWholeSnapshot entries.now }
     requires some { 0 < turns request.now }
+    requires contents { AreContents contents.now old.now }
     ensures runs { Runs M.first request.now (with_rows entries.now attrs.now) old.now live.old live.new result }
     ensures kept { IfOk result (λ f. AreKept old.now f.table) }
     ensures at_least { live.old ≤ live.new }
@@ -61,12 +64,21 @@ pub(crate) fn run<M: Maker, L: Ledger>(
     ensures starts { StartsRun request.now old.now (M.starts maker.old) (M.starts maker.new) result }
 {
     let tree = tree_of(alloc, entries, attrs)?;
-    let mut world = World::new(alloc, tree)?;
+    let mut world = NumberedWorld::new(alloc, tree)?;
     let key = script_key(alloc)?;
     let mut budget = budget(request);
-    match build_with(alloc, maker, &mut world, &key, old, &mut budget, live) {
+    match build_with(
+        alloc,
+        maker,
+        &mut world,
+        &key,
+        old,
+        contents,
+        &mut budget,
+        live,
+    ) {
         Ok(Built { status, table, ran }) => Ok(Finished {
-            world,
+            world: world.into_world(),
             status,
             table,
             ran,

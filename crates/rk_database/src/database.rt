@@ -57,7 +57,7 @@ pub(crate) fn table_of(alloc: Global, db: &[u8]) -> Result<Table, QueryErr>
     ensures refused { IfErr result (NoTrace db.now) }
 {
     match read_db(alloc, db) {
-        Ok(table) => Ok(table),
+        Ok(table) => Ok(table.into_table()),
         Err(CodecErr::Damaged(damage)) => Err(QueryErr::Damaged(damage)),
         Err(CodecErr::NoMemory) => Err(QueryErr::NoMemory),
     }

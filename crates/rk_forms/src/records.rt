@@ -179,7 +179,7 @@ impl Records {
 
     // What bytes are written as again.
     fn again(&self, bytes: &[u8]) -> Result<Bytes, CodecErr> {
-        let table = read_db(self.alloc, bytes)?;
+        let table = read_db(self.alloc, bytes)?.into_table();
         match write_db(self.alloc, &table) {
             Ok(again) => Ok(again),
             Err(NoMemory) => Err(CodecErr::NoMemory),
@@ -196,8 +196,8 @@ impl Spelt for Records {
     fn read(&mut self, bytes: Vec<u8>) -> Result<String, NoMemory> {
         self.bytes = Bytes::new(self.alloc, bytes)?;
         match read_db(self.alloc, self.bytes.as_slice()) {
-            Ok(table) => {
-                self.table = table;
+            Ok(read) => {
+                self.table = read.into_table();
                 table_shown(self.alloc, &self.table)
             }
             Err(e) => not_read(self.alloc, e),

@@ -12,3 +12,4 @@ pub mod Starting
 pub mod Stopping
 pub mod Telling
 pub mod Totalling
+pub mod Numbering

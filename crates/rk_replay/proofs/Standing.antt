@@ -1,6 +1,6 @@
 -- What a replayed command says is what its machine would say.
-use Rattle.std.proofs.Common.{◌≡◌, ℕ, ◌+◌, ◌-◌, ◌≤◌, ◌<◌, List, length, take, sym, ◌∙◌, ap, subst, arith}
-use Rattle.std.proofs.Common.{get_or}
+use Rattle.std.proofs.Common.{◌≡◌, ℕ, ◌+◌, ◌-◌, ◌≤◌, ◌<◌, Bool, List, Option, get_or, length, take, refl, sym, ◌∙◌, ap, subst, arith}
+use Rattle.std.specs.Prelude.{IfSome, IsTrue, ◌↔◌}
 use Rattle.std.proofs.lemmas.List.{take_all, get_or_default}
 use Rattle.rk_calls.specs.declared.call.Call.{Call}
 use Rattle.rk_calls.specs.declared.answer.Answer.{Answer}
@@ -26,6 +26,10 @@ read-step steps xs at st es h = get_or_default steps at st no_step h ∙ ap (ste
 
 pub read-answer : (xs steps : List Step) (at : ℕ) (st : Step) (a : Answer) → steps ≡ xs → at < length xs → (get_or steps at st).answer ≡ a → (step_at at xs).answer ≡ a
 read-answer xs steps at st a es h e = ap (λ (s : Step). s.answer) (sym (read-step steps xs at st es (subst (λ x. at < length x) (sym es) h))) ∙ e
+
+-- what is said of the recorded answer is said of the one that the code reads
+pub as-read : (xs steps : List Step) (at : ℕ) (st : Step) (a : Answer) (alike : Option Bool) → steps ≡ xs → at < length xs → IfSome alike (λ b. IsTrue b ↔ ((step_at at xs).answer ≡ a)) → IfSome alike (λ b. IsTrue b ↔ ((get_or steps at st).answer ≡ a))
+as-read xs steps at st a alike es h so = subst (λ (it : Answer). IfSome alike (λ b. IsTrue b ↔ (it ≡ a))) (read-answer xs steps at st (get_or steps at st).answer es h refl) so
 
 module _ (first : KeyValue → Says) (lasts : AllLast first) (old : List Record) (rec at : ℕ) (in_old : rec < length old) (r : Record) (er : r ≡ rec_at rec old) (steps : List Step) (es : steps ≡ r.steps) (p : ℕ) (spoken : AreSpoken first old) where
   same-steps : steps ≡ (rec_at rec old).steps

@@ -1,5 +1,5 @@
 -- Commands that run or are replayed.
-use Rattle.std.specs.Prelude.{◌≡◌, ◌≢◌, ℕ, ◌+◌, ◌≤◌, ◌<◌, List, length, take, Some, None}
+use Rattle.std.specs.Prelude.{◌≡◌, ◌≢◌, ◌↔◌, ℕ, ◌+◌, ◌≤◌, ◌<◌, Bool, IsTrue, List, length, take, Some, None}
 use Rattle.rk_calls.specs.declared.answer.Answer.{Answer}
 use Rattle.rk_calls.specs.declared.drive.Spoke.{Spoke}
 use Rattle.rk_calls.specs.declared.drive.Spoke.TheVariants.{Call as Calls, Exit as Exits, Short}
@@ -66,6 +66,11 @@ abbrev pub Takes : {S : Type 0} → List Record → Activity S → Answer → Ac
 Takes old (Runs machine) a now = now ≡ Runs machine
 Takes old (Replays rec at) a (Runs machine) = (step_at at (rec_at rec old).steps).answer ≢ a
 Takes old (Replays rec at) a (Replays rec' at') = (rec' ≡ rec) × (at' ≡ at + 1) × ((step_at at (rec_at rec old).steps).answer ≡ a)
+
+-- the step is answered as recorded exactly where this says so
+abbrev pub IsAlike : {S : Type 0} → List Record → Activity S → Answer → Bool → Type 0
+IsAlike old (Runs machine) a alike = Unit {0}
+IsAlike old (Replays rec at) a alike = IsTrue alike ↔ ((step_at at (rec_at rec old).steps).answer ≡ a)
 
 -- how many machines were made for it as it took an answer
 abbrev pub given_up : {S : Type 0} → Activity S → Activity S → ℕ

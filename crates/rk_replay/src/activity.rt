@@ -1,5 +1,5 @@
 // Commands that run or are replayed.
-ghost use Rattle.std.specs.Prelude.{◌≡◌, ◌+◌, ◌≤◌, ◌<◌, ◌++◌, ◌∷◌, [], length, take, IfOk, IfErr, OnOk, OnErr};
+ghost use Rattle.std.specs.Prelude.{◌≡◌, ◌↔◌, ◌+◌, ◌≤◌, ◌<◌, ◌++◌, ◌∷◌, [], length, take, IsTrue, IfOk, IfErr, IfSome, OnOk, OnErr};
 ghost use Rattle.rk_calls.specs.Saying.{goes_on};
 ghost use Rattle.rk_calls.specs.Starts.{one_more};
 ghost use Rattle.rk_calls.specs.declared.answer.Answer.{Answer};
@@ -8,7 +8,7 @@ ghost use Rattle.rk_runs.specs.Own.{steps_cost};
 ghost use Rattle.rk_runs.specs.Spoken.{follow, Follows, step_at};
 ghost use Rattle.rk_runs.specs.Fed.{waits_at};
 ghost use Rattle.rk_runs.specs.Started.{started, StartsSome};
-ghost use Rattle.rk_replay.specs.Activities.{stands, waits, IsReady, IsWaiting, IsLaunched, made, Takes, given_up, counted, so_far, exit_counted};
+ghost use Rattle.rk_replay.specs.Activities.{stands, waits, IsAlike, IsReady, IsWaiting, IsLaunched, made, Takes, given_up, counted, so_far, exit_counted};
 ghost use Rattle.rk_replay.specs.Causes.{launch_cause, noted};
 ghost use Rattle.rk_replay.specs.Starts.{StartsFor};
 ghost use Rattle.rk_replay.specs.Stops.{IsForged};
@@ -112,6 +112,17 @@ pub(crate) fn machine_of<K: Maker>(
     }
 }
 
+// Whether a step is answered as recorded, which may be told already.
+fn is_recorded(recorded: &Answer, answer: &Answer, alike: Option<bool>) -> bool
+    requires { IfSome alike (λ b. IsTrue b ↔ (recorded.now ≡ answer.now)) }
+    ensures { IsTrue result ↔ (recorded.now ≡ answer.now) }
+{
+    match alike {
+        Some(alike) => alike,
+        None => same_answer(recorded, answer),
+    }
+}
+
 /// The activity of a replayed command after an answer: its record, one step further, or its machine; then it is noted why.
 fn take_answer<K: Maker>(
     maker: &mut K,
@@ -119,11 +130,13 @@ fn take_answer<K: Maker>(
     rec: usize,
     at: usize,
     answer: &Answer,
+    alike: Option<bool>,
     causes: &mut CauseList,
     place: usize,
 ) -> Result<Activity<K::Made>, CheckErr>
     requires in_old { rec < length old.now }
     requires in_rec { at < length (rec_at rec old.now).steps }
+    requires alike { IfSome alike (λ b. IsTrue b ↔ ((step_at at (rec_at rec old.now).steps).answer ≡ answer.now)) }
     requires noted { place < length causes.old }
     ensures state { IfOk result (λ now. stands K.Made.talk K.first old.now now answer.now ≡ goes_on (step_at at (rec_at rec old.now).steps).cost (follow (K.first (rec_at rec old.now).key) (take at (rec_at rec old.now).steps)) answer.now) }
     ensures takes { IfOk result (λ now. Takes old.now (Replays rec at) answer.now now) }
@@ -133,7 +146,7 @@ fn take_answer<K: Maker>(
     ensures forged { IfErr result (IsForged K.first old.now) }
 {
     let steps = old.at(rec).steps.as_slice();
-    if same_answer(&steps[at].answer, answer) {
+    if is_recorded(&steps[at].answer, answer, alike) {
         return Ok(Activity::Replays(rec, at + 1));
     }
     let cause = Cause::differs(at as u64 + 1, &steps[at].answer, answer)?;
@@ -166,12 +179,14 @@ fn tick_so_far<M: Drop, L: Ledger>(
     }
 }
 
-/// A command takes the answer of its step, which has this cost and stands last in its record. Its costs are
+/// A command takes the answer of its step, which has this cost and stands last in its record; whether it is the recorded one
+/// may be told already. Its costs are
 /// counted where it runs, and those so far where its record is given up for a machine; it is noted why.
 pub(crate) fn settle<K: Maker, L: Ledger>(
     maker: &mut K,
     activity: &mut Activity<K::Made>,
     answer: &Answer,
+    alike: Option<bool>,
     cost: u32,
     table: &Table,
     place: usize,
@@ -182,6 +197,7 @@ pub(crate) fn settle<K: Maker, L: Ledger>(
     requires waiting { IsWaiting old.now activity.old }
     requires here { place < length table.now }
     requires noted { place < length causes.old }
+    requires alike { IfSome alike (λ b. IsAlike old.now activity.old answer.now b) }
     ensures state { IfOk result (λ _. stands K.Made.talk K.first old.now activity.new answer.now ≡ waits K.Made.talk K.first old.now activity.old answer.now) }
     ensures takes { IfOk result (λ _. Takes old.now activity.old answer.now activity.new) }
     ensures noted { IfOk result (λ _. causes.new ≡ noted old.now place activity.old answer.now activity.new causes.old) }
@@ -197,7 +213,7 @@ pub(crate) fn settle<K: Maker, L: Ledger>(
             Ok(())
         }
         Activity::Replays(rec, at) => {
-            let now = take_answer(maker, old, *rec, *at, answer, causes, place)?;
+            let now = take_answer(maker, old, *rec, *at, answer, alike, causes, place)?;
             tick_so_far(live, &now, table, place);
             *activity = now;
             Ok(())

@@ -2,6 +2,7 @@
 ghost use Rattle.std.specs.Prelude.{◌≡◌, ◌+◌, ◌-◌, ◌≤◌, length, IfOk, IfErr, IfSome};
 ghost use Rattle.std.specs.Option.{IsSomeAnd};
 ghost use Rattle.rk_calls.specs.Refs.{top_refs};
+ghost use Rattle.tr_record.specs.Contents.{AreContents};
 ghost use Rattle.rk_runs.specs.Started.{started};
 ghost use Rattle.rk_runs.specs.Own.{total};
 ghost use Rattle.rk_runs.specs.Purse.{left};
@@ -18,11 +19,12 @@ use crate::ran::RanList;
 use crate::stop::ReplayErr;
 use crate::turns::{answer_call, launch_below, resume};
 use rk_base::{Budget, NoMemory, Steps};
-use rk_calls::{Answer, Answerer, Call, Key, Machine, Maker, Refs, Spoke};
+use rk_calls::{Answer, Call, Key, Machine, Maker, Refs, Spoke};
+use rk_content::{ContentId, Numbering};
 use rk_runs::{Frame, check_with, pay};
 use std::alloc::Global;
 use std::sync::ledger::Ledger;
-use tr_record::Table;
+use tr_record::{RecordedContents, Table};
 
 /// A build that ended: its status, the records of its commands, and those of them that ran, in launch order.
 #[derive(Debug, Drop)]
@@ -34,19 +36,22 @@ pub struct Built {
 
 /// Runs the command of a key, and those that it launches, on a world, and answers from the old table where the
 /// world still answers so. The first command has the empty input, the output and the error text as its
-/// descriptors.
+/// descriptors. Contents of the old table that have numbers are compared with those that are read by the numbers of both.
 ///
 /// Errors: `Forged` for a record of the old table that isn't what its command says; `Spent` where the budget
 /// doesn't meet the run, and the old table has no such record.
-pub fn build_with<K: Maker, W: Answerer, L: Ledger>(
+pub fn build_with<K: Maker, W: Numbering, L: Ledger>(
     alloc: Global,
     maker: &mut K,
     world: &mut W,
     key: &Key,
     old: &Table,
+    contents: &RecordedContents,
     budget: &mut Budget,
     live: &mut Steps<L>,
 ) -> Result<Built, ReplayErr<W::Stop>>
+    requires { AreContents contents.now old.now }
+
     // Where the world tells what it means, it ends as the run in which nothing is recorded yet, and leaves the same
     // records.
     ensures done { IfOk result (λ b. IfSome (W.told world.old) (λ before. IsSomeAnd (W.told world.new) (λ now. AreSpoken K.first old.now → fresh (game K.first W.given) (left budget.old) key.now top_refs before ≡ Done now b.status (left budget.new) b.table))) }
@@ -71,6 +76,7 @@ pub fn build_with<K: Maker, W: Answerer, L: Ledger>(
 {
     let mut table = Table::new(alloc);
     let mut causes = CauseList::new(alloc);
+    let mut known: Vec<Option<ContentId>> = Vec::new(alloc);
     let mut stack: Vec<Frame<Activity<K::Made>>> = Vec::new(alloc);
     let refs = Refs::top(alloc)?;
     let mut top = begin(maker, &mut table, &mut causes, key, refs, old)?;
@@ -98,6 +104,8 @@ pub fn build_with<K: Maker, W: Answerer, L: Ledger>(
                         answer = answer_call(
                             maker,
                             world,
+                            contents,
+                            &mut known,
                             &mut table,
                             &mut causes,
                             &mut top,

@@ -7,6 +7,7 @@ mod as_found;
 mod build;
 mod causes;
 mod hearing;
+mod known;
 mod paying;
 mod ran;
 mod script;

@@ -1,10 +1,12 @@
 // What commands do after they asked, and once what they launched has exited.
-ghost use Rattle.std.specs.Prelude.{◌≡◌, ◌+◌, ◌<◌, ◌++◌, ◌∷◌, [], length, IfOk, IfErr, OnErr, IfSome};
+ghost use Rattle.std.specs.Prelude.{◌≡◌, ◌+◌, ◌<◌, ◌++◌, ◌∷◌, [], length, IfOk, IfErr, OnErr, OnOk, IfSome};
 ghost use Rattle.std.specs.Option.{IsSomeAnd};
 ghost use Rattle.rk_calls.specs.Given.{Given};
 ghost use Rattle.rk_calls.specs.Refs.{passed_refs};
 ghost use Rattle.rk_calls.specs.declared.answer.Answer.TheVariants.{Go, Joined};
 ghost use Rattle.rk_calls.specs.declared.call.Call.TheVariants.{Launch};
+ghost use Rattle.rk_content.specs.Contents.{AreKnown};
+ghost use Rattle.tr_record.specs.Contents.{AreContents};
 ghost use Rattle.tr_record.specs.Rec.{rec_at, begun, stepped, count_of};
 ghost use Rattle.rk_runs.specs.Run.{step};
 ghost use Rattle.rk_runs.specs.Started.{started, StartsSome};
@@ -15,13 +17,15 @@ ghost use Rattle.rk_replay.specs.Stops.{Stops, IsForged};
 
 use crate::activity::{Activity, begin, settle};
 use crate::causes::CauseList;
+use crate::known::is_alike;
 use crate::stop::ReplayErr;
 use rk_base::{NoMemory, Steps};
-use rk_calls::{Answer, Answerer, Call, Key, Machine, Maker, RefMap};
+use rk_calls::{Answer, Call, Key, Machine, Maker, RefMap};
+use rk_content::{ContentId, Numbering};
 use rk_runs::{Active, CheckErr, Frame, ask, join};
 use std::mem;
 use std::sync::ledger::Ledger;
-use tr_record::Table;
+use tr_record::{RecordedContents, Table};
 
 /// A command launches another one, which goes on in its place, and waits for it.
 pub(crate) fn launch_below<K: Maker>(
@@ -58,9 +62,11 @@ pub(crate) fn launch_below<K: Maker>(
 }
 
 /// The world answers a call of a command, the step is recorded, and the command takes the answer.
-pub(crate) fn answer_call<K: Maker, W: Answerer, L: Ledger>(
+pub(crate) fn answer_call<K: Maker, W: Numbering, L: Ledger>(
     maker: &mut K,
     world: &mut W,
+    contents: &RecordedContents,
+    known: &mut Vec<Option<ContentId>>,
     table: &mut Table,
     causes: &mut CauseList,
     top: &mut Active<Activity<K::Made>>,
@@ -72,6 +78,9 @@ pub(crate) fn answer_call<K: Maker, W: Answerer, L: Ledger>(
     requires waiting { IsWaiting old.now top.old.machine }
     requires here { top.old.place < length table.old }
     requires noted { top.old.place < length causes.old }
+    requires contents { AreContents contents.now old.now }
+    requires known { AreKnown (W.contents world.old) known.old.items contents.now.texts }
+    ensures known { OnOk result (AreKnown (W.contents world.new) known.new.items contents.now.texts) }
     ensures place { IfOk result (λ _. top.new.place ≡ top.old.place) }
     ensures given { IfOk result (λ a. IfSome (W.told world.old) (λ before. IsSomeAnd (W.told world.new) (λ now. record { answer = a; refs = top.new.refs; world = now } ≡ W.given before top.old.refs call))) }
     ensures table { IfOk result (λ a. table.new ≡ stepped top.old.place (step cost call a) table.old) }
@@ -85,14 +94,16 @@ pub(crate) fn answer_call<K: Maker, W: Answerer, L: Ledger>(
     ensures stops { IfErr result (Stops K.first old.now ⊥ (W.Stops world.old world.new)) }
     ensures since { IfOk result (λ _. (now : W) (stop : W.Stop) → W.Stops world.new now stop → W.Stops world.old now stop) }
 {
-    let answer = match ask(world, table, top.place, &mut top.refs, call, cost) {
-        Ok(answer) => answer,
+    let (answer, seen) = match ask(world, table, top.place, &mut top.refs, call, cost) {
+        Ok(given) => given,
         Err(reason) => return Err(ReplayErr::Stopped(reason)),
     };
+    let alike = is_alike(world, contents, known, &top.machine, seen)?;
     settle(
         maker,
         &mut top.machine,
         &answer,
+        alike,
         cost,
         table,
         top.place,
@@ -137,6 +148,7 @@ pub(crate) fn resume<K: Maker, L: Ledger>(
         maker,
         &mut top.machine,
         &answer,
+        None,
         cost,
         table,
         top.place,

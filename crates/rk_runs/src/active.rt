@@ -2,11 +2,13 @@
 ghost use Rattle.std.specs.Prelude.{◌≡◌, ◌<◌, length, IfOk, IfErr, OnOk, IfSome};
 ghost use Rattle.std.specs.Option.{IsSomeAnd};
 ghost use Rattle.rk_calls.specs.Given.{Given};
+ghost use Rattle.rk_content.specs.Contents.{IsContent, Keeps};
 ghost use Rattle.tr_record.specs.Rec.{stepped};
 ghost use Rattle.rk_runs.specs.Run.{step};
 
 use rk_base::NoMemory;
-use rk_calls::{Answer, Answerer, Call, Key, RefMap, Refs};
+use rk_calls::{Answer, Call, Key, RefMap, Refs};
+use rk_content::{ContentId, Numbering};
 use tr_record::{Step, Table};
 
 /// A command that runs: the number of its record, its descriptors and its machine.
@@ -26,22 +28,25 @@ pub struct Frame<M> {
     pub cost: u32,
 }
 
-/// Asks the world a call, and records the step. Nothing else stops it but want of memory.
-pub fn ask<W: Answerer>(
+/// Asks the world a call, and records the step; with the number of the content that the answer is, where it has one. Nothing
+/// else stops it but want of memory.
+pub fn ask<W: Numbering>(
     world: &mut W,
     table: &mut Table,
     place: usize,
     refs: &mut Refs,
     call: Call,
     cost: u32,
-) -> Result<Answer, W::Stop>
+) -> Result<(Answer, Option<ContentId>), W::Stop>
     requires { place < length table.old }
-    ensures given { IfOk result (λ a. IfSome (W.told world.old) (λ before. IsSomeAnd (W.told world.new) (λ now. record { answer = a; refs = refs.new; world = now } ≡ W.given before refs.old call))) }
-    ensures table { IfOk result (λ a. table.new ≡ stepped place (step cost call a) table.old) }
+    ensures given { IfOk result (λ r. IfSome (W.told world.old) (λ before. IsSomeAnd (W.told world.new) (λ now. record { answer = r.0; refs = refs.new; world = now } ≡ W.given before refs.old call))) }
+    ensures number { IfOk result (λ r. IfSome r.1 (λ id. IsContent (W.contents world.new) id r.0)) }
+    ensures kept { IfOk result (λ _. Keeps (W.contents world.old) (W.contents world.new)) }
+    ensures table { IfOk result (λ r. table.new ≡ stepped place (step cost call r.0) table.old) }
     ensures stops { IfErr result (W.Stops world.old world.new) }
     ensures since { IfOk result (λ _. (now : W) (stop : W.Stop) → W.Stops world.new now stop → W.Stops world.old now stop) }
 {
-    let answer = world.answer(refs, &call)?;
+    let (answer, number) = world.answer_id(refs, &call)?;
     let seen = answer.copy()?;
     table.add_step(
         place,
@@ -51,7 +56,7 @@ pub fn ask<W: Answerer>(
             answer: seen,
         },
     )?;
-    Ok(answer)
+    Ok((answer, number))
 }
 
 /// The command that waited, after the launched one has ended with this status.

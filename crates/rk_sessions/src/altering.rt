@@ -138,7 +138,8 @@ fn table_with(alloc: Global, table: &Table, change: &Change<'_>) -> Result<Table
 /// The database with the change that a line names, and its digest made anew. It is as before where it is damaged.
 pub fn altered(alloc: Global, db: &[u8], line: &str) -> Result<Bytes, NoMemory> {
     match read_db(alloc, db) {
-        Ok(table) => {
+        Ok(read) => {
+            let table = read.into_table();
             let other = table_with(alloc, &table, &change_of(line))?;
             write_db(alloc, &other)
         }

@@ -69,7 +69,7 @@ fn table_of(alloc: Global, folder: &MemFolder) -> Result<Table, NoMemory>
 {
     let db = db_of(alloc, folder)?;
     match table_in(alloc, &db) {
-        Ok(table) => Ok(table),
+        Ok(read) => Ok(read.into_table()),
         Err(BuildErr::NoMemory) => Err(NoMemory),
         Err(_) => unreachable!(),
     }

@@ -9,7 +9,9 @@ use Rattle.rk_calls.specs.declared.call.Call.{Call}
 use Rattle.rk_calls.specs.declared.call.Call.TheVariants as call
 use Rattle.rk_calls.specs.declared.answer.Answer.{Answer}
 use Rattle.rk_calls.specs.declared.answer.Answer.TheVariants as answer
-use Rattle.tr_codec.specs.Again.{AreKnown, IsNumberAt, IsWritten, IsTold}
+use Rattle.tr_record.specs.Contents.{IsContent}
+use Rattle.rk_content.specs.Contents.{AreKnown}
+use Rattle.tr_codec.specs.Again.{IsNumberAt, IsWritten}
 use Rattle.tr_parts.specs.Piece.{Piece, blob, num, number_of, with_use}
 use Rattle.tr_codec.specs.Puts.{Written, Puts}
 use Rattle.tr_codec.specs.Reading.{◌>>=◌, number_at, byte_at, blob_at, write_at, call_of, call_at, text_answer_at, answer_of, answer_at}
@@ -74,7 +76,7 @@ written_at blobs bytes fields after end r n it h kind first at =
     let is : it ≡ call.Write a.0.0 b.0.0 = sym (some_first (call.Write a.0.0 b.0.0, b.0.1) (it, end) b.2) in
     (a.0.0, b.0.0, is, blob_number blobs after b.0 n at here)
 
-pub told_at : (blobs : List Text) (bytes text end : List ℕ) (n : ℕ) (it : Answer) → answer_at blobs bytes ≡ Some (it, end) → byte_at bytes ≡ Some (4, text) → IsNumberAt text n → IsTold blobs n it
+pub told_at : (blobs : List Text) (bytes text end : List ℕ) (n : ℕ) (it : Answer) → answer_at blobs bytes ≡ Some (it, end) → byte_at bytes ≡ Some (4, text) → IsNumberAt text n → IsContent blobs n it
 unfolding answer_at text_answer_at
 told_at blobs bytes text end n it h kind at =
     let whole : text_answer_at answer.Content blobs text ≡ Some (it, end) = sym (ap (λ (o : Option (ℕ × List ℕ)). o >>= λ kind. answer_of blobs kind.0 kind.1) kind) ∙ h in
@@ -91,7 +93,7 @@ one_content text other e = cc
 pub writes_it : (blobs : List Text) (n r : ℕ) (text : Text) (it : Call) → it ≡ call.Write r text → IsWritten blobs n it → slice_get blobs n ≡ Some text
 writes_it blobs n r text it is w = w.3 ∙ ap (λ (t : Text). Some t) (one_write _ _ _ _ (sym w.2 ∙ is))
 
-pub tells_it : (blobs : List Text) (n : ℕ) (text : Text) (it : Answer) → it ≡ answer.Content text → IsTold blobs n it → slice_get blobs n ≡ Some text
+pub tells_it : (blobs : List Text) (n : ℕ) (text : Text) (it : Answer) → it ≡ answer.Content text → IsContent blobs n it → slice_get blobs n ≡ Some text
 tells_it blobs n text it is w = w.2 ∙ ap (λ (t : Text). Some t) (one_content _ _ (sym w.1 ∙ is))
 
 -- what follows of a value that may be there

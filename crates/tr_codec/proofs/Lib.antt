@@ -1,3 +1,4 @@
+pub mod ContentLemmas
 pub mod FitLemmas
 pub mod KnownLemmas
 pub mod PutsLemmas

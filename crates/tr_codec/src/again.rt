@@ -1,7 +1,9 @@
 // What is read is put again at once. The texts of contents and of writes are found by the numbers of their blobs, so that no long
 // text is compared.
 ghost use Rattle.std.specs.Prelude.{◌≡◌, ◌<◌, Some, length, slice_get, IfSome, IfOk, OnOk};
-ghost use Rattle.tr_codec.specs.Again.{AreKnown, IsNumberAt, IsWritten, IsTold};
+ghost use Rattle.tr_record.specs.Contents.{IsContent};
+ghost use Rattle.rk_content.specs.Contents.{AreKnown};
+ghost use Rattle.tr_codec.specs.Again.{IsNumberAt, IsWritten};
 ghost use Rattle.tr_parts.specs.Piece.{◌⊕◌, blob, byte, number};
 ghost use Rattle.tr_codec.specs.Spelling.{call_piece, answer_piece, step_piece};
 ghost use Rattle.tr_codec.specs.Puts.{Puts};
@@ -47,7 +49,7 @@ fn written_number(blobs: &[Bytes], bytes: &[u8], call: &Call, rest: &[u8]) -> Op
 // The number of the content that an answer is which was read here, where it is such a one.
 fn told_number(blobs: &[Bytes], bytes: &[u8], answer: &Answer, rest: &[u8]) -> Option<usize>
     requires { answer_at blobs.now bytes.now ≡ Some (answer.now, rest.now) }
-    ensures { IfSome result (λ n. IsTold blobs.now n answer.now) }
+    ensures { IfSome result (λ n. IsContent blobs.now n answer.now) }
 {
     match byte_of(bytes) {
         Ok((4, text)) => peek(text),
@@ -171,7 +173,7 @@ fn put_answer_again(
     answer: &Answer,
 ) -> Result<(), NoMemory>
     requires known { AreKnown w.old.blobs known.old.items blobs.now }
-    requires number { IfSome number (λ n. IsTold blobs.now n answer.now) }
+    requires number { IfSome number (λ n. IsContent blobs.now n answer.now) }
     ensures puts { OnOk result (Puts (answer_piece answer.now) w.old w.new) }
     ensures known { OnOk result (AreKnown w.new.blobs known.new.items blobs.now) }
 {
@@ -184,7 +186,7 @@ fn put_answer_again(
     }
 }
 
-/// A step, which is put again.
+/// A step, which is put again, and the number of the content that its answer is, where it is one.
 #[tactic(auto, unfolding(crate::specs::Reading::step_at))]
 pub(crate) fn step_again<'a>(
     alloc: Global,
@@ -192,9 +194,10 @@ pub(crate) fn step_again<'a>(
     known: &mut Vec<Option<ContentId>>,
     blobs: &[Bytes],
     bytes: &'a [u8],
-) -> Result<(Step, &'a [u8]), PartErr>
+) -> Result<(Step, Option<usize>, &'a [u8]), PartErr>
     requires { AreKnown w.old.blobs known.old.items blobs.now }
-    ensures gives { Gives (λ x. (x.0, x.1.now)) result (step_at blobs.now bytes.now) }
+    ensures gives { Gives (λ x. (x.0, x.2.now)) result (step_at blobs.now bytes.now) }
+    ensures told { IfOk result (λ x. IfSome x.1 (λ n. IsContent blobs.now n x.0.answer)) }
     ensures puts { IfOk result (λ x. Puts (step_piece x.0) w.old w.new) }
     ensures known { OnOk result (AreKnown w.new.blobs known.new.items blobs.now) }
 {
@@ -206,5 +209,5 @@ pub(crate) fn step_again<'a>(
     let (answer, end) = answer_of(alloc, blobs, after)?;
     let told = told_number(blobs, after, &answer, end);
     put_answer_again(w, known, blobs, told, &answer)?;
-    Ok((Step { cost, call, answer }, end))
+    Ok((Step { cost, call, answer }, told, end))
 }

@@ -19,7 +19,10 @@ pub fn read_back(alloc: Global, table: &Table) -> Result<Table, CodecErr>
     ensures { Fits table.now → Finds result table.now }
 {
     match write_db(alloc, table) {
-        Ok(bytes) => read_db(alloc, bytes.as_slice()),
+        Ok(bytes) => match read_db(alloc, bytes.as_slice()) {
+            Ok(table) => Ok(table.into_table()),
+            Err(e) => Err(e),
+        },
         Err(_) => Err(CodecErr::NoMemory),
     }
 }

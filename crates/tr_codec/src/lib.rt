@@ -11,12 +11,14 @@ mod keys;
 mod laws;
 mod parts;
 mod pieces;
+mod read_table;
 mod reading;
 mod records;
 mod writer;
 mod writing;
 
 pub use laws::{one_table, read_back};
+pub use read_table::ReadTable;
 pub use reading::read_db;
 pub use tr_parts::{CodecErr, Damage};
 pub use writing::write_db;

@@ -8,14 +8,14 @@ ghost use Rattle.tr_codec.specs.Puts.{Puts};
 ghost use Rattle.tr_codec.specs.Reading.{table_at};
 ghost use Rattle.tr_parts.specs.Reads.{Gives, Tells, Finds, FindsPart, front_of, seal_of};
 
+use crate::read_table::ReadTable;
 use crate::records::table_of;
 use crate::writer::Writer;
 use std::alloc::Global;
 use tr_parts::{CodecErr, Damage, PartErr, is_same, open_seal};
-use tr_record::Table;
 
 // What a body may spell, and a writer to which it was put. The four bytes at its front are not looked at.
-fn candidate(alloc: Global, front: &[u8]) -> Result<(Table, Writer), PartErr>
+fn candidate(alloc: Global, front: &[u8]) -> Result<(ReadTable, Writer), PartErr>
     requires { 4 ≤ length front.now }
     ensures gives { Gives (λ x. x.0) result (table_at (drop 4 front.now)) }
     ensures puts { IfOk result (λ x. Puts (table_piece x.0) (record { blobs = []; bytes = [] }) x.1) }
@@ -25,7 +25,7 @@ fn candidate(alloc: Global, front: &[u8]) -> Result<(Table, Writer), PartErr>
 }
 
 // What a body spells: what it may spell was put again as it was read, and is compared.
-fn body_table(alloc: Global, front: &[u8]) -> Result<Table, PartErr>
+fn body_table(alloc: Global, front: &[u8]) -> Result<ReadTable, PartErr>
     requires { 4 ≤ length front.now }
     ensures found { IfOk result (λ table. Fits table × (front.now ≡ body (table_piece table))) }
     ensures only { (table : List Rec) → Fits table → front.now ≡ body (table_piece table) → FindsPart result table }
@@ -40,7 +40,7 @@ fn body_table(alloc: Global, front: &[u8]) -> Result<Table, PartErr>
 }
 
 /// The table that the bytes spell.
-pub fn read_db(alloc: Global, bytes: &[u8]) -> Result<Table, CodecErr>
+pub fn read_db(alloc: Global, bytes: &[u8]) -> Result<ReadTable, CodecErr>
     // What is read has these bytes as its spelling.
     ensures found { IfOk result (λ table. Fits table × (bytes.now ≡ db_spelling table)) }
     // What has these bytes as its spelling is read, unless memory runs out.

@@ -10,11 +10,11 @@ returns-in_err-holding-clause-finds g c =
 pub returns-in_err-attrs-clause-finds : goal.returns-in_err-attrs-clause-finds
 returns-in_err-attrs-clause-finds g c =
     let p = err_from_is_err_and c.from_residual-in_err-attrs.result c.from_residual-in_err-attrs.ensures.1 in
-    rw (p.1, p.2) (kept-stops-so c.args.request.now _ c.in_ok-holding.holding _ c.is_fresh.result c.is_fresh.ensures c.in_ok-holding.ensures.look c.in_err-attrs.ensures)
+    rw (p.1, p.2) (kept-stops-so c.args.request.now _ c.in_ok-holding.holding _ c.is_fresh.result c.is_fresh.ensures c.in_ok-holding.ensures.look c.in_err-attrs.ensures.reads)
 
 pub returns-clause-finds : goal.returns-clause-finds
 returns-clause-finds g c =
-    is_found c.args.request.now _ (record { holding = c.in_ok-holding.holding; attrs = c.in_ok-attrs.field-0.attrs; old = c.in_ok-attrs.field-0.old }) c.is_fresh.result c.is_fresh.ensures c.in_ok-holding.ensures.look c.in_ok-attrs.ensures
+    is_found c.args.request.now _ (record { holding = c.in_ok-holding.holding; attrs = c.in_ok-attrs.field-0.attrs; old = c.in_ok-attrs.field-0.old; contents = c.in_ok-attrs.field-0.contents }) c.is_fresh.result c.is_fresh.ensures c.in_ok-holding.ensures.look c.in_ok-attrs.ensures.reads
 
 pub returns-clause-spells : goal.returns-clause-spells
-returns-clause-spells g c = kept-spells c.in_ok-holding.holding.state _ c.in_ok-attrs.ensures
+returns-clause-spells g c = kept-spells c.in_ok-holding.holding.state c.in_ok-attrs.field-0 c.in_ok-attrs.ensures.reads

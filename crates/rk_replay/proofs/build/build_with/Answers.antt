@@ -9,6 +9,7 @@ use Rattle.rk_runs.specs.Speaking.{fresh-spoken}
 use Rattle.rk_replay.proofs.Replaying.{ready, Replaying-start, Pays-start, Waiting-ask, Replaying-ask, Pays-ask, Causes-ask, Replaying-launch, Pays-launch, Pays-end, Causes-end, join-place, join-noted, Waiting-join, Replaying-join, Causes-join, Pays-join, pend, pend-push, pend-none, pend-empty, starts-first, starts-next, few-counted}
 use Rattle.rk_replay.proofs.Keeping.{Keeps-start, Keeps-launch, Keeps-ask, Keeps-join, all-kept}
 use Rattle.rk_replay.proofs.Noting.{causes-none, begun-causes}
+use Rattle.rk_replay.proofs.Numbering.{nothing_known}
 use Rattle.rk_replay.proofs.Stopping.{told-forged, stops-want, stops-forged, stops-since}
 use Rattle.rk_replay.proofs.Starting.{few-ran, fewer-ran, paid-some, ran-all, stopped-asked, stopped-checked, stopped-handed, stopped-launch, stopped-want}
 use Rattle.rk_replay.proofs.Telling.{told-start, told-still, told-last, told-asked, told-first}
@@ -24,6 +25,7 @@ turns-init g c =
       since = λ now stop h. h;
       replays = Replaying-start _ _ _ _ _ _ c.new-table.ensures c.new-stack.ensures.items c.in_ok-top.ensures.launched c.in_ok-top.ensures.place c.in_ok-top.ensures.table;
       keeps = Keeps-start _ _ _ _ _ _ c.new-table.ensures c.in_ok-top.ensures.place c.in_ok-top.ensures.table;
+      known = rw c.new-known.ensures.items (nothing_known _ _);
       causes = begun-causes _ _ _ _ _ _ _ c.in_ok-top.ensures.launched c.in_ok-top.ensures.table (causes-none _ _ _ c.new-table.ensures c.new-causes.ensures) c.in_ok-top.ensures.noted;
       starts = starts-first _ _ _ _ c.in_ok-top.ensures.starts p.0;
       live = omega (arith, p.1);
@@ -95,6 +97,7 @@ turns-preserved-in-Launch g c =
       keeps =
           Keeps-launch _ _ _ _ c.turns.invariant.keeps _ _ _ _ _ _ _ c.in_ok-launch_below-in-Launch.ensures.place c.in_ok-launch_below-in-Launch.ensures.table
           c.in_ok-launch_below-in-Launch.ensures.stack;
+      known = c.turns.invariant.known;
       causes = begun-causes _ _ _ _ _ _ _ c.in_ok-launch_below-in-Launch.ensures.launched c.in_ok-launch_below-in-Launch.ensures.table c.turns.invariant.causes c.in_ok-launch_below-in-Launch.ensures.noted;
       starts = starts-next _ _ _ _ _ _ _ c.turns.invariant.starts c.in_ok-call.ensures.starts c.in_ok-launch_below-in-Launch.ensures.starts p.counts.ran;
       live = omega (arith, p.counts.live);
@@ -109,6 +112,8 @@ answer_call-requires g c = record {
   waiting = Waiting-ask _ _ _ _ c.turns.invariant.replays _ _ c.in_ok-call.ensures.on _ _ c.in-Call.is;
   here = c.turns.invariant.replays.here;
   noted = omega (arith, c.turns.invariant.causes.many, c.turns.invariant.replays.here);
+  contents = c.requires;
+  known = c.turns.invariant.known;
 }
 
 pub turns-preserved-in_default : goal.turns-preserved-in_default
@@ -126,6 +131,7 @@ turns-preserved-in_default g c =
           Replaying-ask _ _ _ _ c.turns.invariant.replays _ _ c.in_ok-call.ensures.on _ _ _ _ _ _ c.in-Call.is c.pay-cost.ensures.cost
           c.in_ok-answer-in_default.ensures.table c.in_ok-answer-in_default.ensures.place c.in_ok-answer-in_default.ensures.takes;
       keeps = Keeps-ask _ _ _ _ c.turns.invariant.keeps _ _ _ c.in_ok-answer-in_default.ensures.table c.in_ok-answer-in_default.ensures.place;
+      known = c.in_ok-answer-in_default.ensures.known;
       causes =
           Causes-ask _ _ _ _ c.turns.invariant.replays _ _ c.in_ok-call.ensures.on _ _ _ _ _ _ _ _ c.in-Call.is c.pay-cost.ensures.cost
           c.in_ok-answer-in_default.ensures.table c.in_ok-answer-in_default.ensures.takes c.turns.invariant.causes c.in_ok-answer-in_default.ensures.noted;
@@ -255,6 +261,7 @@ turns-preserved g c =
       keeps =
           Keeps-join _ _ _ _ c.turns.invariant.replays c.turns.invariant.keeps _ _ c.in_ok-call.ensures.on _ _ _ _ c.in-Exit.is c.pay-cost-in-Exit.ensures.cost c.end.ensures
           _ _ c.in-Some.ensures.items _ _ _ c.in_ok-top-in-Some.ensures.table c.in_ok-top-in-Some.ensures.place;
+      known = c.turns.invariant.known;
       causes =
           Causes-join _ _ _ _ c.turns.invariant.replays _ _ c.in_ok-call.ensures.on _ _ _ _ _ _ c.in-Exit.is c.end.ensures c.in-Some.ensures.items
           _ _ _ _ c.in_ok-top-in-Some.ensures.table c.in_ok-top-in-Some.ensures.takes c.turns.invariant.causes c.in_ok-top-in-Some.ensures.noted;

@@ -8,6 +8,7 @@ use Rattle.rk_runs.specs.Spoken.{AreSpoken}
 use Rattle.rk_runs.specs.Freshing.{Freshing}
 use Rattle.rk_replay.specs.Activities.{stands, waits}
 use Rattle.rk_replay.specs.Causes.{AreCauses}
+use Rattle.rk_content.specs.Contents.{AreKnown}
 use Rattle.rk_replay.specs.Ran.{ran_total}
 use Rattle.rk_replay.proofs.Totalling.{ran_count}
 use Rattle.rk_replay.proofs.Keeping.{Keeps}
@@ -23,6 +24,7 @@ invariant-turns g l =
       since : (now : _) (stop : _) → g.W.Answerer.Stops l.world now stop → g.W.Answerer.Stops l.fn.world now stop;
       replays : Replaying l.fn.old l.table l.top l.stack.items;
       keeps : Keeps l.fn.old l.table l.top l.stack.items;
+      known : AreKnown (g.W.Numbering.contents l.world) l.known.items l.fn.contents.texts;
       causes : AreCauses l.fn.old l.table l.causes;
       starts : g.K.Maker.starts l.maker ≡ started (ran_count l.fn.old l.table) (g.K.Maker.starts l.fn.maker);
       live : l.live ≡ l.fn.live + ran_total l.fn.old l.table;

@@ -34,3 +34,8 @@ returns-else-is_same-clause-only c = λ table fits e.
     let put = body_is (table_piece c.in_ok-table.table) c.in_ok-table.writer c.in_ok-table.ensures.puts in
     let alike : c.in_ok-again.again.items ≡ c.args.front.now = c.in_ok-again.ensures ∙ put ∙ ap (λ (t : List Record). body (table_piece t)) items ∙ sym e in
     let bad : false ≡ true = sym c.if-is_same.false ∙ c.is_same.ensures.1 (c.deref.ensures.value ∙ alike) in cc
+
+pub returns-in_err-again-clause-only : goal.returns-in_err-again-clause-only
+returns-in_err-again-clause-only c = λ table fits e.
+    let p = err_from_is_err_and c.from_residual-in_err-again.result c.from_residual-in_err-again.ensures.1 in
+    rw (p.1, p.2) tt
