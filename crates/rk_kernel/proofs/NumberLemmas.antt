@@ -106,6 +106,21 @@ with_mode_at-stays : (but : Option ℕ) (tree : Hierarchy) (place : Place) (mode
 with_mode_at-stays but tree (Found at) mode n other = moded mode tree.nodes at.node n
 with_mode_at-stays but tree (Absent dir name slash) mode n other = refl
 
+-- bytes that are a file's own change nothing
+
+same_file : (bytes : Text) (it : Node) → bytes ≡ file_bytes (Some it) → replaced bytes it ≡ it
+same_file bytes (File mode old) is = ap (λ (text : Text). File mode text) is
+same_file bytes (Dir mode) is = refl
+same_file bytes (Link text) is = refl
+
+same_nodes : (bytes : Text) (nodes : List Node) (n : ℕ) → bytes ≡ file_bytes (slice_get nodes n) → changed_at (replaced bytes) nodes n (slice_get nodes n) ≡ nodes
+same_nodes bytes [] n is = refl
+same_nodes bytes (x ∷ nodes) zero is = ap (λ (it : Node). it ∷ nodes) (same_file bytes x is)
+same_nodes bytes (x ∷ nodes) (suc n) is = behind_first (replaced bytes) x nodes n (slice_get nodes n) ∙ ap (λ (all : List Node). x ∷ all) (same_nodes bytes nodes n is)
+
+pub shared : (tree : Hierarchy) (n : ℕ) (bytes : Text) → bytes ≡ file_bytes (node tree n) → set_bytes tree n bytes ≡ tree
+shared tree n bytes is = ap (λ (nodes : List Node). record tree { nodes = nodes }) (same_nodes bytes tree.nodes n is)
+
 -- Rows.
 
 module _ (world : World) (refs : RefsHeld) (but : Option ℕ) where

@@ -17,7 +17,8 @@ use std::marker::Model;
 use std::mem;
 
 /// A world, and the contents that were read of its files, by numbers. Beside each file stands the number of its bytes, once
-/// they were read whole and until it is written; so a file's bytes are hashed once, however often they are read.
+/// they were read whole and until it is written; so a file's bytes are hashed once, however often they are read. Files that
+/// were read and have the same bytes share one text.
 #[derive(Drop)]
 pub struct NumberedWorld {
     world: World,
@@ -150,18 +151,45 @@ impl NumberedWorld {
         Ok(answer)
     }
 
-    // The number of the content that an answer is, which is all that a file has.
-    fn content_id(&mut self, n: usize, answer: &Answer) -> Result<Option<ContentId>, NoMemory>
-        requires { IsFileContent self.old.world.tree n answer.now }
+    // These bytes, whose number this is, as the contents have them.
+    fn text_of(&self, id: ContentId, bytes: &Bytes) -> Result<Bytes, NoMemory>
+        requires { slice_get self.now.contents id ≡ Some bytes.now }
+        ensures { IfOk result (λ b. b ≡ bytes.now) }
+    {
+        match self.contents.get(id) {
+            None => bytes.copy(),
+            Some(text) => text.copy(),
+        }
+    }
+
+    // A file shares the text of its bytes.
+    fn share(&mut self, n: usize, text: Bytes)
+        requires { text ≡ file_bytes (node self.old.world.tree n) }
+        ensures { self.new ≡ self.old }
+    {
+        self.world.share(n, text);
+    }
+
+    // An answer that is all that a file has, and its number. All files that have these bytes share one text.
+    fn numbered(
+        &mut self,
+        n: usize,
+        answer: Answer,
+    ) -> Result<(Answer, Option<ContentId>), NoMemory>
+        requires { IsFileContent self.old.world.tree n answer }
         ensures world { self.new.world ≡ self.old.world }
-        ensures number { IfOk result (λ it. IfSome it (λ id. IsContent self.new.contents id answer.now)) }
-        ensures some { IfOk result (λ it. is_some it ≡ true) }
+        ensures answer { IfOk result (λ r. r.0 ≡ answer) }
+        ensures number { IfOk result (λ r. IfSome r.1 (λ id. IsContent self.new.contents id answer)) }
+        ensures some { IfOk result (λ r. is_some r.1 ≡ true) }
         ensures kept { Keeps self.old.contents self.new.contents }
     {
         match answer {
             Answer::Content(bytes) => {
-                let id = self.number_of(n, bytes)?;
-                Ok(Some(id))
+                let id = self.number_of(n, &bytes)?;
+                let text = self.text_of(id, &bytes)?;
+                let copy = text.copy()?;
+                self.share(n, copy);
+                Ok((Answer::Content(text), Some(id)))
             }
             _ => unreachable!(),
         }
@@ -184,8 +212,8 @@ impl NumberedWorld {
         match file {
             None => Ok((answer, None)),
             Some(n) => {
-                let id = self.content_id(n, &answer)?;
-                Ok((answer, id))
+                let given = self.numbered(n, answer)?;
+                Ok(given)
             }
         }
     }

@@ -2,11 +2,14 @@
 ghost use Rattle.std.specs.Prelude.{◌≡◌, true};
 ghost use Rattle.rk_calls.specs.Refs.{ref_at};
 ghost use Rattle.rk_calls.specs.declared.call.How.TheVariants as how;
+ghost use Rattle.rk_tree.specs.Hierarchy.{file_bytes, node};
 ghost use Rattle.rk_walk.specs.Walk as walk;
 ghost use Rattle.rk_kernel.specs.Numbers as numbers;
 
 use crate::{Description, Source, World};
+use rk_base::Bytes;
 use rk_calls::{Call, How, Refs};
+use rk_tree::NodeId;
 use rk_walk::{Place, resolve};
 
 fn file_of(source: Source) -> Option<usize>
@@ -82,6 +85,15 @@ impl World {
             How::Append => None,
             How::Make => self.file_found(path),
         }
+    }
+
+    /// The bytes of a file are these, which are its own: it shares their text.
+    #[tactic(auto, using(crate::proofs::NumberLemmas::shared))]
+    pub(crate) fn share(&mut self, n: usize, text: Bytes)
+        requires { text ≡ file_bytes (node self.old.tree n) }
+        ensures { self.new ≡ self.old }
+    {
+        self.tree.set_bytes(NodeId::new(n), text);
     }
 
     /// The file that a call reads whole, if it is such a one.
