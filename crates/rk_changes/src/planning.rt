@@ -1,7 +1,7 @@
 // The plan that leads from what a folder holds to what it is to hold.
 ghost use Rattle.std.specs.Prelude.{◌≡◌, [], ◌++◌, IfOk, IfSome, IsSome, None, OnOk, Some, reverse, option_copied};
 ghost use Rattle.std.specs.List.{filter_map};
-ghost use Rattle.std.specs.FinMap.{entries};
+ghost use Rattle.std.specs.FinMap.{entries, get};
 ghost use Rattle.rk_folder.specs.Told.{is_file, is_dir};
 ghost use Rattle.rk_seal.specs.Plans.{calls_in, plan_of, with_calls};
 ghost use Rattle.rk_tree.specs.Entries.{IsWholeSnapshot};
@@ -75,14 +75,14 @@ fn removal(path: &Path, it: &Node, after: Option<&Node>) -> Result<Option<Op>, N
     }
 }
 
-// The call that makes a directory, where none stood before.
-fn making(path: &Path, it: &Node, before: Option<&Node>) -> Result<Option<Op>, NoMemory>
-    ensures { IfOk result (λ op. op ≡ making path.now it.now (placed (option_copied before.entry))) }
+// The call that makes a directory, where none stood before. What stood at its path is looked up for directories alone.
+fn making(path: &Path, it: &Node, before: &Snapshot) -> Result<Option<Op>, NoMemory>
+    ensures { IfOk result (λ op. op ≡ making path.now it.now (placed (get before.now path.now))) }
 {
     match it.entry() {
         Entry::File(_, _) => Ok(None),
         Entry::Dir(_) => {
-            if is_dir(before) {
+            if is_dir(before.get(path)) {
                 return Ok(None);
             }
             Ok(Some(Op::MakeDir(path.copy()?)))
@@ -127,7 +127,7 @@ fn add_makings(ops: &mut Vec<Op>, before: &Snapshot, after: &Snapshot) -> Result
     ensures { OnOk result (ops.new.items ≡ ops.old.items ++ filter_map (making_of before.now) (entries after.now)) }
 {
     for (path, it) in after.rows() {
-        if let Some(op) = making(path, it, before.get(path))? {
+        if let Some(op) = making(path, it, before)? {
             ops.push(op)?;
         }
     }
