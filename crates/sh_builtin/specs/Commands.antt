@@ -25,7 +25,7 @@ command_talk c a = alone (builtin_does c.builtin a) (heard a c.env)
 
 -- A command that is no shell is launched without variables: it begins with none set, in its working directory.
 abbrev pub own_env : Text → Text → Env
-own_env wd name = record { vars = nothing; zero = name; wd = wd; status = 0; nounset = false; noglob = false; next = 10 }
+own_env wd name = record { vars = nothing; zero = name; wd = wd; status = 0; substituted = false; nounset = false; noglob = false; next = 10 }
 
 -- the builtin of this name, with these words
 abbrev pub named_command : Text → Text → List Text → Option Says

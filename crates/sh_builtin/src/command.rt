@@ -55,6 +55,7 @@ fn own_env(alloc: Global, wd: &Path, name: &Bytes) -> Result<Env, NoMemory>
         zero,
         wd,
         status: 0,
+        substituted: false,
         nounset: false,
         noglob: false,
         next: 10,

@@ -69,13 +69,13 @@ for_parameters o name0 name fields b0 b pl k e p ho hn hf hb =
     ∙ ap (λ (fs : List Text). for_fields name fs (whole b0) pl k e p) (sym hf)
     ∙ ap (λ (l : CommandList). for_fields name fields (whole l) pl k e p) (sym hb)
 
-pub for_words : (o : Option (Rc Words Global)) (ws0 ws : Rc Words Global) (name0 name : Text) (fields : List Text) (b0 : CommandList) (b : Rc CommandList Global) (pl : Place) (k : Next) (e : Shell) (p : ℕ) → o ≡ Some ws0 → ws.value ≡ ws0.value → name ≡ name0 → fields ≡ [] → b.value ≡ b0 → for_means name0 (for_in run (for_words_of o)) (whole b0) pl e k p ≡ fielding (record { words = ws; at = 0; fields = fields; ran = false; then = then.For name b }) pl k e p
+pub for_words : (o : Option (Rc Words Global)) (ws0 ws : Rc Words Global) (name0 name : Text) (fields : List Text) (b0 : CommandList) (b : Rc CommandList Global) (pl : Place) (k : Next) (e : Shell) (p : ℕ) → o ≡ Some ws0 → ws.value ≡ ws0.value → name ≡ name0 → fields ≡ [] → b.value ≡ b0 → for_means name0 (for_in run (for_words_of o)) (whole b0) pl e k p ≡ fielding (record { words = ws; at = 0; fields = fields; then = then.For name b }) pl k e p
 for_words o ws0 ws name0 name fields b0 b pl k e p ho hw hn hf hb =
     ap (λ (o : Option (Rc Words Global)). for_means name0 (for_in run (for_words_of o)) (whole b0) pl e k p) ho
     ∙ ap (λ (w : Words). for_means name0 (for_in run (tree.in_words (tree.words w))) (whole b0) pl e k p) (sym hw)
     ∙ ap (λ (n : Text). for_means n (for_in run (tree.in_words (tree.words ws.value))) (whole b0) pl e k p) (sym hn)
     ∙ ap (λ (l : CommandList). for_means name (for_in run (tree.in_words (tree.words ws.value))) (whole l) pl e k p) (sym hb)
-    ∙ ap (λ (fs : List Text). fielding (record { words = ws; at = 0; fields = fs; ran = false; then = then.For name b }) pl k e p) (sym hf)
+    ∙ ap (λ (fs : List Text). fielding (record { words = ws; at = 0; fields = fs; then = then.For name b }) pl k e p) (sym hf)
 
 -- a field is paid for
 paid_each : (each : Each) (f : Text) (pl : Place) (k : Next) (e : Shell) (p : ℕ) → drop each.at each.fields ≡ f ∷ drop (each.at + 1) each.fields → for_each each.name (drop each.at each.fields) (whole each.body.value) pl k e p ≡ pay 1 (giving each pl k e) p

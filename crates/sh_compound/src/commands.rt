@@ -27,21 +27,26 @@ use sh_means::steps::{free, paid};
 use std::alloc::Global;
 use std::rc::Rc;
 
-// A simple command begins with its words.
-fn act_simple(alloc: Global, place: Place, command: &Rc<SimpleCommand>) -> Result<Acted, NoMemory>
-    ensures talk { IfOk result (λ t. (k : Next) (e : Shell) → Steps (simple_in run (tree.simple_command command.now.value) place e k) k e t) }
+// A simple command begins with its words, and no substitution was performed so far.
+fn act_simple(
+    alloc: Global,
+    place: Place,
+    command: &Rc<SimpleCommand>,
+    state: &mut State,
+) -> Result<Acted, NoMemory>
+    ensures talk { IfOk result (λ t. (k : Next) → Steps (simple_in run (tree.simple_command command.now.value) place (shell_of state.old) k) k (shell_of state.new) t) }
     ensures costly { IfOk result Pays }
 {
     let command = command.clone()?;
     let words = command.words.clone()?;
     let fields = WordList::new(Vec::new(alloc));
+    state.env.substituted = false;
     Ok(paid(Control::SimpleStep(SimpleStep::Words(
         place,
         PendingFields {
             words,
             at: 0,
             fields,
-            ran: false,
             then: Then::Simple(command),
         },
     ))))
@@ -66,7 +71,6 @@ pub fn act_redirected(
             redirects,
             at: 0,
             before,
-            ran: false,
             made: Made::Compound(body),
         },
     ))))
@@ -165,7 +169,7 @@ fn act_command(place: Place, command: &Command, shell: &mut Interpreter) -> Resu
 {
     match command {
         Command::Simple(command) => {
-            let acted = act_simple(shell.alloc, place, command)?;
+            let acted = act_simple(shell.alloc, place, command, &mut shell.state)?;
             Ok(acted)
         }
         Command::Compound(body, redirects) => {

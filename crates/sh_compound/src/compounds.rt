@@ -78,7 +78,6 @@ fn act_for(
                     words,
                     at: 0,
                     fields,
-                    ran: false,
                     then: Then::For(name, body),
                 },
             )))

@@ -10,7 +10,7 @@ use Rattle.sh_means.specs.State.{Functions, Shell}
 -- a shell before its first command, with these parts
 abbrev pub shell_with : Held → Text → Text → Functions → DescriptorTable → Shell
 shell_with vars zero wd functions ds = record {
-  env = record { vars = vars; zero = zero; wd = wd; status = 0; nounset = false; noglob = false; next = 10 };
+  env = record { vars = vars; zero = zero; wd = wd; status = 0; substituted = false; nounset = false; noglob = false; next = 10 };
   errexit = false;
   functions = functions;
   descriptors = ds;

@@ -97,6 +97,7 @@ fn first_state(
             zero,
             wd,
             status: 0,
+            substituted: false,
             nounset: false,
             noglob: false,
             next: 10,

@@ -40,7 +40,7 @@ use Rattle.sh_expand.specs.declared.mode.Mode.{Mode}
 use Rattle.sh_expand.specs.declared.mode.Mode.TheVariants as mode
 use Rattle.sh_expand.specs.declared.mode.Expanded.{Expanded}
 use Rattle.sh_expand.specs.declared.mode.Expanded.TheVariants as expanded
-use Rattle.sh_expand.specs.Expands.{Go_on, Body, Ended, Failed, With_text, counted, read_of, not_set, not_valid, readonly, is_quoted, literal_marks, unset, Use, use_of, shown_of, with_values, got, unmeasured, measured, put_by, assigning, WordMeans, carried_out, taken, worth_put, computed, substituted, manner_of, expand, expand_part, expand_word, expand_text}
+use Rattle.sh_expand.specs.Expands.{Go_on, Body, Ended, Failed, With_text, counted, performed, read_of, not_set, not_valid, readonly, is_quoted, literal_marks, unset, Use, use_of, shown_of, with_values, got, unmeasured, measured, put_by, assigning, WordMeans, carried_out, taken, worth_put, computed, substituted, manner_of, expand, expand_part, expand_word, expand_text}
 use Rattle.sh_expand.specs.Fields.{With_fields, ifs, components, has_pattern, or_as_was, named, all_names}
 use Rattle.sh_expand.specs.Means.{With_expanded, all_bytes, pay_fields, splits, finished, expand_in}
 
@@ -135,9 +135,9 @@ module _ (v : View) where
 
   substituted-alike : (P : ℕ) (b b' : Body) (quoted : Bool) (ms : Marks) (k k' : Ended) → SameBody P b b' → SameEnded P k k' → Goes P (substituted b quoted ms k) (substituted b' quoted ms k')
   substituted-alike P b b' quoted ms k k' hb hk e p le =
-      alike-ask v p Pipe 2 (λ a. b (counted a e) (λ e'. ask (Read e.next) 1 (λ x. k (ms ++ given quoted (captured (read_of (brought x)))) (counted x e')))) (λ a. b' (counted a e) (λ e'. ask (Read e.next) 1 (λ x. k' (ms ++ given quoted (captured (read_of (brought x)))) (counted x e')))) tt
-      (λ lt a. hb (counted a e) (p - 2) (λ e'. ask (Read e.next) 1 (λ x. k (ms ++ given quoted (captured (read_of (brought x)))) (counted x e'))) (λ e'. ask (Read e.next) 1 (λ x. k' (ms ++ given quoted (captured (read_of (brought x)))) (counted x e'))) (omega arith)
-      (λ e' q lq. alike-ask v q (Read e.next) 1 (λ x. k (ms ++ given quoted (captured (read_of (brought x)))) (counted x e')) (λ x. k' (ms ++ given quoted (captured (read_of (brought x)))) (counted x e')) tt (λ lu x. hk (ms ++ given quoted (captured (read_of (brought x)))) (counted x e') (q - 1) (omega arith))))
+      alike-ask v p Pipe 2 (λ a. b (counted a e) (λ e'. ask (Read e.next) 1 (λ x. k (ms ++ given quoted (captured (read_of (brought x)))) (performed (counted x e'))))) (λ a. b' (counted a e) (λ e'. ask (Read e.next) 1 (λ x. k' (ms ++ given quoted (captured (read_of (brought x)))) (performed (counted x e'))))) tt
+      (λ lt a. hb (counted a e) (p - 2) (λ e'. ask (Read e.next) 1 (λ x. k (ms ++ given quoted (captured (read_of (brought x)))) (performed (counted x e')))) (λ e'. ask (Read e.next) 1 (λ x. k' (ms ++ given quoted (captured (read_of (brought x)))) (performed (counted x e')))) (omega arith)
+      (λ e' q lq. alike-ask v q (Read e.next) 1 (λ x. k (ms ++ given quoted (captured (read_of (brought x)))) (performed (counted x e'))) (λ x. k' (ms ++ given quoted (captured (read_of (brought x)))) (performed (counted x e'))) tt (λ lu x. hk (ms ++ given quoted (captured (read_of (brought x)))) (performed (counted x e')) (q - 1) (omega arith))))
 
   -- The parts.
 

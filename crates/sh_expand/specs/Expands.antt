@@ -149,10 +149,15 @@ carried_out outcome.Error u word marks k fail e = word.text not_set (λ text e'.
 abbrev pub taken : Removal → Use → List Text → Marks → Ended → Ended
 taken removal u words marks k pattern e = k (marks ++ shown_of u (all_removed removal (pattern_of pattern) words) e) e
 
--- a substitution: the pipe, the body, what it wrote
+-- the state once a substitution was performed
+abbrev pub performed : Env → Env
+performed e = record e { substituted = true }
+
+-- A substitution: the pipe, the body, what it wrote. Once that was heard it was performed, also where the read was refused. Of the
+-- answers that fit none refuses a pipe; under one that did, the body would be evaluated and the substitution performed too.
 abbrev pub substituted : Body → Bool → Marks → Ended → Go_on
 substituted body quoted marks k e =
-    ask Pipe 2 (λ a. body (counted a e) (λ e'. ask (Read e.next) 1 (λ b. k (marks ++ given quoted (captured (read_of (brought b)))) (counted b e'))))
+    ask Pipe 2 (λ a. body (counted a e) (λ e'. ask (Read e.next) 1 (λ b. k (marks ++ given quoted (captured (read_of (brought b)))) (performed (counted b e')))))
 
 -- what an expression is worth stands there as a decimal number, or it has a fault (XCU 2.6.4)
 abbrev pub worth_put : Bool → Text → Worth → Marks → Ended → Failed → Go_on

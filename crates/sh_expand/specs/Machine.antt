@@ -18,7 +18,7 @@ use Rattle.sh_expand.specs.declared.machine.Wants.{Wants}
 use Rattle.sh_expand.specs.declared.machine.Wants.TheVariants as wants
 use Rattle.sh_expand.specs.declared.acts.Acted.{Acted}
 use Rattle.sh_expand.specs.Acting.{then_over, acted_on, acted_size, size}
-use Rattle.sh_expand.specs.Expands.{Go_on, Body, Ended, Failed, read_of, counted, manner_of, expand}
+use Rattle.sh_expand.specs.Expands.{Go_on, Body, Ended, Failed, read_of, counted, performed, manner_of, expand}
 
 -- what is left of parts behind so many
 abbrev pub after : ℕ → PartsTree → PartsTree
@@ -48,7 +48,7 @@ goes_on body x k fail e p = before body x.level x.marks.items x.stack.items k fa
 
 -- what the pipe gave stands there
 abbrev pub put_back : (ℕ → Body) → Bool → Answer → Machine → Ended → Failed → Go_on
-put_back body quoted a x k fail e = before body x.level (x.marks.items ++ given quoted (captured (read_of (brought a)))) x.stack.items k fail e
+put_back body quoted a x k fail e = before body x.level (x.marks.items ++ given quoted (captured (read_of (brought a)))) x.stack.items k fail (performed e)
 
 -- once a body was evaluated: its pipe is read
 abbrev pub reads_back : (ℕ → Body) → Bool → ℕ → Machine → Ended → Failed → Go_on

@@ -207,6 +207,7 @@ impl Machine {
                 Ok(Wants::Read(from))
             }
             Stage::Reads(quoted) => {
+                env.substituted = true;
                 put_captured(quoted, answer, &mut self.marks)?;
                 let wants = run(self, env)?;
                 Ok(wants)

@@ -149,8 +149,8 @@ module _ (v : View) where
   for_means-alike Q name Parameters (Among ws) m n sf s pl e p k k' le hk = absurd sf
   for_means-alike Q name (Among ws) Parameters m n sf s pl e p k k' le hk = absurd sf
   for_means-alike Q name (Among ws) (Among ws') m n sf s pl e p k k' le hk =
-      expand_words-alike v p ws ws' [] false pl (λ fields ran. for_fields name fields m pl k) (λ fields ran. for_fields name fields n pl k') k k' (words-down v Q p ws ws' le sf)
-      (λ fs r. for_fields-alike p name fs m n pl k k' (means-down v Q p m n le s) hk) hk e p (omega arith)
+      expand_words-alike v p ws ws' [] pl (λ fields. for_fields name fields m pl k) (λ fields. for_fields name fields n pl k') k k' (words-down v Q p ws ws' le sf)
+      (λ fs. for_fields-alike p name fs m n pl k k' (means-down v Q p m n le s) hk) hk e p (omega arith)
 
   abbrev pub SameCase : ℕ → CaseMeant → CaseMeant → Type 0
   SameCase Q c d = Each (SameWord v Q) c.patterns d.patterns × SameMeans v Q c.body d.body
@@ -186,11 +186,11 @@ module _ (v : View) where
 
   pub compound_means-alike : (Q : ℕ) (rs rs' : List RedirectMeant) (m n : Means) → Each (SameRedirect v Q) rs rs' → ((q : ℕ) → q < Q → SameMeans v q m n) → SameMeans v Q (compound_means rs m) (compound_means rs' n)
   compound_means-alike Q rs rs' m n sr s pl e p k k' le hk =
-      subst (λ (ds : List ℕ). Alike v p (compound_means rs m pl e k) (pay 1 (redirect_all rs' false pl (made_compound n ds e.descriptors pl k') (refused_compound ds e.descriptors pl k') k' e))) (named-same v Q rs rs' sr)
+      subst (λ (ds : List ℕ). Alike v p (compound_means rs m pl e k) (pay 1 (redirect_all rs' pl (made_compound n ds e.descriptors pl k') (refused_compound ds e.descriptors pl k') k' e))) (named-same v Q rs rs' sr)
       (alike-pay v p 1 _ _ (λ lt.
       let hk' : Below v (p - 1) k k' = lower v p (p - 1) k k' (omega arith) hk in
-      redirect_all-alike v (p - 1) rs rs' false pl (made_compound m (named rs) e.descriptors pl k) (made_compound n (named rs) e.descriptors pl k') (refused_compound (named rs) e.descriptors pl k) (refused_compound (named rs) e.descriptors pl k') k k' (redirects-down v Q (p - 1) rs rs' (omega arith) sr)
-      (λ r e' p' le'. s p' (omega arith) pl e' p' (unredirected (named rs) e.descriptors k) (unredirected (named rs) e.descriptors k') (omega arith) (lower v (p - 1) p' (unredirected (named rs) e.descriptors k) (unredirected (named rs) e.descriptors k') le' (unredirected-alike v (p - 1) (named rs) e.descriptors k k' hk')))
+      redirect_all-alike v (p - 1) rs rs' pl (made_compound m (named rs) e.descriptors pl k) (made_compound n (named rs) e.descriptors pl k') (refused_compound (named rs) e.descriptors pl k) (refused_compound (named rs) e.descriptors pl k') k k' (redirects-down v Q (p - 1) rs rs' (omega arith) sr)
+      (λ e' p' le'. s p' (omega arith) pl e' p' (unredirected (named rs) e.descriptors k) (unredirected (named rs) e.descriptors k') (omega arith) (lower v (p - 1) p' (unredirected (named rs) e.descriptors k) (unredirected (named rs) e.descriptors k') le' (unredirected-alike v (p - 1) (named rs) e.descriptors k k' hk')))
       (ends-alike v (p - 1) Normal 1 (unredirected (named rs) e.descriptors (watched pl k)) (unredirected (named rs) e.descriptors (watched pl k')) (unredirected-alike v (p - 1) (named rs) e.descriptors (watched pl k) (watched pl k') (watched-alike v (p - 1) pl k k' hk'))) hk' e (p - 1) (omega arith)))
 
   -- Loops, whose rounds are alike with fewer than P turns left.

@@ -15,7 +15,7 @@ use Rattle.sh_special.specs.declared.order.Order.TheVariants as order
 use Rattle.sh_special.specs.Changes.{Changed, declare_all, unset_all, has_shift, shifted}
 use Rattle.sh_means.specs.declared.flow.Flow.TheVariants.{Normal, Exits}
 use Rattle.sh_means.specs.declared.flow.Place.{Place}
-use Rattle.sh_means.specs.State.{FunctionTree, Shell, with_env, with_status, with_held, with_positional}
+use Rattle.sh_means.specs.State.{FunctionTree, Shell, with_env, with_status, with_held, with_positional, unsubstituted}
 use Rattle.sh_means.specs.Flows.{Next, Go_on, sh, ends, returned, watched, in_function, in_script}
 use Rattle.sh_means.specs.Words.{AssignMeant, named, redirect_all, unredirected, names, assign_all}
 use Rattle.sh_means.specs.Simple.{Job, Called, Reads, Meaning, CommandKind, Bare, Special, Calls, Builtin, Launches, kind_of, launches, calls, builds_in, errs, unless_barred, changes, shifts, dot_read, dot_opened, dots, obeys, works, is_plain, exports, for_its_time, work_of, assigns_and_works, keeps, unless_kept, refusal_flow, past_simple, refused_simple, SimpleMeant, redirects_and_works, simple_means}
@@ -87,24 +87,24 @@ module _ (v : View) where
 
     -- The order of a simple command.
 
-    works-alike : (Q : ℕ) (kd : CommandKind) (fields : List Text) (ran : Bool) (pl : Place) (k k' : Next) → Q < P → Below v Q k k' → Goes v Q (works g kd fields ran pl k) (works h kd fields ran pl k')
-    works-alike Q Bare fields ran pl k k' lt hk e p le = hk _ _ p le
-    works-alike Q (Special o) fields ran pl k k' lt hk e p le = obeys-alike Q o pl k k' lt hk e p le
-    works-alike Q (Calls f) fields ran pl k k' lt hk e p le = calls-alike Q f fields pl k k' lt hk e p le
-    works-alike Q Builtin fields ran pl k k' lt hk e p le = builds_in-alike Q fields k k' hk e p le
-    works-alike Q Launches fields ran pl k k' lt hk e p le = launches-alike Q fields (λ n. ends Normal n k) (λ n. ends Normal n k') (λ n. ends-alike v Q Normal n k k' hk) e p le
+    works-alike : (Q : ℕ) (kd : CommandKind) (fields : List Text) (pl : Place) (k k' : Next) → Q < P → Below v Q k k' → Goes v Q (works g kd fields pl k) (works h kd fields pl k')
+    works-alike Q Bare fields pl k k' lt hk e p le = hk _ _ p le
+    works-alike Q (Special o) fields pl k k' lt hk e p le = obeys-alike Q o pl k k' lt hk e p le
+    works-alike Q (Calls f) fields pl k k' lt hk e p le = calls-alike Q f fields pl k k' lt hk e p le
+    works-alike Q Builtin fields pl k k' lt hk e p le = builds_in-alike Q fields k k' hk e p le
+    works-alike Q Launches fields pl k k' lt hk e p le = launches-alike Q fields (λ n. ends Normal n k) (λ n. ends Normal n k') (λ n. ends-alike v Q Normal n k k' hk) e p le
 
     for_its_time-alike : (Q : ℕ) (b : Bool) (ns : List Text) (before : Held) (k k' : Next) → Below v Q k k' → Below v Q (for_its_time b ns before k) (for_its_time b ns before k')
     for_its_time-alike Q true ns before k k' hk = unassigned-alike v Q ns before k k' hk
     for_its_time-alike Q false ns before k k' hk = hk
 
-    assigns_and_works-alike : (Q : ℕ) (kd : CommandKind) (as' bs : List AssignMeant) (fields : List Text) (pl : Place) (k k' : Next) (ran : Bool) → Q < P → Each (SameAssign v Q) as' bs → Below v Q k k' → Goes v Q (assigns_and_works g (work_of kd fields as') pl k ran) (assigns_and_works h (work_of kd fields bs) pl k' ran)
-    assigns_and_works-alike Q kd as' bs fields pl k k' ran lt s hk e p le =
-        subst (λ (ns : List Text). Alike v p (assigns_and_works g (work_of kd fields as') pl k ran e) (assign_all bs (exports kd) ran pl (λ ran. works h kd fields ran pl (for_its_time (is_plain kd) ns e.env.vars k')) (for_its_time (is_plain kd) ns e.env.vars k') e)) (names-same v Q as' bs s)
+    assigns_and_works-alike : (Q : ℕ) (kd : CommandKind) (as' bs : List AssignMeant) (fields : List Text) (pl : Place) (k k' : Next) → Q < P → Each (SameAssign v Q) as' bs → Below v Q k k' → Goes v Q (assigns_and_works g (work_of kd fields as') pl k) (assigns_and_works h (work_of kd fields bs) pl k')
+    assigns_and_works-alike Q kd as' bs fields pl k k' lt s hk e p le =
+        subst (λ (ns : List Text). Alike v p (assigns_and_works g (work_of kd fields as') pl k e) (assign_all bs (exports kd) pl (works h kd fields pl (for_its_time (is_plain kd) ns e.env.vars k')) (for_its_time (is_plain kd) ns e.env.vars k') e)) (names-same v Q as' bs s)
         (let kk : Next = for_its_time (is_plain kd) (names as') e.env.vars k in
         let kk' : Next = for_its_time (is_plain kd) (names as') e.env.vars k' in
         let hk' : Below v Q kk kk' = for_its_time-alike Q (is_plain kd) (names as') e.env.vars k k' hk in
-        assign_all-alike v Q as' bs (exports kd) ran pl (λ ran. works g kd fields ran pl kk) (λ ran. works h kd fields ran pl kk') kk kk' s (λ r. works-alike Q kd fields r pl kk kk' lt hk') hk' e p le)
+        assign_all-alike v Q as' bs (exports kd) pl (works g kd fields pl kk) (works h kd fields pl kk') kk kk' s (works-alike Q kd fields pl kk kk' lt hk') hk' e p le)
 
     unless_kept-alike : (Q : ℕ) (b : Bool) (ds : List ℕ) (before : DescriptorTable) (k k' : Next) → Below v Q k k' → Below v Q (unless_kept b ds before k) (unless_kept b ds before k')
     unless_kept-alike Q true ds before k k' hk = hk
@@ -117,16 +117,16 @@ module _ (v : View) where
     refused_simple-alike Q kd ds before pl k k' hk =
         ends-alike v Q (refusal_flow kd) 1 (unredirected ds before (watched pl k)) (unredirected ds before (watched pl k')) (unredirected-alike v Q ds before (watched pl k) (watched pl k') (watched-alike v Q pl k k' hk))
 
-    redirects_and_works-alike : (Q : ℕ) (c d : SimpleMeant) (pl : Place) (k k' : Next) (fields : List Text) (ran : Bool) → Q < P → Each (SameAssign v Q) c.assignments d.assignments → Each (SameRedirect v Q) c.redirections d.redirections → Below v Q k k' → Goes v Q (redirects_and_works g c pl k fields ran) (redirects_and_works h d pl k' fields ran)
-    redirects_and_works-alike Q c d pl k k' fields ran lt sa sr hk e p le =
+    redirects_and_works-alike : (Q : ℕ) (c d : SimpleMeant) (pl : Place) (k k' : Next) (fields : List Text) → Q < P → Each (SameAssign v Q) c.assignments d.assignments → Each (SameRedirect v Q) c.redirections d.redirections → Below v Q k k' → Goes v Q (redirects_and_works g c pl k fields) (redirects_and_works h d pl k' fields)
+    redirects_and_works-alike Q c d pl k k' fields lt sa sr hk e p le =
         let kd : CommandKind = kind_of fields e.functions in
         let done : Next → Next = past_simple kd (named c.redirections) e.descriptors pl in
         let hd : Below v Q (done k) (done k') = past_simple-alike Q kd (named c.redirections) e.descriptors pl k k' hk in
-        subst (λ (ds : List ℕ). Alike v p (redirects_and_works g c pl k fields ran e) (redirect_all d.redirections ran pl (assigns_and_works h (work_of kd fields d.assignments) pl (past_simple kd ds e.descriptors pl k')) (refused_simple kd ds e.descriptors pl k') k' e)) (named-same v Q c.redirections d.redirections sr)
-        (redirect_all-alike v Q c.redirections d.redirections ran pl (assigns_and_works g (work_of kd fields c.assignments) pl (done k)) (assigns_and_works h (work_of kd fields d.assignments) pl (done k')) (refused_simple kd (named c.redirections) e.descriptors pl k) (refused_simple kd (named c.redirections) e.descriptors pl k') k k' sr (λ r. assigns_and_works-alike Q kd c.assignments d.assignments fields pl (done k) (done k') r lt sa hd) (refused_simple-alike Q kd (named c.redirections) e.descriptors pl k k' hk) hk e p le)
+        subst (λ (ds : List ℕ). Alike v p (redirects_and_works g c pl k fields e) (redirect_all d.redirections pl (assigns_and_works h (work_of kd fields d.assignments) pl (past_simple kd ds e.descriptors pl k')) (refused_simple kd ds e.descriptors pl k') k' e)) (named-same v Q c.redirections d.redirections sr)
+        (redirect_all-alike v Q c.redirections d.redirections pl (assigns_and_works g (work_of kd fields c.assignments) pl (done k)) (assigns_and_works h (work_of kd fields d.assignments) pl (done k')) (refused_simple kd (named c.redirections) e.descriptors pl k) (refused_simple kd (named c.redirections) e.descriptors pl k') k k' sr (assigns_and_works-alike Q kd c.assignments d.assignments fields pl (done k) (done k') lt sa hd) (refused_simple-alike Q kd (named c.redirections) e.descriptors pl k k' hk) hk e p le)
 
     pub simple-alike : (Q : ℕ) (c d : SimpleMeant) → Q ≤ P → Each (SameAssign v Q) c.assignments d.assignments → Each (SameWord v Q) c.words d.words → Each (SameRedirect v Q) c.redirections d.redirections → SameMeans v Q (simple_means g c) (simple_means h d)
     simple-alike Q c d leQ sa sw sr pl e p k k' le hk =
-        alike-pay v p 1 _ _ (λ lt. expand_words-alike v (p - 1) c.words d.words [] false pl (redirects_and_works g c pl k) (redirects_and_works h d pl k') k k' (words-down v Q (p - 1) c.words d.words (omega arith) sw)
-        (λ fs r. redirects_and_works-alike (p - 1) c d pl k k' fs r (omega arith) (assigns-down v Q (p - 1) c.assignments d.assignments (omega arith) sa) (redirects-down v Q (p - 1) c.redirections d.redirections (omega arith) sr) (lower v p (p - 1) k k' (omega arith) hk))
-        (lower v p (p - 1) k k' (omega arith) hk) e (p - 1) (omega arith))
+        alike-pay v p 1 _ _ (λ lt. expand_words-alike v (p - 1) c.words d.words [] pl (redirects_and_works g c pl k) (redirects_and_works h d pl k') k k' (words-down v Q (p - 1) c.words d.words (omega arith) sw)
+        (λ fs. redirects_and_works-alike (p - 1) c d pl k k' fs (omega arith) (assigns-down v Q (p - 1) c.assignments d.assignments (omega arith) sa) (redirects-down v Q (p - 1) c.redirections d.redirections (omega arith) sr) (lower v p (p - 1) k k' (omega arith) hk))
+        (lower v p (p - 1) k k' (omega arith) hk) (unsubstituted e) (p - 1) (omega arith))

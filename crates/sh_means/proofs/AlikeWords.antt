@@ -1,5 +1,5 @@
 -- The pass over words, redirections and assignments.
-use Rattle.std.proofs.Common.{◌≡◌, ℕ, zero, suc, ◌||◌, ◌≤◌, List, [], ◌∷◌, ◌++◌, Bool, codes, refl, ap, subst, ◌∙◌, arith}
+use Rattle.std.proofs.Common.{◌≡◌, ℕ, zero, suc, ◌≤◌, List, [], ◌∷◌, ◌++◌, Bool, codes, refl, ap, subst, ◌∙◌, arith}
 use Rattle.rk_base.specs.Text.{Text}
 use Rattle.rk_calls.specs.Lines.{error_line}
 use Rattle.rk_calls.specs.Views.{View, Alike, alike-if}
@@ -17,7 +17,7 @@ use Rattle.sh_redirect.proofs.LawLemmas.{alike-redirects}
 use Rattle.sh_redirect.specs.Redirects.{After}
 use Rattle.sh_means.specs.declared.flow.Flow.TheVariants.{Normal, Exits}
 use Rattle.sh_means.specs.declared.flow.Place.{Place}
-use Rattle.sh_means.specs.State.{Shell, with_env, with_status, with_held, back_env, took, set_variable, put_back_variables}
+use Rattle.sh_means.specs.State.{Shell, with_env, with_status, with_held, back_env, set_variable, put_back_variables}
 use Rattle.sh_means.specs.Flows.{Next, Go_on, Means, sh, ends}
 use Rattle.sh_means.specs.Words.{WordMeant, nothing, body_at, bodies_at, faults, expand_word, fields_of, value_of, expand_words, RedirectMeant, named, moved, redirect_to, redirect_all, unredirected, AssignMeant, names, assigns, assign_all, unassigned}
 use Rattle.sh_means.proofs.AlikeFlows.{Each, Below, Goes, SameMeans, all-down, tells-alike, ends-alike}
@@ -61,14 +61,14 @@ module _ (v : View) where
       (expansion.expand_in-alike v P m (bodies_at w.bodies pl e) (bodies_at w'.bodies pl e) w.parts (λ x env. u x (with_env env e)) (λ x env. u' x (with_env env e)) (λ parameter message env. faults parameter message k (with_env env e)) (λ parameter message env. faults parameter message k' (with_env env e))
       (λ i. bodies_at-alike P w.bodies w'.bodies pl e i s.1) (λ x env q lq. hu x (with_env env e) q lq) (λ parameter message env q lq. faults-alike P parameter message k k' hk (with_env env e) q lq) e.env p le)
 
-  pub expand_words-alike : (P : ℕ) (ws ws' : List WordMeant) (fields : List Text) (ran : Bool) (pl : Place) (go go' : List Text → Bool → Go_on) (k k' : Next) → Each (SameWord P) ws ws' → ((fs : List Text) (r : Bool) → Goes v P (go fs r) (go' fs r)) → Below v P k k' → Goes v P (expand_words ws fields ran pl go k) (expand_words ws' fields ran pl go' k')
-  expand_words-alike P [] [] fields ran pl go go' k k' s h hk e p le = h fields ran e p le
-  expand_words-alike P [] (w ∷ ws) fields ran pl go go' k k' s h hk e p le = absurd s
-  expand_words-alike P (w ∷ ws) [] fields ran pl go go' k k' s h hk e p le = absurd s
-  expand_words-alike P (w ∷ ws) (w' ∷ ws') fields ran pl go go' k k' s h hk e p le =
-      let on : Expanded → Go_on = λ x e'. expand_words ws (fields ++ fields_of x) (ran || took e.env.next e') pl go k e' in
-      let on' : Expanded → Go_on = λ x e'. expand_words ws' (fields ++ fields_of x) (ran || took e.env.next e') pl go' k' e' in
-      expand_word-alike P mode.Fields w w' pl on on' k k' s.0 (λ x e'. expand_words-alike P ws ws' (fields ++ fields_of x) (ran || took e.env.next e') pl go go' k k' s.1 h hk e') hk e p le
+  pub expand_words-alike : (P : ℕ) (ws ws' : List WordMeant) (fields : List Text) (pl : Place) (go go' : List Text → Go_on) (k k' : Next) → Each (SameWord P) ws ws' → ((fs : List Text) → Goes v P (go fs) (go' fs)) → Below v P k k' → Goes v P (expand_words ws fields pl go k) (expand_words ws' fields pl go' k')
+  expand_words-alike P [] [] fields pl go go' k k' s h hk e p le = h fields e p le
+  expand_words-alike P [] (w ∷ ws) fields pl go go' k k' s h hk e p le = absurd s
+  expand_words-alike P (w ∷ ws) [] fields pl go go' k k' s h hk e p le = absurd s
+  expand_words-alike P (w ∷ ws) (w' ∷ ws') fields pl go go' k k' s h hk e p le =
+      let on : Expanded → Go_on = λ x. expand_words ws (fields ++ fields_of x) pl go k in
+      let on' : Expanded → Go_on = λ x. expand_words ws' (fields ++ fields_of x) pl go' k' in
+      expand_word-alike P mode.Fields w w' pl on on' k k' s.0 (λ x. expand_words-alike P ws ws' (fields ++ fields_of x) pl go go' k k' s.1 h hk) hk e p le
 
   -- Redirections.
 
@@ -78,19 +78,19 @@ module _ (v : View) where
       let k' : After = record { made = λ ds env. g' (moved ds env e); refused = λ ds env. h' (moved ds env e) } in
       alike-redirects r d text v p k k' e.descriptors e.env (λ ds env q lq. hg (moved ds env e) q (omega arith), λ ds env q lq. hh (moved ds env e) q (omega arith))
 
-  pub redirect_all-alike : (P : ℕ) (rs rs' : List RedirectMeant) (ran : Bool) (pl : Place) (g g' : Bool → Go_on) (h h' : Go_on) (k k' : Next) → Each (SameRedirect P) rs rs' → ((r : Bool) → Goes v P (g r) (g' r)) → Goes v P h h' → Below v P k k' → Goes v P (redirect_all rs ran pl g h k) (redirect_all rs' ran pl g' h' k')
-  redirect_all-alike P [] [] ran pl g g' h h' k k' s hg hh hk e p le = hg ran e p le
-  redirect_all-alike P [] (r ∷ rs) ran pl g g' h h' k k' s hg hh hk e p le = absurd s
-  redirect_all-alike P (r ∷ rs) [] ran pl g g' h h' k k' s hg hh hk e p le = absurd s
-  redirect_all-alike P (r ∷ rs) (r' ∷ rs') ran pl g g' h h' k k' s hg hh hk e p le =
-      let x : Shell → Go_on = λ e'. redirect_all rs (ran || took e.env.next e') pl g h k in
-      let x' : Shell → Go_on = λ e'. redirect_all rs' (ran || took e.env.next e') pl g' h' k' in
-      let to : Expanded → Go_on = λ t e'. redirect_to r.kind r.descriptor (value_of t) (x e') h e' in
-      let to' : Expanded → Go_on = λ t e'. redirect_to r'.kind r'.descriptor (value_of t) (x' e') h' e' in
+  pub redirect_all-alike : (P : ℕ) (rs rs' : List RedirectMeant) (pl : Place) (g g' h h' : Go_on) (k k' : Next) → Each (SameRedirect P) rs rs' → Goes v P g g' → Goes v P h h' → Below v P k k' → Goes v P (redirect_all rs pl g h k) (redirect_all rs' pl g' h' k')
+  redirect_all-alike P [] [] pl g g' h h' k k' s hg hh hk e p le = hg e p le
+  redirect_all-alike P [] (r ∷ rs) pl g g' h h' k k' s hg hh hk e p le = absurd s
+  redirect_all-alike P (r ∷ rs) [] pl g g' h h' k k' s hg hh hk e p le = absurd s
+  redirect_all-alike P (r ∷ rs) (r' ∷ rs') pl g g' h h' k k' s hg hh hk e p le =
+      let x : Go_on = redirect_all rs pl g h k in
+      let x' : Go_on = redirect_all rs' pl g' h' k' in
+      let to : Expanded → Go_on = λ t e'. redirect_to r.kind r.descriptor (value_of t) x h e' in
+      let to' : Expanded → Go_on = λ t e'. redirect_to r'.kind r'.descriptor (value_of t) x' h' e' in
       let onward : SameUse P to to' =
-      λ t e' q lq. subst (λ (kd : Redirect). Alike v q (to t e') (redirect_to kd r'.descriptor (value_of t) (x' e') h' e')) s.0.1
-      (subst (λ (d : ℕ). Alike v q (to t e') (redirect_to r.kind d (value_of t) (x' e') h' e')) s.0.0
-      (redirect_to-alike P r.kind r.descriptor (value_of t) (x e') (x' e') h h' (redirect_all-alike P rs rs' (ran || took e.env.next e') pl g g' h h' k k' s.1 hg hh hk) hh e' q lq)) in
+      λ t e' q lq. subst (λ (kd : Redirect). Alike v q (to t e') (redirect_to kd r'.descriptor (value_of t) x' h' e')) s.0.1
+      (subst (λ (d : ℕ). Alike v q (to t e') (redirect_to r.kind d (value_of t) x' h' e')) s.0.0
+      (redirect_to-alike P r.kind r.descriptor (value_of t) x x' h h' (redirect_all-alike P rs rs' pl g g' h h' k k' s.1 hg hh hk) hh e' q lq)) in
       expand_word-alike P mode.Value r.operand r'.operand pl to to' k k' s.0.2 onward hk e p le
 
   pub unredirected-alike : (P : ℕ) (ds : List ℕ) (before : DescriptorTable) (k k' : Next) → Below v P k k' → Below v P (unredirected ds before k) (unredirected ds before k')
@@ -108,18 +108,18 @@ module _ (v : View) where
   assigns-alike P exported name value g g' k k' hg hk e p le =
       alike-if v p (is_readonly e.env.vars name) _ _ _ _ (tells-alike v P (error_line sh name (codes "readonly")) (ends Exits 1 k) (ends Exits 1 k') (ends-alike v P Exits 1 k k' hk) e p le) (hg (with_held (set_variable exported name value e.env.vars) e) p le)
 
-  pub assign_all-alike : (P : ℕ) (as' bs : List AssignMeant) (exported ran : Bool) (pl : Place) (g g' : Bool → Go_on) (k k' : Next) → Each (SameAssign P) as' bs → ((r : Bool) → Goes v P (g r) (g' r)) → Below v P k k' → Goes v P (assign_all as' exported ran pl g k) (assign_all bs exported ran pl g' k')
-  assign_all-alike P [] [] exported ran pl g g' k k' s hg hk e p le = hg ran e p le
-  assign_all-alike P [] (b ∷ bs) exported ran pl g g' k k' s hg hk e p le = absurd s
-  assign_all-alike P (a ∷ as') [] exported ran pl g g' k k' s hg hk e p le = absurd s
-  assign_all-alike P (a ∷ as') (b ∷ bs) exported ran pl g g' k k' s hg hk e p le =
-      let x : Shell → Go_on = λ e'. assign_all as' exported (ran || took e.env.next e') pl g k in
-      let x' : Shell → Go_on = λ e'. assign_all bs exported (ran || took e.env.next e') pl g' k' in
-      let to : Expanded → Go_on = λ t e'. assigns exported a.name (value_of t) (x e') k e' in
-      let to' : Expanded → Go_on = λ t e'. assigns exported b.name (value_of t) (x' e') k' e' in
+  pub assign_all-alike : (P : ℕ) (as' bs : List AssignMeant) (exported : Bool) (pl : Place) (g g' : Go_on) (k k' : Next) → Each (SameAssign P) as' bs → Goes v P g g' → Below v P k k' → Goes v P (assign_all as' exported pl g k) (assign_all bs exported pl g' k')
+  assign_all-alike P [] [] exported pl g g' k k' s hg hk e p le = hg e p le
+  assign_all-alike P [] (b ∷ bs) exported pl g g' k k' s hg hk e p le = absurd s
+  assign_all-alike P (a ∷ as') [] exported pl g g' k k' s hg hk e p le = absurd s
+  assign_all-alike P (a ∷ as') (b ∷ bs) exported pl g g' k k' s hg hk e p le =
+      let x : Go_on = assign_all as' exported pl g k in
+      let x' : Go_on = assign_all bs exported pl g' k' in
+      let to : Expanded → Go_on = λ t e'. assigns exported a.name (value_of t) x k e' in
+      let to' : Expanded → Go_on = λ t e'. assigns exported b.name (value_of t) x' k' e' in
       let onward : SameUse P to to' =
-      λ t e' q lq. subst (λ (name : Text). Alike v q (to t e') (assigns exported name (value_of t) (x' e') k' e')) s.0.0
-      (assigns-alike P exported a.name (value_of t) (x e') (x' e') k k' (assign_all-alike P as' bs exported (ran || took e.env.next e') pl g g' k k' s.1 hg hk) hk e' q lq) in
+      λ t e' q lq. subst (λ (name : Text). Alike v q (to t e') (assigns exported name (value_of t) x' k' e')) s.0.0
+      (assigns-alike P exported a.name (value_of t) x x' k k' (assign_all-alike P as' bs exported pl g g' k k' s.1 hg hk) hk e' q lq) in
       expand_word-alike P mode.Value a.value b.value pl to to' k k' s.0.1 onward hk e p le
 
   pub unassigned-alike : (P : ℕ) (ns : List Text) (before : Held) (k k' : Next) → Below v P k k' → Below v P (unassigned ns before k) (unassigned ns before k')

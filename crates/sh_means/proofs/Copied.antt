@@ -68,7 +68,7 @@ own_put v w u name c h is = is ∙ ap (λ (m : Functions). insert m name (functi
 -- a state with these parts, as it comes back
 abbrev pub shell_with : State → Held → Text → Text → code.Functions → DescriptorTable → Shell → Shell
 shell_with st vars zero wd functions ds e = record {
-  env = record { vars = vars; zero = zero; wd = wd; status = e.env.status; nounset = st.env.nounset; noglob = st.env.noglob; next = e.env.next };
+  env = record { vars = vars; zero = zero; wd = wd; status = e.env.status; substituted = st.env.substituted; nounset = st.env.nounset; noglob = st.env.noglob; next = e.env.next };
   errexit = st.errexit;
   functions = functions_of functions;
   descriptors = ds;

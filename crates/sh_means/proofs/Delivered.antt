@@ -1,5 +1,5 @@
 -- What a word gave is used.
-use Rattle.std.proofs.Common.{◌≡◌, ℕ, ◌||◌, ◌++◌, Bool, List, if◌then◌else◌, refl, sym, ap, ◌∙◌}
+use Rattle.std.proofs.Common.{◌≡◌, ℕ, ◌++◌, List, if◌then◌else◌, refl, sym, ap, ◌∙◌}
 use Rattle.std.specs.declared.rc.Rc.{Rc}
 use Rattle.std.specs.declared.alloc.Global.{Global}
 use Rattle.rk_base.specs.Text.{Text}
@@ -25,7 +25,7 @@ use Rattle.sh_means.specs.Eval.{word_in}
 use Rattle.sh_means.specs.Flows.{Next}
 use Rattle.sh_means.specs.Run.{run}
 use Rattle.sh_means.specs.Stack.{aimed, wording, fielding, words_from, then_means, making, when_refused, assigning, items_from, case_body, casing}
-use Rattle.sh_means.specs.State.{Shell, with_env, took}
+use Rattle.sh_means.specs.State.{Shell, with_env}
 use Rattle.sh_means.specs.Words.{bodies_at, faults, expand_word, expand_words, fields_of, value_of, redirect_to, assigns}
 
 parts_same : (t : tree.WordTree) → (word_in run t).parts ≡ parts_of t
@@ -40,23 +40,22 @@ word_started m w w0 x pl u k e p hw h =
     ap (λ (ps : PartsTree). expand_in m bs ps g f e.env p) (parts_same (tree.word w.value) ∙ ap (λ (w : Word). parts_of (tree.word w)) (sym hw))
     ∙ sym (h bs g f e.env p)
 
-pub fields_taken : (f : PendingFields) (pl : Place) (k : Next) (e : Shell) (next : ℕ) (x : Expanded) (fs more : List Text) (ran : Bool) (p : ℕ) → fs ≡ f.fields ++ more → more ≡ fields_of x → ran ≡ (f.ran || took next e) → aimed (aim.Fields f next) pl k x e p ≡ fielding (record f { fields = fs; ran = ran }) pl k e p
-fields_taken f pl k e next x fs more ran p hf hm hr =
-    ap (λ (xs : List Text). expand_words (words_from f.words.value f.at) xs (f.ran || took next e) pl (then_means f.then pl k) k e p) (ap (λ (ys : List Text). f.fields ++ ys) (sym hm) ∙ sym hf)
-    ∙ ap (λ (b : Bool). expand_words (words_from f.words.value f.at) fs b pl (then_means f.then pl k) k e p) (sym hr)
+pub fields_taken : (f : PendingFields) (pl : Place) (k : Next) (e : Shell) (x : Expanded) (fs more : List Text) (p : ℕ) → fs ≡ f.fields ++ more → more ≡ fields_of x → aimed (aim.Fields f) pl k x e p ≡ fielding (record f { fields = fs }) pl k e p
+fields_taken f pl k e x fs more p hf hm =
+    ap (λ (xs : List Text). expand_words (words_from f.words.value f.at) xs pl (then_means f.then pl k) k e p) (ap (λ (ys : List Text). f.fields ++ ys) (sym hm) ∙ sym hf)
 
 -- a value alone counts, but for words that give fields
 abbrev pub IsValued : Aim → Type 0
-IsValued (aim.Fields f next) = ⊥
+IsValued (aim.Fields f) = ⊥
 IsValued (aim.Operand o) = Unit {0}
 IsValued (aim.Value v) = Unit {0}
 IsValued (aim.Subject is) = Unit {0}
 IsValued (aim.Pattern c) = Unit {0}
 
 pub same_value : (u : Aim) (x : Expanded) (v : Text) (pl : Place) (k : Next) (e : Shell) (p : ℕ) → IsValued u → v ≡ value_of x → aimed u pl k x e p ≡ aimed u pl k (Value v) e p
-same_value (aim.Fields f next) x v pl k e p valued h = absurd valued
-same_value (aim.Operand o) x v pl k e p valued h = ap (λ (t : Text). redirect_to o.kind o.descriptor t (making o.left (o.left.ran || took o.next e) pl k) (when_refused o.left pl k) e p) (sym h)
-same_value (aim.Value a) x v pl k e p valued h = ap (λ (t : Text). assigns a.left.exported a.name t (assigning a.left (a.left.ran || took a.next e) pl k) k e p) (sym h)
+same_value (aim.Fields f) x v pl k e p valued h = absurd valued
+same_value (aim.Operand o) x v pl k e p valued h = ap (λ (t : Text). redirect_to o.kind o.descriptor t (making o.left pl k) (when_refused o.left pl k) e p) (sym h)
+same_value (aim.Value a) x v pl k e p valued h = ap (λ (t : Text). assigns a.left.exported a.name t (assigning a.left pl k) k e p) (sym h)
 same_value (aim.Subject is) x v pl k e p valued h = ap (λ (t : Text). case_items (items_from is.value 0) t pl k e p) (sym h)
 same_value (aim.Pattern c) x v pl k e p valued h =
     ap (λ (t : Text). (if is_matched t c.value then case_body (items_from c.items.value c.at) pl e k else casing c c.pattern pl k e) p) (sym h)

@@ -131,7 +131,7 @@ pub data ForMeant : Type 0 where
 
 abbrev pub for_means : Text → ForMeant → Means → Means
 for_means name Parameters body pl e k = for_fields name e.env.vars.positional body pl k e
-for_means name (Among words) body pl e k = expand_words words [] false pl (λ fields ran. for_fields name fields body pl k) k e
+for_means name (Among words) body pl e k = expand_words words [] pl (λ fields. for_fields name fields body pl k) k e
 
 pub record CaseMeant : Type 0 where
   pub patterns : List WordMeant
@@ -151,12 +151,12 @@ abbrev pub case_means : WordMeant → List CaseMeant → Means
 case_means w cases pl e k = expand_word mode.Value w pl (λ x. case_items cases (value_of x) pl k) k e
 
 -- with redirections; a refused one is status 1, and `set -e` looks at it
-abbrev pub made_compound : Means → List ℕ → DescriptorTable → Place → Next → Bool → Go_on
-made_compound m ds before pl k ran e = m pl e (unredirected ds before k)
+abbrev pub made_compound : Means → List ℕ → DescriptorTable → Place → Next → Go_on
+made_compound m ds before pl k e = m pl e (unredirected ds before k)
 
 abbrev pub refused_compound : List ℕ → DescriptorTable → Place → Next → Go_on
 refused_compound ds before pl k = ends Normal 1 (unredirected ds before (watched pl k))
 
 abbrev pub compound_means : List RedirectMeant → Means → Means
 compound_means redirections m pl e k =
-    pay 1 (redirect_all redirections false pl (made_compound m (named redirections) e.descriptors pl k) (refused_compound (named redirections) e.descriptors pl k) k e)
+    pay 1 (redirect_all redirections pl (made_compound m (named redirections) e.descriptors pl k) (refused_compound (named redirections) e.descriptors pl k) k e)

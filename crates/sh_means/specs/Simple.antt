@@ -25,7 +25,7 @@ use Rattle.sh_special.specs.Orders.{order_of, keeps_order, exports_order}
 use Rattle.sh_means.specs.declared.flow.Flow.{Flow}
 use Rattle.sh_means.specs.declared.flow.Flow.TheVariants.{Normal, Exits}
 use Rattle.sh_means.specs.declared.flow.Place.{Place}
-use Rattle.sh_means.specs.State.{FunctionTree, Functions, Shell, with_env, with_held, with_positional}
+use Rattle.sh_means.specs.State.{FunctionTree, Functions, Shell, with_env, with_held, with_positional, unsubstituted}
 use Rattle.sh_means.specs.Flows.{Next, Go_on, Means, asks, tells, sh, ends, break_of, continue_of, returned, return_flow, watched, in_function, in_script}
 use Rattle.sh_means.specs.Words.{WordMeant, RedirectMeant, AssignMeant, expand_words, named, redirect_all, unredirected, names, assign_all, unassigned}
 
@@ -136,17 +136,18 @@ obeys again (order.Usage line) pl k e = tells line (ends Exits 2 k) e
 
 -- The order of a simple command: its words, its redirections, its assignments, and then what it does.
 
--- without a command the status is that of the last substitution, or 0
+-- Without a command name: where the command contained a command substitution, the exit status of the last one that was performed,
+-- and else 0.
 abbrev pub status_if : Bool → ℕ → ℕ
 status_if true n = n
 status_if false n = 0
 
-abbrev pub works : Meaning → CommandKind → List Text → Bool → Place → Next → Go_on
-works again Bare fields ran pl k e = ends Normal (status_if ran e.env.status) k e
-works again (Special o) fields ran pl k e = obeys again o pl k e
-works again (Calls f) fields ran pl k e = calls again f fields pl e k
-works again Builtin fields ran pl k e = builds_in fields k e
-works again Launches fields ran pl k e = launches fields (λ n. ends Normal n k) e
+abbrev pub works : Meaning → CommandKind → List Text → Place → Next → Go_on
+works again Bare fields pl k e = ends Normal (status_if e.env.substituted e.env.status) k e
+works again (Special o) fields pl k e = obeys again o pl k e
+works again (Calls f) fields pl k e = calls again f fields pl e k
+works again Builtin fields pl k e = builds_in fields k e
+works again Launches fields pl k e = launches fields (λ n. ends Normal n k) e
 
 -- Assignments last where there is no command or a special builtin. Else they hold for the command alone.
 abbrev pub is_plain : CommandKind → Bool
@@ -177,10 +178,10 @@ pub record Work : Type 0 where
 abbrev pub work_of : CommandKind → List Text → List AssignMeant → Work
 work_of kind fields assignments = record { kind = kind; fields = fields; assignments = assignments }
 
-abbrev pub assigns_and_works : Meaning → Work → Place → Next → Bool → Go_on
-assigns_and_works again w pl k ran e =
+abbrev pub assigns_and_works : Meaning → Work → Place → Next → Go_on
+assigns_and_works again w pl k e =
     let k' = for_its_time (is_plain w.kind) (names w.assignments) e.env.vars k in
-    assign_all w.assignments (exports w.kind) ran pl (λ ran. works again w.kind w.fields ran pl k') k' e
+    assign_all w.assignments (exports w.kind) pl (works again w.kind w.fields pl k') k' e
 
 -- the redirections of `exec` without a command stay
 abbrev pub keeps : CommandKind → Bool
@@ -215,11 +216,11 @@ pub record SimpleMeant : Type 0 where
   pub words : List WordMeant
   pub redirections : List RedirectMeant
 
-abbrev pub redirects_and_works : Meaning → SimpleMeant → Place → Next → List Text → Bool → Go_on
-redirects_and_works again c pl k fields ran e =
+abbrev pub redirects_and_works : Meaning → SimpleMeant → Place → Next → List Text → Go_on
+redirects_and_works again c pl k fields e =
     let kind = kind_of fields e.functions in
     let ds = named c.redirections in
-    redirect_all c.redirections ran pl (assigns_and_works again (work_of kind fields c.assignments) pl (past_simple kind ds e.descriptors pl k)) (refused_simple kind ds e.descriptors pl k) k e
+    redirect_all c.redirections pl (assigns_and_works again (work_of kind fields c.assignments) pl (past_simple kind ds e.descriptors pl k)) (refused_simple kind ds e.descriptors pl k) k e
 
 abbrev pub simple_means : Meaning → SimpleMeant → Means
-simple_means again c pl e k = pay 1 (expand_words c.words [] false pl (redirects_and_works again c pl k) k e)
+simple_means again c pl e k = pay 1 (expand_words c.words [] pl (redirects_and_works again c pl k) k (unsubstituted e))

@@ -1,5 +1,5 @@
 -- What a control stack means: what comes after the command on top of it.
-use Rattle.std.specs.Prelude.{◌≡◌, ◌≤◌, ℕ, ◌+◌, ◌||◌, List, [], ◌∷◌, ◌++◌, drop, Option, Some, None, Bool, false, if◌then◌else◌}
+use Rattle.std.specs.Prelude.{◌≡◌, ◌≤◌, ℕ, ◌+◌, List, [], ◌∷◌, ◌++◌, drop, Option, Some, None, Bool, false, if◌then◌else◌}
 use Rattle.rk_base.specs.Text.{Text}
 use Rattle.rk_calls.specs.Brought.{brought, joined}
 use Rattle.rk_calls.specs.Talk.{Says, pay, exits}
@@ -58,7 +58,7 @@ use Rattle.sh_means.specs.declared.control.Wait.TheVariants as wait
 use Rattle.sh_means.specs.declared.control.PendingWord.{PendingWord}
 use Rattle.sh_means.specs.declared.control.SimpleStep.{SimpleStep}
 use Rattle.sh_means.specs.declared.control.SimpleStep.TheVariants as simple_step
-use Rattle.sh_means.specs.State.{Shell, with_env, with_status, with_positional, with_slot, past_stage, took}
+use Rattle.sh_means.specs.State.{Shell, with_env, with_status, with_positional, with_slot, past_stage}
 use Rattle.sh_means.specs.Flows.{Next, Go_on, Means, asks, ends, and_then, by_status, in_loop, returned, watched, inverted, deeper}
 use Rattle.sh_means.specs.Words.{WordMeant, RedirectMeant, AssignMeant, bodies_at, faults, expand_words, fields_of, value_of, named, moved, redirect_to, redirect_all, unredirected, names, assigns, assign_all, unassigned}
 use Rattle.sh_means.specs.Simple.{CommandKind, Bare, Special, Calls, Builtin as Builds, Launches, Round, Reads, dot_opened, dot_read, SimpleMeant, Work, work_of, works, assigns_and_works, past_simple, refused_simple, redirects_and_works}
@@ -106,14 +106,14 @@ kind_of_code kinds.Launches = Launches
 abbrev pub work_by : Doing → Assignments → Work
 work_by doing as' = work_of (kind_of_code doing.kind) doing.fields (assigns_from as' 0)
 
-abbrev pub then_means : Then → Place → Next → List Text → Bool → Go_on
+abbrev pub then_means : Then → Place → Next → List Text → Go_on
 then_means (then.Simple c) pl k = redirects_and_works run (simple_of c.value) pl k
-then_means (then.For name body) pl k = λ fields ran. for_fields name fields (whole body.value) pl k
+then_means (then.For name body) pl k = λ fields. for_fields name fields (whole body.value) pl k
 
 abbrev pub fielding : PendingFields → Place → Next → Go_on
-fielding f pl k = expand_words (words_from f.words.value f.at) f.fields f.ran pl (then_means f.then pl k) k
+fielding f pl k = expand_words (words_from f.words.value f.at) f.fields pl (then_means f.then pl k) k
 
-abbrev pub made_go : Made → List ℕ → DescriptorTable → Place → Next → Bool → Go_on
+abbrev pub made_go : Made → List ℕ → DescriptorTable → Place → Next → Go_on
 made_go (made.Simple as' doing) ds before pl k = assigns_and_works run (work_by doing.value as'.value) pl (past_simple (kind_of_code doing.value.kind) ds before pl k)
 made_go (made.Compound b) ds before pl k = made_compound (compound_in run (tree.compound b.value)) ds before pl k
 
@@ -121,17 +121,17 @@ abbrev pub refused_go : Made → List ℕ → DescriptorTable → Place → Next
 refused_go (made.Simple as' doing) ds before pl k = refused_simple (kind_of_code doing.value.kind) ds before pl k
 refused_go (made.Compound b) ds before pl k = refused_compound ds before pl k
 
-abbrev pub when_made : PendingRedirects → Place → Next → Bool → Go_on
+abbrev pub when_made : PendingRedirects → Place → Next → Go_on
 when_made m pl k = made_go m.made (named (redirects_from m.redirects.value 0)) m.before.value pl k
 
 abbrev pub when_refused : PendingRedirects → Place → Next → Go_on
 when_refused m pl k = refused_go m.made (named (redirects_from m.redirects.value 0)) m.before.value pl k
 
-abbrev pub making : PendingRedirects → Bool → Place → Next → Go_on
-making m ran pl k = redirect_all (redirects_from m.redirects.value m.at) ran pl (when_made m pl k) (when_refused m pl k) k
+abbrev pub making : PendingRedirects → Place → Next → Go_on
+making m pl k = redirect_all (redirects_from m.redirects.value m.at) pl (when_made m pl k) (when_refused m pl k) k
 
-abbrev pub assigning : PendingAssignments → Bool → Place → Next → Go_on
-assigning a ran pl k = assign_all (assigns_from a.assignments.value a.at) a.exported ran pl (λ ran. works run (kind_of_code a.doing.value.kind) a.doing.value.fields ran pl k) k
+abbrev pub assigning : PendingAssignments → Place → Next → Go_on
+assigning a pl k = assign_all (assigns_from a.assignments.value a.at) a.exported pl (works run (kind_of_code a.doing.value.kind) a.doing.value.fields pl k) k
 
 abbrev pub case_from : List CaseMeant → ℕ → Text → Place → Next → Go_on
 case_from [] i value pl k = ends Normal 0 k
@@ -146,9 +146,9 @@ casing c i pl k = case_from (items_from c.items.value c.at) i c.value pl k
 
 -- what comes after a word
 abbrev pub aimed : Aim → Place → Next → Expanded → Go_on
-aimed (aim.Fields f next) pl k x e = expand_words (words_from f.words.value f.at) (f.fields ++ fields_of x) (f.ran || took next e) pl (then_means f.then pl k) k e
-aimed (aim.Operand o) pl k x e = redirect_to o.kind o.descriptor (value_of x) (making o.left (o.left.ran || took o.next e) pl k) (when_refused o.left pl k) e
-aimed (aim.Value v) pl k x e = assigns v.left.exported v.name (value_of x) (assigning v.left (v.left.ran || took v.next e) pl k) k e
+aimed (aim.Fields f) pl k x e = expand_words (words_from f.words.value f.at) (f.fields ++ fields_of x) pl (then_means f.then pl k) k e
+aimed (aim.Operand o) pl k x e = redirect_to o.kind o.descriptor (value_of x) (making o.left pl k) (when_refused o.left pl k) e
+aimed (aim.Value v) pl k x e = assigns v.left.exported v.name (value_of x) (assigning v.left pl k) k e
 aimed (aim.Subject is) pl k x e = case_items (items_from is.value 0) (value_of x) pl k e
 aimed (aim.Pattern c) pl k x e = if is_matched (value_of x) c.value then case_body (items_from c.items.value c.at) pl e k else casing c c.pattern pl k e
 
@@ -162,7 +162,7 @@ first_of (m ∷ ms) pl e k = m pl e k
 
 abbrev pub redirecting : PendingRedirects → Place → Next → Redirecting → Answer → Go_on
 redirecting m pl k r a e =
-    redirecting_does r a (record { made = λ ds env. making m m.ran pl k (moved ds env e); refused = λ ds env. when_refused m pl k (moved ds env e) }) e.descriptors e.env
+    redirecting_does r a (record { made = λ ds env. making m pl k (moved ds env e); refused = λ ds env. when_refused m pl k (moved ds env e) }) e.descriptors e.env
 
 abbrev pub building : Builtin → Next → Answer → Go_on
 building b k a e = builtin_does b a (slot e.descriptors) (λ status env. ends Normal status k (with_env env e)) e.env
@@ -211,8 +211,8 @@ abbrev pub resumed_simple : SimpleStep → Next → Answer → Go_on
 resumed_simple (simple_step.Words pl f) k a e = fielding f pl k e
 resumed_simple (simple_step.Expand w) k a e = wording w.value k a e
 resumed_simple (simple_step.Deliver w x) k a e = aimed w.value.aim w.value.place k x e
-resumed_simple (simple_step.Make pl m) k a e = making m m.ran pl k e
-resumed_simple (simple_step.Assign pl as') k a e = assigning as' as'.ran pl k e
+resumed_simple (simple_step.Make pl m) k a e = making m pl k e
+resumed_simple (simple_step.Assign pl as') k a e = assigning as' pl k e
 resumed_simple (simple_step.Text pl name text) k a e = run (Reads name text) pl e k
 
 -- what the machine goes on to do with an answer that was heard

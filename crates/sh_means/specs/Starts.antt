@@ -39,7 +39,7 @@ first_variables vars wd = assigned (codes "PWD") wd (assigned (codes "IFS") (cod
 
 abbrev pub first_shell : Text → List Text → List Var → Text → Shell
 first_shell zero words vars wd = record {
-  env = record { vars = record (first_variables vars wd) { positional = words }; zero = zero; wd = wd; status = 0; nounset = false; noglob = false; next = 10 };
+  env = record { vars = record (first_variables vars wd) { positional = words }; zero = zero; wd = wd; status = 0; substituted = false; nounset = false; noglob = false; next = 10 };
   errexit = false;
   functions = empty;
   descriptors = own;

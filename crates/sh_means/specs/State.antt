@@ -1,5 +1,5 @@
 -- The state of a shell that evaluates commands (XCU 2.12), without where it lies in memory.
-use Rattle.std.specs.Prelude.{ℕ, ◌==◌, not, Bool, List, [], ◌∷◌, Option, if◌then◌else◌}
+use Rattle.std.specs.Prelude.{ℕ, Bool, false, List, [], ◌∷◌, Option, if◌then◌else◌}
 use Rattle.std.specs.FinMap.{FinMap, insert}
 use Rattle.rk_base.specs.Text.{Text, text_cmp}
 use Rattle.rk_calls.specs.declared.answer.Answer.{Answer}
@@ -35,6 +35,10 @@ with_env env e = record e { env = env }
 abbrev pub with_status : ℕ → Shell → Shell
 with_status n e = record e { env = record e.env { status = n } }
 
+-- a simple command begins, which has performed no substitution so far
+abbrev pub unsubstituted : Shell → Shell
+unsubstituted e = record e { env = record e.env { substituted = false } }
+
 abbrev pub with_slot : ℕ → Option ℕ → Shell → Shell
 with_slot d n e = record e { descriptors = set_slot d n e.descriptors }
 
@@ -59,10 +63,6 @@ back e e' = with_env (back_env e.env e'.env) e
 -- pipeline met, its status included (XCU 2.5.2).
 abbrev pub past_stage : Shell → Shell → Shell
 past_stage e e' = with_status e.env.status (back e e')
-
--- A substitution took place since the next local number was n: it alone takes such numbers in expansion.
-abbrev pub took : ℕ → Shell → Bool
-took n e = not (e.env.next == n)
 
 -- a name has this function from now on
 abbrev pub define : Text → FunctionTree → Shell → Shell

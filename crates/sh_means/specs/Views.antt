@@ -24,7 +24,7 @@ shell_of s = record { env = s.env; errexit = s.errexit; functions = functions_of
 -- what was saved, with the status and the next local number of now
 abbrev pub back_to : SavedState → Shell → Shell
 back_to s e = record {
-  env = record { vars = s.vars; zero = s.zero; wd = s.wd; status = e.env.status; nounset = s.nounset; noglob = s.noglob; next = e.env.next };
+  env = record { vars = s.vars; zero = s.zero; wd = s.wd; status = e.env.status; substituted = s.substituted; nounset = s.nounset; noglob = s.noglob; next = e.env.next };
   errexit = s.errexit;
   functions = functions_of s.functions.value;
   descriptors = s.descriptors.value;

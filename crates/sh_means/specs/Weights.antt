@@ -132,7 +132,7 @@ weigh_case c = items_left c.items.value c.at c.pattern + 2
 
 -- what comes after a word
 abbrev pub weigh_aim : Aim → ℕ
-weigh_aim (aim.Fields f next) = weigh_fields f
+weigh_aim (aim.Fields f) = weigh_fields f
 weigh_aim (aim.Operand o) = weigh_redirects o.left + 4
 weigh_aim (aim.Value v) = weigh_assignments v.left + 1
 weigh_aim (aim.Subject is) = items_left is.value 0 0 + 3

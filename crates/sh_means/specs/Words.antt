@@ -1,5 +1,5 @@
 -- Words, redirections and assignments, as commands have them (XCU 2.6, 2.7 and 2.9.1).
-use Rattle.std.specs.Prelude.{ℕ, zero, suc, ◌-◌, ◌||◌, List, [], ◌∷◌, ◌++◌, Some, Bool, codes, if◌then◌else◌}
+use Rattle.std.specs.Prelude.{ℕ, zero, suc, ◌-◌, List, [], ◌∷◌, ◌++◌, Some, Bool, codes, if◌then◌else◌}
 use Rattle.rk_base.specs.Text.{Text}
 use Rattle.rk_calls.specs.Lines.{error_line}
 use Rattle.sh_ast.specs.Words.{PartsTree}
@@ -20,7 +20,7 @@ use Rattle.sh_redirect.specs.DescriptorTable.{put_back}
 use Rattle.sh_redirect.specs.Redirects.{redirects}
 use Rattle.sh_means.specs.declared.flow.Flow.TheVariants.{Normal, Exits}
 use Rattle.sh_means.specs.declared.flow.Place.{Place}
-use Rattle.sh_means.specs.State.{Shell, with_env, with_slot, with_held, back_env, took, set_variable, put_back_variables}
+use Rattle.sh_means.specs.State.{Shell, with_env, with_slot, with_held, back_env, set_variable, put_back_variables}
 use Rattle.sh_means.specs.Flows.{Next, Go_on, Means, tells, sh, ends}
 
 -- Words.
@@ -61,10 +61,10 @@ abbrev pub value_of : Expanded → Text
 value_of (Fields fields) = []
 value_of (Value value) = value
 
--- the fields of words, behind those so far; and whether a substitution took place so far
-abbrev pub expand_words : List WordMeant → List Text → Bool → Place → (List Text → Bool → Go_on) → Next → Go_on
-expand_words [] fields ran pl go k e = go fields ran e
-expand_words (w ∷ ws) fields ran pl go k e = expand_word mode.Fields w pl (λ x e'. expand_words ws (fields ++ fields_of x) (ran || took e.env.next e') pl go k e') k e
+-- the fields of words, behind those so far
+abbrev pub expand_words : List WordMeant → List Text → Place → (List Text → Go_on) → Next → Go_on
+expand_words [] fields pl go k e = go fields e
+expand_words (w ∷ ws) fields pl go k e = expand_word mode.Fields w pl (λ x e'. expand_words ws (fields ++ fields_of x) pl go k e') k e
 
 -- Redirections.
 
@@ -93,10 +93,9 @@ abbrev pub redirect_to : Redirect → ℕ → Text → Go_on → Go_on → Go_on
 redirect_to kind d text made refused e = redirects kind d text (record { made = λ ds env. made (moved ds env e); refused = λ ds env. refused (moved ds env e) }) e.descriptors e.env
 
 -- from left to right: all are made, or one is refused
-abbrev pub redirect_all : List RedirectMeant → Bool → Place → (Bool → Go_on) → Go_on → Next → Go_on
-redirect_all [] ran pl made refused k e = made ran e
-redirect_all (r ∷ rs) ran pl made refused k e =
-    expand_word mode.Value r.operand pl (λ x e'. redirect_to r.kind r.descriptor (value_of x) (redirect_all rs (ran || took e.env.next e') pl made refused k) refused e') k e
+abbrev pub redirect_all : List RedirectMeant → Place → Go_on → Go_on → Next → Go_on
+redirect_all [] pl made refused k e = made e
+redirect_all (r ∷ rs) pl made refused k e = expand_word mode.Value r.operand pl (λ x e'. redirect_to r.kind r.descriptor (value_of x) (redirect_all rs pl made refused k) refused e') k e
 
 -- the descriptors that were named are as they were before
 abbrev pub unredirected : List ℕ → DescriptorTable → Next → Next
@@ -118,10 +117,9 @@ assigns exported name value go k e =
     if is_readonly e.env.vars name then tells (error_line sh name (codes "readonly")) (ends Exits 1 k) e else go (with_held (set_variable exported name value e.env.vars) e)
 
 -- from left to right
-abbrev pub assign_all : List AssignMeant → Bool → Bool → Place → (Bool → Go_on) → Next → Go_on
-assign_all [] exported ran pl go k e = go ran e
-assign_all (a ∷ as') exported ran pl go k e =
-    expand_word mode.Value a.value pl (λ x e'. assigns exported a.name (value_of x) (assign_all as' exported (ran || took e.env.next e') pl go k) k e') k e
+abbrev pub assign_all : List AssignMeant → Bool → Place → Go_on → Next → Go_on
+assign_all [] exported pl go k e = go e
+assign_all (a ∷ as') exported pl go k e = expand_word mode.Value a.value pl (λ x e'. assigns exported a.name (value_of x) (assign_all as' exported pl go k) k e') k e
 
 -- the variables that were named are as they were before
 abbrev pub unassigned : List Text → Held → Next → Next

@@ -90,13 +90,12 @@ pub enum Then {
     For(Bytes, Rc<CommandList>),
 }
 
-/// Words from a place on, the fields of those before, and whether a substitution took place.
+/// Words from a place on, and the fields of those before.
 #[derive(Drop)]
 pub struct PendingFields {
     pub words: Rc<Words>,
     pub at: usize,
     pub fields: WordList,
-    pub ran: bool,
     pub then: Then,
 }
 
@@ -107,23 +106,21 @@ pub enum Made {
     Compound(Rc<Compound>),
 }
 
-/// Redirections from a place on, the map before all of them, and whether a substitution took place.
+/// Redirections from a place on, and the map before all of them.
 #[derive(Drop)]
 pub struct PendingRedirects {
     pub redirects: Rc<Redirects>,
     pub at: usize,
     pub before: Rc<DescriptorTable>,
-    pub ran: bool,
     pub made: Made,
 }
 
-/// Assignments from a place on, and whether a substitution took place.
+/// Assignments from a place on.
 #[derive(Drop)]
 pub struct PendingAssignments {
     pub assignments: Rc<Assignments>,
     pub at: usize,
     pub exported: bool,
-    pub ran: bool,
     pub doing: Box<Doing>,
 }
 
@@ -136,28 +133,25 @@ pub struct PendingCase {
     pub value: Bytes,
 }
 
-/// A redirection whose operand is expanded, before those that are left, and the next local number before that.
+/// A redirection whose operand is expanded, before those that are left.
 #[derive(Drop)]
 pub struct PendingOperand {
     pub left: PendingRedirects,
     pub descriptor: u8,
     pub kind: Redirect,
-    pub next: u64,
 }
 
-/// An assignment whose value is expanded, before those that are left, and the next local number before that.
+/// An assignment whose value is expanded, before those that are left.
 #[derive(Drop)]
 pub struct PendingValue {
     pub left: PendingAssignments,
     pub name: Bytes,
-    pub next: u64,
 }
 
-/// What a word is expanded for. A number is the next local number before its expansion. What goes on after the word is at the
-/// place behind it.
+/// What a word is expanded for. What goes on after the word is at the place behind it.
 #[derive(Drop)]
 pub enum Aim {
-    Fields(PendingFields, u64),
+    Fields(PendingFields),
     Operand(PendingOperand),
     Value(PendingValue),
     Subject(Rc<CaseItems>),

@@ -47,6 +47,7 @@ pub struct SavedState {
     vars: Saved,
     zero: Bytes,
     wd: Path,
+    substituted: bool,
     nounset: bool,
     noglob: bool,
     errexit: bool,
@@ -88,6 +89,7 @@ impl State {
             vars,
             zero,
             wd,
+            substituted: self.env.substituted,
             nounset: self.env.nounset,
             noglob: self.env.noglob,
             errexit: self.errexit,
@@ -106,6 +108,7 @@ impl State {
             vars,
             zero,
             wd,
+            substituted,
             nounset,
             noglob,
             errexit,
@@ -115,6 +118,7 @@ impl State {
         self.env.vars.restore(vars);
         self.env.zero = zero;
         self.env.wd = wd;
+        self.env.substituted = substituted;
         self.env.nounset = nounset;
         self.env.noglob = noglob;
         self.errexit = errexit;

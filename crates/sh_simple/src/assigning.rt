@@ -20,7 +20,7 @@ pub fn next_assign(
     left: PendingAssignments,
     shell: &mut Interpreter,
 ) -> Result<Acted, NoMemory>
-    ensures talk { IfOk result (Steps (assigning left left.ran place (context shell.old.stack.items) (shell_of shell.old.state)) (context shell.new.stack.items) (shell_of shell.new.state)) }
+    ensures talk { IfOk result (Steps (assigning left place (context shell.old.stack.items) (shell_of shell.old.state)) (context shell.new.stack.items) (shell_of shell.new.state)) }
     ensures costly { IfOk result (Lowers (weigh_assignments left) shell.old.stack.items shell.new.stack.items) }
 {
     let assignments = left.assignments.clone()?;
@@ -30,11 +30,7 @@ pub fn next_assign(
             let value = assignment.value.clone()?;
             let mut left = left;
             left.at += 1;
-            let aim = Aim::Value(PendingValue {
-                left,
-                name,
-                next: shell.state.env.next,
-            });
+            let aim = Aim::Value(PendingValue { left, name });
             let wording = pending(shell.alloc, value, Mode::Value, place, aim)?;
             act_expand(wording, Answer::Go, shell)
         }
@@ -43,10 +39,9 @@ pub fn next_assign(
                 assignments: _,
                 at: _,
                 exported: _,
-                ran,
                 doing,
             } = left;
-            let acted = work(doing, ran, place, shell)?;
+            let acted = work(doing, place, shell)?;
             Ok(acted)
         }
     }

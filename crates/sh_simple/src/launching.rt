@@ -86,27 +86,27 @@ fn call(
     Ok(paid(Control::CompoundStep(CompoundStep::Called(inside, callee))))
 }
 
-// Without a command the status is that of the last substitution, or 0.
-fn status_if(ran: bool, status: u8) -> u8
-    ensures { result ≡ status_if ran status }
+// Without a command name the status is that of the last substitution, or 0 where none was performed.
+fn status_if(substituted: bool, status: u8) -> u8
+    ensures { result ≡ status_if substituted status }
 {
-    if ran { status } else { 0 }
+    if substituted { status } else { 0 }
 }
 
 /// What a simple command does, once its assignments were made.
 pub(crate) fn work(
     doing: Box<Doing>,
-    ran: bool,
     place: Place,
     shell: &mut Interpreter,
 ) -> Result<Acted, NoMemory>
-    ensures talk { IfOk result (Steps (works run (kind_of_code doing.value.kind) doing.value.fields ran place (context shell.old.stack.items) (shell_of shell.old.state)) (context shell.new.stack.items) (shell_of shell.new.state)) }
+    ensures talk { IfOk result (Steps (works run (kind_of_code doing.value.kind) doing.value.fields place (context shell.old.stack.items) (shell_of shell.old.state)) (context shell.new.stack.items) (shell_of shell.new.state)) }
     ensures costly { IfOk result (Lowers 3 shell.old.stack.items shell.new.stack.items) }
 {
     let Doing { kind, fields } = Box::into_inner(doing);
     match kind {
         CommandKind::Bare => {
-            let status = status_if(ran, shell.state.env.status);
+            let env = &shell.state.env;
+            let status = status_if(env.substituted, env.status);
             Ok(end(Flow::Normal, status, &mut shell.state))
         }
         CommandKind::Special(order) => {

@@ -12,6 +12,8 @@ pub struct Env {
     pub wd: Path,
     /// `$?`.
     pub status: u8,
+    /// Whether the simple command that was begun last has performed a command substitution.
+    pub substituted: bool,
     /// Whether `set -u` is on: an unset parameter is a fault.
     pub nounset: bool,
     /// Whether `set -f` is on: pathnames are not expanded.

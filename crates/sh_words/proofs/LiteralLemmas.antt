@@ -1,8 +1,6 @@
 -- A literal word is one field.
-use Rattle.std.proofs.Common.{◌≡◌, ℕ, ◌+◌, List, [], ◌∷◌, ◌++◌, append-nil, inr, ◌≢◌, Option, Some, None, unwrap_or, Bool, true, false, not, ◌&&◌, ◌||◌, refl, sym, ap, subst, ◌∙◌}
-use Rattle.std.specs.Prelude.{◌==◌}
+use Rattle.std.proofs.Common.{◌≡◌, ℕ, ◌+◌, List, [], ◌∷◌, ◌++◌, append-nil, inr, ◌≢◌, Option, Some, None, unwrap_or, Bool, true, false, not, ◌&&◌, refl, sym, ap, subst, ◌∙◌}
 use Rattle.std.specs.List.{list_all}
-use Rattle.std.proofs.lemmas.Bool.{eqb-false}
 use Rattle.std.specs.declared.rc.Rc.{Rc}
 use Rattle.std.specs.declared.alloc.Global.{Global}
 use Rattle.rk_base.specs.Text.{Text}
@@ -43,9 +41,9 @@ use Rattle.sh_means.specs.declared.flow.Place.{Place}
 use Rattle.sh_means.specs.Eval.{word_in}
 use Rattle.sh_means.specs.Flows.{Next, Go_on}
 use Rattle.sh_means.specs.Run.{run}
-use Rattle.sh_means.specs.Stack.{aimed, fielding, making, then_means, words_from}
-use Rattle.sh_means.specs.State.{Shell, with_env, took}
-use Rattle.sh_means.specs.Words.{bodies_at, expand_word, expand_words, faults, redirect_kind}
+use Rattle.sh_means.specs.Stack.{aimed, fielding, making}
+use Rattle.sh_means.specs.State.{Shell, with_env}
+use Rattle.sh_means.specs.Words.{bodies_at, expand_word, faults, redirect_kind}
 use Rattle.sh_means.proofs.Begun.{redirect_next, word_next}
 use Rattle.sh_words.specs.Literal.{IsField, IsLiteral, IsValue, is_one_field}
 
@@ -164,36 +162,24 @@ value_given t text pl go k e p one =
     let failed : Failed = λ parameter message env. faults parameter message k (with_env env e) in
     ap (λ (ps : PartsTree). expand_in mode.Value bodies ps g failed e.env p) (parts_same t) ∙ one bodies g failed e.env p
 
-same_if : (n : ℕ) (b : Bool) → (n == n) ≡ b → (n == n) ≡ true
-same_if n true h = h
-same_if n false h = absurd (eqb-false n n h refl)
-
-same_number : (n : ℕ) → (n == n) ≡ true
-same_number n = same_if n (n == n) refl
-
-no_more : (b : Bool) (e : Shell) → (b || took e.env.next e) ≡ b
-no_more true e = refl
-no_more false e = ap not (same_number e.env.next)
-
 pub field_taken : (f : PendingFields) (pl : Place) (k : Next) (e : Shell) (ws : Words) (w : Word) (text : Text) (p : ℕ) → ws ≡ f.words.value → Some (tree.word w) ≡ word_at (tree.words ws) f.at → IsField text (parts_of (tree.word w)) → fielding f pl k e p ≡ pay (turns text) (fielding (record f { at = f.at + 1; fields = f.fields ++ text ∷ [] }) pl k e) p
 field_taken f pl k e ws w text p hs is one =
     word_next f pl k e ws w p hs is
-    ∙ field_given (tree.word w) text pl (aimed (aim.Fields (record f { at = f.at + 1 }) e.env.next) pl k) k e p one
-    ∙ ap (λ (b : Bool). pay (turns text) (expand_words (words_from f.words.value (f.at + 1)) (f.fields ++ text ∷ []) b pl (then_means f.then pl k) k e) p) (no_more f.ran e)
+    ∙ field_given (tree.word w) text pl (aimed (aim.Fields (record f { at = f.at + 1 })) pl k) k e p one
 
-pub operand_taken : (m : PendingRedirects) (pl : Place) (k : Next) (e : Shell) (rs : Redirects) (x : Redirect) (r : kind.Redirect) (text : Text) (p : ℕ) → rs ≡ m.redirects.value → r ≡ redirect_kind (out-Redirect x).operator → Some (tree.redirect x) ≡ redirect_at (tree.redirects rs) m.at → IsValue text (parts_of (tree.word (out-Redirect x).operand.value)) → making m m.ran pl k e p ≡ pay (turns text) (aimed (aim.Operand (record { left = record m { at = m.at + 1 }; descriptor = (out-Redirect x).descriptor; kind = r; next = e.env.next })) pl k (Value text) e) p
+pub operand_taken : (m : PendingRedirects) (pl : Place) (k : Next) (e : Shell) (rs : Redirects) (x : Redirect) (r : kind.Redirect) (text : Text) (p : ℕ) → rs ≡ m.redirects.value → r ≡ redirect_kind (out-Redirect x).operator → Some (tree.redirect x) ≡ redirect_at (tree.redirects rs) m.at → IsValue text (parts_of (tree.word (out-Redirect x).operand.value)) → making m pl k e p ≡ pay (turns text) (aimed (aim.Operand (record { left = record m { at = m.at + 1 }; descriptor = (out-Redirect x).descriptor; kind = r })) pl k (Value text) e) p
 operand_taken m pl k e rs x r text p hs hr is one =
     redirect_next m pl k e rs x r p hs hr is
-    ∙ value_given (tree.word (out-Redirect x).operand.value) text pl (aimed (aim.Operand (record { left = record m { at = m.at + 1 }; descriptor = (out-Redirect x).descriptor; kind = r; next = e.env.next })) pl k) k e p one
+    ∙ value_given (tree.word (out-Redirect x).operand.value) text pl (aimed (aim.Operand (record { left = record m { at = m.at + 1 }; descriptor = (out-Redirect x).descriptor; kind = r })) pl k) k e p one
 
 -- A word that isn't is expanded.
 
-pub word_expanded : (f : PendingFields) (pl : Place) (k : Next) (e : Shell) (ws : Words) (w : Word) (w' : Rc Word Global) (p : ℕ) → ws ≡ f.words.value → w'.value ≡ w → Some (tree.word w) ≡ word_at (tree.words ws) f.at → fielding f pl k e p ≡ expand_word mode.Fields (word_in run (tree.word w'.value)) pl (aimed (aim.Fields (record f { at = f.at + 1 }) e.env.next) pl k) k e p
+pub word_expanded : (f : PendingFields) (pl : Place) (k : Next) (e : Shell) (ws : Words) (w : Word) (w' : Rc Word Global) (p : ℕ) → ws ≡ f.words.value → w'.value ≡ w → Some (tree.word w) ≡ word_at (tree.words ws) f.at → fielding f pl k e p ≡ expand_word mode.Fields (word_in run (tree.word w'.value)) pl (aimed (aim.Fields (record f { at = f.at + 1 })) pl k) k e p
 word_expanded f pl k e ws w w' p hs hw is =
     word_next f pl k e ws w p hs is
-    ∙ ap (λ (v : Word). expand_word mode.Fields (word_in run (tree.word v)) pl (aimed (aim.Fields (record f { at = f.at + 1 }) e.env.next) pl k) k e p) (sym hw)
+    ∙ ap (λ (v : Word). expand_word mode.Fields (word_in run (tree.word v)) pl (aimed (aim.Fields (record f { at = f.at + 1 })) pl k) k e p) (sym hw)
 
-pub operand_expanded : (m : PendingRedirects) (pl : Place) (k : Next) (e : Shell) (rs : Redirects) (x : Redirect) (r : kind.Redirect) (w : Rc Word Global) (p : ℕ) → rs ≡ m.redirects.value → w.value ≡ (out-Redirect x).operand.value → r ≡ redirect_kind (out-Redirect x).operator → Some (tree.redirect x) ≡ redirect_at (tree.redirects rs) m.at → making m m.ran pl k e p ≡ expand_word mode.Value (word_in run (tree.word w.value)) pl (aimed (aim.Operand (record { left = record m { at = m.at + 1 }; descriptor = (out-Redirect x).descriptor; kind = r; next = e.env.next })) pl k) k e p
+pub operand_expanded : (m : PendingRedirects) (pl : Place) (k : Next) (e : Shell) (rs : Redirects) (x : Redirect) (r : kind.Redirect) (w : Rc Word Global) (p : ℕ) → rs ≡ m.redirects.value → w.value ≡ (out-Redirect x).operand.value → r ≡ redirect_kind (out-Redirect x).operator → Some (tree.redirect x) ≡ redirect_at (tree.redirects rs) m.at → making m pl k e p ≡ expand_word mode.Value (word_in run (tree.word w.value)) pl (aimed (aim.Operand (record { left = record m { at = m.at + 1 }; descriptor = (out-Redirect x).descriptor; kind = r })) pl k) k e p
 operand_expanded m pl k e rs x r w p hs hw hr is =
     redirect_next m pl k e rs x r p hs hr is
-    ∙ ap (λ (v : Word). expand_word mode.Value (word_in run (tree.word v)) pl (aimed (aim.Operand (record { left = record m { at = m.at + 1 }; descriptor = (out-Redirect x).descriptor; kind = r; next = e.env.next })) pl k) k e p) (sym hw)
+    ∙ ap (λ (v : Word). expand_word mode.Value (word_in run (tree.word v)) pl (aimed (aim.Operand (record { left = record m { at = m.at + 1 }; descriptor = (out-Redirect x).descriptor; kind = r })) pl k) k e p) (sym hw)

@@ -1,5 +1,5 @@
 -- Redirections, as they go on.
-use Rattle.std.proofs.Common.{◌≡◌, ℕ, Bool, sym, ap, ◌∙◌}
+use Rattle.std.proofs.Common.{◌≡◌, ℕ, sym, ap, ◌∙◌}
 use Rattle.std.specs.Global.{Box}
 use Rattle.rk_base.specs.Text.{Text}
 use Rattle.rk_calls.specs.Talk.{ask}
@@ -31,7 +31,7 @@ all_heard = λ i a env. redirection_heard a env i
 
 -- what comes after a redirection, from a state
 abbrev pub then_of : PendingRedirects → Place → Next → Shell → After
-then_of m pl k e = record { made = λ ds env. making m m.ran pl k (moved ds env e); refused = λ ds env. when_refused m pl k (moved ds env e) }
+then_of m pl k e = record { made = λ ds env. making m pl k (moved ds env e); refused = λ ds env. when_refused m pl k (moved ds env e) }
 
 module _ (m : PendingRedirects) (pl : Place) (k : Next) (r r0 r' : Redirecting) (a : Answer) (e : Shell) (ds : DescriptorTable) (t : Turn) (hr : r0 ≡ r) (h : (x : After) (p : ℕ) → redirecting_does r0 a x e.descriptors e.env p ≡ after t (redirecting_does r') x ds e.env p) where
   from : (p : ℕ) → redirecting m pl k r a e p ≡ redirecting m pl k r0 a e p
@@ -43,15 +43,14 @@ module _ (m : PendingRedirects) (pl : Place) (k : Next) (r r0 r' : Redirecting) 
       ∙ ap (λ (t : Turn). after t (redirecting_does r') (then_of m pl k e) ds e.env p) is
       ∙ ap (λ (f : Answer → Env → Env). ask c cost (λ a. redirecting_does r' a (then_of m pl k e) ds (f a e.env)) p) all_heard
 
-  pub redirect_made : (p : ℕ) → t ≡ turn.Made → redirecting m pl k r a e p ≡ making m m.ran pl k (record e { descriptors = ds }) p
+  pub redirect_made : (p : ℕ) → t ≡ turn.Made → redirecting m pl k r a e p ≡ making m pl k (record e { descriptors = ds }) p
   redirect_made p is = from p ∙ h (then_of m pl k e) p ∙ ap (λ (t : Turn). after t (redirecting_does r') (then_of m pl k e) ds e.env p) is
 
   pub redirect_refused : (p : ℕ) → t ≡ turn.Refused → redirecting m pl k r a e p ≡ when_refused m pl k (record e { descriptors = ds }) p
   redirect_refused p is = from p ∙ h (then_of m pl k e) p ∙ ap (λ (t : Turn). after t (redirecting_does r') (then_of m pl k e) ds e.env p) is
 
 -- a redirection begins, once its operand was expanded
-pub redirect_begun : (m : PendingRedirects) (pl : Place) (kd : kinds.Redirect) (d : ℕ) (text : Text) (r0 : Redirecting) (r : Box Redirecting) (b b' : Bool) (k : Next) (e : Shell) (p : ℕ) → ((a : Answer) → redirecting_does r0 a ≡ redirects kd d text) → r.value ≡ r0 → b' ≡ b → redirect_to kd d text (making m b pl k) (when_refused m pl k) e p ≡ resumed (control.Waits (wait.Redirects pl (record m { ran = b' }) r)) k answer.Go e p
-redirect_begun m pl kd d text r0 r b b' k e p h hr hb =
-    ap (λ (x : Doing). x (record { made = λ ds env. making m b pl k (moved ds env e); refused = λ ds env. when_refused m pl k (moved ds env e) }) e.descriptors e.env p) (sym (h answer.Go))
-    ∙ ap (λ (x : Redirecting). redirecting (record m { ran = b }) pl k x answer.Go e p) (sym hr)
-    ∙ ap (λ (c : Bool). redirecting (record m { ran = c }) pl k r.value answer.Go e p) (sym hb)
+pub redirect_begun : (m : PendingRedirects) (pl : Place) (kd : kinds.Redirect) (d : ℕ) (text : Text) (r0 : Redirecting) (r : Box Redirecting) (k : Next) (e : Shell) (p : ℕ) → ((a : Answer) → redirecting_does r0 a ≡ redirects kd d text) → r.value ≡ r0 → redirect_to kd d text (making m pl k) (when_refused m pl k) e p ≡ resumed (control.Waits (wait.Redirects pl m r)) k answer.Go e p
+redirect_begun m pl kd d text r0 r k e p h hr =
+    ap (λ (x : Doing). x (record { made = λ ds env. making m pl k (moved ds env e); refused = λ ds env. when_refused m pl k (moved ds env e) }) e.descriptors e.env p) (sym (h answer.Go))
+    ∙ ap (λ (x : Redirecting). redirecting m pl k x answer.Go e p) (sym hr)

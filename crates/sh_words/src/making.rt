@@ -1,10 +1,10 @@
 // Redirections, one after another, and what they are made for.
-ghost use Rattle.std.specs.Prelude.{◌≡◌, ◌≤◌, ◌<◌, ℕ, ◌+◌, ◌||◌, IfOk, OnOk, true};
+ghost use Rattle.std.specs.Prelude.{◌≡◌, ◌≤◌, ◌<◌, ℕ, ◌+◌, IfOk, OnOk, true};
 ghost use Rattle.rk_calls.specs.Talk.{pay};
 ghost use Rattle.rk_calls.specs.Turns.{turns};
 ghost use Rattle.sh_expand.specs.declared.mode.Expanded.TheVariants.{Value};
 ghost use Rattle.sh_means.specs.declared.control.Aim.TheVariants as aims;
-ghost use Rattle.sh_means.specs.State.{took};
+ghost use Rattle.sh_means.specs.State.{Shell};
 ghost use Rattle.sh_redirect.specs.Redirects.{After};
 ghost use Rattle.sh_redirect.specs.Stages.{IsAsking, after, redirecting_does};
 ghost use Rattle.sh_means.specs.Flows.{Next};
@@ -31,10 +31,10 @@ use sh_means::expansion::pending;
 use sh_means::flow::{Flow, Place};
 use sh_means::interpreter::Interpreter;
 use sh_means::stack::{put_continuation, put_undo};
-use sh_means::state::State;
 use sh_means::steps::{end, free};
 use sh_redirect::{DescriptorTable, Redirect, Redirecting};
 use sh_vars::{Env, Vars};
+use std::alloc::Global;
 use std::rc::Rc;
 
 // The map is put back, where there are redirections.
@@ -106,12 +106,11 @@ fn for_its_time(
     Ok(())
 }
 
-// The redirections that were made, the map before them, and whether a substitution took place so far.
+// The redirections that were made, and the map before them.
 #[derive(Drop)]
 struct Redirected {
     redirects: Rc<Redirects>,
     before: Rc<DescriptorTable>,
-    ran: bool,
 }
 
 // A simple command whose redirections were made.
@@ -122,14 +121,10 @@ fn made_simple(
     doing: Box<Doing>,
     shell: &mut Interpreter,
 ) -> Result<Control, NoMemory>
-    ensures talk { IfOk result (Goes (made_go (mades.Simple assignments doing) (named (redirects_from redirected.redirects.value 0)) redirected.before.value place (context shell.old.stack.items) redirected.ran (shell_of shell.old.state)) (context shell.new.stack.items) (shell_of shell.new.state)) }
+    ensures talk { IfOk result (Goes (made_go (mades.Simple assignments doing) (named (redirects_from redirected.redirects.value 0)) redirected.before.value place (context shell.old.stack.items) (shell_of shell.old.state)) (context shell.new.stack.items) (shell_of shell.new.state)) }
     ensures weight { IfOk result (λ c. weigh c + weigh_all shell.new.stack.items < weigh_made (mades.Simple assignments doing) + weigh_all shell.old.stack.items) }
 {
-    let Redirected {
-        redirects,
-        before,
-        ran,
-    } = redirected;
+    let Redirected { redirects, before } = redirected;
     let plain = doing.kind.is_plain();
     let exported = doing.kind.exports();
     let keeps = doing.kind.keeps();
@@ -142,7 +137,6 @@ fn made_simple(
             assignments,
             at: 0,
             exported,
-            ran,
             doing,
         },
     )))
@@ -154,23 +148,18 @@ fn all_made(
     left: PendingRedirects,
     shell: &mut Interpreter,
 ) -> Result<Control, NoMemory>
-    ensures talk { IfOk result (Goes (when_made left place (context shell.old.stack.items) left.ran (shell_of shell.old.state)) (context shell.new.stack.items) (shell_of shell.new.state)) }
+    ensures talk { IfOk result (Goes (when_made left place (context shell.old.stack.items) (shell_of shell.old.state)) (context shell.new.stack.items) (shell_of shell.new.state)) }
     ensures weight { IfOk result (λ c. weigh c + weigh_all shell.new.stack.items < weigh_made left.made + weigh_all shell.old.stack.items) }
 {
     let PendingRedirects {
         redirects,
         at: _,
         before,
-        ran,
         made,
     } = left;
     match made {
         Made::Simple(assignments, doing) => {
-            let redirected = Redirected {
-                redirects,
-                before,
-                ran,
-            };
+            let redirected = Redirected { redirects, before };
             let control = made_simple(place, redirected, assignments, doing, shell)?;
             Ok(control)
         }
@@ -193,49 +182,39 @@ fn kind_of(operator: RedirectOperator) -> Redirect
     }
 }
 
-/// Whether a substitution took place so far, or in the word before which the next local number was this.
-pub(crate) fn ran_since(ran: bool, next: u64, state: &State) -> bool
-    ensures { result ≡ (ran || took next (shell_of state.now)) }
-{
-    ran || state.env.next != next
-}
-
 /// The operand of a redirection was expanded.
 pub(crate) fn redirect(
+    alloc: Global,
     place: Place,
     operand: PendingOperand,
     text: Bytes,
-    shell: &Interpreter,
 ) -> Result<Control, NoMemory>
-    ensures talk { IfOk result (λ c. (k : Next) → Goes (aimed (aims.Operand operand) place k (Value text) (shell_of shell.now.state)) k (shell_of shell.now.state) c) }
+    ensures talk { IfOk result (λ c. (k : Next) (e : Shell) → Goes (aimed (aims.Operand operand) place k (Value text) e) k e c) }
     ensures weight { IfOk result (λ c. weigh c ≤ weigh_redirects operand.left + 3) }
 {
     let PendingOperand {
         left,
         descriptor,
         kind,
-        next,
     } = operand;
-    let mut left = left;
-    left.ran = ran_since(left.ran, next, &shell.state);
-    let started = Redirecting::start(shell.alloc, kind, descriptor, text);
-    let redirecting = Box::new(shell.alloc, started)?;
+    let started = Redirecting::start(alloc, kind, descriptor, text);
+    let redirecting = Box::new(alloc, started)?;
     Ok(Control::Waits(Wait::Redirects(place, left, redirecting)))
 }
 
 // A redirection whose operand is this text, whatever the state is.
 fn redirect_literal(
+    alloc: Global,
     place: Place,
     operand: PendingOperand,
     text: &Bytes,
-    shell: &Interpreter,
 ) -> Result<Acted, NoMemory>
-    ensures talk { IfOk result (λ t. (k : Next) → Steps (pay (turns text.now) (aimed (aims.Operand operand) place k (Value text.now) (shell_of shell.now.state))) k (shell_of shell.now.state) t) }
+    ensures talk { IfOk result (λ t. (k : Next) (e : Shell) → Steps (pay (turns text.now) (aimed (aims.Operand operand) place k (Value text.now) e)) k e t) }
     ensures costly { IfOk result (Sinks (weigh_redirects operand.left + 4)) }
 {
     let cost = turns(text.as_slice());
     let text = text.copy()?;
-    let control = redirect(place, operand, text, shell)?;
+    let control = redirect(alloc, place, operand, text)?;
     Ok(Acted {
         turn: Turn::More(cost),
         control,
@@ -249,7 +228,7 @@ pub fn next_redirect(
     left: PendingRedirects,
     shell: &mut Interpreter,
 ) -> Result<Acted, NoMemory>
-    ensures talk { IfOk result (Steps (making left left.ran place (context shell.old.stack.items) (shell_of shell.old.state)) (context shell.new.stack.items) (shell_of shell.new.state)) }
+    ensures talk { IfOk result (Steps (making left place (context shell.old.stack.items) (shell_of shell.old.state)) (context shell.new.stack.items) (shell_of shell.new.state)) }
     ensures costly { IfOk result (Lowers (weigh_redirects left) shell.old.stack.items shell.new.stack.items) }
 {
     let redirects = left.redirects.clone()?;
@@ -262,10 +241,9 @@ pub fn next_redirect(
                 left,
                 descriptor: r.descriptor,
                 kind,
-                next: shell.state.env.next,
             };
             if let Some(text) = value(&r.operand) {
-                return redirect_literal(place, operand, text, shell);
+                return redirect_literal(shell.alloc, place, operand, text);
             }
             let word = r.operand.clone()?;
             let aim = Aim::Operand(operand);
@@ -298,7 +276,6 @@ fn refused(place: Place, left: PendingRedirects, shell: &mut Interpreter) -> Res
         redirects,
         at: _,
         before,
-        ran: _,
         made: _,
     } = left;
     put_continuation(&mut shell.stack, Continuation::Watch(place))?;

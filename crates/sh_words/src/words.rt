@@ -9,7 +9,7 @@ ghost use Rattle.sh_means.specs.declared.control.Then.TheVariants as thens;
 ghost use Rattle.sh_means.specs.Flows.{Next};
 ghost use Rattle.sh_means.specs.Stack.{Steps, Goes, aimed, context, fielding, making, then_means};
 ghost use Rattle.sh_means.specs.declared.flow.Place.{Place as Places};
-ghost use Rattle.sh_means.specs.State.{Shell, took};
+ghost use Rattle.sh_means.specs.State.{Shell};
 ghost use Rattle.sh_means.specs.Trees.{set_if};
 ghost use Rattle.sh_means.specs.Views.{shell_of};
 ghost use Rattle.sh_means.specs.Weights.{Lowers, Sinks, items_left, weigh, weigh_aim, weigh_assignments, weigh_case, weigh_command, weigh_fields, weigh_redirects, weigh_then};
@@ -17,7 +17,7 @@ ghost use Rattle.sh_means.specs.Words.{fields_of, value_of};
 
 use crate::kinds::kind_of;
 use crate::literal::field;
-use crate::making::{next_redirect, ran_since, redirect};
+use crate::making::{next_redirect, redirect};
 use rk_base::{Bytes, NoMemory, WordList};
 use rk_calls::{Answer, Turn, turns};
 use sh_ast::{CaseItems, SimpleCommand};
@@ -42,10 +42,9 @@ use std::rc::Rc;
 fn made_first(
     command: Rc<SimpleCommand>,
     fields: WordList,
-    ran: bool,
     shell: &Interpreter,
 ) -> Result<PendingRedirects, NoMemory>
-    ensures talk { IfOk result (λ m. (place : Places) (k : Next) (p : ℕ) → then_means (thens.Simple command) place k fields ran (shell_of shell.now.state) p ≡ making m m.ran place k (shell_of shell.now.state) p) }
+    ensures talk { IfOk result (λ m. (place : Places) (k : Next) (p : ℕ) → then_means (thens.Simple command) place k fields (shell_of shell.now.state) p ≡ making m place k (shell_of shell.now.state) p) }
     ensures weight { IfOk result (λ m. weigh_redirects m ≡ weigh_command command.value) }
 {
     let kind = kind_of(shell.alloc, &fields, &shell.state.functions)?;
@@ -58,7 +57,6 @@ fn made_first(
         redirects,
         at: 0,
         before,
-        ran,
         made: Made::Simple(assignments, boxed),
     })
 }
@@ -68,15 +66,14 @@ fn then(
     place: Place,
     then: Then,
     fields: WordList,
-    ran: bool,
     shell: &mut Interpreter,
 ) -> Result<Acted, NoMemory>
-    ensures talk { IfOk result (Steps (then_means then place (context shell.old.stack.items) fields ran (shell_of shell.old.state)) (context shell.new.stack.items) (shell_of shell.new.state)) }
+    ensures talk { IfOk result (Steps (then_means then place (context shell.old.stack.items) fields (shell_of shell.old.state)) (context shell.new.stack.items) (shell_of shell.new.state)) }
     ensures costly { IfOk result (Lowers (weigh_then then) shell.old.stack.items shell.new.stack.items) }
 {
     match then {
         Then::Simple(command) => {
-            let left = made_first(command, fields, ran, shell)?;
+            let left = made_first(command, fields, shell)?;
             next_redirect(place, left, shell)
         }
         Then::For(name, body) => Ok(free(over_fields(place, name, fields, body, &mut shell.state))),
@@ -115,7 +112,7 @@ pub fn next_word(
                 return push_field(place, left, text);
             }
             let word = word.clone()?;
-            let aim = Aim::Fields(left, shell.state.env.next);
+            let aim = Aim::Fields(left);
             let wording = pending(shell.alloc, word, Mode::Fields, place, aim)?;
             act_expand(wording, Answer::Go, shell)
         }
@@ -124,10 +121,9 @@ pub fn next_word(
                 words: _,
                 at: _,
                 fields,
-                ran,
                 then: aim,
             } = left;
-            then(place, aim, fields, ran, shell)
+            then(place, aim, fields, shell)
         }
     }
 }
@@ -169,30 +165,26 @@ fn push_all(fields: &mut WordList, more: &[Bytes]) -> Result<(), NoMemory>
 
 // One of several words gave these fields.
 fn take_fields(
+    alloc: Global,
     left: PendingFields,
-    next: u64,
     expanded: Expanded,
-    shell: &Interpreter,
 ) -> Result<PendingFields, NoMemory>
-    ensures talk { IfOk result (λ more. (place : Places) (k : Next) (p : ℕ) → aimed (aims.Fields left next) place k expanded (shell_of shell.now.state) p ≡ fielding more place k (shell_of shell.now.state) p) }
+    ensures talk { IfOk result (λ more. (place : Places) (k : Next) (e : Shell) (p : ℕ) → aimed (aims.Fields left) place k expanded e p ≡ fielding more place k e p) }
     ensures weight { IfOk result (λ more. weigh_fields more ≡ weigh_fields left) }
 {
-    let more = fields_of(shell.alloc, expanded)?;
+    let more = fields_of(alloc, expanded)?;
     let PendingFields {
         words,
         at,
         fields,
-        ran,
         then,
     } = left;
-    let ran = ran_since(ran, next, &shell.state);
     let mut fields = fields;
     push_all(&mut fields, more.as_slice())?;
     Ok(PendingFields {
         words,
         at,
         fields,
-        ran,
         then,
     })
 }
@@ -224,9 +216,7 @@ fn assign(
     ensures talk { IfOk result (λ t. (k : Next) → Steps (aimed (aims.Value left) place k (Value value.now) (shell_of state.old)) k (shell_of state.new) t) }
     ensures costly { IfOk result (Sinks (weigh_assignments left.left + 1)) }
 {
-    let PendingValue { left, name, next } = left;
-    let mut left = left;
-    left.ran = ran_since(left.ran, next, state);
+    let PendingValue { left, name } = left;
     if !set(
         &mut state.env.vars,
         left.exported,
@@ -284,13 +274,13 @@ fn deliver_to(
     ensures costly { IfOk result (Lowers (weigh_aim aim) shell.old.stack.items shell.new.stack.items) }
 {
     match aim {
-        Aim::Fields(left, next) => {
-            let left = take_fields(left, next, expanded, shell)?;
+        Aim::Fields(left) => {
+            let left = take_fields(shell.alloc, left, expanded)?;
             next_word(place, left, shell)
         }
         Aim::Operand(operand) => {
             let text = value_of(shell.alloc, expanded)?;
-            let control = redirect(place, operand, text, shell)?;
+            let control = redirect(shell.alloc, place, operand, text)?;
             Ok(free(control))
         }
         Aim::Value(left) => {

@@ -11,7 +11,7 @@ use Rattle.sh_compound.proofs.commands.act_command.Goals as goal
 pub returns-in_ok-acted-in-Simple-clause-talk : goal.returns-in_ok-acted-in-Simple-clause-talk
 returns-in_ok-acted-in-Simple-clause-talk c =
     λ p. ap (λ (t : tree.CommandTree). command_in run t c.args.place (shell_of c.args.shell.now.state) (context c.args.shell.now.stack.items) p) (ap (λ (x : Command). tree.command x) c.in-Simple.is ∙ a_simple_is c.in-Simple.command)
-    ∙ c.in_ok-acted-in-Simple.ensures.talk (context c.args.shell.now.stack.items) (shell_of c.args.shell.now.state) p
+    ∙ c.in_ok-acted-in-Simple.ensures.talk (context c.args.shell.now.stack.items) p
 
 pub returns-in_ok-acted-in-Compound-clause-talk : goal.returns-in_ok-acted-in-Compound-clause-talk
 returns-in_ok-acted-in-Compound-clause-talk c =

@@ -12,11 +12,11 @@ use Rattle.sh_words.proofs.making.all_made.Goals as goal
 
 pub returns-in_ok-control-in-Simple-clause-talk : goal.returns-in_ok-control-in-Simple-clause-talk
 returns-in_ok-control-in-Simple-clause-talk c =
-    λ p. ap (λ (m : Made). made_go m (named (redirects_from c.args.left.redirects.value 0)) c.args.left.before.value c.args.place (context c.args.shell.now.stack.items) c.args.left.ran (shell_of c.args.shell.now.state) p) c.in-Simple.is ∙ c.in_ok-control-in-Simple.ensures.talk p
+    λ p. ap (λ (m : Made). made_go m (named (redirects_from c.args.left.redirects.value 0)) c.args.left.before.value c.args.place (context c.args.shell.now.stack.items) (shell_of c.args.shell.now.state) p) c.in-Simple.is ∙ c.in_ok-control-in-Simple.ensures.talk p
 
 pub returns-in_ok-put_map_back_later-in-Compound-clause-talk : goal.returns-in_ok-put_map_back_later-in-Compound-clause-talk
 returns-in_ok-put_map_back_later-in-Compound-clause-talk c =
-    λ p. ap (λ (m : Made). made_go m (named (redirects_from c.args.left.redirects.value 0)) c.args.left.before.value c.args.place (context c.args.shell.now.stack.items) c.args.left.ran (shell_of c.args.shell.now.state) p) c.in-Compound.is
+    λ p. ap (λ (m : Made). made_go m (named (redirects_from c.args.left.redirects.value 0)) c.args.left.before.value c.args.place (context c.args.shell.now.stack.items) (shell_of c.args.shell.now.state) p) c.in-Compound.is
     ∙ ap (λ (k : Next). compound_in run (tree.compound c.in-Compound.body.value) c.args.place (shell_of c.args.shell.now.state) k p) (sym c.in_ok-put_map_back_later-in-Compound.ensures.talk)
 
 pub returns-in_ok-control-in-Simple-clause-weight : goal.returns-in_ok-control-in-Simple-clause-weight

@@ -9,7 +9,7 @@ use Rattle.sh_words.proofs.making.made_simple.Goals as goal
 
 pub returns-clause-talk : goal.returns-clause-talk
 returns-clause-talk c =
-    λ p. made_done c.args.assignments c.args.doing (named (redirects_from c.args.redirected.redirects.value 0)) c.args.redirected.before.value c.args.redirected.ran c.args.place (context c.args.shell.now.stack.items) (context c.put_continuation.new.stack.items) (context c.unless_kept.new.stack.items) (context c.for_its_time.new.stack.items) (shell_of c.args.shell.now.state) c.is_plain-plain.result c.exports-exported.result p (c.is_plain-plain.ensures ∙ ap (λ (d : Doing). is_plain (kind_of_code d.kind)) c.deref.ensures) (c.exports-exported.ensures ∙ ap (λ (d : Doing). exports (kind_of_code d.kind)) c.deref-2.ensures) c.in_ok-put_continuation.ensures.talk
+    λ p. made_done c.args.assignments c.args.doing (named (redirects_from c.args.redirected.redirects.value 0)) c.args.redirected.before.value c.args.place (context c.args.shell.now.stack.items) (context c.put_continuation.new.stack.items) (context c.unless_kept.new.stack.items) (context c.for_its_time.new.stack.items) (shell_of c.args.shell.now.state) c.is_plain-plain.result c.exports-exported.result p (c.is_plain-plain.ensures ∙ ap (λ (d : Doing). is_plain (kind_of_code d.kind)) c.deref.ensures) (c.exports-exported.ensures ∙ ap (λ (d : Doing). exports (kind_of_code d.kind)) c.deref-2.ensures) c.in_ok-put_continuation.ensures.talk
     (c.in_ok-unless_kept.ensures.talk ∙ ap (λ (b : Bool). unless_kept b (named (redirects_from c.args.redirected.redirects.value 0)) c.args.redirected.before.value (context c.put_continuation.new.stack.items)) (c.keeps-keeps.ensures ∙ ap (λ (d : Doing). keeps (kind_of_code d.kind)) c.deref-3.ensures)) c.in_ok-for_its_time.ensures.talk
 
 pub returns-clause-weight : goal.returns-clause-weight

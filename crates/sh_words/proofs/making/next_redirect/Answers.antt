@@ -22,7 +22,7 @@ returns-in-Some-value-clause-talk c =
     IfOk-weaker c.redirect_literal.result _ _
     (λ t told p. operand_taken c.args.left c.args.place k (shell_of c.args.shell.now.state) c.deref.result.now c.in-Some.r.now c.kind_of-kind.result c.in-Some-value.text.now p (c.deref.ensures ∙ c.in_ok-redirects.ensures.cases) c.kind_of-kind.ensures c.in-Some.ensures
     (subst (λ (w : Word). IsValue c.in-Some-value.text.now (parts_of (tree.word w))) c.deref-in-Some.ensures c.in-Some-value.ensures)
-    ∙ told k p)
+    ∙ told k (shell_of c.args.shell.now.state) p)
     c.redirect_literal.ensures.talk
 
 pub returns-in-Some-clause-talk : goal.returns-in-Some-clause-talk

@@ -1,11 +1,11 @@
-use Rattle.std.proofs.Common.{◌≡◌, ℕ, ◌||◌, Bool, true, false, not, codes, if◌then◌else◌, sym, ap, ◌∙◌, arith}
+use Rattle.std.proofs.Common.{◌≡◌, ℕ, Bool, true, false, not, codes, if◌then◌else◌, sym, ap, ◌∙◌, arith}
 use Rattle.rk_base.specs.Text.{Text}
 use Rattle.rk_calls.specs.Lines.{error_line}
 use Rattle.sh_vars.specs.Held.{Held, is_readonly}
 use Rattle.sh_means.specs.declared.flow.Flow.TheVariants.{Exits}
 use Rattle.sh_means.specs.Flows.{Next, Go_on, tells, ends, sh}
 use Rattle.sh_means.specs.Stack.{assigning}
-use Rattle.sh_means.specs.State.{Shell, with_held, set_variable, took}
+use Rattle.sh_means.specs.State.{Shell, with_held, set_variable}
 use Rattle.sh_means.specs.Trees.{set_if}
 use Rattle.sh_means.specs.Views.{shell_of}
 use Rattle.sh_means.specs.Words.{assigns}
@@ -35,15 +35,14 @@ module _ (exported done : Bool) (name value name' value' : Text) (go : Go_on) (k
 pub returns-then-not-branch-clause-talk : goal.returns-then-not-branch-clause-talk
 returns-then-not-branch-clause-talk c =
     let e = shell_of c.args.state.now in
-    λ k p. barred c.args.left.left.exported c.in_ok-set.field-0 c.args.left.name c.args.value.now c.as_slice.result.now c.as_slice-2.result.now (assigning c.args.left.left (c.args.left.left.ran || took c.args.left.next e) c.args.place k) k e c.set.new.vars p c.as_slice.ensures c.as_slice-2.ensures c.in_ok-set.ensures.answer c.in_ok-set.ensures.vars c.if-not-branch.true
+    λ k p. barred c.args.left.left.exported c.in_ok-set.field-0 c.args.left.name c.args.value.now c.as_slice.result.now c.as_slice-2.result.now (assigning c.args.left.left c.args.place k) k e c.set.new.vars p c.as_slice.ensures c.as_slice-2.ensures c.in_ok-set.ensures.answer c.in_ok-set.ensures.vars c.if-not-branch.true
     ∙ ap (λ (t : Text). tells (error_line sh t (codes "readonly")) (ends Exits 1 k) (with_held c.set.new.vars e) p) (sym c.as_slice-then-not-branch.ensures)
     ∙ c.in_ok-acted.ensures.talk k p
 
 pub returns-clause-talk : goal.returns-clause-talk
 returns-clause-talk c =
     let e = shell_of c.args.state.now in
-    λ k p. assigned c.args.left.left.exported c.in_ok-set.field-0 c.args.left.name c.args.value.now c.as_slice.result.now c.as_slice-2.result.now (assigning c.args.left.left (c.args.left.left.ran || took c.args.left.next e) c.args.place k) k e c.set.new.vars p c.as_slice.ensures c.as_slice-2.ensures c.in_ok-set.ensures.answer c.in_ok-set.ensures.vars c.if-not-branch.false
-    ∙ ap (λ (ran : Bool). assigning c.args.left.left ran c.args.place k (with_held c.set.new.vars e) p) (sym c.ran_since.ensures)
+    λ k p. assigned c.args.left.left.exported c.in_ok-set.field-0 c.args.left.name c.args.value.now c.as_slice.result.now c.as_slice-2.result.now (assigning c.args.left.left c.args.place k) k e c.set.new.vars p c.as_slice.ensures c.as_slice-2.ensures c.in_ok-set.ensures.answer c.in_ok-set.ensures.vars c.if-not-branch.false
     ∙ c.free.ensures.talk k (with_held c.set.new.vars e) p
 
 pub returns-then-not-branch-clause-costly : goal.returns-then-not-branch-clause-costly

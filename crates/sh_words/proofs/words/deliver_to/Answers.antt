@@ -14,7 +14,7 @@ returns-in_ok-control-in-Operand-clause-talk c =
     let e = shell_of c.args.shell.now.state in
     λ p. ap (λ (u : Aim). aimed u c.args.place k c.args.expanded e p) c.in-Operand.is
     ∙ same_value (aim.Operand c.in-Operand.operand) c.args.expanded c.in_ok-text-in-Operand.text c.args.place k e p tt c.in_ok-text-in-Operand.ensures
-    ∙ c.in_ok-control-in-Operand.ensures.talk k p ∙ c.free.ensures.talk k e p
+    ∙ c.in_ok-control-in-Operand.ensures.talk k e p ∙ c.free.ensures.talk k e p
 
 pub returns-in_ok-acted-in-Value-clause-talk : goal.returns-in_ok-acted-in-Value-clause-talk
 returns-in_ok-acted-in-Value-clause-talk c =

@@ -1,9 +1,8 @@
 use Rattle.std.proofs.Common.{List, ap, ◌∙◌, ◌++◌}
 use Rattle.rk_base.specs.Text.{Text}
-use Rattle.sh_means.specs.Views.{shell_of}
 use Rattle.sh_means.proofs.Delivered.{fields_taken}
 use Rattle.sh_words.proofs.words.take_fields.Goals as goal
 
 pub returns-clause-talk : goal.returns-clause-talk
 returns-clause-talk c =
-    λ place k p. fields_taken c.args.left place k (shell_of c.args.shell.now.state) c.args.next c.args.expanded c.push_all.new.fields c.in_ok-more.more c.ran_since-ran.result p (c.in_ok-push_all.ensures ∙ ap (λ (xs : List Text). c.args.left.fields ++ xs) c.as_slice.ensures) c.in_ok-more.ensures c.ran_since-ran.ensures
+    λ place k e p. fields_taken c.args.left place k e c.args.expanded c.push_all.new.fields c.in_ok-more.more p (c.in_ok-push_all.ensures ∙ ap (λ (xs : List Text). c.args.left.fields ++ xs) c.as_slice.ensures) c.in_ok-more.ensures

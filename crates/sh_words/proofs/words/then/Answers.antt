@@ -12,7 +12,7 @@ returns-in_ok-left-in-Simple-clause-talk c =
     let k = context c.args.shell.now.stack.items in
     let e = shell_of c.args.shell.now.state in
     IfOk-weaker c.next_redirect.result _ _
-    (λ t told p. ap (λ (t : Then). then_means t c.args.place k c.args.fields c.args.ran e p) c.in-Simple.is ∙ c.in_ok-left-in-Simple.ensures.talk c.args.place k p ∙ told p)
+    (λ t told p. ap (λ (t : Then). then_means t c.args.place k c.args.fields e p) c.in-Simple.is ∙ c.in_ok-left-in-Simple.ensures.talk c.args.place k p ∙ told p)
     c.next_redirect.ensures.talk
 
 pub returns-in_ok-left-in-Simple-clause-costly : goal.returns-in_ok-left-in-Simple-clause-costly
