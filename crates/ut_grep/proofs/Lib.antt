@@ -1,6 +1,8 @@
-pub mod LeadLemmas
+pub mod GrowingLemmas
 pub mod OccursLemmas
-pub mod OrderedLemmas
-pub mod PatternLemmas
+pub mod OrderLemmas
 pub mod PassingLemmas
+pub mod PatternLemmas
+pub mod ReadingLemmas
 pub mod SoughtLemmas
+pub mod TrieLemmas

@@ -1,18 +1,12 @@
--- Short and long patterns.
-use Rattle.std.proofs.Common.{◌≡◌, List, [], ◌∷◌, map, Bool, refl, sym, ap, ◌∙◌}
+-- Patterns as texts.
+use Rattle.std.proofs.Common.{◌≡◌, List, [], ◌∷◌, map, refl, sym, ap, ◌∙◌}
 use Rattle.std.specs.Prelude.{◌||◌}
 use Rattle.std.specs.List.{list_any}
 use Rattle.rk_base.specs.Text.{Text}
 use Rattle.ut_grep.specs.declared.grep.Manner.{Manner}
 use Rattle.ut_grep.specs.Chosen.{grep_of}
 use Rattle.ut_grep.specs.Greps.{PatternValue, fixed, GrepValue, folded, holds, matches}
-use Rattle.ut_grep.specs.Ordered.{stands_any}
-
--- the short ones, the long ones and those that are left stand where all do
-abbrev pub Parted : Bool → List Text → List Text → List Text → List Text → Type 0
-Parted whole short long left patterns = (line : Text) → (stands_any whole short line || stands_any whole long line) || stands_any whole left line ≡ stands_any whole patterns line
-
--- texts as patterns
+use Rattle.ut_grep.specs.Standing.{stands_any}
 
 fixed-any : (g : GrepValue) (line : Text) (texts : List Text) → stands_any g.whole texts (folded g.folded line) ≡ list_any (holds g line) (map fixed texts)
 fixed-any g line [] = refl

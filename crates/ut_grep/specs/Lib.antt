@@ -1,10 +1,14 @@
 pub mod Chosen
 pub mod Gathering
+pub mod Growing
 pub mod Greps
 pub mod Laws
 pub mod Ordered
 pub mod Passing
+pub mod Reading
 pub mod Sought
+pub mod Standing
+pub mod Tries
 pub mod Starts
 pub mod Utilities
 pub mod Values

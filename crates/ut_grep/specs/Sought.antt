@@ -1,5 +1,5 @@
 -- Many patterns, of which one is sought in a line.
-use Rattle.std.specs.Prelude.{◌≡◌, Bool, true, false, List, length, map, nat_le, ◌&&◌, ◌||◌}
+use Rattle.std.specs.Prelude.{◌≡◌, Bool, true, false, List, length, map, nat_le, ◌&&◌}
 use Rattle.std.specs.List.{list_all}
 use Rattle.rk_base.specs.Text.{Text}
 use Rattle.ut_grep.specs.declared.grep.Manner.{Manner}
@@ -8,16 +8,13 @@ use Rattle.ut_grep.specs.declared.pattern.Pattern.TheVariants.{Fixed, Basic}
 use Rattle.ut_grep.specs.declared.sought.Sought.{Sought}
 use Rattle.ut_grep.specs.Chosen.{grep_of}
 use Rattle.ut_grep.specs.Greps.{folded, matches}
-use Rattle.ut_grep.specs.Ordered.{stands_any}
+use Rattle.ut_grep.specs.Standing.{stands_any}
+use Rattle.ut_grep.specs.Tries.{texts_of}
 use Rattle.ut_grep.specs.Patterns.{pattern_value}
 
 -- whether one of them stands in a line, or is the whole of it
 abbrev pub sought_in : Sought → Text → Bool
-sought_in s line = stands_any s.short.whole s.short.patterns.items line || stands_any s.short.whole s.long.items line
-
--- they stand in the same lines as these
-abbrev pub IsSoughtFor : Sought → Bool → List Text → Type 0
-IsSoughtFor s whole patterns = (line : Text) → sought_in s line ≡ stands_any whole patterns line
+sought_in s line = stands_any s.whole (texts_of s.automaton.trie) line
 
 abbrev pub is_text : Pattern → Bool
 is_text (Fixed text) = true

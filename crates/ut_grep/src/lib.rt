@@ -1,12 +1,13 @@
 //! `grep`, and how it gathers its patterns.
 #![tactic(auto)]
 
+mod automaton;
 mod chosen;
 mod gatherer;
 mod grep;
+mod growing;
 mod laws;
 mod occurs;
-mod ordered;
 mod passing;
 mod pattern;
 mod seek;
@@ -14,6 +15,7 @@ mod selects;
 mod sought;
 mod start;
 mod told;
+mod trie;
 mod utility;
 
 pub use gatherer::{Gathered, Gatherer, Waits};
