@@ -89,11 +89,7 @@ module _ (t : Trie) (trie : IsTrie t) (at b low high link : ℕ) (s : State) (lt
       e-holds ∙ (ap (λ z. z || (state_at t link).holds) grown-text ∙ (ap (λ z. is_any (texts_of t) grown || z) ((trie.states link within).ends ∙ ap (ends_any (texts_of t)) linked) ∙ sym (ends-linked (texts_of t) grown (omega arith))))
 
   grown-group : IsGroup (texts_of t) (front_of (texts_of t) s) s.low s.high
-  grown-group =
-      let G : ℕ → Type 0 = λ z. IsGroup (texts_of t) grown z high in
-      let H : ℕ → Type 0 = λ z. IsGroup (texts_of t) grown s.low z in
-      let K : Text → Type 0 = λ z. IsGroup (texts_of t) z s.low s.high in
-      subst K (sym grown-front) (subst H (sym e-high) (subst G (sym e-low) group))
+  grown-group = rw (grown-front, e-low, e-high) group
 
   pub new-state : IsNewState t at b s
   new-state =
@@ -106,6 +102,7 @@ module _ (t : Trie) (trie : IsTrie t) (at b low high link : ℕ) (s : State) (lt
           ends = grown-ends ∙ ap (ends_any (texts_of t)) (sym grown-front);
           linked = λ h. record {
             some = omega arith;
+            begun = ap (begins_any (texts_of t)) grown-front ∙ list_any_at (λ text. begins_with text grown) (texts_of t) low [] (let n = group.fits in omega arith) (group.within low (omega arith) some);
             before = omega arith;
             front = ap (front_at t) e-link ∙ (linked ∙ ap (λ z. longest (texts_of t) (drop 1 z)) (sym grown-front));
           };
@@ -133,10 +130,14 @@ module _ (old new : Trie) (kept : IsKept old new) where
             let linked = st.linked h in
             record {
               some = rw kept.texts linked.some;
+              begun = rw kept.texts linked.begun;
               before = linked.before;
               front = kept-front s.link (let l = linked.before in omega arith) ∙ rw kept.texts linked.front;
             };
       }
+
+  kept-state_at : IsTrie old → (k : ℕ) → k < count old → IsState new k (state_at new k)
+  kept-state_at trie k h = rw (kept.states k h) (kept-state k (state_at old k) (omega arith) (trie.states k h))
 
   kept-next : (f : Text) (start end : ℕ) → length old.bytes.items ≡ count old → AreNext old f start end → AreNext new f start end
   kept-next f start end all next =
@@ -146,9 +147,6 @@ module _ (old new : Trie) (kept : IsKept old new) where
         rises = next.rises;
         fits = omega arith;
         fronts = λ c le lt. kept-front c (omega arith) ∙ (next.fronts c le lt ∙ ap (λ z. f ++ z ∷ []) (sym (kept.bytes c (omega arith))));
-        begun = λ c le lt.
-            let Q : ℕ → Type 0 = λ z. begins_any (texts_of old) (f ++ z ∷ []) ≡ true in
-            rw kept.texts (subst Q (sym (kept.bytes c (omega arith))) (next.begun c le lt));
         every = λ b none. rw kept.texts (next.every b (λ c le lt e. none c le lt (kept.bytes c (omega arith) ∙ e)));
       }
 
@@ -174,22 +172,18 @@ module _ (old new : Trie) (trie : IsTrie old) (at b : ℕ) (s : State) (lt : at 
   added-states k h = by (cases_lt k (count old))
     where
       by : (k < count old) ⊎ (count old ≤ k) → IsState new k (state_at new k)
-      by (inl below) =
-          let P : State → Type 0 = λ z. IsState new k z in
-          subst P (sym (added-kept.states k below)) (kept-state old new added-kept k (state_at old k) (omega arith) (trie.states k below))
+      by (inl below) = kept-state_at old new added-kept trie k below
       by (inr last) =
-          let P : State → Type 0 = λ z. IsState new (count old) z in
-          let Q : ℕ → Type 0 = λ z. IsState new z (state_at new z) in
+          let P : ℕ → Type 0 = λ z. IsState new z (state_at new z) in
           let e : count old ≡ k = let l = added-one in omega arith in
-          subst Q e (subst P (sym added-last) (kept-state old new added-kept (count old) s (omega arith) state.state))
+          subst P e (rw added-last (kept-state old new added-kept (count old) s (omega arith) state.state))
 
   added-next : (k : ℕ) → k + 1 < length new.starts.items → AreNext new (front_at new k) (start_at new k) (start_at new (k + 1))
   added-next k h =
       let l = ap length ei in
       let m = trie.starts in
-      let P : Text → Type 0 = λ z. AreNext new z (start_at new k) (start_at new (k + 1)) in
-      let Q : List ℕ → Type 0 = λ z. AreNext new (front_at old k) (get_or z k 0) (get_or z (k + 1) 0) in
-      subst P (sym (kept-front old new added-kept k (omega arith))) (subst Q (sym ei) (kept-next old new added-kept (front_at old k) (start_at old k) (start_at old (k + 1)) trie.bytes (trie.next k (omega arith))))
+      let same : (j : ℕ) → start_at new j ≡ start_at old j = λ j. ap (λ z. get_or z j 0) ei in
+      rw (kept-front old new added-kept k (omega arith), same k, same (k + 1)) (kept-next old new added-kept (front_at old k) (start_at old k) (start_at old (k + 1)) trie.bytes (trie.next k (omega arith)))
 
   added-trie : IsTrie new
   added-trie =
@@ -291,7 +285,6 @@ pub record IsPart (old now : Trie) (at low : ℕ) : Type 0 where
   pub starts : now.starts.items ≡ old.starts.items
   pub first : (state_at old at).low ≤ low
   pub fronts : (c : ℕ) → count old ≤ c → c < count now → front_at now c ≡ front_at old at ++ byte_at now c ∷ []
-  pub begun : (c : ℕ) → count old ≤ c → c < count now → begins_any (texts_of old) (front_at old at ++ byte_at now c ∷ []) ≡ true
   pub every : (i b : ℕ) → i < low → i < length (texts_of old) → begins_with (text_at old i) (front_at old at ++ b ∷ []) ≡ true → ((c : ℕ) → count old ≤ c → c < count now → byte_at now c ≡ b → ⊥) → ⊥
   pub cut : IsCut (texts_of old) (front_at old at) low
 
@@ -310,7 +303,6 @@ module _ (old : Trie) (trie : IsTrie old) (at : ℕ) (lt : at < count old) where
         starts = refl;
         first = omega arith;
         fronts = λ c from to. absurd (omega arith);
-        begun = λ c from to. absurd (omega arith);
         every = λ i b before within h none. let inside = parent-group.all i within (begins-shorter (text_at old i) (front_at old at) (b ∷ []) h) in omega arith;
         cut = cut-first (texts_of old) trie.ordered (front_at old at) parent.low parent.high parent-group;
       }
@@ -328,7 +320,6 @@ module _ (old : Trie) (trie : IsTrie old) (at : ℕ) (lt : at < count old) where
           starts = part.starts;
           first = let l = part.first in omega arith;
           fronts = part.fronts;
-          begun = part.begun;
           every = λ i b before within h missing. every nothing i b within h missing (cases_lt i low) before;
           cut = cut-skip (texts_of old) trie.ordered (front_at old at) parent.low parent.high parent-group low nothing part.cut;
         }
@@ -342,7 +333,7 @@ module _ (old : Trie) (trie : IsTrie old) (at : ℕ) (lt : at < count old) where
 
     module _ (b end : ℕ) (byte : slice_get (text_at now low) parent.length ≡ Some b) (run : IsRun now parent.length b low parent.high end) where
       abbrev place-run : IsRun now (length (front_at old at)) b low parent.high end
-      place-run = let P : ℕ → Type 0 = λ z. IsRun now z b low parent.high end in subst P place-size run
+      place-run = rw (← place-size) run
 
       place-byte : slice_get (text_at now low) (length (front_at old at)) ≡ Some b
       place-byte = ap (slice_get (text_at now low)) (sym place-size) ∙ byte
@@ -351,9 +342,7 @@ module _ (old : Trie) (trie : IsTrie old) (at : ℕ) (lt : at < count old) where
       old-group = run-group (texts_of old) trie.ordered (front_at old at) parent.low parent.high parent-group now b low end part.kept.texts part.first place-byte place-run part.cut
 
       pub part-group : IsGroup (texts_of now) (front_at now at ++ b ∷ []) low end
-      part-group =
-          let P : Text → Type 0 = λ z. IsGroup (texts_of now) (z ++ b ∷ []) low end in
-          subst P (sym (kept-front old now part.kept at lt)) (rw part.kept.texts old-group)
+      part-group = rw (kept-front old now part.kept at lt, part.kept.texts) old-group
 
       module _ (new : Trie) (added : IsAdded now new at b) where
         part-kept : IsKept old new
@@ -382,24 +371,6 @@ module _ (old : Trie) (trie : IsTrie old) (at : ℕ) (lt : at < count old) where
                 let P : ℕ → Type 0 = λ z. front_at new z ≡ front_at old at ++ byte_at new z ∷ [] in
                 subst P e (added.front ∙ (ap (λ z. z ++ b ∷ []) (kept-front old now part.kept at lt) ∙ ap (λ z. front_at old at ++ z ∷ []) (sym added.byte)))
 
-        part-begun : (c : ℕ) → count old ≤ c → c < count new → begins_any (texts_of old) (front_at old at ++ byte_at new c ∷ []) ≡ true
-        part-begun c from to = by (cases_lt c (count now))
-          where
-            P : ℕ → Type 0
-            P z = begins_any (texts_of old) (front_at old at ++ z ∷ []) ≡ true
-
-            here-begun : P b
-            here-begun =
-                let l = old-group.fits in
-                let m = run.some in
-                list_any_at (λ text. begins_with text (front_at old at ++ b ∷ [])) (texts_of old) low [] (omega arith) (old-group.within low (omega arith) m)
-
-            by : (c < count now) ⊎ (count now ≤ c) → P (byte_at new c)
-            by (inl before) = subst P (sym (earlier-byte c before)) (part.begun c from before)
-            by (inr here) =
-                let e : count now ≡ c = let l = added.one in omega arith in
-                subst P (sym added.byte ∙ ap (byte_at new) e) here-begun
-
         part-every : (i b' : ℕ) → i < end → i < length (texts_of old) → begins_with (text_at old i) (front_at old at ++ b' ∷ []) ≡ true → ((c : ℕ) → count old ≤ c → c < count new → byte_at new c ≡ b' → ⊥) → ⊥
         part-every i b' before within h missing = by (cases_lt i low)
           where
@@ -417,7 +388,6 @@ module _ (old : Trie) (trie : IsTrie old) (at : ℕ) (lt : at < count old) where
               starts = added.starts ∙ part.starts;
               first = let l = part.first in let m = run.some in omega arith;
               fronts = part-fronts;
-              begun = part-begun;
               every = part-every;
               cut = cut-run (texts_of old) trie.ordered (front_at old at) parent.low parent.high parent-group now b low end part.kept.texts part.first place-byte place-run part.cut;
             }
@@ -457,13 +427,10 @@ module _ (old now new : Trie) (trie : IsTrie old) (at low : ℕ) (lt : at < coun
 
   now-next : AreNext now (front_at now at) (count old) (count now)
   now-next =
-      let P : Text → Type 0 = λ z. AreNext now z (count old) (count now) in
-      subst P (sym (kept-front old now part.kept at lt))
-      record {
+      rw (kept-front old now part.kept at lt) record {
         rises = part.kept.grows;
         fits = omega arith;
         fronts = part.fronts;
-        begun = λ c from to. rw part.kept.texts (part.begun c from to);
         every = λ b none. rw part.kept.texts (whole-every b none);
       }
 
@@ -471,23 +438,17 @@ module _ (old now new : Trie) (trie : IsTrie old) (at low : ℕ) (lt : at < coun
   earlier-next k h = by (cases_lt (k + 1) (length old.starts.items))
     where
       by : (k + 1 < length old.starts.items) ⊎ (length old.starts.items ≤ k + 1) → AreNext now (front_at now k) (start_at new k) (start_at new (k + 1))
-      by (inl before) =
-          let P : ℕ → Type 0 = λ z. AreNext now (front_at now k) z (start_at new (k + 1)) in
-          let Q : ℕ → Type 0 = λ z. AreNext now (front_at now k) (start_at now k) z in
-          subst P (sym (earlier-start k (omega arith))) (subst Q (sym (earlier-start (k + 1) before)) (part.trie.next k (let l = ap length part.starts in omega arith)))
+      by (inl before) = rw (earlier-start k (omega arith), earlier-start (k + 1) before) (part.trie.next k (let l = ap length part.starts in omega arith))
       by (inr here) =
           let e : at ≡ k = let l = starts-one in omega arith in
           let R : ℕ → Type 0 = λ z. AreNext now (front_at now z) (start_at new z) (start_at new (z + 1)) in
-          let P : ℕ → Type 0 = λ z. AreNext now (front_at now at) z (start_at new (at + 1)) in
-          let Q : ℕ → Type 0 = λ z. AreNext now (front_at now at) (count old) z in
           let first : start_at new at ≡ count old = earlier-start at (omega arith) ∙ (ap (λ z. get_or z at 0) part.starts ∙ start) in
-          subst R e (subst P (sym first) (subst Q (sym last-start) now-next))
+          subst R e (rw (first, last-start) now-next)
 
   whole-next : (k : ℕ) → k + 1 < length new.starts.items → AreNext new (front_at new k) (start_at new k) (start_at new (k + 1))
   whole-next k h =
       let below : k < count now = let l = starts-one in let m = trie.starts in let n = part.kept.grows in omega arith in
-      let P : Text → Type 0 = λ z. AreNext new z (start_at new k) (start_at new (k + 1)) in
-      subst P (sym (kept-front now new whole-kept k below)) (kept-next now new whole-kept (front_at now k) (start_at new k) (start_at new (k + 1)) part.trie.bytes (earlier-next k h))
+      rw (kept-front now new whole-kept k below) (kept-next now new whole-kept (front_at now k) (start_at new k) (start_at new (k + 1)) part.trie.bytes (earlier-next k h))
 
   whole-trie : IsTrie new
   whole-trie =
@@ -519,8 +480,7 @@ module _ (t : Trie) (s : State) (ordered : AreOrdered (texts_of t)) (es : t.stat
 
   root-group : IsGroup (texts_of t) (front_of (texts_of t) s) s.low s.high
   root-group =
-      let P : Text → Type 0 = λ z. IsGroup (texts_of t) z s.low s.high in
-      subst P (sym root-front) record { within = λ k from to. refl; all = λ k within h. (omega arith, omega arith); fits = omega arith }
+      rw root-front record { within = λ k from to. refl; all = λ k within h. (omega arith, omega arith); fits = omega arith }
 
   root-is : IsState t 0 s
   root-is =
@@ -545,14 +505,10 @@ module _ (t : Trie) (s : State) (ordered : AreOrdered (texts_of t)) (es : t.stat
         starts = omega arith;
         states = λ k h.
             let e : 0 ≡ k = omega arith in
-            let P : State → Type 0 = λ z. IsState t 0 z in
-            let Q : ℕ → Type 0 = λ z. IsState t z (state_at t z) in
-            subst Q e (subst P (sym root-state) root-is);
+            let P : ℕ → Type 0 = λ z. IsState t z (state_at t z) in
+            subst P e (rw root-state root-is);
         next = λ k h. absurd (omega arith);
       }
 
 pub run-by : (t : Trie) (place other b low high bound end : ℕ) → place ≡ other → high ≡ bound → IsRun t place b low high end → IsRun t other b low bound end
-run-by t place other b low high bound end e f run =
-    let P : ℕ → Type 0 = λ z. IsRun t z b low bound end in
-    let Q : ℕ → Type 0 = λ z. IsRun t place b low z end in
-    subst P e (subst Q f run)
+run-by t place other b low high bound end e f run = rw (← e, ← f) run

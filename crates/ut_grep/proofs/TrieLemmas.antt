@@ -1,5 +1,5 @@
 -- The states that come next, and those that links lead to.
-use Rattle.std.proofs.Common.{◌≡◌, ℕ, ◌+◌, ◌-◌, ◌≤◌, ◌<◌, List, [], ◌∷◌, ◌++◌, length, get_or, take, drop, true, false, sym, ap, ◌∙◌, subst, arith, eq-eqb, eqb-true, length-drop}
+use Rattle.std.proofs.Common.{◌≡◌, ℕ, ◌+◌, ◌-◌, ◌≤◌, ◌<◌, List, [], ◌∷◌, ◌++◌, length, get_or, take, drop, true, false, sym, ap, ◌∙◌, subst, arith, eq-eqb, eqb-true, length-append, length-drop}
 use Rattle.std.proofs.lemmas.List.{length-take, get_or-take, get_or-drop, get_or_default, take_more, take-append-drop}
 use Rattle.std.specs.Prelude.{◌==◌, ◌||◌}
 use Rattle.rk_base.specs.Text.{Text}
@@ -39,12 +39,12 @@ module _ (t : Trie) (trie : IsTrie t) (at b start end : ℕ) (bs : Text) (lt : a
       let low : start_at t at ≤ start + k = omega arith in
       let high : start + k < start_at t (at + 1) = omega arith in
       let front : front_at t (start + k) ≡ front_at t at ++ b ∷ [] = next.fronts (start + k) low high ∙ ap (λ z. front_at t at ++ z ∷ []) byte in
-      let P : Text → Type 0 = λ z. begins_any (texts_of t) z ≡ true in
-      record {
-        within = let n = next.fits in omega arith;
-        front = front;
-        begun = subst P (sym (next.fronts (start + k) low high)) (next.begun (start + k) low high);
-      }
+      let some : start + k ≡ 0 → ⊥ = λ e.
+      let none : length (front_at t (start + k)) ≡ 0 = ap length (ap (front_at t) e ∙ trie.root) in
+      let one = ap length front ∙ length-append (front_at t at) (b ∷ []) in
+      omega arith in
+      let within : start + k < count t = let n = next.fits in omega arith in
+      record { within = within; front = front; begun = ((trie.states (start + k) within).linked (omega arith)).begun }
 
 pub link-missed : (t : Trie) (at b : ℕ) (s : State) → IsTrie t → at < count t → (at ≡ 0 → ⊥) → s ≡ get_or t.states.items at s → begins_any (texts_of t) (front_at t at ++ b ∷ []) ≡ false → (s.link < at) × (longest (texts_of t) (front_at t s.link ++ b ∷ []) ≡ longest (texts_of t) (front_at t at ++ b ∷ []))
 link-missed t at b s trie lt some is none =

@@ -43,9 +43,10 @@ pub record IsGroup (texts : List Text) (front : Text) (low high : ℕ) : Type 0 
   pub all : (k : ℕ) → k < length texts → begins_with (slice_index_or texts k []) front ≡ true → (low ≤ k) × (k < high)
   pub fits : high ≤ length texts
 
--- the link of a state leads to the longest other front that ends it
+-- what a state stands for begins a text, and its link leads to the longest other front that ends it
 pub record IsLinked (t : Trie) (at : ℕ) (s : State) : Type 0 where
   pub some : 0 < length (front_of (texts_of t) s)
+  pub begun : begins_any (texts_of t) (front_of (texts_of t) s) ≡ true
   pub before : s.link < at
   pub front : front_at t s.link ≡ longest (texts_of t) (drop 1 (front_of (texts_of t) s))
 
@@ -62,7 +63,6 @@ pub record AreNext (t : Trie) (front : Text) (start end : ℕ) : Type 0 where
   pub rises : start ≤ end
   pub fits : end ≤ count t
   pub fronts : (c : ℕ) → start ≤ c → c < end → front_at t c ≡ front ++ byte_at t c ∷ []
-  pub begun : (c : ℕ) → start ≤ c → c < end → begins_any (texts_of t) (front ++ byte_at t c ∷ []) ≡ true
   pub every : (b : ℕ) → ((c : ℕ) → start ≤ c → c < end → byte_at t c ≡ b → ⊥) → begins_any (texts_of t) (front ++ b ∷ []) ≡ false
 
 -- The first states have their next ones: as many as there are starts, less one.
