@@ -1,9 +1,9 @@
 -- Numbers of contents, as steps and records are read.
-use Rattle.std.proofs.Common.{◌≡◌, ◌∙◌, ℕ, zero, suc, List, [], ◌∷◌, ◌++◌, Option, Some, None, length, slice_get, refl, sym, ap, arith}
+use Rattle.std.proofs.Common.{◌≡◌, ◌∙◌, ℕ, zero, suc, List, [], ◌∷◌, ◌++◌, Option, Some, None, length, slice_get, sym, ap, arith}
 use Rattle.std.specs.Prelude.{IfSome}
 use Rattle.std.proofs.lemmas.List.{length-append}
 use Rattle.rk_base.specs.Text.{Text}
-use Rattle.tr_record.specs.Contents.{AreContents, AreStepContents, IsContent, number_in, number_of}
+use Rattle.tr_record.specs.Contents.{AreContents, AreStepContents, IsContent, number_in}
 use Rattle.tr_record.specs.declared.records.Record.{Record}
 use Rattle.tr_record.specs.declared.steps.Step.{Step}
 

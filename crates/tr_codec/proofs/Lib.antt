@@ -1,7 +1,9 @@
+pub mod BodyLemmas
 pub mod ContentLemmas
-pub mod FitLemmas
-pub mod KnownLemmas
+pub mod ExactLemmas
 pub mod PutsLemmas
 pub mod RecordLemmas
 pub mod SealLemmas
 pub mod TableAgain
+pub mod ToldLemmas
+pub mod UsedLemmas

@@ -5,7 +5,7 @@ use Rattle.std.proofs.lemmas.List.{append-nil, take_more, take_all}
 use Rattle.std.proofs.lemmas.Grind.{flat_map-append}
 use Rattle.std.specs.Cmp.Lexicographic.{bytes_decides}
 use Rattle.rk_base.specs.Text.{Text, same_text}
-use Rattle.tr_parts.specs.Piece.{Piece, plain, blob, ◌⊕◌, each, counted, num, number, number_of, string, has, with_use, with_uses}
+use Rattle.tr_parts.specs.Piece.{Piece, plain, blob, ◌⊕◌, each, num, number_of, string, has, with_use, with_uses}
 use Rattle.tr_codec.specs.Spelling.{magic, body}
 use Rattle.tr_codec.specs.Puts.{Written, Puts}
 
@@ -94,17 +94,12 @@ puts_then one two a b c p q =
           ∙ append_assoc a.bytes (one.spelt (c.blobs ++ more)) (two.spelt (c.blobs ++ more));
     }
 
--- so many items, put after their number
-pub puts_count : {X : Type 0} (f : X → Piece) (xs : List X) (n : ℕ) (none a b c : Written) → a ≡ none → length xs ≡ n → Puts (number n) a b → Puts (each f xs) b c → Puts (counted f xs) none c
-puts_count f xs n none a b c start many p q =
-    puts_then (number (length xs)) (each f xs) none b c (subst (λ (w : Written). Puts (number (length xs)) w b) start (subst (λ (m : ℕ). Puts (number m) a b) (sym many) p)) q
-
 pub puts_none : {X : Type 0} (f : X → Piece) (a : Written) → Puts (each f []) a a
 unfolding each
 puts_none f a = record { blobs = refl; bytes = λ more. sym (append-nil a.bytes) }
 
 -- one more item
-pub puts_more : {X : Type 0} (f : X → Piece) (xs : List X) (x : X) (a b c : Written) → Puts (each f xs) a b → Puts (f x) b c → Puts (each f (xs ++ x ∷ [])) a c
+puts_more : {X : Type 0} (f : X → Piece) (xs : List X) (x : X) (a b c : Written) → Puts (each f xs) a b → Puts (f x) b c → Puts (each f (xs ++ x ∷ [])) a c
 unfolding each ◌⊕◌
 puts_more f xs x a b c p q =
     let r = puts_then (each f xs) (f x) a b c p q in

@@ -1,11 +1,11 @@
 -- The spelling of a table is read again.
-use Rattle.std.proofs.Common.{◌≡◌, ℕ, suc, ◌+◌, ◌^◌, ◌<◌, ◌≤◌, Bool, true, false, ◌||◌, ◌&&◌, cond, not, nat_lt, nat_le, List, [], ◌∷◌, ◌++◌, length, take, drop, Option, Some, slice_get, refl, sym, ap, subst, ◌∙◌, append_assoc, arith}
+use Rattle.std.proofs.Common.{◌≡◌, ℕ, suc, ◌+◌, ◌^◌, ◌<◌, ◌≤◌, Bool, true, false, ◌||◌, ◌&&◌, cond, not, nat_lt, nat_le, List, [], ◌∷◌, ◌++◌, length, take, Option, Some, slice_get, refl, sym, ap, subst, ◌∙◌, append_assoc, arith}
 use Rattle.std.specs.Int.{w16, w32, w64}
 use Rattle.std.specs.List.{flat_map, list_all, AllByRecursion}
 use Rattle.std.specs.Cmp.Lexicographic.{bytes_decides}
 use Rattle.std.proofs.lemmas.Bool.{le-leb, lt-ltb, ltb-true}
 use Rattle.std.proofs.Math.Seq.{get_or-append_seam}
-use Rattle.std.proofs.lemmas.List.{take_at, length-append, append-nil}
+use Rattle.std.proofs.lemmas.List.{take_at, length-append}
 use Rattle.rk_base.specs.Text.{Text, same_text}
 use Rattle.rk_base.specs.Canonical.{is_canonical, is_name}
 use Rattle.rk_base.specs.Names.{are_names, ascend}
@@ -26,29 +26,19 @@ use Rattle.tr_record.specs.Rec.{count_of, fresh_rec, no_key, rec_at, AreNumbered
 use Rattle.tr_record.specs.declared.steps.Step.{Step}
 use Rattle.tr_record.specs.declared.records.Record.{Record}
 use Rattle.tr_codec.specs.declared.records.Row.{Row}
-use Rattle.tr_parts.specs.Piece.{Piece, plain, blob, ◌⊕◌, each, byte, mode, cost, number, counted, num, string, has, number_of, with_use, with_uses}
-use Rattle.tr_codec.specs.Spelling.{var_piece, key_piece, pair_piece, how_code, flag_code, call_piece, kind_code, errno_code, answer_piece, step_piece, record_piece, table_piece, magic, body}
+use Rattle.tr_parts.specs.Piece.{Piece, plain, blob, ◌⊕◌, each, byte, mode, cost, number, counted, num, has, number_of, with_use, with_uses}
+use Rattle.tr_codec.specs.Spelling.{var_piece, key_piece, pair_piece, how_code, flag_code, call_piece, kind_code, errno_code, answer_piece, step_piece, record_piece, table_piece}
 use Rattle.tr_codec.specs.Fits.{FitsKey, FitsMap, FitsCall, FitsAnswer, FitsStep, FitsRecord, Fits, paid}
-use Rattle.tr_codec.specs.Reading.{◌>>=◌, given, number_at, byte_at, mode_at, flag_of, flag_at, counted_at, string_at, blob_at, var_at, key_from, key_at, pair_at, map_at, how_of, kind_of, errno_of, number_call_at, path_call_at, texts_call_at, mode_call_at, open_at, write_at, stat_at, launch_at, call_of, call_at, text_answer_at, found_at, name_at, names_at, place_at, same_at, joined_at, no_at, answer_of, answer_at, step_at, row_at, next_rec, record_at, table_at}
-use Rattle.tr_parts.proofs.AgainLemmas.{string_again, Again, again_bind, again_last, again_check, again_given, number_again, mode_again, cost_again, byte_again, Items, items_length, again_counted}
+use Rattle.tr_codec.specs.Reading.{◌>>=◌, given, number_at, byte_at, mode_at, flag_of, flag_at, counted_at, blob_at, var_at, key_from, key_at, pair_at, map_at, how_of, kind_of, errno_of, number_call_at, path_call_at, texts_call_at, mode_call_at, open_at, write_at, stat_at, launch_at, call_of, call_at, text_answer_at, found_at, name_at, names_at, place_at, same_at, joined_at, no_at, answer_of, answer_at, step_at, row_at, next_rec, record_at}
+use Rattle.tr_parts.proofs.AgainLemmas.{Again, again_bind, again_last, again_check, again_given, number_again, mode_again, cost_again, byte_again, Items, again_counted}
 use Rattle.tr_codec.proofs.PutsLemmas.{has_use, with_uses_adds}
 
--- ---- the blobs themselves
-
-num_length : (n : ℕ) → length (num n) ≡ 8
-unfolding num
-num_length n = refl
-
-string_items : (front texts : List Text) → Items (λ before. string_at) string front texts
-string_items front [] = tt
-string_items front (text ∷ texts) = (string_again text, omega (arith, length-append (num (length text)) text, num_length (length text)), string_items (front ++ text ∷ []) texts)
+-- ---- the texts of a piece are among the blobs
 
 has_more : (blobs more : List Text) (text : Text) → has blobs text ≡ true → has (blobs ++ more) text ≡ true
 has_more [] more text h = absurd cc
 has_more (b ∷ bs) more text h =
     elim (same_text text b) as (λ x. (x || has bs text) ≡ true → (x || has (bs ++ more) text) ≡ true) [ true ↦ λ e. refl | false ↦ λ e. has_more bs more text e ] h
-
--- ---- the texts of a piece are among the blobs
 
 abbrev pub Covers : List Text → List Text → Type 0
 Covers blobs texts = AllByRecursion (λ text. has blobs text ≡ true) texts
@@ -58,7 +48,7 @@ covers-split blobs [] ys h = (tt, h)
 covers-split blobs (x ∷ xs) ys h = let r = covers-split blobs xs ys h.1 in ((h.0, r.0), r.1)
 
 -- each text that is used has a blob
-uses_there : (blobs texts : List Text) → Covers (with_uses blobs texts) texts
+pub uses_there : (blobs texts : List Text) → Covers (with_uses blobs texts) texts
 uses_there blobs [] = tt
 uses_there blobs (text ∷ texts) =
     let one = with_use blobs text in
@@ -539,40 +529,7 @@ module _ (blobs : List Text) where
           record_items (front ++ rec ∷ []) table fits.1 (subst AreNumbered (sym (append_assoc front (rec ∷ []) table)) numbered) c.1,
         )
 
-    back_table : (table : List Record) → Fits table → Covers blobs (table_piece table).uses → Back (counted_at (record_at blobs)) (table_piece table) table
+    pub back_table : (table : List Record) → Fits table → Covers blobs (table_piece table).uses → Back (counted_at (record_at blobs)) (table_piece table) table
     back_table table fits covered =
         let c = both_covered blobs (number (length table)) (each record_piece table) covered in
         back_counted (record_at blobs) record_piece table (record_items [] table fits.records fits.numbered c.1)
-
--- ---- all of it
-
--- what stands after the magic
-abbrev after_magic : List Text → List ℕ → List ℕ
-after_magic blobs spelt = num (length blobs) ++ (flat_map string blobs ++ spelt)
-
-after_again : (blobs : List Text) (table : List Record) → Fits table → Covers blobs (table_piece table).uses → length (after_magic blobs ((table_piece table).spelt blobs)) < 2 ^ 64
-    → table_at (after_magic blobs ((table_piece table).spelt blobs)) ≡ Some table
-unfolding table_at
-after_again blobs table fits covered small =
-    let spelt = (table_piece table).spelt blobs in
-    let group : after_magic blobs spelt ≡ (num (length blobs) ++ flat_map string blobs) ++ spelt = sym (append_assoc (num (length blobs)) (flat_map string blobs) spelt) in
-    let whole : length ((num (length blobs) ++ flat_map string blobs) ++ spelt) < 2 ^ 64 = subst (λ n. n < 2 ^ 64) (ap length group) small in
-    let parts = length-append (num (length blobs)) (flat_map string blobs ++ spelt) in
-    let strings = length-append (flat_map string blobs) spelt in
-    let counted = items_length (λ before. string_at) string [] blobs (string_items [] blobs) in
-    let few : length blobs < 2 ^ 64 = omega arith in
-    let less : length (spelt ++ []) < 2 ^ 64 = subst (λ l. length l < 2 ^ 64) (sym (append-nil spelt)) (let n : length spelt < 2 ^ 64 = omega arith in n) in
-    let ending : Option (List Record × List ℕ) → Option (List Record) = λ o. o >>= λ table. Some table.0 in
-    let next : Option (List Text × List ℕ) → Option (List Record) = λ o. o >>= λ blobs. ending (counted_at (record_at blobs.0) blobs.1) in
-    let last : counted_at (record_at blobs) spelt ≡ Some (table, []) = ap (counted_at (record_at blobs)) (sym (append-nil spelt)) ∙ back_table blobs few table fits covered [] less in
-    ap (λ bytes. next (counted_at (λ front. string_at) bytes)) group
-    ∙ ap next (again_counted (λ front. string_at) string blobs (string_items [] blobs) spelt whole)
-    ∙ ap ending last
-
--- what is spelt is read again
-pub body_again : (table : List Record) → Fits table → length (body (table_piece table)) < 2 ^ 64 → table_at (drop 4 (body (table_piece table))) ≡ Some table
-unfolding body
-body_again table fits small =
-    let piece = table_piece table in
-    let blobs = with_uses [] piece.uses in
-    after_again blobs table fits (uses_there [] piece.uses) (omega (arith, length-append magic (after_magic blobs (piece.spelt blobs))))

@@ -1,7 +1,7 @@
--- Reading a table, as functions on bytes: a value and the rest, or none.
-use Rattle.std.specs.Prelude.{ℕ, ◌^◌, List, Option, Some, None, ◌&&◌, ◌==◌, nat_lt, if◌then◌else◌}
+-- Reading a table, as functions on bytes: a value and the rest, or none. The order of first uses is looked at when all is read.
+use Rattle.std.specs.Prelude.{◌≡◌, ℕ, ◌^◌, List, Option, Some, None, not, ◌&&◌, ◌==◌, nat_lt, length, take, drop, if◌then◌else◌}
 use Rattle.std.specs.Int.{w32, w64}
-use Rattle.rk_base.specs.Text.{Text}
+use Rattle.rk_base.specs.Text.{Text, same_text}
 use Rattle.rk_base.specs.Canonical.{is_canonical, is_name}
 use Rattle.rk_base.specs.Names.{are_names}
 use Rattle.rk_base.specs.declared.errno.Errno.{Errno}
@@ -22,7 +22,10 @@ use Rattle.tr_record.specs.Rec.{count_of}
 use Rattle.tr_record.specs.declared.steps.Step.{Step}
 use Rattle.tr_record.specs.declared.records.Record.{Record}
 use Rattle.tr_codec.specs.declared.records.Row.{Row}
+use Rattle.tr_parts.specs.Piece.{has}
 use Rattle.tr_codec.specs.Fits.{paid}
+use Rattle.tr_codec.specs.Spelling.{magic}
+use Rattle.tr_codec.specs.Used.{table_used, all_used}
 pub use Rattle.tr_parts.specs.Reading.{◌>>=◌, given, flag_of, counted_at}
 unfoldable pub use Rattle.tr_parts.specs.Reading.{number_at, byte_at, mode_at, flag_at, count_at, many_at, string_at, blob_at}
 
@@ -249,9 +252,28 @@ record_at blobs front bytes = do
   row ← row_at blobs bytes
   Some (next_rec front row.0, row.1)
 
--- the table that a body may spell, after its magic; what stands after it isn't looked at
+-- a blob: a text that isn't one of those in front
+unfoldable pub fresh_at : List Text → List ℕ → Option (Text × List ℕ)
+fresh_at front bytes = do
+  text ← string_at bytes
+  given (not (has front text.0)) text
+
+-- so many records with these blobs, which use all of them in order; nothing stands behind them
+unfoldable pub records_at : List Text → List ℕ → Option (List Record)
+records_at blobs bytes = do
+  table ← counted_at (record_at blobs) bytes
+  given (all_used (table_used blobs (Some 0) table.0) (length blobs) && (length table.1 == 0)) table.0
+
+-- the table that is spelt after the magic: blobs, each once, and records
 unfoldable pub table_at : List ℕ → Option (List Record)
 table_at bytes = do
-  blobs ← counted_at (λ front. string_at) bytes
-  table ← counted_at (record_at blobs.0) blobs.1
-  Some table.0
+  blobs ← counted_at fresh_at bytes
+  records_at blobs.0 blobs.1
+
+-- the table that a body spells
+unfoldable pub body_at : List ℕ → Option (List Record)
+body_at bytes = if same_text (take 4 bytes) magic then table_at (drop 4 bytes) else None
+
+-- this number stands there
+abbrev pub IsNumberAt : List ℕ → ℕ → Type 0
+IsNumberAt bytes n = (rest : List ℕ) × (number_at w64 bytes ≡ Some (n, rest))

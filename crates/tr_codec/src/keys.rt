@@ -1,50 +1,61 @@
 // Keys and descriptors that are read.
-ghost use Rattle.std.specs.Prelude.{◌≡◌, ℕ, List, []};
+ghost use Rattle.std.specs.Prelude.{◌≡◌, ℕ, List, [], fold, IfOk};
 ghost use Rattle.rk_base.specs.Variables.{are_variables};
 ghost use Rattle.rk_calls.specs.Keys.{is_key};
 ghost use Rattle.rk_calls.specs.RefMaps.{is_refmap};
 ghost use Rattle.tr_codec.specs.Reading.{counted_at, given, many_at, blob_at, var_at, key_from, key_at, pair_at, map_at};
+ghost use Rattle.tr_codec.specs.Used.{used_by, var_used, key_used};
 ghost use Rattle.tr_parts.specs.Reads.{Gives};
 
 use crate::parts::{blob_of, blobs_of};
 use rk_base::{Bytes, Path, Var, VarList, WordList};
 use rk_calls::{Key, RefMap};
+use rk_content::Contents;
 use std::alloc::Global;
 use tr_parts::{PartErr, byte_of, count_of, number_of, path_of};
 
 fn words_of<'a>(
     alloc: Global,
-    blobs: &[Bytes],
+    blobs: &Contents,
+    used: &mut Option<usize>,
     bytes: &'a [u8],
 ) -> Result<(Vec<Bytes>, &'a [u8]), PartErr>
-    ensures { Gives (λ x. (x.0.items, x.1.now)) result (counted_at (λ front. blob_at blobs.now) bytes.now) }
+    ensures gives { Gives (λ x. (x.0.items, x.1.now)) result (counted_at (λ front. blob_at blobs.now) bytes.now) }
+    ensures used { IfOk result (λ x. used.new ≡ fold (used_by blobs.now) used.old x.0.items) }
 {
     let (count, rest) = count_of(bytes)?;
-    let (words, rest) = blobs_of(alloc, blobs, count, rest)?;
+    let (words, rest) = blobs_of(alloc, blobs, used, count, rest)?;
     Ok((words, rest))
 }
 
 #[tactic(auto, unfolding(crate::specs::Reading::var_at))]
-fn var_of<'a>(blobs: &[Bytes], bytes: &'a [u8]) -> Result<(Var, &'a [u8]), PartErr>
-    ensures { Gives (λ x. (x.0, x.1.now)) result (var_at blobs.now bytes.now) }
+fn var_of<'a>(
+    blobs: &Contents,
+    used: &mut Option<usize>,
+    bytes: &'a [u8],
+) -> Result<(Var, &'a [u8]), PartErr>
+    ensures gives { Gives (λ x. (x.0, x.1.now)) result (var_at blobs.now bytes.now) }
+    ensures used { IfOk result (λ x. used.new ≡ var_used blobs.now used.old x.0) }
 {
-    let (name, rest) = blob_of(blobs, bytes)?;
-    let (value, rest) = blob_of(blobs, rest)?;
+    let (name, rest) = blob_of(blobs, used, bytes)?;
+    let (value, rest) = blob_of(blobs, used, rest)?;
     Ok((Var { name, value }, rest))
 }
 
 fn so_many_vars<'a>(
     alloc: Global,
-    blobs: &[Bytes],
+    blobs: &Contents,
+    used: &mut Option<usize>,
     count: u64,
     bytes: &'a [u8],
 ) -> Result<(Vec<Var>, &'a [u8]), PartErr>
-    ensures { Gives (λ x. (x.0.items, x.1.now)) result (many_at (λ front. var_at blobs.now) count [] bytes.now) }
+    ensures gives { Gives (λ x. (x.0.items, x.1.now)) result (many_at (λ front. var_at blobs.now) count [] bytes.now) }
+    ensures used { IfOk result (λ x. used.new ≡ fold (var_used blobs.now) used.old x.0.items) }
 {
     let mut vars = Vec::new(alloc);
     let mut rest = bytes;
     'vars: for _ in 0..count {
-        let (var, after) = var_of(blobs, rest)?;
+        let (var, after) = var_of(blobs, used, rest)?;
         vars.push(var)?;
         rest = after;
     }
@@ -53,13 +64,15 @@ fn so_many_vars<'a>(
 
 fn vars_of<'a>(
     alloc: Global,
-    blobs: &[Bytes],
+    blobs: &Contents,
+    used: &mut Option<usize>,
     bytes: &'a [u8],
 ) -> Result<(Vec<Var>, &'a [u8]), PartErr>
-    ensures { Gives (λ x. (x.0.items, x.1.now)) result (counted_at (λ front. var_at blobs.now) bytes.now) }
+    ensures gives { Gives (λ x. (x.0.items, x.1.now)) result (counted_at (λ front. var_at blobs.now) bytes.now) }
+    ensures used { IfOk result (λ x. used.new ≡ fold (var_used blobs.now) used.old x.0.items) }
 {
     let (count, rest) = count_of(bytes)?;
-    let (vars, rest) = so_many_vars(alloc, blobs, count, rest)?;
+    let (vars, rest) = so_many_vars(alloc, blobs, used, count, rest)?;
     Ok((vars, rest))
 }
 
@@ -93,14 +106,16 @@ fn key_from(alloc: Global, argv: Vec<Bytes>, wd: &[u8], vars: Vec<Var>) -> Resul
 #[tactic(auto, unfolding(crate::specs::Reading::key_at))]
 pub(crate) fn key_of<'a>(
     alloc: Global,
-    blobs: &[Bytes],
+    blobs: &Contents,
+    used: &mut Option<usize>,
     bytes: &'a [u8],
 ) -> Result<(Key, &'a [u8]), PartErr>
-    ensures { Gives (λ x. (x.0, x.1.now)) result (key_at blobs.now bytes.now) }
+    ensures gives { Gives (λ x. (x.0, x.1.now)) result (key_at blobs.now bytes.now) }
+    ensures used { IfOk result (λ x. used.new ≡ key_used blobs.now used.old x.0) }
 {
-    let (argv, rest) = words_of(alloc, blobs, bytes)?;
-    let (wd, rest) = blob_of(blobs, rest)?;
-    let (vars, rest) = vars_of(alloc, blobs, rest)?;
+    let (argv, rest) = words_of(alloc, blobs, used, bytes)?;
+    let (wd, rest) = blob_of(blobs, used, rest)?;
+    let (vars, rest) = vars_of(alloc, blobs, used, rest)?;
     let key = key_from(alloc, argv, wd.as_slice(), vars)?;
     Ok((key, rest))
 }

@@ -1,7 +1,6 @@
 //! The table of records, as bytes: one spelling.
 #![tactic(auto)]
 
-mod again;
 mod answer_pieces;
 mod answers;
 mod call_pieces;
@@ -14,6 +13,7 @@ mod pieces;
 mod read_table;
 mod reading;
 mod records;
+mod steps;
 mod writer;
 mod writing;
 

@@ -1,9 +1,11 @@
-// Parts of what is read: modes, truth values, strings and blobs.
-ghost use Rattle.std.specs.Prelude.{◌≡◌, ℕ, List, []};
-ghost use Rattle.tr_codec.specs.Reading.{mode_at, flag_of, flag_at, many_at, string_at, blob_at};
+// Parts of what is read: modes, truth values and blobs.
+ghost use Rattle.std.specs.Prelude.{◌≡◌, ◌<◌, ◌+◌, ◌^◌, ◌∷◌, ◌++◌, ℕ, List, [], fold, IfOk};
+ghost use Rattle.tr_codec.specs.Reading.{mode_at, flag_of, flag_at, many_at, fresh_at, blob_at};
+ghost use Rattle.tr_codec.specs.Used.{used_with, used_by};
 ghost use Rattle.tr_parts.specs.Reads.{Gives};
 
 use rk_base::Bytes;
+use rk_content::Contents;
 use std::alloc::Global;
 use tr_parts::{PartErr, byte_of, mode_of, number_of, string_of};
 
@@ -40,49 +42,95 @@ pub(crate) fn flag_of(bytes: &[u8]) -> Result<(bool, &[u8]), PartErr>
     Ok((flag, rest))
 }
 
-/// The text of the blob with the number that stands there.
-#[tactic(auto, unfolding(tr_parts::specs::Reading::blob_at))]
-pub(crate) fn blob_of<'a>(blobs: &[Bytes], bytes: &'a [u8]) -> Result<(Bytes, &'a [u8]), PartErr>
-    ensures { Gives (λ x. (x.0, x.1.now)) result (blob_at blobs.now bytes.now) }
+// How many blobs are in use after a use of the one with this number, unless others were skipped.
+#[tactic(auto, unfolding(crate::specs::Used::used_with))]
+fn used_with(used: Option<usize>, n: usize) -> Option<usize>
+    requires { n + 1 < 2 ^ 64 }
+    ensures { result ≡ used_with used n }
 {
-    let (n, rest) = number_of(bytes)?;
-    match blobs.get(n as usize) {
-        None => Err(PartErr::Form),
-        Some(blob) => Ok((blob.copy()?, rest)),
+    let used = used?;
+    if n < used {
+        Some(used)
+    } else if n == used {
+        Some(n + 1)
+    } else {
+        None
     }
 }
 
-/// So many strings.
-pub(crate) fn strings_of(
+/// The text of the blob with the number that stands there, which is in use then.
+#[tactic(auto, unfolding(tr_parts::specs::Reading::blob_at))]
+pub(crate) fn blob_of<'a>(
+    blobs: &Contents,
+    used: &mut Option<usize>,
+    bytes: &'a [u8],
+) -> Result<(Bytes, &'a [u8]), PartErr>
+    ensures gives { Gives (λ x. (x.0, x.1.now)) result (blob_at blobs.now bytes.now) }
+    ensures used { IfOk result (λ x. used.new ≡ used_by blobs.now used.old x.0) }
+{
+    let (n, rest) = number_of(bytes)?;
+    let n = n as usize;
+    match blobs.as_slice().get(n) {
+        None => Err(PartErr::Form),
+        Some(blob) => {
+            let text = blob.copy()?;
+            *used = used_with(*used, n);
+            Ok((text, rest))
+        }
+    }
+}
+
+// One blob more: a text that isn't one of those before. It is hashed once.
+#[tactic(auto, unfolding(crate::specs::Reading::fresh_at))]
+fn fresh_of<'a>(
+    alloc: Global,
+    blobs: &mut Contents,
+    bytes: &'a [u8],
+) -> Result<(Bytes, &'a [u8]), PartErr>
+    ensures gives { Gives (λ x. (x.0, x.1.now)) result (fresh_at blobs.old bytes.now) }
+    ensures blobs { IfOk result (λ x. blobs.new ≡ blobs.old ++ x.0 ∷ []) }
+{
+    let (text, rest) = string_of(alloc, bytes)?;
+    let before = blobs.as_slice().len();
+    blobs.put(&text)?;
+    if blobs.as_slice().len() == before {
+        return Err(PartErr::Form);
+    }
+    Ok((text, rest))
+}
+
+/// The blobs of a table, each once.
+pub(crate) fn fresh_blobs(
     alloc: Global,
     count: u64,
     bytes: &[u8],
-) -> Result<(Vec<Bytes>, &[u8]), PartErr>
-    ensures { Gives (λ x. (x.0.items, x.1.now)) result (many_at (λ front. string_at) count [] bytes.now) }
+) -> Result<(Contents, &[u8]), PartErr>
+    ensures { Gives (λ x. (x.0, x.1.now)) result (many_at fresh_at count [] bytes.now) }
 {
-    let mut texts = Vec::new(alloc);
+    let mut blobs = Contents::new(alloc);
     let mut rest = bytes;
-    'texts: for _ in 0..count {
-        let (text, after) = string_of(alloc, rest)?;
-        texts.push(text)?;
+    'blobs: for _ in 0..count {
+        let (_, after) = fresh_of(alloc, &mut blobs, rest)?;
         rest = after;
     }
-    Ok((texts, rest))
+    Ok((blobs, rest))
 }
 
 /// So many blobs.
 pub(crate) fn blobs_of<'a>(
     alloc: Global,
-    blobs: &[Bytes],
+    blobs: &Contents,
+    used: &mut Option<usize>,
     count: u64,
     bytes: &'a [u8],
 ) -> Result<(Vec<Bytes>, &'a [u8]), PartErr>
-    ensures { Gives (λ x. (x.0.items, x.1.now)) result (many_at (λ front. blob_at blobs.now) count [] bytes.now) }
+    ensures gives { Gives (λ x. (x.0.items, x.1.now)) result (many_at (λ front. blob_at blobs.now) count [] bytes.now) }
+    ensures used { IfOk result (λ x. used.new ≡ fold (used_by blobs.now) used.old x.0.items) }
 {
     let mut texts = Vec::new(alloc);
     let mut rest = bytes;
     'texts: for _ in 0..count {
-        let (text, after) = blob_of(blobs, rest)?;
+        let (text, after) = blob_of(blobs, used, rest)?;
         texts.push(text)?;
         rest = after;
     }

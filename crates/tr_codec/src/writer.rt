@@ -1,7 +1,6 @@
 // A writer of pieces.
-ghost use Rattle.std.specs.Prelude.{◌≡◌, ◌<◌, ◌^◌, ◌++◌, [], Some, length, slice_get, true, IfOk, IfSome, OnOk};
-ghost use Rattle.std.specs.List.{flat_map, IsDistinct};
-ghost use Rattle.rk_base.specs.Text.{same_text};
+ghost use Rattle.std.specs.Prelude.{◌≡◌, ◌<◌, ◌^◌, ◌++◌, [], length, true, IfOk, IfSome, OnOk};
+ghost use Rattle.std.specs.List.{flat_map};
 ghost use Rattle.rk_base.specs.Canonical.{is_canonical};
 ghost use Rattle.tr_parts.specs.Piece.{with_use, number_of, num, string, plain, blob, byte, mode, cost, number};
 ghost use Rattle.tr_codec.specs.Puts.{Puts};
@@ -156,40 +155,11 @@ impl Writer {
         Ok(())
     }
 
-    /// The texts that were used, in the order of first use. No two are the same.
-    pub(crate) fn blobs(&self) -> &[Bytes]
-        ensures value { result.now ≡ self.now.blobs }
-        ensures apart { IsDistinct same_text self.now.blobs }
-    {
-        self.blobs.as_slice()
-    }
-
     /// The number of a text's blob.
     pub(crate) fn put_blob(&mut self, text: &Bytes) -> Result<(), NoMemory>
         ensures { OnOk result (Puts (blob text.now) self.old self.new) }
     {
-        self.put_text(text)?;
-        Ok(())
-    }
-
-    /// The same; the number is told.
-    pub(crate) fn put_text(&mut self, text: &Bytes) -> Result<ContentId, NoMemory>
-        ensures puts { OnOk result (Puts (blob text.now) self.old self.new) }
-        ensures number { IfOk result (λ n. slice_get self.new.blobs n ≡ Some text.now) }
-    {
         let n = number_in(&mut self.blobs, &mut self.recent, text)?;
-        push_number(&mut self.out, n.number() as u64)?;
-        Ok(n)
-    }
-
-    /// The number of the blob of a text that was put, once more.
-    pub(crate) fn put_again(&mut self, n: ContentId, text: &Bytes) -> Result<(), NoMemory>
-        requires { slice_get self.old.blobs n ≡ Some text.now }
-        ensures puts { OnOk result (Puts (blob text.now) self.old self.new) }
-        ensures blobs { self.new.blobs ≡ self.old.blobs }
-    {
-        let _ = text;
-        let _ = self.blobs();
         push_number(&mut self.out, n.number() as u64)?;
         Ok(())
     }
