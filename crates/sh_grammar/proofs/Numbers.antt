@@ -2,7 +2,8 @@
 use Rattle.std.proofs.Common.{◌≡◌, ℕ, zero, suc, List, [], ◌∷◌, Option, Some, None, refl, sym, ap, ◌∙◌}
 use Rattle.sh_rules.specs.declared.token_kind.TokenKind.{TokenKind}
 use Rattle.sh_rules.specs.declared.token_kind.TokenKind.TheVariants as k
-use Rattle.sh_rules.specs.LookAhead.{number, all_kinds}
+use Rattle.sh_rules.specs.Kinds.{number}
+use Rattle.sh_rules.proofs.Enumerated.{all_kinds}
 
 nth : ℕ → List TokenKind → Option TokenKind
 nth n [] = None

@@ -3,7 +3,7 @@ use Rattle.std.proofs.Common.{◌≡◌, List, Option, Some, None, true, refl}
 use Rattle.sh_rules.specs.declared.token_kind.TokenKind.{TokenKind}
 use Rattle.sh_rules.specs.Parts.{Part}
 use Rattle.sh_rules.specs.Rules.{Rule}
-use Rattle.sh_rules.specs.LookAhead.{choose}
+use Rattle.sh_rules.specs.Choosing.{choose}
 use Rattle.sh_rules.proofs.Tables.{every, rule_is}
 use Rattle.sh_grammar.specs.declared.choice.Begins.{Begins}
 use Rattle.sh_grammar.specs.declared.rule.Rule as dr

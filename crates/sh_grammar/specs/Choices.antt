@@ -1,11 +1,13 @@
 -- Which rule a token chooses, by what each rule begins with.
-use Rattle.std.specs.Prelude.{nat_eq, List, [], ◌∷◌, Option, Some, None, Bool, true, false}
+use Rattle.std.specs.Prelude.{List, [], ◌∷◌, Option, Some, None, Bool, true, false}
 use Rattle.sh_rules.specs.declared.token_kind.TokenKind.{TokenKind}
+use Rattle.sh_rules.specs.Parts as p
 use Rattle.sh_rules.specs.Parts.{Part}
 use Rattle.sh_rules.specs.Rules.{Rule}
-use Rattle.sh_rules.specs.LookAhead.{number, all_kinds, choose}
+use Rattle.sh_rules.specs.Kinds.{same}
+use Rattle.sh_rules.specs.Choosing.{begins, choose}
+use Rattle.sh_rules.proofs.Enumerated.{all_kinds}
 use Rattle.sh_rules.proofs.Tables.{is_rule, each}
-use Rattle.sh_rules.specs.Begin.{begins_command, begins_compound, begins_expansion, begins_quoted, begins_redirect, begins_stage, begins_word}
 use Rattle.sh_grammar.specs.declared.rule.Rule as dr
 use Rattle.sh_grammar.specs.declared.choice.Begins.{Begins}
 use Rattle.sh_grammar.specs.declared.choice.Begins.TheVariants as b
@@ -13,14 +15,14 @@ use Rattle.sh_grammar.specs.Named.{rule_named}
 
 -- a token of a kind begins so
 abbrev pub is_met : Begins → TokenKind → Bool
-is_met (b.Token token) kind = nat_eq (number token) (number kind)
-is_met b.Command kind = begins_command kind
-is_met b.Stage kind = begins_stage kind
-is_met b.Compound kind = begins_compound kind
-is_met b.Redirect kind = begins_redirect kind
-is_met b.Word kind = begins_word kind
-is_met b.Quoted kind = begins_quoted kind
-is_met b.Expansion kind = begins_expansion kind
+is_met (b.Token token) kind = same token kind
+is_met b.Command kind = begins p.pipeline kind
+is_met b.Stage kind = begins p.command kind
+is_met b.Compound kind = begins p.compound kind
+is_met b.Redirect kind = begins p.redirect kind
+is_met b.Word kind = begins p.word kind
+is_met b.Quoted kind = begins p.quoted kind
+is_met b.Expansion kind = begins p.expansion kind
 is_met b.Anything kind = true
 
 abbrev pub rule_if : Bool → Rule → Option Rule → Option Rule

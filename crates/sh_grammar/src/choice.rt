@@ -1,6 +1,8 @@
 // Which rule a token chooses.
 ghost use Rattle.std.specs.Prelude.{◌≡◌, ◌↔◌, IsTrue, option_map, true};
-ghost use Rattle.sh_rules.specs.LookAhead.{number as number_lem, choose as choose_lem, mode as mode_lem};
+ghost use Rattle.sh_rules.specs.Kinds.{number as number_lem};
+ghost use Rattle.sh_rules.specs.Modes.{mode as mode_lem};
+ghost use Rattle.sh_rules.specs.Choosing.{choose as choose_lem};
 ghost use Rattle.sh_grammar.specs.Named.{part_named, rule_named};
 ghost use Rattle.sh_grammar.specs.Modes.{mode_number as mode_number_lem};
 ghost use Rattle.sh_grammar.specs.Choices.{is_met as is_met_lem, first_met as first_met_lem, tells};

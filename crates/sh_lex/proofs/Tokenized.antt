@@ -5,7 +5,8 @@ use Rattle.std.specs.Prelude.{◌==◌, if◌then◌else◌, Ok}
 use Rattle.sh_rules.specs.declared.token_kind.TokenKind.{TokenKind}
 use Rattle.sh_rules.specs.declared.token_kind.Mode.{Mode}
 use Rattle.sh_rules.specs.declared.token_kind.Mode.TheVariants as m
-use Rattle.sh_rules.specs.LookAhead.{number, member, all_kinds, either}
+use Rattle.sh_rules.specs.Kinds.{number}
+use Rattle.sh_rules.proofs.Enumerated.{member, all_kinds, either}
 use Rattle.sh_rules.proofs.Tables.{implies, implied, each, every}
 use Rattle.sh_token.specs.declared.front.Front.{Front}
 use Rattle.sh_token.specs.declared.front.Front.TheVariants as f

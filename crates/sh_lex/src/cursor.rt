@@ -3,7 +3,7 @@ ghost use Rattle.std.specs.Prelude.{◌≡◌, ◌≤◌, nat_lt, length, take a
 ghost use Rattle.sh_token.specs.Bytes.{◌also◌, not_so};
 ghost use Rattle.sh_token.specs.Folded.{folded};
 ghost use Rattle.sh_token.specs.Places.{begin, begin_at, is_none};
-ghost use Rattle.sh_rules.specs.LookAhead.{mode_of as mode_lem};
+ghost use Rattle.sh_rules.specs.Modes.{mode_of as mode_lem};
 ghost use Rattle.sh_token.specs.Lexemes.{look as look_lem};
 ghost use Rattle.sh_token.specs.Steps.{drops as drops_lem, next_drops as next_lem, opens_level as opens_lem};
 ghost use Rattle.sh_lex.specs.Takes.{Takes};

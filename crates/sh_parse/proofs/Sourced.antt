@@ -3,7 +3,7 @@ use Rattle.std.proofs.Common.{◌≡◌, ℕ, List, Some, None, sym, ◌∙◌, 
 use Rattle.std.specs.Prelude.{Ok, Err, IfSome}
 use Rattle.sh_rules.specs.declared.token_kind.TokenKind.{TokenKind}
 use Rattle.sh_rules.specs.declared.token_kind.Mode.{Mode}
-use Rattle.sh_rules.specs.LookAhead.{mode_of}
+use Rattle.sh_rules.specs.Modes.{mode_of}
 use Rattle.sh_token.specs.Places.{Place, size}
 use Rattle.sh_token.specs.Lexemes.{look}
 use Rattle.sh_token.specs.Tokens.{Look}

@@ -1,13 +1,13 @@
 -- A turn by a token, and a turn by a rule: by what was answered.
 use Rattle.std.proofs.Common.{◌≡◌, ℕ, List, [], ◌∷◌, ◌++◌, Option, Some, None, refl, sym, ap, ◌∙◌, subst}
 use Rattle.std.specs.Prelude.{Result, Ok, Err, MatchResult, MatchOption}
-use Rattle.sh_rules.specs.Grammar.{Symbol, Want, Do}
-use Rattle.sh_rules.specs.Reading.{Blocked, Over}
+use Rattle.sh_rules.specs.Grammar.{Symbol, Want, Do, Blocked, Over}
 use Rattle.sh_rules.specs.declared.token_kind.TokenKind.{TokenKind}
 use Rattle.sh_rules.specs.declared.token_kind.Mode.{Mode}
 use Rattle.sh_rules.specs.Parts.{Part}
 use Rattle.sh_rules.specs.Rules.{Rule, spelling}
-use Rattle.sh_rules.specs.LookAhead.{mode_of, mode, choose}
+use Rattle.sh_rules.specs.Modes.{mode_of, mode}
+use Rattle.sh_rules.specs.Choosing.{choose}
 use Rattle.sh_grammar.specs.declared.spelled.Symbol as ds
 use Rattle.sh_grammar.specs.declared.spelled.Symbol.TheVariants as dv
 use Rattle.sh_grammar.specs.Named.{symbol_named}
@@ -19,7 +19,7 @@ use Rattle.sh_token.specs.Steps.{token_of}
 use Rattle.sh_token.proofs.Sizes.{may_be_empty, Shrinks}
 use Rattle.sh_script.specs.TextReader.{text_reader, StandsThere, NotOf, HaltsAt}
 use Rattle.sh_script.specs.Owing.{Owes, Keeps, Fewer}
-use Rattle.sh_script.proofs.Chosen.{chosen_part}
+use Rattle.sh_rules.proofs.Alternatives.{chosen_part}
 use Rattle.sh_script.proofs.Fewer.{chosen_fewer}
 use Rattle.sh_script.proofs.Turning.{keeps_taken, fewer_taken, halts_deep, halts_want, keeps_chosen, halts_none, halts_unwanted, whole_stuck}
 use Rattle.sh_parse.specs.Tokens.{Took}

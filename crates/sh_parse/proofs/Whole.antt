@@ -1,7 +1,7 @@
 -- From what is read to what is answered.
 use Rattle.std.proofs.Common.{◌≡◌, ◌≤◌, ℕ, List, true, false, subst, length}
 use Rattle.std.specs.Prelude.{Result, Ok, Err}
-use Rattle.sh_rules.specs.Reading.{Halt, Blocked, Over}
+use Rattle.sh_rules.specs.Grammar.{Halt, Blocked, Over}
 use Rattle.sh_rules.specs.Rules.{Token}
 use Rattle.sh_ast.specs.Commands as c
 use Rattle.sh_ast.specs.Commands.{CommandsTree}

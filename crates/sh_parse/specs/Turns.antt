@@ -1,7 +1,6 @@
 -- What one turn of reading comes to.
 use Rattle.std.specs.Prelude.{◌≡◌, List, ◌∷◌, Result, Ok, Err}
-use Rattle.sh_rules.specs.Grammar.{Symbol}
-use Rattle.sh_rules.specs.Reading.{Blocked, Over}
+use Rattle.sh_rules.specs.Grammar.{Symbol, Blocked, Over}
 use Rattle.sh_rules.specs.declared.token_kind.TokenKind.{TokenKind}
 use Rattle.sh_rules.specs.Parts.{Part}
 use Rattle.sh_rules.specs.Rules.{Token}

@@ -1,6 +1,6 @@
 // What was found at a place, kept as long as reading stays there.
 ghost use Rattle.std.specs.Prelude.{◌≡◌, IfSome};
-ghost use Rattle.sh_rules.specs.LookAhead.{mode as mode_lem};
+ghost use Rattle.sh_rules.specs.Modes.{mode as mode_lem};
 ghost use Rattle.sh_grammar.specs.Named.{part_named};
 ghost use Rattle.sh_token.specs.Places.{Place};
 ghost use Rattle.sh_script.specs.TextReader.{StandsThere};

@@ -1,8 +1,7 @@
 // Reading, turn by turn: a part of the syntax gives way to the symbols of the rule that the token there chooses, a token is
 // taken. Nothing calls itself, so no text overflows the stack.
 ghost use Rattle.std.specs.Prelude.{◌≡◌, ◌∷◌, ◌++◌, [], List, MatchOption, MatchResult, IfOk, Some};
-ghost use Rattle.sh_rules.specs.Grammar.{Symbol as Symbol', Want, Do};
-ghost use Rattle.sh_rules.specs.Reading.{Blocked};
+ghost use Rattle.sh_rules.specs.Grammar.{Symbol as Symbol', Want, Do, Blocked};
 ghost use Rattle.sh_rules.specs.declared.token_kind.TokenKind as kinds;
 ghost use Rattle.sh_rules.specs.Parts as parts;
 ghost use Rattle.sh_rules.specs.Rules.{spelling as spelling_lem};

@@ -1,50 +1,14 @@
--- With what each part begins and what follows it, whether it may be empty, and what belongs to a mode, by numbers of kinds:
--- computed from the rules, and checked in Tables.antt.
-use Rattle.std.specs.Prelude.{ℕ, List, [], ◌∷◌, Bool, true, false}
+-- What follows each part, and what belongs to a mode, by numbers of kinds: computed from the rules, and checked in Tables.antt.
+use Rattle.std.specs.Prelude.{ℕ, List, [], ◌∷◌}
 use Rattle.sh_rules.specs.declared.token_kind.TokenKind.{TokenKind}
 use Rattle.sh_rules.specs.declared.token_kind.Mode.{Mode}
 use Rattle.sh_rules.specs.declared.token_kind.Mode.TheVariants as m
 use Rattle.sh_rules.specs.Parts as p
 use Rattle.sh_rules.specs.Parts.{Part}
-use Rattle.sh_rules.specs.Checked.{Sets}
-use Rattle.sh_rules.specs.LookAhead.{number, member}
-
-abbrev pub first_of : Part → List ℕ
-first_of p.opt_list = 1 ∷ 11 ∷ 13 ∷ 16 ∷ 17 ∷ 18 ∷ 20 ∷ 22 ∷ 24 ∷ 27 ∷ 28 ∷ 30 ∷ 42 ∷ 43 ∷ 50 ∷ 51 ∷ 52 ∷ 53 ∷ 54 ∷ 55 ∷ 56 ∷ 57 ∷ 58 ∷ 67 ∷ []
-first_of p.list = 1 ∷ 11 ∷ 13 ∷ 16 ∷ 17 ∷ 18 ∷ 20 ∷ 22 ∷ 24 ∷ 27 ∷ 28 ∷ 30 ∷ 42 ∷ 43 ∷ 50 ∷ 51 ∷ 52 ∷ 53 ∷ 54 ∷ 55 ∷ 56 ∷ 57 ∷ 58 ∷ 67 ∷ []
-first_of p.list_rest = 0 ∷ 1 ∷ []
-first_of p.newline = 1 ∷ []
-first_of p.bodies = 2 ∷ 3 ∷ 4 ∷ []
-first_of p.body_parts = 5 ∷ 6 ∷ 7 ∷ 8 ∷ 54 ∷ 55 ∷ 56 ∷ 57 ∷ 58 ∷ 67 ∷ []
-first_of p.and_or = 11 ∷ 13 ∷ 16 ∷ 17 ∷ 18 ∷ 20 ∷ 22 ∷ 24 ∷ 27 ∷ 28 ∷ 30 ∷ 42 ∷ 43 ∷ 50 ∷ 51 ∷ 52 ∷ 53 ∷ 54 ∷ 55 ∷ 56 ∷ 57 ∷ 58 ∷ 67 ∷ []
-first_of p.and_or_rest = 9 ∷ 10 ∷ []
-first_of p.linebreak = 1 ∷ []
-first_of p.pipeline = 11 ∷ 13 ∷ 16 ∷ 17 ∷ 18 ∷ 20 ∷ 22 ∷ 24 ∷ 27 ∷ 28 ∷ 30 ∷ 42 ∷ 43 ∷ 50 ∷ 51 ∷ 52 ∷ 53 ∷ 54 ∷ 55 ∷ 56 ∷ 57 ∷ 58 ∷ 67 ∷ []
-first_of p.pipe_rest = 12 ∷ []
-first_of p.command = 13 ∷ 16 ∷ 17 ∷ 18 ∷ 20 ∷ 22 ∷ 24 ∷ 27 ∷ 28 ∷ 30 ∷ 42 ∷ 43 ∷ 50 ∷ 51 ∷ 52 ∷ 53 ∷ 54 ∷ 55 ∷ 56 ∷ 57 ∷ 58 ∷ 67 ∷ []
-first_of p.compound = 18 ∷ 20 ∷ 22 ∷ 24 ∷ 27 ∷ 28 ∷ 30 ∷ []
-first_of p.if_rest = 31 ∷ 32 ∷ 33 ∷ []
-first_of p.for_in = 0 ∷ 1 ∷ 34 ∷ []
-first_of p.for_in_later = 1 ∷ 34 ∷ []
-first_of p.for_words = 0 ∷ 1 ∷ 46 ∷ 50 ∷ 51 ∷ 52 ∷ 53 ∷ 54 ∷ 55 ∷ 56 ∷ 57 ∷ 58 ∷ 67 ∷ []
-first_of p.case_in = 1 ∷ 35 ∷ []
-first_of p.items = 1 ∷ 36 ∷ 37 ∷ 38 ∷ 50 ∷ 51 ∷ 52 ∷ 53 ∷ 54 ∷ 55 ∷ 56 ∷ 57 ∷ 58 ∷ 67 ∷ []
-first_of p.pattern_rest = 39 ∷ 40 ∷ []
-first_of p.item_end = 36 ∷ 41 ∷ []
-first_of p.redirects = 42 ∷ 43 ∷ []
-first_of p.redirect = 42 ∷ 43 ∷ []
-first_of p.prefix = 16 ∷ 42 ∷ 43 ∷ 45 ∷ 50 ∷ 51 ∷ 52 ∷ 53 ∷ 54 ∷ 55 ∷ 56 ∷ 57 ∷ 58 ∷ 67 ∷ []
-first_of p.arguments = 42 ∷ 43 ∷ 46 ∷ 50 ∷ 51 ∷ 52 ∷ 53 ∷ 54 ∷ 55 ∷ 56 ∷ 57 ∷ 58 ∷ 67 ∷ []
-first_of p.word = 46 ∷ 50 ∷ 51 ∷ 52 ∷ 53 ∷ 54 ∷ 55 ∷ 56 ∷ 57 ∷ 58 ∷ 67 ∷ []
-first_of p.value = 47 ∷ 48 ∷ 50 ∷ 51 ∷ 52 ∷ 53 ∷ 54 ∷ 55 ∷ 56 ∷ 57 ∷ 58 ∷ 67 ∷ []
-first_of p.parts = 47 ∷ 49 ∷ 50 ∷ 51 ∷ 52 ∷ 53 ∷ 54 ∷ 55 ∷ 56 ∷ 57 ∷ 58 ∷ 67 ∷ []
-first_of p.quoted = 50 ∷ 51 ∷ 52 ∷ 53 ∷ 54 ∷ 55 ∷ 56 ∷ 57 ∷ 58 ∷ 67 ∷ []
-first_of p.expansion = 54 ∷ 55 ∷ 56 ∷ 57 ∷ 58 ∷ 67 ∷ []
-first_of p.quoted_parts = 8 ∷ 54 ∷ 55 ∷ 56 ∷ 57 ∷ 58 ∷ 59 ∷ 60 ∷ 61 ∷ 67 ∷ []
-first_of p.brace_start = 50 ∷ 51 ∷ 52 ∷ 53 ∷ 54 ∷ 55 ∷ 56 ∷ 57 ∷ 58 ∷ 62 ∷ 63 ∷ 67 ∷ []
-first_of p.brace_parts = 50 ∷ 51 ∷ 52 ∷ 53 ∷ 54 ∷ 55 ∷ 56 ∷ 57 ∷ 58 ∷ 62 ∷ 64 ∷ 67 ∷ []
-first_of p.quoted_brace_parts = 8 ∷ 52 ∷ 54 ∷ 55 ∷ 56 ∷ 57 ∷ 58 ∷ 62 ∷ 65 ∷ 66 ∷ 67 ∷ []
-first_of p.arithmetic = 8 ∷ 54 ∷ 55 ∷ 56 ∷ 57 ∷ 58 ∷ 67 ∷ 68 ∷ 69 ∷ 70 ∷ 71 ∷ 72 ∷ []
+use Rattle.sh_rules.proofs.Checked.{Sets}
+use Rattle.sh_rules.specs.Kinds.{number}
+use Rattle.sh_rules.specs.Choosing.{begins, may_be_empty}
+use Rattle.sh_rules.proofs.Enumerated.{member}
 
 abbrev pub follow_of : Part → List ℕ
 follow_of p.opt_list = 19 ∷ 21 ∷ 23 ∷ 25 ∷ 26 ∷ 31 ∷ 32 ∷ 33 ∷ 36 ∷ 41 ∷ 73 ∷ []
@@ -83,43 +47,6 @@ follow_of p.brace_parts = 5 ∷ 6 ∷ 7 ∷ 8 ∷ 47 ∷ 49 ∷ 50 ∷ 51 ∷ 52
 follow_of p.quoted_brace_parts = 5 ∷ 6 ∷ 7 ∷ 8 ∷ 52 ∷ 54 ∷ 55 ∷ 56 ∷ 57 ∷ 58 ∷ 59 ∷ 60 ∷ 61 ∷ 62 ∷ 65 ∷ 66 ∷ 67 ∷ 68 ∷ 69 ∷ 70 ∷ 71 ∷ 72 ∷ []
 follow_of p.arithmetic = 5 ∷ 6 ∷ 7 ∷ 8 ∷ 47 ∷ 49 ∷ 50 ∷ 51 ∷ 52 ∷ 53 ∷ 54 ∷ 55 ∷ 56 ∷ 57 ∷ 58 ∷ 59 ∷ 60 ∷ 61 ∷ 62 ∷ 64 ∷ 65 ∷ 66 ∷ 67 ∷ 68 ∷ 69 ∷ 70 ∷ 71 ∷ 72 ∷ []
 
-abbrev pub nullable : Part → Bool
-nullable p.opt_list = true
-nullable p.list = false
-nullable p.list_rest = true
-nullable p.newline = false
-nullable p.bodies = false
-nullable p.body_parts = false
-nullable p.and_or = false
-nullable p.and_or_rest = true
-nullable p.linebreak = true
-nullable p.pipeline = false
-nullable p.pipe_rest = true
-nullable p.command = false
-nullable p.compound = false
-nullable p.if_rest = false
-nullable p.for_in = true
-nullable p.for_in_later = true
-nullable p.for_words = false
-nullable p.case_in = false
-nullable p.items = false
-nullable p.pattern_rest = false
-nullable p.item_end = false
-nullable p.redirects = true
-nullable p.redirect = false
-nullable p.prefix = true
-nullable p.arguments = true
-nullable p.word = false
-nullable p.value = false
-nullable p.parts = false
-nullable p.quoted = false
-nullable p.expansion = false
-nullable p.quoted_parts = false
-nullable p.brace_start = false
-nullable p.brace_parts = false
-nullable p.quoted_brace_parts = false
-nullable p.arithmetic = false
-
 -- the kinds that belong to a mode
 abbrev pub kinds_of : Mode → List ℕ
 kinds_of m.CommandStart = 1 ∷ 11 ∷ 13 ∷ 16 ∷ 17 ∷ 18 ∷ 19 ∷ 20 ∷ 21 ∷ 22 ∷ 23 ∷ 24 ∷ 25 ∷ 26 ∷ 27 ∷ 28 ∷ 30 ∷ 31 ∷ 32 ∷ 33 ∷ 36 ∷ 41 ∷ 42 ∷ 43 ∷ 50 ∷ 51 ∷ 52 ∷ 53 ∷ 54 ∷ 55 ∷ 56 ∷ 57 ∷ 58 ∷ 67 ∷ 73 ∷ []
@@ -144,8 +71,8 @@ kinds_of m.HereDelimiter = 44 ∷ []
 
 abbrev pub sets : Sets TokenKind Part Mode
 sets = record {
-  first = λ n k. member (number k) (first_of n);
-  nullable = nullable;
+  first = begins;
+  nullable = may_be_empty;
   follow = λ n k. member (number k) (follow_of n);
   belongs = λ m k. member (number k) (kinds_of m);
 }

@@ -3,6 +3,8 @@ use Rattle.sh_rules.specs.declared.token_kind.TokenKind.{TokenKind}
 use Rattle.sh_rules.specs.declared.token_kind.Mode.{Mode}
 use Rattle.sh_rules.specs.declared.token_kind.TokenKind.TheVariants as k
 use Rattle.sh_rules.specs.declared.token_kind.Mode.TheVariants as m
+use Rattle.sh_rules.specs.Parts as p
+use Rattle.sh_rules.specs.Parts.{Part}
 
 -- the mode in which a token of a kind is looked for by itself
 abbrev pub mode_of : TokenKind → Mode
@@ -80,3 +82,41 @@ mode_of k.ParenthesisOpen = m.InArithmetic
 mode_of k.ParenthesisClose = m.InArithmetic
 mode_of k.ArithmeticClose = m.InArithmetic
 mode_of k.End = m.CommandStart
+
+-- the mode in which a part begins
+abbrev pub mode : Part → Mode
+mode p.opt_list = m.CommandStart
+mode p.list = m.CommandStart
+mode p.list_rest = m.Argument
+mode p.newline = m.CommandStart
+mode p.bodies = m.Bodies
+mode p.body_parts = m.BodyText
+mode p.and_or = m.CommandStart
+mode p.and_or_rest = m.Argument
+mode p.linebreak = m.CommandStart
+mode p.pipeline = m.CommandStart
+mode p.pipe_rest = m.Argument
+mode p.command = m.CommandStart
+mode p.compound = m.CommandStart
+mode p.if_rest = m.CommandStart
+mode p.for_in = m.Argument
+mode p.for_in_later = m.Argument
+mode p.for_words = m.Argument
+mode p.case_in = m.CaseIn
+mode p.items = m.PatternStart
+mode p.pattern_rest = m.PatternRest
+mode p.item_end = m.CommandStart
+mode p.redirects = m.Argument
+mode p.redirect = m.Argument
+mode p.prefix = m.Prefix
+mode p.arguments = m.Argument
+mode p.word = m.Argument
+mode p.value = m.Value
+mode p.parts = m.InWord
+mode p.quoted = m.InWord
+mode p.expansion = m.InWord
+mode p.quoted_parts = m.InQuotes
+mode p.brace_start = m.BraceStart
+mode p.brace_parts = m.InBraces
+mode p.quoted_brace_parts = m.InQuotedBraces
+mode p.arithmetic = m.InArithmetic

@@ -3,13 +3,15 @@ use Rattle.std.proofs.Common.{arith, ◌≡◌, ◌<◌, ℕ, zero, suc, List, [
 use Rattle.std.specs.Prelude.{nat_eq, if◌then◌else◌}
 use Rattle.rk_base.specs.Text.{Text}
 use Rattle.std.proofs.lemmas.Bool.{eqb-true}
-use Rattle.sh_rules.specs.Grammar.{Symbol, Want, Do}
-use Rattle.sh_rules.specs.Reading.{Halt, Blocked, Over}
+use Rattle.sh_rules.specs.Grammar.{Symbol, Want, Do, Halt, Blocked, Over}
 use Rattle.sh_rules.specs.declared.token_kind.TokenKind.{TokenKind}
 use Rattle.sh_rules.specs.declared.token_kind.Mode.{Mode}
 use Rattle.sh_rules.specs.Parts.{Part}
 use Rattle.sh_rules.specs.Rules.{Rule, Token, script, spelling}
-use Rattle.sh_rules.specs.LookAhead.{number, mode_of, mode, choose}
+use Rattle.sh_rules.specs.Kinds.{number}
+use Rattle.sh_rules.specs.Modes.{mode_of, mode}
+use Rattle.sh_rules.specs.Choosing.{choose}
+use Rattle.sh_rules.proofs.Alternatives.{chosen_part}
 use Rattle.sh_grammar.specs.Marks.{Mark, node, leaf}
 use Rattle.sh_grammar.proofs.Numbers.{same_number}
 use Rattle.sh_token.specs.Places.{Place, begin, size}
@@ -24,7 +26,6 @@ use Rattle.sh_script.specs.Outcomes.{IsRead, IsStuck}
 use Rattle.sh_script.specs.Predicting.{End, Read, Stuck, taken, wanted, replaced, chosen, predicted, end_of}
 use Rattle.sh_script.proofs.Owed.{owed_first}
 use Rattle.sh_script.proofs.Fewer.{chosen_fewer}
-use Rattle.sh_script.proofs.Chosen.{chosen_part}
 use Rattle.sh_script.proofs.Turning.{lexed_there, keeps_taken, fewer_taken, halts_deep, halts_want, keeps_chosen, halts_none, halts_unwanted, whole_read, whole_stuck}
 
 -- a token leaves a smaller place

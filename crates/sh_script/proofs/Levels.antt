@@ -5,7 +5,9 @@ use Rattle.sh_rules.specs.declared.token_kind.TokenKind.{TokenKind}
 use Rattle.sh_rules.specs.declared.token_kind.TokenKind.TheVariants as k
 use Rattle.sh_rules.specs.declared.token_kind.Mode.TheVariants as m
 use Rattle.sh_rules.specs.Rules.{Token, shell}
-use Rattle.sh_rules.specs.LookAhead.{number, member, mode_of}
+use Rattle.sh_rules.specs.Kinds.{number}
+use Rattle.sh_rules.specs.Modes.{mode_of}
+use Rattle.sh_rules.proofs.Enumerated.{member}
 use Rattle.sh_token.specs.declared.place.Words.TheVariants.{Ordinary}
 use Rattle.sh_token.specs.declared.delimiter.Within.TheVariants as w
 use Rattle.sh_token.specs.declared.recognizer.Recognizer.{Recognizer}

@@ -4,7 +4,6 @@ pub mod Standing
 pub mod Built
 pub mod Owed
 pub mod Fewer
-pub mod Chosen
 pub mod Turning
 pub mod Existing
 pub mod Levels

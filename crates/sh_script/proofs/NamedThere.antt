@@ -1,6 +1,6 @@
 -- What a fault names as left out of the profile stands at the fault's place.
 use Rattle.std.proofs.Common.{arith, ◌≡◌, ℕ, zero, suc, ◌+◌, ◌-◌, List, [], ◌∷◌, Bool, refl, sym, ap, ◌∙◌, subst, inl, inr, length, take, drop, slice_index, drop-drop, length-drop}
-use Rattle.sh_rules.specs.Reading.{Halt}
+use Rattle.sh_rules.specs.Grammar.{Halt}
 use Rattle.sh_rules.specs.Rules.{Token}
 use Rattle.sh_token.specs.declared.fault.Why.TheVariants as y
 use Rattle.sh_token.specs.declared.fault.ScriptFault.{ScriptFault}

@@ -3,8 +3,9 @@ use Rattle.std.proofs.Common.{arith, ◌≡◌, ◌≤◌, ◌<◌, ℕ, ◌+◌
 use Rattle.std.specs.Prelude.{nat_lt, if◌then◌else◌}
 use Rattle.std.proofs.lemmas.Bool.{ltb-true, ltb-false}
 use Rattle.std.proofs.lemmas.List.{length-take-le}
-use Rattle.sh_rules.specs.Reading.{Halt, Stands, Spelled}
-use Rattle.sh_rules.specs.LookAhead.{mode_of}
+use Rattle.sh_rules.specs.Grammar.{Halt}
+use Rattle.sh_rules.specs.Reading.{Stands, Spelled}
+use Rattle.sh_rules.specs.Modes.{mode_of}
 use Rattle.sh_rules.specs.Rules.{Token, shell}
 use Rattle.sh_token.specs.declared.effect.Effect.{Effect}
 use Rattle.sh_token.specs.declared.effect.Effect.TheVariants as e

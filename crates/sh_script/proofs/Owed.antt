@@ -1,7 +1,7 @@
 -- One turn of reading keeps what is owed.
 use Rattle.std.proofs.Common.{◌≡◌, List, [], ◌∷◌, ◌++◌, false, refl, sym, ap, ◌∙◌, ◌⊎◌, inl, inr, append_assoc, append-nil}
-use Rattle.sh_rules.specs.Grammar.{Symbol, Want, Do, Leaf, Node, Parses, no_parses, parse_and}
-use Rattle.sh_rules.specs.Reading.{Reader, Stands, Chooses, ReadsAll, Halt, Halts, Here, Within, Stops, In_first, After, At, StuckAll}
+use Rattle.sh_rules.specs.Grammar.{Symbol, Want, Do, Leaf, Node, Parses, no_parses, parse_and, Halt}
+use Rattle.sh_rules.specs.Reading.{Reader, Stands, Chooses, ReadsAll, Halts, Here, Within, Stops, In_first, After, At, StuckAll}
 use Rattle.sh_rules.specs.declared.token_kind.TokenKind.{TokenKind}
 use Rattle.sh_rules.specs.declared.token_kind.Mode.{Mode}
 use Rattle.sh_rules.specs.Parts.{Part}

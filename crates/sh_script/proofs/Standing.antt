@@ -1,7 +1,7 @@
 -- The shell's tokens, scripts and stops are those of the laws for any table of rules.
 use Rattle.std.proofs.Common.{List, [], ◌∷◌, ◌++◌, sym, ap, ◌∙◌}
-use Rattle.sh_rules.specs.Grammar.{Parses, leaves_all, Continues, IsWhole}
-use Rattle.sh_rules.specs.Reading.{Spelled, Halt, Blocked, Over, StopsBy, IsStop}
+use Rattle.sh_rules.specs.Grammar.{Parses, leaves_all, Continues, IsWhole, Halt, Blocked, Over}
+use Rattle.sh_rules.specs.Reading.{Spelled, StopsBy, IsStop}
 use Rattle.sh_rules.specs.Rules.{Rule, Token, shell, script}
 use Rattle.sh_token.specs.Places.{Place}
 use Rattle.sh_script.specs.Standing.{AllStand, AreAll, AreFirst, NoneGoesOn}

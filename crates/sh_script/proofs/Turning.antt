@@ -1,12 +1,13 @@
 -- A turn by a token, and a turn by a rule.
 use Rattle.std.proofs.Common.{◌≡◌, ℕ, List, [], ◌∷◌, ◌++◌, Some, None, true, false, refl, sym, ap, subst, ◌⊎◌, inl, inr}
-use Rattle.sh_rules.specs.Grammar.{Symbol, Want, Do}
-use Rattle.sh_rules.specs.Reading.{Halt, Blocked, Over}
+use Rattle.sh_rules.specs.Reading.{Stops, At, StuckAll}
+use Rattle.sh_rules.specs.Grammar.{Symbol, Want, Do, Halt, Blocked, Over}
 use Rattle.sh_rules.specs.declared.token_kind.TokenKind.{TokenKind}
 use Rattle.sh_rules.specs.declared.token_kind.Mode.{Mode}
 use Rattle.sh_rules.specs.Parts.{Part}
 use Rattle.sh_rules.specs.Rules.{Rule, Token, shell, script, spelling, part_of}
-use Rattle.sh_rules.specs.LookAhead.{mode_of, mode, choose}
+use Rattle.sh_rules.specs.Modes.{mode_of, mode}
+use Rattle.sh_rules.specs.Choosing.{choose}
 use Rattle.sh_grammar.specs.Marks.{Mark, node, leaf}
 use Rattle.sh_token.specs.Places.{Place, size}
 use Rattle.sh_token.specs.Lexemes.{look}
@@ -70,4 +71,4 @@ whole_read start marks q w = owed_nothing text_reader start marks q w
 
 pub whole_stuck : (start : Place) (s : Symbol TokenKind Part) (ss : List (Symbol TokenKind Part)) (marks : List Mark) (p q : Place) (h : Halt Token) → Owes text_reader start (s ∷ ss) marks p → q ≡ p → HaltsAt s p h → IsStuck start q h
 unfolding IsStuck HaltsAt
-whole_stuck start s ss marks p q h w e k = subst (λ q. (y : Rattle.sh_rules.specs.Reading.Stops Rule Token) × Rattle.sh_rules.specs.Reading.StuckAll shell text_reader y script start (Rattle.sh_rules.specs.Reading.At q h)) (sym e) (owed_stops text_reader start s ss marks p h w k)
+whole_stuck start s ss marks p q h w e k = subst (λ q. (y : Stops Rule Token) × StuckAll shell text_reader y script start (At q h)) (sym e) (owed_stops text_reader start s ss marks p h w k)

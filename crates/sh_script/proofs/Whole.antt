@@ -3,9 +3,9 @@ use Rattle.std.proofs.Common.{arith, ◌≡◌, ◌<◌, ◌≤◌, ℕ, List, [
 use Rattle.std.specs.Prelude.{nat_lt, if◌then◌else◌}
 use Rattle.std.proofs.lemmas.Bool.{ltb-true, ltb-false}
 use Rattle.rk_base.specs.Text.{Text}
-use Rattle.sh_rules.specs.Grammar.{Want, Parses, no_parses, leaves_all}
-use Rattle.sh_rules.specs.Reading.{Spelled, ReadsAll, Halt}
-use Rattle.sh_rules.specs.Checked.{FirstAll, Checked, ModesAgree}
+use Rattle.sh_rules.specs.Grammar.{Want, Parses, no_parses, leaves_all, Halt}
+use Rattle.sh_rules.specs.Reading.{Spelled, ReadsAll}
+use Rattle.sh_rules.proofs.Checked.{FirstAll, Checked, ModesAgree}
 use Rattle.sh_rules.proofs.Keeps.{Consistent, Inv}
 use Rattle.sh_rules.proofs.Stopping.{stops_all}
 use Rattle.sh_rules.proofs.Complete.{sound_all, reads_all, once_all}

@@ -1,7 +1,7 @@
 -- What is left at a place is a part of the text, from that place on.
 use Rattle.std.proofs.Common.{◌≡◌, ℕ, zero, suc, ◌+◌, List, [], ◌∷◌, ◌++◌, Option, Some, None, Bool, true, false, refl, sym, ap, ◌∙◌, subst, append_assoc, append-nil, take, drop, drop-drop}
 use Rattle.sh_rules.specs.Reading.{Stands, Spelled}
-use Rattle.sh_rules.specs.LookAhead.{mode_of}
+use Rattle.sh_rules.specs.Modes.{mode_of}
 use Rattle.sh_rules.specs.Rules.{Token, shell}
 use Rattle.sh_token.specs.declared.effect.Effect.{Effect}
 use Rattle.sh_token.specs.declared.effect.Effect.TheVariants as e

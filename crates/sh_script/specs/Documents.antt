@@ -20,7 +20,7 @@ but_last (x ∷ (y ∷ xs)) = x ∷ but_last (y ∷ xs)
 abbrev pub literal_body : Text → WordTree
 literal_body text = word_of (parts_of (literal Quoted text ∷ [])) no_bodies
 
--- the body that an operator has; in a script each has one (specs/Pairing.antt)
+-- the body that an operator has; in a script each has one, by a law (`documents_in_order`)
 abbrev pub document : Option WordTree → WordTree
 document None = word_of (parts_of []) no_bodies
 document (Some body) = body

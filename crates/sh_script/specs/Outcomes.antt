@@ -1,7 +1,7 @@
 -- What reading of a script comes to, from its start: its marks, or where it stops.
 use Rattle.std.specs.Prelude.{◌≡◌, List}
-use Rattle.sh_rules.specs.Grammar.{Parses}
-use Rattle.sh_rules.specs.Reading.{ReadsAll, Halt, Stops, At, StuckAll}
+use Rattle.sh_rules.specs.Grammar.{Parses, Halt}
+use Rattle.sh_rules.specs.Reading.{ReadsAll, Stops, At, StuckAll}
 use Rattle.sh_rules.specs.Rules.{Rule, Token, shell, script}
 use Rattle.sh_grammar.specs.Marks.{Mark, flat_all}
 use Rattle.sh_token.specs.Places.{Place}

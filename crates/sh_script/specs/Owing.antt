@@ -1,7 +1,7 @@
 -- What is still to be read, and what reading of it comes to.
 use Rattle.std.specs.Prelude.{◌≡◌, ◌<◌, ℕ, ◌+◌, ◌*◌, List, [], ◌∷◌, ◌++◌, Bool, true, false}
-use Rattle.sh_rules.specs.Grammar.{Symbol, Want, Do, Parses}
-use Rattle.sh_rules.specs.Reading.{Reader, ReadsAll, Halt, Stops, At, StuckAll}
+use Rattle.sh_rules.specs.Grammar.{Symbol, Want, Do, Parses, Halt}
+use Rattle.sh_rules.specs.Reading.{Reader, ReadsAll, Stops, At, StuckAll}
 use Rattle.sh_rules.specs.declared.token_kind.TokenKind.{TokenKind}
 use Rattle.sh_rules.specs.declared.token_kind.Mode.{Mode}
 use Rattle.sh_rules.specs.Parts as p

@@ -1,13 +1,14 @@
 -- A text, read symbol by symbol from its start (XCU 2.10): a part goes on by the rule that the token there chooses, a token
 -- is taken where it is the one that is wanted.
-use Rattle.std.specs.Prelude.{ℕ, zero, suc, List, [], ◌∷◌, ◌++◌, nat_eq, if◌then◌else◌, Option, Some, None}
+use Rattle.std.specs.Prelude.{ℕ, zero, suc, List, [], ◌∷◌, ◌++◌, if◌then◌else◌, Option, Some, None}
 use Rattle.rk_base.specs.Text.{Text}
-use Rattle.sh_rules.specs.Grammar.{Symbol, Want, Do}
-use Rattle.sh_rules.specs.Reading.{Halt, Blocked, Over}
+use Rattle.sh_rules.specs.Grammar.{Symbol, Want, Do, Halt, Blocked, Over}
 use Rattle.sh_rules.specs.declared.token_kind.TokenKind.{TokenKind}
 use Rattle.sh_rules.specs.Parts.{Part}
 use Rattle.sh_rules.specs.Rules.{Rule, Token, script, spelling}
-use Rattle.sh_rules.specs.LookAhead.{number, mode_of, mode, choose}
+use Rattle.sh_rules.specs.Kinds.{same}
+use Rattle.sh_rules.specs.Modes.{mode_of, mode}
+use Rattle.sh_rules.specs.Choosing.{choose}
 use Rattle.sh_grammar.specs.Marks.{Mark, node, leaf}
 use Rattle.sh_token.specs.Places.{Place, begin, size}
 use Rattle.sh_token.specs.Lexemes.{look}
@@ -35,7 +36,7 @@ taken on kind todo marks here length =
 abbrev pub wanted : GoesOn → TokenKind → List (Symbol TokenKind Part) → List Mark → Place → Look → End
 wanted on kind todo marks here None = Stuck here Blocked
 wanted on kind todo marks here (Some there) =
-    if nat_eq (number there.0) (number kind) then taken on kind todo marks here there.1
+    if same there.0 kind then taken on kind todo marks here there.1
     else Stuck here Blocked
 
 -- the rule's symbols stand in the part's place

@@ -1,6 +1,6 @@
 -- Scripts, and faulty texts (XCU 2.2 to 2.10).
 use Rattle.std.specs.Prelude.{◌≡◌, ◌<◌, ◌≤◌, ◌⊎◌, ℕ, List, length}
-use Rattle.sh_rules.specs.Reading.{Halt}
+use Rattle.sh_rules.specs.Grammar.{Halt}
 use Rattle.sh_rules.specs.Rules.{Token, script}
 use Rattle.sh_ast.specs.Commands.{CommandsTree}
 use Rattle.sh_token.specs.Places.{Place, begin}

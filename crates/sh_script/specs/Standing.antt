@@ -1,7 +1,7 @@
 -- The tokens that stand in a text (XCU 2.3), and where they stop being a script (XCU 2.10).
 use Rattle.std.specs.Prelude.{◌≡◌, List, [], ◌∷◌, ◌++◌, Some, false, true}
 use Rattle.sh_rules.specs.Modes.{mode_of}
-use Rattle.sh_rules.specs.Reading.{Halt, Blocked, Over}
+use Rattle.sh_rules.specs.Grammar.{Halt, Blocked, Over}
 use Rattle.sh_rules.specs.Rules.{Token, script}
 use Rattle.sh_token.specs.Places.{Place}
 use Rattle.sh_token.specs.Steps.{lex, over}

@@ -1,12 +1,13 @@
 -- The grammar's reader over texts.
 use Rattle.std.specs.Prelude.{◌≡◌, ℕ, Option, Some, None}
-use Rattle.sh_rules.specs.Grammar.{Symbol}
-use Rattle.sh_rules.specs.Reading.{Reader, Halt, Halts}
+use Rattle.sh_rules.specs.Grammar.{Symbol, Halt}
+use Rattle.sh_rules.specs.Reading.{Reader, Halts}
 use Rattle.sh_rules.specs.declared.token_kind.TokenKind.{TokenKind}
 use Rattle.sh_rules.specs.declared.token_kind.Mode.{Mode}
 use Rattle.sh_rules.specs.Parts.{Part}
 use Rattle.sh_rules.specs.Rules.{Rule, Token, shell}
-use Rattle.sh_rules.specs.LookAhead.{reader, mode_of}
+use Rattle.sh_rules.specs.Modes.{mode_of}
+use Rattle.sh_rules.specs.Choosing.{reader}
 use Rattle.sh_token.specs.Places.{Place}
 use Rattle.sh_token.specs.Lexemes.{look}
 use Rattle.sh_token.specs.Steps.{lex, over}

@@ -5,7 +5,7 @@ ghost use Rattle.sh_token.specs.declared.fault.ScriptFault as faults;
 ghost use Rattle.sh_token.specs.declared.fault.Why.TheVariants.{NotInProfile, Unclosed};
 ghost use Rattle.sh_token.specs.Folded.{folded};
 ghost use Rattle.sh_rules.specs.Rules as rules;
-ghost use Rattle.sh_rules.specs.Reading.{Halt};
+ghost use Rattle.sh_rules.specs.Grammar.{Halt};
 ghost use Rattle.sh_token.specs.Places.{Place, begin};
 ghost use Rattle.sh_script.specs.Trees.{Trees};
 ghost use Rattle.sh_script.specs.Meanings.{script_of};

@@ -4,7 +4,8 @@ use Rattle.std.specs.Prelude.{if◌then◌else◌, ◌==◌, nat_lt, slice_index
 use Rattle.std.proofs.lemmas.Bool.{ltb-true}
 use Rattle.sh_rules.specs.declared.token_kind.TokenKind.{TokenKind}
 use Rattle.sh_rules.specs.declared.token_kind.TokenKind.TheVariants as k
-use Rattle.sh_rules.specs.LookAhead.{number, member}
+use Rattle.sh_rules.specs.Kinds.{number}
+use Rattle.sh_rules.proofs.Enumerated.{member}
 use Rattle.sh_token.specs.declared.recognizer.Recognizer.{Recognizer}
 use Rattle.sh_token.specs.declared.recognizer.Recognizer.TheVariants as r
 use Rattle.sh_token.specs.declared.delimiter.Within.TheVariants as w

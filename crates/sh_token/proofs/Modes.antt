@@ -2,13 +2,16 @@
 use Rattle.std.proofs.Common.{◌≡◌, ℕ, zero, suc, ◌+◌, List, [], ◌∷◌, Bool, true, false, Option, Some, None, refl, sym, ap, ◌∙◌, subst, ◌⊎◌, inl, inr}
 use Rattle.std.specs.Prelude.{nat_eq, if◌then◌else◌, ◌==◌, slice_index}
 use Rattle.std.proofs.lemmas.Bool.{eqb-true}
-use Rattle.sh_rules.specs.Checked.{ModesAgree}
+use Rattle.sh_rules.proofs.Checked.{ModesAgree}
 use Rattle.sh_rules.specs.declared.token_kind.TokenKind.{TokenKind}
 use Rattle.sh_rules.specs.declared.token_kind.Mode.{Mode}
 use Rattle.sh_rules.specs.declared.token_kind.TokenKind.TheVariants as k
 use Rattle.sh_rules.specs.declared.token_kind.Mode.TheVariants as m
 use Rattle.sh_rules.specs.Rules.{Token, shell}
-use Rattle.sh_rules.specs.LookAhead.{number, member, all_kinds, either, mode_of, reader}
+use Rattle.sh_rules.specs.Kinds.{number}
+use Rattle.sh_rules.specs.Modes.{mode_of}
+use Rattle.sh_rules.specs.Choosing.{reader}
+use Rattle.sh_rules.proofs.Enumerated.{member, all_kinds, either}
 use Rattle.sh_rules.proofs.Sets.{sets}
 use Rattle.sh_rules.proofs.Tables.{both, implies, implied, each, every}
 use Rattle.sh_token.specs.declared.recognizer.Recognizer.{Recognizer}

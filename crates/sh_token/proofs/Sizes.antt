@@ -8,7 +8,7 @@ use Rattle.sh_rules.specs.declared.token_kind.Mode.{Mode}
 use Rattle.sh_rules.specs.declared.token_kind.TokenKind.TheVariants as k
 use Rattle.sh_rules.specs.declared.token_kind.Mode.TheVariants as m
 use Rattle.sh_rules.specs.Rules.{Token}
-use Rattle.sh_rules.specs.LookAhead.{mode_of}
+use Rattle.sh_rules.specs.Modes.{mode_of}
 use Rattle.sh_token.specs.declared.front.Front.TheVariants as f
 use Rattle.sh_token.specs.declared.effect.Effect.{Effect}
 use Rattle.sh_token.specs.declared.effect.Effect.TheVariants as e

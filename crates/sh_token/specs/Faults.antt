@@ -1,6 +1,6 @@
 -- Why no script goes on at a place: by the place alone. At one place what the profile leaves out comes first, then a level too many, then what isn't closed, then syntax.
 use Rattle.std.specs.Prelude.{ℕ, suc, ◌+◌, ◌-◌, ◌==◌, nat_lt, List, [], ◌∷◌, take, drop, length, slice_index, Option, Some, None, Bool, true, false, if◌then◌else◌}
-use Rattle.sh_rules.specs.Reading.{Halt, Blocked, Over}
+use Rattle.sh_rules.specs.Grammar.{Halt, Blocked, Over}
 use Rattle.sh_rules.specs.Rules.{Token}
 use Rattle.sh_token.specs.declared.fault.Why.{Why}
 use Rattle.sh_token.specs.declared.fault.Why.TheVariants as y

@@ -1,6 +1,6 @@
 // What is told of a token by its kind alone.
 ghost use Rattle.std.specs.Prelude.{◌≡◌};
-ghost use Rattle.sh_rules.specs.LookAhead.{mode_of as mode_lem};
+ghost use Rattle.sh_rules.specs.Modes.{mode_of as mode_lem};
 ghost use Rattle.sh_token.specs.Brackets.{text_class as class_lem};
 ghost use Rattle.sh_token.specs.Lexemes.{is_raw as raw_lem};
 

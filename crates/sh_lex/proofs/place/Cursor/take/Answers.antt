@@ -1,4 +1,4 @@
-use Rattle.sh_rules.specs.LookAhead.{mode_of}
+use Rattle.sh_rules.specs.Modes.{mode_of}
 use Rattle.sh_token.proofs.Sizes.{look_within}
 use Rattle.sh_lex.proofs.place.Cursor.take.Goals as goal
 
