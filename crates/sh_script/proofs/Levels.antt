@@ -19,7 +19,8 @@ use Rattle.sh_token.specs.Recognizers.{recognizer}
 use Rattle.sh_token.specs.Lexemes.{recognized, token_if, bodies_look, is_raw, extent, look}
 use Rattle.sh_token.specs.Effects.{effect_of}
 use Rattle.sh_token.specs.Places.{Place, Around, is_none, is_closed, is_whole, last_paren, moved}
-use Rattle.sh_token.specs.Steps.{lex, after, popped, last_around, paren_closed, delimited, body_passed, body_taken, past_tabs_if, aside, put_aside, body_opened, body_closed, next}
+use Rattle.sh_token.specs.Steps.{after, popped, last_around, paren_closed, delimited, body_passed, body_taken, past_tabs_if, aside, put_aside, body_opened, body_closed, next}
+use Rattle.sh_token.proofs.ByRules.{lex_looks}
 use Rattle.sh_token.proofs.Found.{kinds_by}
 use Rattle.sh_token.proofs.Modes.{found, front_at_place, kind_of, unmeasured, unlexed, kind_or, place_or}
 use Rattle.sh_script.specs.TextReader.{text_reader}
@@ -147,7 +148,6 @@ level_kind j n p e = (refl, refl)
 
 -- A TOKEN that stands there
 pub level_there : (t : Token) (a b : Place) → Stands shell text_reader t a b → Level t.kind a b
-unfolding lex
 level_there t a b e =
-    let u = unlexed a b (look (mode_of t.kind) a) t e in
+    let u = unlexed a b (look (mode_of t.kind) a) t (sym (lex_looks (mode_of t.kind) a) ∙ e) in
     subst (λ q. Level t.kind a q) (ap (place_or b) u.2) (level_kind t.kind u.0 a u.1)

@@ -20,8 +20,9 @@ use Rattle.sh_token.specs.HereDocuments.{Awaited, delimiter_of, is_quoted, line}
 use Rattle.sh_token.specs.Lexemes.{extent, look}
 use Rattle.sh_token.specs.Effects.{effect_of}
 use Rattle.sh_token.specs.Places.{Place, Around, begin, last_paren, moved}
-use Rattle.sh_token.specs.Steps.{lex, after, popped, last_around, paren_closed, body_passed, body_taken, past_tabs_if, aside, put_aside, body_opened, body_closed, next}
+use Rattle.sh_token.specs.Steps.{after, popped, last_around, paren_closed, body_passed, body_taken, past_tabs_if, aside, put_aside, body_opened, body_closed, next}
 use Rattle.sh_token.specs.Faults.{least, or_operator, or_first, or_opened, open_at, at_symbol, told, is_over}
+use Rattle.sh_token.proofs.ByRules.{lex_looks}
 use Rattle.sh_token.proofs.Modes.{unlexed, place_or}
 use Rattle.sh_token.proofs.Sizes.{look_within}
 use Rattle.sh_script.specs.TextReader.{text_reader}
@@ -233,9 +234,8 @@ after_ok e.Encloses n p l h = by_joins p.opened p n l h
 
 -- FROM PLACE TO PLACE
 token_ok : (t : Token) (a b : Place) → Stands shell text_reader t a b → IsOk a → IsOk b
-unfolding lex
 token_ok t a b s h =
-    let u = unlexed a b (look (mode_of t.kind) a) t s in
+    let u = unlexed a b (look (mode_of t.kind) a) t (sym (lex_looks (mode_of t.kind) a) ∙ s) in
     subst (λ (q : Place). IsOk q) (ap (place_or b) u.2) (after_ok (effect_of t.kind) u.0 a (look_within (mode_of t.kind) a t.kind u.0 u.1) h)
 
 spelled_ok : (ts : List Token) (a b : Place) → Spelled shell text_reader ts a b → IsOk a → IsOk b

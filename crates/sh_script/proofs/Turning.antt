@@ -1,5 +1,5 @@
 -- A turn by a token, and a turn by a rule.
-use Rattle.std.proofs.Common.{◌≡◌, ℕ, List, [], ◌∷◌, ◌++◌, Some, None, true, false, refl, sym, ap, subst, ◌⊎◌, inl, inr}
+use Rattle.std.proofs.Common.{◌≡◌, ℕ, List, [], ◌∷◌, ◌++◌, Some, None, Option, true, false, refl, sym, ap, ◌∙◌, subst, ◌⊎◌, inl, inr}
 use Rattle.sh_rules.specs.Reading.{Stops, At, StuckAll}
 use Rattle.sh_rules.specs.Grammar.{Symbol, Want, Do, Halt, Blocked, Over}
 use Rattle.sh_rules.specs.declared.token_kind.TokenKind.{TokenKind}
@@ -14,6 +14,7 @@ use Rattle.sh_token.specs.Lexemes.{look}
 use Rattle.sh_token.specs.Tokens.{Look}
 use Rattle.sh_token.specs.Effects.{effect_of}
 use Rattle.sh_token.specs.Steps.{lex, lexed, over, after, token_of}
+use Rattle.sh_token.proofs.ByRules.{lex_looks}
 use Rattle.sh_token.proofs.Sizes.{may_be_empty, Shrinks}
 use Rattle.sh_script.specs.TextReader.{text_reader, StandsThere, NotOf, HaltsAt}
 use Rattle.sh_script.specs.Owing.{Owes, Keeps, Fewer}
@@ -23,8 +24,7 @@ use Rattle.sh_script.proofs.Fewer.{taken_fewer}
 
 -- what is looked at is the token there
 pub lexed_there : (m : Mode) (kind : TokenKind) (n : ℕ) (p : Place) → look m p ≡ Some (kind, n) → lex m p ≡ Some (token_of kind n p, after (effect_of kind) n p)
-unfolding lex
-lexed_there m kind n p h = ap (lexed p) h
+lexed_there m kind n p h = lex_looks m p ∙ ap (lexed p) h
 
 -- a token is taken
 pub keeps_taken : (kind : TokenKind) (n : ℕ) (ss : List (Symbol TokenKind Part)) (marks : List Mark) (p : Place) → StandsThere kind n p → over (token_of kind n p) p ≡ false → Keeps (Want kind ∷ ss) marks p ss (marks ++ (leaf (token_of kind n p).text ∷ [])) (after (effect_of kind) n p)
@@ -41,10 +41,13 @@ halts_deep kind n p h o = (after (effect_of kind) n p, lexed_there (mode_of kind
 
 -- no token of the kind stands there
 pub halts_want : (kind : TokenKind) (p : Place) → NotOf kind (look (mode_of kind) p) → HaltsAt (Want kind) p Blocked
-unfolding HaltsAt lex
-halts_want kind p h = misses (look (mode_of kind) p) h
+unfolding HaltsAt
+halts_want kind p h = subst Missed (sym (lex_looks (mode_of kind) p)) (misses (look (mode_of kind) p) h)
   where
-    misses : (o : Look) → NotOf kind o → (lexed p o ≡ None) ⊎ ((t : Token) × (q : Place) × (lexed p o ≡ Some (t, q)) × (t.kind ≡ kind → ⊥))
+    Missed : Option (Token × Place) → Type 0
+    Missed found = (found ≡ None) ⊎ ((t : Token) × (q : Place) × (found ≡ Some (t, q)) × (t.kind ≡ kind → ⊥))
+
+    misses : (o : Look) → NotOf kind o → Missed (lexed p o)
     misses None k = inl refl
     misses (Some x) k = inr (token_of x.0 x.1 p, after (effect_of x.0) x.1 p, refl, k)
 
@@ -57,8 +60,8 @@ keeps_chosen r kind n ss marks p s e h c =
 
 -- nothing there chooses a rule
 pub halts_none : (n : Part) (p : Place) → None ≡ look (mode n) p → HaltsAt (Do n) p Blocked
-unfolding HaltsAt lex
-halts_none n p h = inl (ap (lexed p) (sym h))
+unfolding HaltsAt
+halts_none n p h = inl (lex_looks (mode n) p ∙ ap (lexed p) (sym h))
 
 pub halts_unwanted : (n : Part) (kind : TokenKind) (length : ℕ) (p : Place) → Some (kind, length) ≡ look (mode n) p → None ≡ choose n kind → HaltsAt (Do n) p Blocked
 unfolding HaltsAt

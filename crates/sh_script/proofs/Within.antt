@@ -12,7 +12,8 @@ use Rattle.sh_token.specs.HereDocuments.{line}
 use Rattle.sh_token.specs.Lexemes.{extent, look}
 use Rattle.sh_token.specs.Effects.{effect_of}
 use Rattle.sh_token.specs.Places.{Place, Around, begin, last_paren}
-use Rattle.sh_token.specs.Steps.{lex, after, popped, last_around, paren_closed, body_passed, body_taken, past_tabs_if, aside, body_opened, body_closed, next}
+use Rattle.sh_token.specs.Steps.{after, popped, last_around, paren_closed, body_passed, body_taken, past_tabs_if, aside, body_opened, body_closed, next}
+use Rattle.sh_token.proofs.ByRules.{lex_looks}
 use Rattle.sh_token.proofs.Modes.{unlexed, place_or}
 use Rattle.sh_script.specs.TextReader.{text_reader}
 
@@ -128,9 +129,8 @@ after_within e.Encloses n text p h = twice text p.at n (joins (drop n p.text)) p
 
 -- FROM PLACE TO PLACE
 token_within : (text : List ℕ) (t : Token) (a b : Place) → Stands shell text_reader t a b → IsWithin text a.at a.text a.around → IsWithin text b.at b.text b.around
-unfolding lex
 token_within text t a b e h =
-    let u = unlexed a b (look (mode_of t.kind) a) t e in
+    let u = unlexed a b (look (mode_of t.kind) a) t (sym (lex_looks (mode_of t.kind) a) ∙ e) in
     subst (λ (q : Place). IsWithin text q.at q.text q.around) (ap (place_or b) u.2) (after_within (effect_of t.kind) u.0 text a h)
 
 spelled_within : (text : List ℕ) (ts : List Token) (a b : Place) → Spelled shell text_reader ts a b → IsWithin text a.at a.text a.around → IsWithin text b.at b.text b.around

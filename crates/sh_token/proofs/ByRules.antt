@@ -24,6 +24,7 @@ use Rattle.sh_token.specs.Fronts.{front_of, plain_of, break_of, end_of, is_found
 use Rattle.sh_token.specs.Recognizers.{recognizer}
 use Rattle.sh_token.specs.Lexemes.{surroundings, recognized, look}
 use Rattle.sh_token.specs.Places.{Place, is_none}
+use Rattle.sh_token.specs.Steps.{lexed, lex}
 use Rattle.sh_token.specs.Recognition.{Double_quotes, Quoted_braces, Document, Arithmetic, quoted_text, begins_operator, quoted_by, at_quoted, at_operator, at_blank, at_tilde, first_part, word_among, at_word, at_unquoted, at_other, reserved, is_esac, recognition, token_at}
 
 -- what is found with a front
@@ -464,3 +465,8 @@ found_by_rules mode p = front_is (found mode p) p.words (folded p.text) ∙ ap (
 pub by_the_rules : (mode : Mode) (p : Place) → look mode p ≡ token_at mode p
 unfolding look token_at
 by_the_rules mode p = ap (measured p.text) (found_by_rules mode p)
+
+-- so the token at a place is the one that the table finds
+pub lex_looks : (mode : Mode) (p : Place) → lex mode p ≡ lexed p (look mode p)
+unfolding lex
+lex_looks mode p = ap (lexed p) (sym (by_the_rules mode p))

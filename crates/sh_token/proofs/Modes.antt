@@ -33,6 +33,7 @@ use Rattle.sh_token.specs.Recognizers.{recognizer}
 use Rattle.sh_token.specs.Lexemes.{surroundings, recognized, is_raw, extent, measured, look}
 use Rattle.sh_token.specs.Places.{Place}
 use Rattle.sh_token.specs.Steps.{lexed, lex, over, token_of}
+use Rattle.sh_token.proofs.ByRules.{lex_looks}
 use Rattle.sh_token.proofs.Found.{Of, kinds_by, of_recognized}
 
 -- numbers of recognizers
@@ -414,7 +415,6 @@ unlexed p q (Some x) t e =
 
 -- THE LAW: a token that stands at a place is found in each mode to which it belongs.
 pub modes_agree : ModesAgree shell (reader lex over) sets
-unfolding lex
 modes_agree m t p q h e =
-    let u = unlexed p q (look (mode_of t.kind) p) t e in
-    ap (lexed p) (looks_forth m p t.kind u.0 h u.1) ∙ u.2
+    let u = unlexed p q (look (mode_of t.kind) p) t (sym (lex_looks (mode_of t.kind) p) ∙ e) in
+    lex_looks m p ∙ ap (lexed p) (looks_forth m p t.kind u.0 h u.1) ∙ u.2

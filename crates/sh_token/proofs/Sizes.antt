@@ -28,6 +28,7 @@ use Rattle.sh_token.specs.Effects.{effect_of}
 use Rattle.sh_token.specs.Places.{Place, Around, last_paren, moved, size, left_around}
 use Rattle.sh_token.specs.Steps.{lex, after, popped, last_around, paren_closed, body_passed, body_taken, past_tabs_if, aside, put_aside, body_begun, body_opened, body_closed, next}
 use Rattle.sh_token.proofs.Found.{Of, Wide, may_have_none, kinds_by, of_recognized}
+use Rattle.sh_token.proofs.ByRules.{lex_looks}
 use Rattle.sh_token.proofs.Modes.{found, front_at_place, unmeasured, unlexed, found_by_itself, kind_or, count_or, place_or}
 
 -- these tokens may leave as much as there was
@@ -397,8 +398,7 @@ shorter_kind k.End n p e = stays k.End n p refl
 
 -- THE LAW: less is left behind each token, or as much behind one of no bytes.
 pub shorter : (mode : Mode) (p : Place) (t : Token) (q : Place) → lex mode p ≡ Some (t, q) → Shrinks (may_be_empty t.kind) (size p) (size q)
-unfolding lex
 shorter mode p t q e =
-    let u = unlexed p q (look mode p) t e in
+    let u = unlexed p q (look mode p) t (sym (lex_looks mode p) ∙ e) in
     let s : after (effect_of t.kind) u.0 p ≡ q = ap (place_or q) u.2 in
     subst (λ q. Shrinks (may_be_empty t.kind) (size p) (size q)) s (shorter_kind t.kind u.0 p (found_by_itself mode p t.kind u.0 u.1))

@@ -11,8 +11,8 @@ use Rattle.sh_token.specs.Effects.{effect_of}
 use Rattle.sh_token.specs.Bytes.{◌or◌, ◌also◌, not_so, is_tab}
 use Rattle.sh_token.specs.Folded.{folded, run}
 use Rattle.sh_token.specs.HereDocuments.{Awaited, delimiter_of, is_quoted, lines, line}
-use Rattle.sh_token.specs.Tokens.{Look}
-use Rattle.sh_token.specs.Lexemes.{look, is_raw, extent}
+use Rattle.sh_token.specs.Tokens.{Look, is_raw, extent}
+use Rattle.sh_token.specs.Recognition.{token_at}
 use Rattle.sh_token.specs.Places.{Place, Around, last_paren, moved, past_joins, past_blanks}
 
 -- but the last; and the last, where there is one
@@ -176,9 +176,9 @@ abbrev pub lexed : Place → Look → Option (Token × Place)
 lexed p None = None
 lexed p (Some x) = Some (token_of x.0 x.1 p, after (effect_of x.0) x.1 p)
 
--- THE TOKEN at a place, which is that of Recognition.antt (`look` is `token_at`), and the place behind it
+-- THE TOKEN at a place, which is that of Recognition.antt, and the place behind it
 unfoldable pub lex : Mode → Place → Option (Token × Place)
-lex mode p = lexed p (look mode p)
+lex mode p = lexed p (token_at mode p)
 
 abbrev pub opens_level : Effect → Bool
 opens_level e.Opens = true
