@@ -75,7 +75,7 @@ has_x mode = mode / 64 % 2 == 1
 -- what was looked up: a refusal, a directory, and what nobody may run
 abbrev pub looked : Meaning → Text → Next → Answer → Go_on
 looked again file k (answer.No errno) e = fails file (word errno) 127 k e
-looked again file k (answer.Stat kind mode empty) e =
+looked again file k (answer.Stat kind mode is_empty) e =
     if is_directory kind then fails file (codes "is a directory") 126 k e else (if has_x mode then runs_script again file k e else fails file (codes "denied") 126 k e)
 looked again file k a e = runs_script again file k e
 
