@@ -6,7 +6,7 @@ use Rattle.rk_calls.specs.Talk.{Says, pay}
 use Rattle.rk_top.specs.declared.command.Running.{Running}
 use Rattle.rk_top.specs.declared.command.Running.TheVariants.{Complains, Shells, Builtins, Texts, Plain, Selects, Sorts, Seds, Greps, Files, Copies, Finds}
 use Rattle.rk_top.specs.declared.command.Command.{Command}
-use Rattle.sh_builtin.specs.Commands.{command_talk as builtin_talk}
+use Rattle.sh_builtin.specs.Stages.{command_talk as builtin_talk}
 use Rattle.sh_eval.specs.Starting.{shell_talk}
 use Rattle.ut_args.specs.Usage.{complaint_talk}
 use Rattle.ut_copy.specs.Utilities.{copy_talk}

@@ -1,15 +1,12 @@
 -- A builtin as a command by itself.
 use Rattle.std.specs.Prelude.{List, [], ◌∷◌, Option, Some, None, false, if◌then◌else◌}
 use Rattle.rk_base.specs.Text.{Text}
-use Rattle.rk_calls.specs.declared.answer.Answer.{Answer}
 use Rattle.rk_calls.specs.Talk.{Says, exits}
 use Rattle.sh_vars.specs.declared.env.Env.{Env}
 use Rattle.sh_vars.specs.Held.{nothing}
-use Rattle.sh_builtin.specs.declared.command.BuiltinCommand.{BuiltinCommand}
 use Rattle.sh_builtin.specs.Builtins.{does}
-use Rattle.sh_builtin.specs.Doing.{Doing, heard}
+use Rattle.sh_builtin.specs.Doing.{Doing}
 use Rattle.sh_builtin.specs.Names.{is_builtin}
-use Rattle.sh_builtin.specs.Stages.{builtin_does}
 
 -- each descriptor is the command's own, and then it exits
 abbrev pub alone : Doing → Env → Says
@@ -18,10 +15,6 @@ alone x = x (λ d. Some d) (λ status env. exits status 0)
 -- with these words, its name first, in this environment
 abbrev pub says : List Text → Env → Says
 says words env = alone (does words) env
-
--- what the machine says: it hears the answer first
-abbrev pub command_talk : BuiltinCommand → Answer → Says
-command_talk c a = alone (builtin_does c.builtin a) (heard a c.env)
 
 -- A command that is no shell is launched without variables: it begins with none set, in its working directory.
 abbrev pub own_env : Text → Text → Env

@@ -2,6 +2,7 @@
 use Rattle.std.specs.Prelude.{◌≡◌, ℕ, drop}
 use Rattle.rk_calls.specs.declared.answer.Answer.{Answer}
 use Rattle.rk_calls.specs.Brought.{brought}
+use Rattle.rk_calls.specs.Talk.{Says}
 use Rattle.sh_vars.specs.declared.env.Env.{Env}
 use Rattle.sh_builtin.specs.declared.stage.Stage.{Stage}
 use Rattle.sh_builtin.specs.declared.stage.Stage.TheVariants.{Writing, Walking, Reading, Printing, Paid, Judging, Over}
@@ -9,9 +10,11 @@ use Rattle.sh_builtin.specs.declared.stage.Move.{Move}
 use Rattle.sh_builtin.specs.declared.stage.Progress.{Progress}
 use Rattle.sh_builtin.specs.declared.stage.Progress.TheVariants.{Begins, Stands}
 use Rattle.sh_builtin.specs.declared.builtin.Builtin.{Builtin}
+use Rattle.sh_builtin.specs.declared.command.BuiltinCommand.{BuiltinCommand}
 use Rattle.sh_builtin.specs.Builtins.{does}
 use Rattle.sh_builtin.specs.Cds.{walked}
-use Rattle.sh_builtin.specs.Doing.{Slots, Ended, Doing, ends, after}
+use Rattle.sh_builtin.specs.Commands.{alone}
+use Rattle.sh_builtin.specs.Doing.{Slots, Ended, Doing, ends, after, heard}
 use Rattle.sh_operands.specs.Passes.{prints_of}
 use Rattle.sh_builtin.specs.Prints.{tells_bad, writes_made}
 use Rattle.sh_builtin.specs.Reads.{line_read, reads_on}
@@ -39,3 +42,7 @@ progress_does (Stands stage) a = stage_does stage a
 
 abbrev pub builtin_does : Builtin → Answer → Doing
 builtin_does b a = progress_does b.progress a
+
+-- what the machine says as a command by itself: it hears the answer first
+abbrev pub command_talk : BuiltinCommand → Answer → Says
+command_talk c a = alone (builtin_does c.builtin a) (heard a c.env)

@@ -1,6 +1,7 @@
 // A builtin as a command by itself.
 ghost use Rattle.std.specs.Prelude.{◌≡◌, IfOk, option_map};
-ghost use Rattle.sh_builtin.specs.Commands.{says, command_talk, own_env, named_command, builtin_command};
+ghost use Rattle.sh_builtin.specs.Commands.{says, own_env, named_command, builtin_command};
+ghost use Rattle.sh_builtin.specs.Stages.{command_talk};
 ghost use Rattle.sh_builtin.specs.Doing.{numbered};
 
 use crate::Builtin;
@@ -104,7 +105,7 @@ impl BuiltinCommand {
 }
 
 impl Machine for BuiltinCommand {
-    ghost use Rattle.sh_builtin.specs.Commands.{command_talk};
+    ghost use Rattle.sh_builtin.specs.Stages.{command_talk};
 
     ghost talk = { command_talk };
 
