@@ -105,7 +105,7 @@ past_bare nodes n x e = ap (λ (k : ℕ). under nodes k x) e ∙ at_end nodes wh
   at_end (y ∷ ns) = at_end ns
 
 dir_place : (it : Node) (dir : ℕ) (name : Text) → is_dir (Some it) ≡ true → place_of it dir name ≡ Some (dir, name)
-dir_place (File mode bytes) dir name d = cc
+dir_place (File mode content) dir name d = cc
 dir_place (Dir mode) dir name d = refl
 dir_place (Link text) dir name d = cc
 

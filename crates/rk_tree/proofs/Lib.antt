@@ -3,8 +3,11 @@ pub mod ChangedLemmas
 pub mod ClimbingLemmas
 pub mod CompareLemmas
 pub mod CopiesLemmas
+pub mod EntriesLemmas
+pub mod FullLemmas
 pub mod GrownLemmas
 pub mod HierarchyLemmas
+pub mod KnownLemmas
 pub mod ListLemmas
 pub mod MovedLemmas
 pub mod NamesLemmas

@@ -46,7 +46,7 @@ filled [] h e = cc
 filled (b ∷ bs) h e = cc
 
 pub checked-fit : (it : Node) → first_of (entry_checks it) ≡ None → IsFit it
-checked-fit (File mode bytes) h = within_all mode (passed _ Invalid [] h).0
+checked-fit (File mode content) h = within_all mode (passed _ Invalid [] h).0
 checked-fit (Dir mode) h = within_all mode (passed _ Invalid [] h).0
 checked-fit (Link text) h =
     let some = passed (is_empty text) NoEntry ((has_nul text, Invalid) ∷ []) h in

@@ -42,7 +42,7 @@ cleared_entries ns (Some m) = entries-change (with_place None) ns m (λ it. refl
 
 dir_place : (o : Option Node) (to : ℕ) (new : Text) → is_dir o ≡ true → option_and_then (λ it. place_of it to new) o ≡ Some (to, new)
 dir_place None to new d = cc
-dir_place (Some (File mode bytes)) to new d = cc
+dir_place (Some (File mode content)) to new d = cc
 dir_place (Some (Dir mode)) to new d = refl
 dir_place (Some (Link text)) to new d = cc
 

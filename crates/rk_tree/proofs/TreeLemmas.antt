@@ -69,6 +69,19 @@ pub ok_view : {A E : Type 0} (r : Result A E) (new after : List Inode) (then : H
 ok_view (Ok x) new after then ok t s = view_by new then (tree_same after new then ok t) s
 ok_view (Err e) new after then ok t s = tt
 
+-- a tree that a call changes, or leaves as it was where it fails
+abbrev pub either : {A E : Type 0} → Result A E → Hierarchy → Hierarchy → Hierarchy
+either (Ok x) then tree = then
+either (Err e) then tree = tree
+
+pub tree_either : {A E : Type 0} (r : Result A E) (old new after : List Inode) (tree then : Hierarchy) → OnOk r (new ≡ after) → OnErr r (new ≡ old) → IsTree old tree → IsTree after then → IsTree new (either r then tree)
+tree_either (Ok x) old new after tree then ok err t u = tree_same after new then ok u
+tree_either (Err e) old new after tree then ok err t u = tree_same old new tree err t
+
+pub kept_view : {A E : Type 0} (r : Result A E) (old new : List Inode) (tree : Hierarchy) → OnErr r (new ≡ old) → IsTree old tree → (s : Shown new) → OnErr r (hierarchy_of s.paths new ≡ tree)
+kept_view (Ok x) old new tree err t s = tt
+kept_view (Err e) old new tree err t s = view_by new tree (tree_same old new tree err t) s
+
 -- a fact of what the nodes make is one of the tree
 pub over : (nodes : List Inode) (tree : Hierarchy) (t : IsTree nodes tree) (Q : Hierarchy → Type 0) → Q (hierarchy_of t.paths nodes) → Q tree
 over nodes tree t Q q = subst Q t.is q

@@ -7,7 +7,8 @@ use Rattle.rk_base.specs.Text.{Text, text_cmp, root, parent, join, hidden, is_wi
 use Rattle.rk_base.specs.Canonical.{is_name, is_canonical}
 use Rattle.rk_tree.specs.Node.{Node, File, Dir, Link}
 use Rattle.rk_tree.specs.Entries.{is_dir, IsFit}
-use Rattle.rk_tree.specs.Hierarchy.{Hierarchy, Paths, top, node, number_at, path_of, child, with_node, linked, added, with_path, set_node, changed_at, change_node, over_written, replaced, with_mode}
+use Rattle.rk_tree.specs.Content.{Content, Own}
+use Rattle.rk_tree.specs.Hierarchy.{Hierarchy, Paths, added, change_node, changed_at, child, knowing, linked, node, number_at, over_written, path_of, replaced, set_node, top, with_content, with_mode, with_node, with_path}
 use Rattle.rk_tree.specs.Whole.{IsPlaced, IsWhole, MayHold}
 use Rattle.rk_tree.proofs.RowsLemmas.{insert_cases}
 use Rattle.rk_tree.proofs.TextLemmas.{parent-root, within-join, hidden-back, root_seen, name_at_root}
@@ -264,10 +265,18 @@ set-whole tree n old new whole at alike fits =
       ];
     }
 
+pub alike_content : (content : Content) (it : Node) → is_dir (Some (with_content content it)) ≡ is_dir (Some it)
+alike_content content (File mode old) = refl
+alike_content content (Dir mode) = refl
+alike_content content (Link text) = refl
+
 pub alike_replaced : (bytes : List ℕ) (it : Node) → is_dir (Some (replaced bytes it)) ≡ is_dir (Some it)
-alike_replaced bytes (File mode old) = refl
-alike_replaced bytes (Dir mode) = refl
-alike_replaced bytes (Link text) = refl
+alike_replaced bytes it = alike_content (Own bytes) it
+
+pub alike_knowing : (bytes : List ℕ) (it : Node) → is_dir (Some (knowing bytes it)) ≡ is_dir (Some it)
+alike_knowing bytes (File mode old) = refl
+alike_knowing bytes (Dir mode) = refl
+alike_knowing bytes (Link text) = refl
 
 pub alike_mode : (mode : ℕ) (it : Node) → is_dir (Some (with_mode mode it)) ≡ is_dir (Some it)
 alike_mode mode (File old bytes) = refl
@@ -284,10 +293,18 @@ fit_written at bytes (File mode old) h = h
 fit_written at bytes (Dir mode) h = h
 fit_written at bytes (Link text) h = h
 
+pub fit_content : (content : Content) (it : Node) → IsFit it → IsFit (with_content content it)
+fit_content content (File mode old) h = h
+fit_content content (Dir mode) h = h
+fit_content content (Link text) h = h
+
 pub fit_replaced : (bytes : List ℕ) (it : Node) → IsFit it → IsFit (replaced bytes it)
-fit_replaced bytes (File mode old) h = h
-fit_replaced bytes (Dir mode) h = h
-fit_replaced bytes (Link text) h = h
+fit_replaced bytes it h = fit_content (Own bytes) it h
+
+pub fit_knowing : (bytes : List ℕ) (it : Node) → IsFit it → IsFit (knowing bytes it)
+fit_knowing bytes (File mode old) h = h
+fit_knowing bytes (Dir mode) h = h
+fit_knowing bytes (Link text) h = h
 
 pub fit_mode : (mode : ℕ) (it : Node) → mode ≤ 511 → IsFit it → IsFit (with_mode mode it)
 fit_mode mode (File old bytes) m h = m

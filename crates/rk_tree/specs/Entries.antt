@@ -11,7 +11,7 @@ use Rattle.rk_tree.specs.Node.{Node, File, Dir, Link}
 
 -- the node that an entry is
 abbrev pub node_of : Entry → Node
-node_of (entry.File mode bytes) = File mode bytes
+node_of (entry.File mode content) = File mode content
 node_of (entry.Dir mode) = Dir mode
 node_of (entry.Link text) = Link text
 
@@ -20,19 +20,19 @@ abbrev pub Entries : Type 0
 Entries = FinMap text_cmp Node
 
 abbrev pub kind_of : Node → FileType
-kind_of (File mode bytes) = kind.File
+kind_of (File mode content) = kind.File
 kind_of (Dir mode) = kind.Dir
 kind_of (Link text) = kind.Link
 
 abbrev pub is_dir : Option Node → Bool
 is_dir None = false
-is_dir (Some (File mode bytes)) = false
+is_dir (Some (File mode content)) = false
 is_dir (Some (Dir mode)) = true
 is_dir (Some (Link text)) = false
 
 -- a mode is at most 0777, and a link's text is not empty and has no NUL
 abbrev pub IsFit : Node → Type 0
-IsFit (File mode bytes) = mode ≤ 511
+IsFit (File mode content) = mode ≤ 511
 IsFit (Dir mode) = mode ≤ 511
 IsFit (Link text) = (text ≢ []) × (has_nul text ≡ false)
 

@@ -6,6 +6,7 @@ use Rattle.std.specs.List.{fold, filter_map}
 use Rattle.std.specs.FinMap.{FinMap, empty, entries, get, insert, remove, code}
 use Rattle.rk_base.specs.Text.{Text, text_cmp, same_text, parent, name_of, join, is_in, is_within, moved, written}
 use Rattle.rk_base.specs.Canonical.{is_name}
+use Rattle.rk_tree.specs.Content.{Content, Own, bytes_of, known_bytes, import_path, with_known}
 use Rattle.rk_tree.specs.Node.{Node, File, Dir, Link, node_code}
 
 abbrev pub Paths : Type 0
@@ -32,7 +33,7 @@ node tree n = slice_get tree.nodes n
 -- the mode; a link's is 0777
 abbrev pub mode_of : Option Node → ℕ
 mode_of None = 0
-mode_of (Some (File mode bytes)) = mode
+mode_of (Some (File mode content)) = mode
 mode_of (Some (Dir mode)) = mode
 mode_of (Some (Link text)) = 511
 
@@ -143,31 +144,62 @@ changed_at f nodes n (Some it) = slice_set nodes n (f it)
 abbrev pub change_node : Hierarchy → ℕ → (Node → Node) → Hierarchy
 change_node tree n f = record tree { nodes = changed_at f tree.nodes n (node tree n) }
 
+-- what a file holds; any other node has no bytes
+abbrev pub held_in : Option Node → Content
+held_in None = Own []
+held_in (Some (File mode content)) = content
+held_in (Some (Dir mode)) = Own []
+held_in (Some (Link text)) = Own []
+
+-- the bytes of a file that are known
 abbrev pub file_bytes : Option Node → List ℕ
-file_bytes None = []
-file_bytes (Some (File mode bytes)) = bytes
-file_bytes (Some (Dir mode)) = []
-file_bytes (Some (Link text)) = []
+file_bytes it = bytes_of (held_in it)
+
+-- the bytes of a file, where they are known; of any other node there are none
+abbrev pub known_in : Option Node → Option (List ℕ)
+known_in it = known_bytes (held_in it)
+
+-- where a file came from, until it is written or emptied
+abbrev pub path_in : Option Node → Option Text
+path_in it = import_path (held_in it)
 
 abbrev pub text_of : Option Node → List ℕ
 text_of None = []
-text_of (Some (File mode bytes)) = []
+text_of (Some (File mode content)) = []
 text_of (Some (Dir mode)) = []
 text_of (Some (Link text)) = text
 
--- the node with these bytes, if it is a file
+-- the node that holds this, if it is a file
+abbrev pub with_content : Content → Node → Node
+with_content content (File mode old) = File mode content
+with_content content (Dir mode) = Dir mode
+with_content content (Link text) = Link text
+
+-- the node with these bytes of its own, if it is a file
 abbrev pub replaced : List ℕ → Node → Node
-replaced bytes (File mode old) = File mode bytes
-replaced bytes (Dir mode) = Dir mode
-replaced bytes (Link text) = Link text
+replaced bytes it = with_content (Own bytes) it
 
 -- a file's bytes are replaced
 abbrev pub set_bytes : Hierarchy → ℕ → List ℕ → Hierarchy
 set_bytes tree n bytes = change_node tree n (replaced bytes)
 
--- the node with bytes written over its own from a place on, if it is a file
+-- a file holds this
+abbrev pub set_content : Hierarchy → ℕ → Content → Hierarchy
+set_content tree n content = change_node tree n (with_content content)
+
+-- the node with bytes that are known now beside its import path, if it is a file
+abbrev pub knowing : List ℕ → Node → Node
+knowing bytes (File mode content) = File mode (with_known bytes content)
+knowing bytes (Dir mode) = Dir mode
+knowing bytes (Link text) = Link text
+
+-- the bytes of a file are known
+abbrev pub know : Hierarchy → ℕ → List ℕ → Hierarchy
+know tree n bytes = change_node tree n (knowing bytes)
+
+-- the node with bytes written over those that are known from a place on, which become its own, if it is a file
 abbrev pub over_written : ℕ → List ℕ → Node → Node
-over_written at bytes (File mode old) = File mode (written old at bytes)
+over_written at bytes (File mode old) = File mode (Own (written (bytes_of old) at bytes))
 over_written at bytes (Dir mode) = Dir mode
 over_written at bytes (Link text) = Link text
 
@@ -177,7 +209,7 @@ write tree n at bytes = change_node tree n (over_written at bytes)
 
 -- the node with this mode; a link has none of its own
 abbrev pub with_mode : ℕ → Node → Node
-with_mode mode (File old bytes) = File mode bytes
+with_mode mode (File old content) = File mode content
 with_mode mode (Dir old) = Dir mode
 with_mode mode (Link text) = Link text
 

@@ -76,7 +76,7 @@ without_name name it = record it { names = remove it.names name }
 -- New nodes, without names.
 
 abbrev pub place_of : Node → ℕ → Text → Option (ℕ × Text)
-place_of (File mode bytes) dir name = None
+place_of (File mode content) dir name = None
 place_of (Dir mode) dir name = Some (dir, name)
 place_of (Link text) dir name = None
 

@@ -1,6 +1,10 @@
+pub mod Content
 pub mod Copies
 pub mod Copying
+pub mod Counts
 pub mod Entries
+pub mod Fetched
+pub mod Full
 pub mod Hierarchy
 pub mod Inodes
 pub mod Moves

@@ -32,7 +32,7 @@ abbrev pub mode_checks : ℕ → List (Bool × Errno)
 mode_checks mode = (nat_lt 511 mode, Invalid) ∷ []
 
 abbrev pub entry_checks : Node → List (Bool × Errno)
-entry_checks (File mode bytes) = mode_checks mode
+entry_checks (File mode content) = mode_checks mode
 entry_checks (Dir mode) = mode_checks mode
 entry_checks (Link text) = (is_empty text, NoEntry) ∷ (has_nul text, Invalid) ∷ []
 

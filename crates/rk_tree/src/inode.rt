@@ -2,6 +2,7 @@
 ghost use Rattle.std.specs.Prelude.{◌≡◌, ℕ, List, ◌++◌, ◌∷◌, [], IfOk, OnOk, OnErr, not, length, slice_get, option_copied, Some, true};
 ghost use Rattle.std.specs.FinMap.{entries, keys};
 ghost use Rattle.rk_base.specs.Canonical.{is_empty, is_name};
+ghost use Rattle.rk_tree.specs.Content as content;
 ghost use Rattle.rk_tree.specs.Hierarchy as hierarchy;
 ghost use Rattle.rk_tree.specs.Inodes.{change, cleared, nodes_of, lost, names_in, place_in, place_of, placed, under, as_node, with_name, with_place, without_name};
 
@@ -225,20 +226,42 @@ pub(crate) fn replace_bytes(nodes: &mut Vec<Inode>, n: NodeId, bytes: Bytes)
     }
 }
 
-/// Writes bytes over a file's; any other node stays as it is. After want of memory the file's bytes may
-/// be any.
+/// Bytes are known of a file; any other node stays as it is.
+pub(crate) fn know_bytes(nodes: &mut Vec<Inode>, n: NodeId, bytes: Bytes) -> Result<(), NoMemory>
+    ensures ok { OnOk result (nodes.new.items ≡ change (as_node (hierarchy.knowing bytes)) nodes.old.items n) }
+    ensures err { OnErr result (nodes.new.items ≡ nodes.old.items) }
+{
+    match nodes.get_mut(n.number()) {
+        None => Ok(()),
+        Some(inode) => inode.node.know(bytes),
+    }
+}
+
+/// A file shares the text of its bytes; any other node stays as it is.
+pub(crate) fn share_text(nodes: &mut Vec<Inode>, n: NodeId, text: Bytes)
+    requires { text ≡ hierarchy.file_bytes (slice_get (nodes_of nodes.old.items) n) }
+    ensures { nodes.new.items ≡ nodes.old.items }
+{
+    match nodes.get_mut(n.number()) {
+        None => {}
+        Some(inode) => inode.node.share(text),
+    }
+}
+
+/// Writes bytes over a file's; any other node stays as it is. After want of memory the file may hold anything.
 pub(crate) fn write_over(
+    alloc: Global,
     nodes: &mut Vec<Inode>,
     n: NodeId,
     at: usize,
     bytes: &[u8],
 ) -> Result<(), NoMemory>
     ensures ok { OnOk result (nodes.new.items ≡ change (as_node (hierarchy.over_written at bytes.now)) nodes.old.items n) }
-    ensures any { (text : List ℕ) × (nodes.new.items ≡ change (as_node (hierarchy.replaced text)) nodes.old.items n) }
+    ensures any { (it : content.Content) × (nodes.new.items ≡ change (as_node (hierarchy.with_content it)) nodes.old.items n) }
 {
     match nodes.get_mut(n.number()) {
         None => Ok(()),
-        Some(inode) => inode.node.write(at, bytes),
+        Some(inode) => inode.node.write(alloc, at, bytes),
     }
 }
 

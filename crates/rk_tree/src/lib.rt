@@ -1,7 +1,9 @@
 //! The tree of a world, which node stands at each path, and snapshots of it.
 #![tactic(auto)]
 
+mod content;
 mod entry;
+mod fetch;
 mod id;
 mod inode;
 mod names;
@@ -11,7 +13,9 @@ mod refused;
 mod snapshot;
 mod tree;
 
+pub use content::Content;
 pub use entry::Entry;
+pub use fetch::{Fetch, FetchErr};
 pub use id::NodeId;
 pub use node::Node;
 pub use permission::{has_r, has_w, has_x};

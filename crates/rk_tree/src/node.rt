@@ -1,10 +1,11 @@
 // Nodes.
-ghost use Rattle.std.specs.Prelude.{◌≡◌, ◌↔◌, ℕ, List, IsTrue, IfOk, OnOk, Some};
+ghost use Rattle.std.specs.Prelude.{◌≡◌, ◌↔◌, IsTrue, IfOk, OnOk, OnErr, Some, option_copied};
 ghost use Rattle.rk_tree.specs.Entries.{is_dir, kind_of, node_of};
-ghost use Rattle.rk_tree.specs.Hierarchy.{file_bytes, mode_of, over_written, replaced, text_of, with_mode};
+ghost use Rattle.rk_tree.specs.Content as content;
+ghost use Rattle.rk_tree.specs.Hierarchy.{file_bytes, known_in, knowing, mode_of, over_written, path_in, replaced, text_of, with_content, with_mode};
 
-use crate::Entry;
-use rk_base::{Bytes, FileType, NoMemory};
+use crate::{Content, Entry};
+use rk_base::{Bytes, FileType, NoMemory, Path};
 use std::alloc::Global;
 use std::marker::Model;
 
@@ -70,14 +71,25 @@ impl Node {
         }
     }
 
-    /// The bytes of a file; none for any other node.
-    pub fn bytes(&self) -> &[u8]
-        ensures { result.now ≡ file_bytes (Some self.now) }
+    /// The bytes of a file; `None` exactly for a file whose bytes aren't known yet. Any other node has none.
+    pub fn bytes(&self) -> Option<&[u8]>
+        ensures { option_copied result ≡ known_in (Some self.now) }
     {
         match &self.entry {
-            Entry::File(_, bytes) => bytes.as_slice(),
-            Entry::Dir(_) => b"",
-            Entry::Link(_) => b"",
+            Entry::File(_, content) => content.bytes(),
+            Entry::Dir(_) => Some(b""),
+            Entry::Link(_) => Some(b""),
+        }
+    }
+
+    /// Where a file came from; `None` exactly where it was written or emptied since, and for any other node.
+    pub fn import_path(&self) -> Option<&Path>
+        ensures { option_copied result ≡ path_in (Some self.now) }
+    {
+        match &self.entry {
+            Entry::File(_, content) => content.import_path(),
+            Entry::Dir(_) => None,
+            Entry::Link(_) => None,
         }
     }
 
@@ -92,7 +104,7 @@ impl Node {
         }
     }
 
-    /// Whether both are the same, the bytes included.
+    /// Whether both are the same, what files hold included.
     pub fn same(&self, other: &Node) -> bool
         ensures { IsTrue result ↔ (self.now ≡ other.now) }
     {
@@ -107,12 +119,12 @@ impl Node {
         Ok(Node { entry })
     }
 
-    /// The bytes of a file, shared with it; none for any other node.
+    /// The bytes of a file that are known, shared with it; none for any other node.
     pub fn copy_bytes(&self, alloc: Global) -> Result<Bytes, NoMemory>
         ensures { IfOk result (λ b. b ≡ file_bytes (Some self.now)) }
     {
         match &self.entry {
-            Entry::File(_, bytes) => bytes.copy(),
+            Entry::File(_, content) => content.copy_bytes(alloc),
             Entry::Dir(_) => Bytes::from_slice(alloc, b""),
             Entry::Link(_) => Bytes::from_slice(alloc, b""),
         }
@@ -129,14 +141,13 @@ impl Node {
         }
     }
 
-    // Bytes are written over a file's; any other node stays as it is. After want of memory the file's
-    // bytes may be any.
-    pub(crate) fn write(&mut self, at: usize, bytes: &[u8]) -> Result<(), NoMemory>
+    // Bytes are written over a file's; any other node stays as it is. After want of memory the file may hold anything.
+    pub(crate) fn write(&mut self, alloc: Global, at: usize, bytes: &[u8]) -> Result<(), NoMemory>
         ensures ok { OnOk result (self.new ≡ over_written at bytes.now self.old) }
-        ensures any { (text : List ℕ) × (self.new ≡ replaced text self.old) }
+        ensures any { (it : content.Content) × (self.new ≡ with_content it self.old) }
     {
         match &mut self.entry {
-            Entry::File(_, old) => old.write_at(at, bytes),
+            Entry::File(_, old) => old.write(alloc, at, bytes),
             Entry::Dir(_) => Ok(()),
             Entry::Link(_) => Ok(()),
         }
@@ -147,7 +158,29 @@ impl Node {
         ensures { self.new ≡ replaced bytes self.old }
     {
         if let Entry::File(_, old) = &mut self.entry {
-            *old = bytes;
+            *old = Content::Own(bytes);
+        }
+    }
+
+    // Bytes that are known now stand beside a file's import path; any other node stays as it is.
+    pub(crate) fn know(&mut self, bytes: Bytes) -> Result<(), NoMemory>
+        ensures ok { OnOk result (self.new ≡ knowing bytes self.old) }
+        ensures err { OnErr result (self.new ≡ self.old) }
+    {
+        match &mut self.entry {
+            Entry::File(_, content) => content.know(bytes),
+            Entry::Dir(_) => Ok(()),
+            Entry::Link(_) => Ok(()),
+        }
+    }
+
+    // A file shares the text of its bytes; any other node stays as it is.
+    pub(crate) fn share(&mut self, text: Bytes)
+        requires { text ≡ file_bytes (Some self.old) }
+        ensures { self.new ≡ self.old }
+    {
+        if let Entry::File(_, content) = &mut self.entry {
+            content.share(text);
         }
     }
 

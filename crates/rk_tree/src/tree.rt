@@ -1,7 +1,8 @@
 // The tree of a world.
-ghost use Rattle.std.specs.Prelude.{◌≡◌, ◌≤◌, ℕ, List, OnOk, option_copied, option_map, IfOk, IfSome, true, Some, [], ◌∷◌};
+ghost use Rattle.std.specs.Prelude.{◌≡◌, ◌≤◌, OnOk, OnErr, option_copied, option_map, IfOk, IfSome, true, Some, [], ◌∷◌};
 ghost use Rattle.std.specs.FinMap.{empty, insert};
 ghost use Rattle.rk_base.specs.Text.{root};
+ghost use Rattle.rk_tree.specs.Content as content;
 ghost use Rattle.rk_tree.specs.Entries.{is_dir, kind_of};
 ghost use Rattle.rk_tree.specs.Hierarchy as hierarchy;
 ghost use Rattle.rk_tree.specs.Refusals.{is_there};
@@ -16,9 +17,12 @@ mod finding;
 mod refusing;
 mod renaming;
 
-use crate::inode::{Inode, names_of, node_at, number_under, place_at, replace_bytes, write_over};
+use crate::inode::{
+    Inode, know_bytes, names_of, node_at, number_under, place_at, replace_bytes, share_text,
+    write_over,
+};
 use crate::{Entry, Node, NodeId};
-use rk_base::{Bytes, FileType, Name, NameList, NoMemory};
+use rk_base::{Bytes, FileType, Name, NameList, NoMemory, Path};
 use std::alloc::Global;
 use std::marker::Model;
 
@@ -117,17 +121,28 @@ impl Tree {
         }
     }
 
-    /// The bytes of a file; none for any other node.
-    pub fn bytes(&self, n: NodeId) -> &[u8]
-        ensures { result.now ≡ hierarchy.file_bytes (hierarchy.node self.now n) }
+    /// The bytes of a file; `None` exactly for a file whose bytes aren't known yet. Any other node has none.
+    pub fn bytes(&self, n: NodeId) -> Option<&[u8]>
+        ensures { option_copied result ≡ hierarchy.known_in (hierarchy.node self.now n) }
     {
         match self.look(n) {
-            None => b"",
+            None => Some(b""),
             Some(it) => it.bytes(),
         }
     }
 
-    /// The bytes of a file, shared with it; none for any other node.
+    /// Where a file came from; `None` exactly where it was written or emptied since, and for any other node. It takes no
+    /// memory.
+    pub fn import_path(&self, n: NodeId) -> Option<&Path>
+        ensures { option_copied result ≡ hierarchy.path_in (hierarchy.node self.now n) }
+    {
+        match self.look(n) {
+            None => None,
+            Some(it) => it.import_path(),
+        }
+    }
+
+    /// The bytes of a file that are known, shared with it; none for any other node.
     pub fn copy_bytes(&self, n: NodeId) -> Result<Bytes, NoMemory>
         ensures { IfOk result (λ b. b ≡ hierarchy.file_bytes (hierarchy.node self.now n)) }
     {
@@ -204,20 +219,38 @@ impl Tree {
         }
     }
 
-    /// A file's bytes are replaced; any other node stays as it is.
+    /// Bytes that were fetched are known of a file, beside its import path. Where they are known already, and at any other
+    /// node, nothing changes.
+    pub fn know(&mut self, n: NodeId, bytes: Bytes) -> Result<(), NoMemory>
+        ensures ok { OnOk result (self.new ≡ hierarchy.know self.old n bytes) }
+        ensures err { OnErr result (self.new ≡ self.old) }
+    {
+        know_bytes(&mut self.nodes, n, bytes)
+    }
+
+    /// A file shares the text of its bytes; any other node stays as it is.
+    pub fn share(&mut self, n: NodeId, text: Bytes)
+        requires { text ≡ hierarchy.file_bytes (hierarchy.node self.old n) }
+        ensures { self.new ≡ self.old }
+    {
+        share_text(&mut self.nodes, n, text);
+    }
+
+    /// A file's bytes are replaced by others, which are its own; any other node stays as it is.
     pub fn set_bytes(&mut self, n: NodeId, bytes: Bytes)
         ensures { self.new ≡ hierarchy.set_bytes self.old n bytes }
     {
         replace_bytes(&mut self.nodes, n, bytes);
     }
 
-    /// Writes bytes over a file's from an offset on, and zero bytes into a gap before it: in place, where
-    /// the file's bytes are its own. Any other node stays as it is. After want of memory the file's bytes
-    /// may be any, and all else is as it was.
+    /// Writes bytes over those of a file that are known from an offset on, and zero bytes into a gap before it: in place,
+    /// where no other byte string shares their text. They are its own then. Any other node stays as it is. After want of
+    /// memory the file may hold anything, and all else is as it was.
     pub fn write(&mut self, n: NodeId, at: usize, bytes: &[u8]) -> Result<(), NoMemory>
         ensures ok { OnOk result (self.new ≡ hierarchy.write self.old n at bytes.now) }
-        ensures any { (text : List ℕ) × (self.new ≡ hierarchy.set_bytes self.old n text) }
+        ensures any { (it : content.Content) × (self.new ≡ hierarchy.set_content self.old n it) }
     {
-        write_over(&mut self.nodes, n, at, bytes)
+        let alloc = *self.nodes.allocator();
+        write_over(alloc, &mut self.nodes, n, at, bytes)
     }
 }

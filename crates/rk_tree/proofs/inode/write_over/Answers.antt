@@ -1,6 +1,7 @@
 use Rattle.std.proofs.Common.{◌≡◌, ◌∙◌, ℕ, List, [], Result, Ok, Err, Some, None, refl, sym, ap}
 use Rattle.std.proofs.lemmas.Option.{slice_get_past, slice_get_read}
 use Rattle.std.specs.Prelude.{slice_get, slice_set, OnOk}
+use Rattle.rk_tree.specs.Content.{Own}
 use Rattle.rk_tree.specs.Node.{Node}
 use Rattle.rk_tree.specs.declared.inode.Inode.{Inode}
 use Rattle.rk_tree.specs.Hierarchy as hierarchy
@@ -24,12 +25,12 @@ pub returns-in-None : goal.returns-in-None
 returns-in-None c =
     let none = slice_get_past c.args.nodes.now.items c.number.result c.in-None.ensures.item.3 in record {
       ok = change_none (as_node (hierarchy.over_written c.args.at c.args.bytes.now)) c.args.nodes.now.items c.args.n c.number.result c.number.ensures none;
-      any = ([], change_none (as_node (hierarchy.replaced [])) c.args.nodes.now.items c.args.n c.number.result c.number.ensures none);
+      any = (Own [], change_none (as_node (hierarchy.with_content (Own []))) c.args.nodes.now.items c.args.n c.number.result c.number.ensures none);
     }
 
 pub returns-in-Some : goal.returns-in-Some
 returns-in-Some c =
     let at = slice_get_read c.args.nodes.now.items _ c.number.result c.in-Some.inode.now refl c.in-Some.ensures.item.3.0 c.in-Some.ensures.item.1 in record {
       ok = on_ok c.write.result _ _ (change_some (hierarchy.over_written c.args.at c.args.bytes.now) c.args.nodes.now.items c.args.n c.number.result c.in-Some.inode.now c.write.new.self c.number.ensures at) c.write.ensures.ok;
-      any = (c.write.ensures.any.0, change_some (hierarchy.replaced c.write.ensures.any.0) c.args.nodes.now.items c.args.n c.number.result c.in-Some.inode.now c.write.new.self c.number.ensures at c.write.ensures.any.1);
+      any = (c.write.ensures.any.0, change_some (hierarchy.with_content c.write.ensures.any.0) c.args.nodes.now.items c.args.n c.number.result c.in-Some.inode.now c.write.new.self c.number.ensures at c.write.ensures.any.1);
     }
