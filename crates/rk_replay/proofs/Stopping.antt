@@ -9,7 +9,19 @@ use Rattle.rk_runs.specs.declared.check.CheckErr.{CheckErr}
 use Rattle.rk_runs.specs.declared.check.CheckErr.TheVariants as check
 use Rattle.rk_replay.specs.declared.stop.ReplayErr.{ReplayErr}
 use Rattle.rk_replay.specs.declared.stop.ReplayErr.TheVariants.{Spent, Forged, Stopped}
-use Rattle.rk_replay.specs.Stops.{Stops, IsForged, IsWant, IsHandedOn}
+use Rattle.rk_replay.specs.Stops.{Stops, StaysAt, IsForged, IsWant, IsHandedOn}
+
+-- what holds then
+
+pub stays-any : {S : Type 0} (stays : Type 0) (stop : ReplayErr S) → stays → StaysAt stays stop
+stays-any stays Spent h = h
+stays-any stays (Forged rec step) h = h
+stays-any stays (Stopped reason) h = tt
+
+pub stays-by : {S : Type 0} (before stays : Type 0) (stop : ReplayErr S) → (before → stays) → StaysAt before stop → StaysAt stays stop
+stays-by before stays Spent f h = f h
+stays-by before stays (Forged rec step) f h = f h
+stays-by before stays (Stopped reason) f h = tt
 
 -- what is told of a table is a wrong step of a record
 pub told-forged : (first : KeyValue → Says) (old : List Record) (e : CheckErr) → IsTold first old e → IsForged first old e

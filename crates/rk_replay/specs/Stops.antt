@@ -1,5 +1,5 @@
 -- Why a build stops.
-use Rattle.std.specs.Prelude.{◌≡◌, ◌<◌, List, length}
+use Rattle.std.specs.Prelude.{◌≡◌, ◌<◌, List, length, Result, Ok, Err}
 use Rattle.rk_base.specs.declared.memory.NoMemory.{NoMemory}
 use Rattle.rk_calls.specs.Talk.{Says}
 use Rattle.rk_calls.specs.Keys.{KeyValue}
@@ -17,6 +17,17 @@ abbrev pub Stops : {S : Type 0} → (KeyValue → Says) → List Record → Type
 Stops first old spent stopped (Forged rec step) = (rec < length old) × IsWrongStep first (rec_at rec old) step
 Stops first old spent stopped Spent = AreSpoken first old × spent
 Stops first old spent stopped (Stopped reason) = stopped reason
+
+-- this holds unless the world stopped it, or there was no memory
+
+abbrev pub StaysAt : {S : Type 0} → Type 0 → ReplayErr S → Type 0
+StaysAt stays Spent = stays
+StaysAt stays (Forged rec step) = stays
+StaysAt stays (Stopped reason) = Unit {0}
+
+abbrev pub StaysSo : {T S : Type 0} → Type 0 → Result T (ReplayErr S) → Type 0
+StaysSo stays (Ok it) = stays
+StaysSo stays (Err stop) = StaysAt stays stop
 
 -- the told step of the told record is wrong; want of memory tells nothing
 abbrev pub IsForged : (KeyValue → Says) → List Record → CheckErr → Type 0

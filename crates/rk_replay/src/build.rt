@@ -10,7 +10,7 @@ ghost use Rattle.rk_runs.specs.Run.{game, fresh, Done, Spent};
 ghost use Rattle.rk_runs.specs.Spoken.{AreSpoken};
 ghost use Rattle.rk_replay.specs.Ran.{AreKept, ran_of, ran_total};
 ghost use Rattle.rk_replay.specs.Starts.{StartsStopped};
-ghost use Rattle.rk_replay.specs.Stops.{Stops};
+ghost use Rattle.rk_replay.specs.Stops.{Stops, StaysSo};
 
 use crate::activity::{Activity, begin, exit_counted};
 use crate::causes::{CauseList, ran_of};
@@ -56,7 +56,11 @@ pub fn build_with<K: Maker, W: Numbering, L: Ledger>(
     // records.
     ensures done { IfOk result (λ b. IfSome (W.told world.old) (λ before. IsSomeAnd (W.told world.new) (λ now. AreSpoken K.first old.now → fresh (game K.first W.given) (left budget.old) key.now top_refs before ≡ Done now b.status (left budget.new) b.table))) }
     ensures spoken { IfOk result (λ b. IfSome (W.told world.old) (λ _. AreSpoken K.first old.now → AreSpoken K.first b.table)) }
-    ensures stops { IfErr result (Stops K.first old.now (IfSome (W.told world.old) (λ before. fresh (game K.first W.given) (left budget.old) key.now top_refs before ≡ Spent)) (W.Stops world.old world.new)) }
+    ensures stops { IfErr result (Stops K.first old.now (IfSome (W.told world.old) (λ before. fresh (game K.first W.given) (left budget.old) key.now top_refs before ≡ Spent)) (W.Fails world.old world.new)) }
+
+    // What no call of the world changes; and, unless it stops for a reason of the world's, what its answers leave as it was.
+    ensures keeps { W.Keeps world.old world.new }
+    ensures world { StaysSo (W.Stays world.old world.new) result }
 
     // Whatever the world and the old table: what ran, and why, and what didn't run is the old table's; a machine was
     // started for each that ran, and their costs were counted. Where it stops, no more machines were started than one for each command that ran so far, of which no more

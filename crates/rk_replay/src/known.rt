@@ -61,7 +61,8 @@ fn number_of<W: Numbering>(
     ensures known { OnOk result (AreKnown (W.contents world.new) known.new.items contents.now.texts) }
     ensures told { W.told world.new ≡ W.told world.old }
     ensures kept { Keeps (W.contents world.old) (W.contents world.new) }
-    ensures since { (now : W) (stop : W.Stop) → W.Stops world.new now stop → W.Stops world.old now stop }
+    ensures keeps { W.Keeps world.old world.new }
+    ensures stays { W.Stays world.old world.new }
 {
     if let Some(id) = number_at(known, n) {
         return Ok(id);
@@ -84,7 +85,8 @@ fn is_alike_at<W: Numbering>(
     ensures alike { IfOk result (λ it. IfSome it (λ alike. (old : List Record) (a : Answer) → AreContents contents.now old → rec < length old → at < length (rec_at rec old).steps → IsContent (W.contents world.old) seen a → IsTrue alike ↔ ((step_at at (rec_at rec old).steps).answer ≡ a))) }
     ensures known { OnOk result (AreKnown (W.contents world.new) known.new.items contents.now.texts) }
     ensures told { W.told world.new ≡ W.told world.old }
-    ensures since { (now : W) (stop : W.Stop) → W.Stops world.new now stop → W.Stops world.old now stop }
+    ensures keeps { W.Keeps world.old world.new }
+    ensures stays { W.Stays world.old world.new }
 {
     match contents.number(rec, at) {
         None => Ok(None),
@@ -111,7 +113,8 @@ pub(crate) fn is_alike<M: Drop, W: Numbering>(
     ensures alike { IfOk result (λ it. IfSome it (λ alike. (old : List Record) (a : Answer) → AreContents contents.now old → IsWaiting old activity.now → IfSome seen (λ id. IsContent (W.contents world.old) id a) → IsAlike old activity.now a alike)) }
     ensures known { OnOk result (AreKnown (W.contents world.new) known.new.items contents.now.texts) }
     ensures told { W.told world.new ≡ W.told world.old }
-    ensures since { (now : W) (stop : W.Stop) → W.Stops world.new now stop → W.Stops world.old now stop }
+    ensures keeps { W.Keeps world.old world.new }
+    ensures stays { W.Stays world.old world.new }
 {
     match seen {
         None => Ok(None),

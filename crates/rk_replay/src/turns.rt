@@ -13,7 +13,7 @@ ghost use Rattle.rk_runs.specs.Started.{started, StartsSome};
 ghost use Rattle.rk_replay.specs.Activities.{stands, waits, IsWaiting, IsLaunched, made, Takes, given_up, counted};
 ghost use Rattle.rk_replay.specs.Causes.{launch_cause, noted};
 ghost use Rattle.rk_replay.specs.Starts.{StartsFor};
-ghost use Rattle.rk_replay.specs.Stops.{Stops, IsForged};
+ghost use Rattle.rk_replay.specs.Stops.{Stops, StaysSo, IsForged};
 
 use crate::activity::{Activity, begin, settle};
 use crate::causes::CauseList;
@@ -91,8 +91,9 @@ pub(crate) fn answer_call<K: Maker, W: Numbering, L: Ledger>(
     ensures started { OnErr result (StartsFor old.now (K.starts maker.old) (K.starts maker.new)) }
     ensures live { IfOk result (λ _. live.new ≡ live.old + counted top.old.machine top.new.machine cost (rec_at top.old.place table.new)) }
     ensures still { OnErr result (live.new ≡ live.old) }
-    ensures stops { IfErr result (Stops K.first old.now ⊥ (W.Stops world.old world.new)) }
-    ensures since { IfOk result (λ _. (now : W) (stop : W.Stop) → W.Stops world.new now stop → W.Stops world.old now stop) }
+    ensures stops { IfErr result (Stops K.first old.now ⊥ (W.Fails world.old world.new)) }
+    ensures keeps { W.Keeps world.old world.new }
+    ensures stays { StaysSo (W.Stays world.old world.new) result }
 {
     let (answer, seen) = match ask(world, table, top.place, &mut top.refs, call, cost) {
         Ok(given) => given,

@@ -43,8 +43,9 @@ pub fn ask<W: Numbering>(
     ensures number { IfOk result (λ r. IfSome r.1 (λ id. IsContent (W.contents world.new) id r.0)) }
     ensures kept { IfOk result (λ _. Keeps (W.contents world.old) (W.contents world.new)) }
     ensures table { IfOk result (λ r. table.new ≡ stepped place (step cost call r.0) table.old) }
-    ensures stops { IfErr result (W.Stops world.old world.new) }
-    ensures since { IfOk result (λ _. (now : W) (stop : W.Stop) → W.Stops world.new now stop → W.Stops world.old now stop) }
+    ensures keeps { W.Keeps world.old world.new }
+    ensures stays { OnOk result (W.Stays world.old world.new) }
+    ensures fails { IfErr result (W.Fails world.old world.new) }
 {
     let (answer, number) = world.answer_id(refs, &call)?;
     let seen = answer.copy()?;

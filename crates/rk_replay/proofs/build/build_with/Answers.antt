@@ -10,7 +10,7 @@ use Rattle.rk_replay.proofs.Replaying.{ready, Replaying-start, Pays-start, Waiti
 use Rattle.rk_replay.proofs.Keeping.{Keeps-start, Keeps-launch, Keeps-ask, Keeps-join, all-kept}
 use Rattle.rk_replay.proofs.Noting.{causes-none, begun-causes}
 use Rattle.rk_replay.proofs.Numbering.{nothing_known}
-use Rattle.rk_replay.proofs.Stopping.{told-forged, stops-want, stops-forged, stops-since}
+use Rattle.rk_replay.proofs.Stopping.{told-forged, stays-any, stays-by, stops-want, stops-forged, stops-since}
 use Rattle.rk_replay.proofs.Starting.{few-ran, fewer-ran, paid-some, ran-all, stopped-asked, stopped-checked, stopped-handed, stopped-launch, stopped-want}
 use Rattle.rk_replay.proofs.Telling.{told-start, told-still, told-last, told-asked, told-first}
 use Rattle.rk_replay.proofs.Totalling.{ran_count-length}
@@ -22,7 +22,8 @@ turns-init g c =
     let z = pend-none _ c.new-stack.ensures.items in
     record {
       goes = told-start _ _ (λ before. Freshing-start _ _ _ _ _ _ _ _ _ _ _ _ _ c.new-table.ensures c.in_ok-top.ensures.place c.in_ok-top.ensures.refs c.in_ok-refs.ensures c.in_ok-top.ensures.table c.in_ok-top.ensures.says c.new-stack.ensures.items);
-      since = λ now stop h. h;
+      kept = g.met.W.Numbering.keeps_itself _;
+      stays = g.met.W.Numbering.stays_itself _;
       replays = Replaying-start _ _ _ _ _ _ c.new-table.ensures c.new-stack.ensures.items c.in_ok-top.ensures.launched c.in_ok-top.ensures.place c.in_ok-top.ensures.table;
       keeps = Keeps-start _ _ _ _ _ _ c.new-table.ensures c.in_ok-top.ensures.place c.in_ok-top.ensures.table;
       known = rw c.new-known.ensures.items (nothing_known _ _);
@@ -41,7 +42,7 @@ hear-requires g c = ready _ _ _ _ c.turns.invariant.replays
 pub returns-in_err-refs-clause-stops : goal.returns-in_err-refs-clause-stops
 returns-in_err-refs-clause-stops g c =
     let p = err_from_is_err_and c.from_residual.result c.from_residual.ensures.1 in
-    rw p.1 (stops-want _ _ _ _ _ (g.met.W.Answerer.memory _ _) _ p.2)
+    rw p.1 (stops-want _ _ _ _ _ (λ want reason gives. g.met.W.Numbering.fails_want _ _ want reason (g.met.W.Numbering.stays_itself _) gives) _ p.2)
 
 pub returns-in_err-refs-clause-stopped : goal.returns-in_err-refs-clause-stopped
 returns-in_err-refs-clause-stopped g c =
@@ -51,7 +52,7 @@ returns-in_err-refs-clause-stopped g c =
 pub returns-in_err-top-clause-stops : goal.returns-in_err-top-clause-stops
 returns-in_err-top-clause-stops g c =
     let p = err_from_is_err_and c.from_residual-in_err-top.result c.from_residual-in_err-top.ensures.1 in
-    rw p.1 (stops-want _ _ _ _ _ (g.met.W.Answerer.memory _ _) _ p.2)
+    rw p.1 (stops-want _ _ _ _ _ (λ want reason gives. g.met.W.Numbering.fails_want _ _ want reason (g.met.W.Numbering.stays_itself _) gives) _ p.2)
 
 pub returns-in_err-top-clause-stopped : goal.returns-in_err-top-clause-stopped
 returns-in_err-top-clause-stopped g c =
@@ -61,7 +62,7 @@ returns-in_err-top-clause-stopped g c =
 pub returns-in_err-call-clause-stops : goal.returns-in_err-call-clause-stops
 returns-in_err-call-clause-stops g c =
     let p = err_from_is_err_and c.from_residual-in_err-call.result c.from_residual-in_err-call.ensures.1 in
-    rw p.1 (stops-forged _ _ _ _ _ (g.met.W.Answerer.memory _ _) _ _ c.in_err-call.ensures.forged p.2)
+    rw p.1 (stops-forged _ _ _ _ _ (λ want reason gives. g.met.W.Numbering.fails_want _ _ want reason c.turns.invariant.stays gives) _ _ c.in_err-call.ensures.forged p.2)
 
 pub returns-in_err-call-clause-stopped : goal.returns-in_err-call-clause-stopped
 returns-in_err-call-clause-stopped g c =
@@ -71,7 +72,7 @@ returns-in_err-call-clause-stopped g c =
 pub returns-in_err-launch_below-in-Launch-clause-stops : goal.returns-in_err-launch_below-in-Launch-clause-stops
 returns-in_err-launch_below-in-Launch-clause-stops g c =
     let p = err_from_is_err_and c.from_residual-in_err-launch_below-in-Launch.result c.from_residual-in_err-launch_below-in-Launch.ensures.1 in
-    rw p.1 (stops-want _ _ _ _ _ (g.met.W.Answerer.memory _ _) _ p.2)
+    rw p.1 (stops-want _ _ _ _ _ (λ want reason gives. g.met.W.Numbering.fails_want _ _ want reason c.turns.invariant.stays gives) _ p.2)
 
 pub returns-in_err-launch_below-in-Launch-clause-stopped : goal.returns-in_err-launch_below-in-Launch-clause-stopped
 returns-in_err-launch_below-in-Launch-clause-stopped g c =
@@ -89,7 +90,8 @@ turns-preserved-in-Launch g c =
           _ _ _ _ _ _ _ _ _ _ c.in-Call.is c.pay-cost.ensures.cost (omega arith) c.in-Launch.is
           c.in_ok-launch_below-in-Launch.ensures.refs refl c.in_ok-launch_below-in-Launch.ensures.says c.in_ok-launch_below-in-Launch.ensures.place c.in_ok-launch_below-in-Launch.ensures.table
           c.in_ok-launch_below-in-Launch.ensures.stack);
-      since = c.turns.invariant.since;
+      kept = c.turns.invariant.kept;
+      stays = c.turns.invariant.stays;
       replays =
           Replaying-launch _ _ _ _ c.turns.invariant.replays _ _ c.in_ok-call.ensures.on _ _ _ _ _ _ _ _ c.in-Call.is c.pay-cost.ensures.cost c.in-Launch.is
           c.in_ok-launch_below-in-Launch.ensures.launched c.in_ok-launch_below-in-Launch.ensures.place c.in_ok-launch_below-in-Launch.ensures.table
@@ -126,7 +128,8 @@ turns-preserved-in_default g c =
           _ _ _ _ _ _ _ _ _ c.in-Call.is c.pay-cost.ensures.cost (omega arith)
           c.in_default.not-Launch
           given c.in_ok-answer-in_default.ensures.table c.in_ok-answer-in_default.ensures.place refl c.in_ok-answer-in_default.ensures.state);
-      since = λ now stop h. c.turns.invariant.since now stop (c.in_ok-answer-in_default.ensures.since now stop h);
+      kept = g.met.W.Numbering.keeps_on _ _ _ c.turns.invariant.kept c.in_ok-answer-in_default.ensures.keeps;
+      stays = g.met.W.Numbering.stays_on _ _ _ c.turns.invariant.stays c.in_ok-answer-in_default.ensures.stays;
       replays =
           Replaying-ask _ _ _ _ c.turns.invariant.replays _ _ c.in_ok-call.ensures.on _ _ _ _ _ _ c.in-Call.is c.pay-cost.ensures.cost
           c.in_ok-answer-in_default.ensures.table c.in_ok-answer-in_default.ensures.place c.in_ok-answer-in_default.ensures.takes;
@@ -150,10 +153,12 @@ returns-in_err-answer-in_default g c =
       done = rw p.1 tt;
       spoken = rw p.1 tt;
       kept = rw p.1 tt;
-      stops = rw (p.1, p.2) (stops-since _ _ _ _ _ (λ reason h. c.turns.invariant.since _ reason h) _ c.in_err-answer-in_default.ensures.stops);
+      stops = rw (p.1, p.2) (stops-since _ _ _ _ _ (λ reason h. g.met.W.Numbering.fails_on _ _ _ reason c.turns.invariant.stays h) _ c.in_err-answer-in_default.ensures.stops);
       ran = rw p.1 tt;
       starts = rw p.1 tt;
       launched = rw p.1 tt;
+      keeps = g.met.W.Numbering.keeps_on _ _ _ c.turns.invariant.kept c.in_err-answer-in_default.ensures.keeps;
+      world = rw (p.1, p.2) (stays-by _ _ _ (λ h. g.met.W.Numbering.stays_on _ _ _ c.turns.invariant.stays h) c.in_err-answer-in_default.ensures.stays);
       stopped = rw (p.1, p.2) (stopped-asked _ _ _ _ _ _ (few-ran c.args.old.now c.turns.table (pend c.turns.stack.items) c.args.budget.now.used c.pay-cost.new.budget.used c.turns.invariant.records (omega (arith, c.turns.invariant.paid, c.pay-cost.ensures.used))) (c.in_ok-call.ensures.starts ∙ c.turns.invariant.starts) _ _ _ c.in_err-answer-in_default.ensures.stops c.in_err-answer-in_default.ensures.started);
       live = rw p.1 tt;
       paid = rw p.1 tt;
@@ -167,7 +172,7 @@ returns-in_err-answer-in_default g c =
 pub returns-in_err-ran-in-None-clause-stops : goal.returns-in_err-ran-in-None-clause-stops
 returns-in_err-ran-in-None-clause-stops g c =
     let p = err_from_is_err_and c.from_residual-in_err-ran-in-None.result c.from_residual-in_err-ran-in-None.ensures.1 in
-    rw p.1 (stops-want _ _ _ _ _ (g.met.W.Answerer.memory _ _) _ p.2)
+    rw p.1 (stops-want _ _ _ _ _ (λ want reason gives. g.met.W.Numbering.fails_want _ _ want reason c.turns.invariant.stays gives) _ p.2)
 
 pub returns-in_err-ran-in-None-clause-stopped : goal.returns-in_err-ran-in-None-clause-stopped
 returns-in_err-ran-in-None-clause-stopped g c =
@@ -237,7 +242,7 @@ resume-requires-clause-noted g c = join-noted _ _ _ _ c.turns.invariant.replays 
 pub returns-in_err-top-in-Some-clause-stops : goal.returns-in_err-top-in-Some-clause-stops
 returns-in_err-top-in-Some-clause-stops g c =
     let p = err_from_is_err_and c.from_residual-in_err-top-in-Some.result c.from_residual-in_err-top-in-Some.ensures.1 in
-    rw p.1 (stops-forged _ _ _ _ _ (g.met.W.Answerer.memory _ _) _ _ c.in_err-top-in-Some.ensures.forged p.2)
+    rw p.1 (stops-forged _ _ _ _ _ (λ want reason gives. g.met.W.Numbering.fails_want _ _ want reason c.turns.invariant.stays gives) _ _ c.in_err-top-in-Some.ensures.forged p.2)
 
 pub returns-in_err-top-in-Some-clause-stopped : goal.returns-in_err-top-in-Some-clause-stopped
 returns-in_err-top-in-Some-clause-stopped g c =
@@ -254,7 +259,8 @@ turns-preserved g c =
           (λ before now i. Freshing-join _ _ _ _ _ _ _ _ _ _ _ i _ _ (λ q. rw c.left.ensures.left at (c.in_ok-call.ensures.spoke q)) c.in_ok-call.ensures.goes
           _ _ _ _ _ _ _ _ _ c.in-Exit.is c.pay-cost-in-Exit.ensures.cost (omega arith) c.end.ensures c.in-Some.ensures.items
           c.in_ok-top-in-Some.ensures.table c.in_ok-top-in-Some.ensures.place c.in_ok-top-in-Some.ensures.refs c.in_ok-top-in-Some.ensures.state);
-      since = c.turns.invariant.since;
+      kept = c.turns.invariant.kept;
+      stays = c.turns.invariant.stays;
       replays =
           Replaying-join _ _ _ _ c.turns.invariant.replays _ _ c.in_ok-call.ensures.on _ _ _ _ _ _ c.in-Exit.is c.end.ensures c.in-Some.ensures.items
           _ _ c.in_ok-top-in-Some.ensures.table c.in_ok-top-in-Some.ensures.place c.in_ok-top-in-Some.ensures.takes;
@@ -276,7 +282,7 @@ turns-preserved g c =
 pub returns-in_err-check_with-in-Short-clause-stops : goal.returns-in_err-check_with-in-Short-clause-stops
 returns-in_err-check_with-in-Short-clause-stops g c =
     let p = err_from_is_err_and c.from_residual-in_err-check_with-in-Short.result c.from_residual-in_err-check_with-in-Short.ensures.1 in
-    rw p.1 (stops-forged _ _ _ _ _ (g.met.W.Answerer.memory _ _) _ _ (told-forged _ _ _ c.in_err-check_with-in-Short.ensures.first) p.2)
+    rw p.1 (stops-forged _ _ _ _ _ (λ want reason gives. g.met.W.Numbering.fails_want _ _ want reason c.turns.invariant.stays gives) _ _ (told-forged _ _ _ c.in_err-check_with-in-Short.ensures.first) p.2)
 
 pub returns-in_err-check_with-in-Short-clause-stopped : goal.returns-in_err-check_with-in-Short-clause-stopped
 returns-in_err-check_with-in-Short-clause-stopped g c =
@@ -302,3 +308,23 @@ returns-in-None-clause-launched g c =
     let m = ap length c.end.ensures ∙ length-ended _ _ _ _ in
     let p = Pays-end _ _ _ _ c.turns.invariant.replays _ _ c.in_ok-call.ensures.on _ _ _ _ c.in-Exit.is c.end.ensures in
     omega (arith, p.total, n, m, c.turns.invariant.records)
+
+pub returns-in_err-launch_below-in-Launch-clause-world : goal.returns-in_err-launch_below-in-Launch-clause-world
+returns-in_err-launch_below-in-Launch-clause-world g c =
+    let p = err_from_is_err_and c.from_residual-in_err-launch_below-in-Launch.result c.from_residual-in_err-launch_below-in-Launch.ensures.1 in
+    rw p.1 (stays-any _ _ c.turns.invariant.stays)
+
+pub returns-in_err-ran-in-None-clause-world : goal.returns-in_err-ran-in-None-clause-world
+returns-in_err-ran-in-None-clause-world g c =
+    let p = err_from_is_err_and c.from_residual-in_err-ran-in-None.result c.from_residual-in_err-ran-in-None.ensures.1 in
+    rw p.1 (stays-any _ _ c.turns.invariant.stays)
+
+pub returns-in_err-top-in-Some-clause-world : goal.returns-in_err-top-in-Some-clause-world
+returns-in_err-top-in-Some-clause-world g c =
+    let p = err_from_is_err_and c.from_residual-in_err-top-in-Some.result c.from_residual-in_err-top-in-Some.ensures.1 in
+    rw p.1 (stays-any _ _ c.turns.invariant.stays)
+
+pub returns-in_err-check_with-in-Short-clause-world : goal.returns-in_err-check_with-in-Short-clause-world
+returns-in_err-check_with-in-Short-clause-world g c =
+    let p = err_from_is_err_and c.from_residual-in_err-check_with-in-Short.result c.from_residual-in_err-check_with-in-Short.ensures.1 in
+    rw p.1 (stays-any _ _ c.turns.invariant.stays)

@@ -21,7 +21,8 @@ invariant-turns g l =
     let a = game g.K.Maker.first g.W.Answerer.given in
     record {
       goes : Told (g.W.Answerer.told l.fn.world) (g.W.Answerer.told l.world) (λ before now. Freshing (AreSpoken g.K.Maker.first l.fn.old) (stands g.K.Made.Machine.talk g.K.Maker.first l.fn.old) (waits g.K.Made.Machine.talk g.K.Maker.first l.fn.old) a (fresh a (left l.fn.budget) l.fn.key top_refs before) (left l.budget) l.top l.answer now l.table l.stack.items);
-      since : (now : _) (stop : _) → g.W.Answerer.Stops l.world now stop → g.W.Answerer.Stops l.fn.world now stop;
+      kept : g.W.Numbering.Keeps l.fn.world l.world;
+      stays : g.W.Numbering.Stays l.fn.world l.world;
       replays : Replaying l.fn.old l.table l.top l.stack.items;
       keeps : Keeps l.fn.old l.table l.top l.stack.items;
       known : AreKnown (g.W.Numbering.contents l.world) l.known.items l.fn.contents.texts;
