@@ -4,6 +4,8 @@ use Rattle.std.specs.Prelude.{slice_set}
 use Rattle.std.proofs.lemmas.List.{nil_from_length}
 use Rattle.rk_base.specs.Text.{Text, written}
 use Rattle.rk_tree.specs.Hierarchy.{Hierarchy, changed_at, file_bytes, node, over_written, replaced, set_bytes, write}
+use Rattle.rk_tree.specs.Content.{bytes_of}
+use Rattle.rk_tree.specs.declared.content.Content.TheVariants.{Own}
 use Rattle.rk_tree.specs.Node.{Node, File, Dir, Link}
 use Rattle.rk_kernel.proofs.PipeLemmas.{written_end}
 
@@ -14,7 +16,7 @@ written_first text bytes none = ap (λ (old : Text). written old 0 bytes) (nil_f
 -- so it is as if the bytes were replaced
 same-node : (nodes : List Node) (n : ℕ) (bytes : Text) (it : Option Node) → length (file_bytes it) ≡ 0 → changed_at (replaced bytes) nodes n it ≡ changed_at (over_written 0 bytes) nodes n it
 same-node nodes n bytes None none = refl
-same-node nodes n bytes (Some (File mode old)) none = ap (λ (text : Text). slice_set nodes n (File mode text)) (sym (written_first old bytes none))
+same-node nodes n bytes (Some (File mode old)) none = ap (λ (text : Text). slice_set nodes n (File mode (Own text))) (sym (written_first (bytes_of old) bytes none))
 same-node nodes n bytes (Some (Dir mode)) none = refl
 same-node nodes n bytes (Some (Link text)) none = refl
 

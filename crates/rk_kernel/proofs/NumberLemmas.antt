@@ -1,4 +1,4 @@
--- Which files' bytes a call leaves as they are.
+-- Which files a call leaves as they are.
 use Rattle.std.proofs.Common.{◌≡◌, ◌≢◌, ℕ, zero, suc, List, [], ◌∷◌, ◌++◌, length, drop, Bool, true, false, cond, not, ◌&&◌, ◌||◌, Option, Some, None, refl, sym, ap, ◌∙◌}
 use Rattle.std.specs.Prelude.{slice_get, slice_set, nat_lt, ◌==◌, Ok, Err}
 use Rattle.std.proofs.lemmas.Bool.{eqb-true}
@@ -15,7 +15,10 @@ use Rattle.rk_calls.specs.declared.call.How.{How}
 use Rattle.rk_calls.specs.declared.call.How.TheVariants as how
 use Rattle.rk_content.specs.Contents.{Keeps}
 use Rattle.rk_tree.specs.Entries.{is_dir}
-use Rattle.rk_tree.specs.Hierarchy.{Hierarchy, added, changed_at, child, file_bytes, is_same, linked, mode_of, moved_paths, node, over_written, path_of, removed, renamed, replaced, set_bytes, set_mode, with_mode, with_path, write}
+use Rattle.rk_tree.specs.Hierarchy.{Hierarchy, added, changed_at, child, file_bytes, held_in, is_same, linked, mode_of, moved_paths, node, over_written, path_of, removed, renamed, replaced, set_bytes, with_mode, with_path, write}
+use Rattle.rk_tree.specs.Content.{bytes_of}
+use Rattle.rk_tree.specs.declared.content.Content.{Content}
+use Rattle.rk_tree.specs.declared.content.Content.TheVariants.{Own}
 use Rattle.rk_tree.specs.Node.{Node, File, Dir, Link}
 use Rattle.rk_tree.specs.Refusals.{lacks_w}
 use Rattle.rk_walk.specs.Walk.{Spot, resolve}
@@ -23,37 +26,28 @@ use Rattle.rk_walk.specs.declared.place.Place.{Place}
 use Rattle.rk_walk.specs.declared.place.Place.TheVariants.{Found, Absent}
 use Rattle.rk_kernel.specs.World.{World, rest_of, after_read, after_read_line, after_write, place_in}
 use Rattle.rk_kernel.specs.Rows.{refused, giving, done, unless, at_place, strict, is_absent, is_nameless, name_at, same_node, node_at}
-use Rattle.rk_kernel.specs.Opening.{opened, is_read, lacks, emptied, open_at}
+use Rattle.rk_kernel.specs.Opening.{opened, is_read, lacks, open_at}
 use Rattle.rk_kernel.specs.Changes.{added_at, linked_at, removed_at, renamed_at, with_mode_at, mkdir_refusals, mkdir_at, rmdir_refusals, rmdir_at, unlink_refusals, unlink_at, rename_refusals, rename_at, moved_at, symlink_refusals, symlink_at, link_refusals, link_at, chmod_at}
 use Rattle.rk_kernel.specs.Questions.{stat_of, stat_at, names_at, list_refusals, list_at, read_link_refusals, read_link_at, place_of, path_at, walk_refusals, walk_at, same_at}
-use Rattle.rk_kernel.specs.Do.{read_by, read_ref, read_line_by, read_line_ref, write_by, write_ref, piped, followed, itself, answered}
-use Rattle.rk_kernel.specs.Numbers.{AreNumbered, IsFileContent, file_of, file_by, file_opened, is_at_start, file_read, file_made, file_changed, without_number}
+use Rattle.rk_kernel.specs.Do.{read_by, read_ref, read_line_by, read_line_ref, write_by, write_ref, followed, itself, answered}
+use Rattle.rk_kernel.specs.Numbers.{AreNumbered, IsFileContent, IsOther, Stays, file_of, file_by, file_opened, is_at_start, file_read, file_made, file_changed, without_number}
 use Rattle.rk_kernel.specs.declared.description.Description.{Description}
 use Rattle.rk_kernel.specs.declared.description.Source.{Source}
 use Rattle.rk_kernel.specs.declared.description.Source.TheVariants as source
 
--- another file than this one, if it is one
-abbrev IsOther : Option ℕ → ℕ → Type 0
-IsOther None n = Unit {0}
-IsOther (Some m) n = m ≢ n
-
 -- Trees.
 
--- each file has the bytes that it had, but perhaps this one
-abbrev Stays : Option ℕ → Hierarchy → Hierarchy → Type 0
-Stays but old new = (n : ℕ) → IsOther but n → file_bytes (node new n) ≡ file_bytes (node old n)
-
-one_more : (nodes : List Node) (it : Node) (n : ℕ) → file_bytes (Some it) ≡ [] → file_bytes (slice_get (nodes ++ it ∷ []) n) ≡ file_bytes (slice_get nodes n)
+one_more : (nodes : List Node) (it : Node) (n : ℕ) → held_in (Some it) ≡ Own [] → held_in (slice_get (nodes ++ it ∷ []) n) ≡ held_in (slice_get nodes n)
 one_more [] it zero none = none
 one_more [] it (suc n) none = refl
 one_more (x ∷ nodes) it zero none = refl
 one_more (x ∷ nodes) it (suc n) none = one_more nodes it n none
 
-added-stays : (but : Option ℕ) (tree : Hierarchy) (dir : ℕ) (name : Text) (it : Node) → file_bytes (Some it) ≡ [] → Stays but tree (added tree dir name it)
+added-stays : (but : Option ℕ) (tree : Hierarchy) (dir : ℕ) (name : Text) (it : Node) → held_in (Some it) ≡ Own [] → Stays but tree (added tree dir name it)
 unfolding added
 added-stays but tree dir name it none n other = one_more tree.nodes it n none
 
-added_at-stays : (but : Option ℕ) (tree : Hierarchy) (up : Option (ℕ × Text)) (it : Node) → file_bytes (Some it) ≡ [] → Stays but tree (added_at tree up it)
+added_at-stays : (but : Option ℕ) (tree : Hierarchy) (up : Option (ℕ × Text)) (it : Node) → held_in (Some it) ≡ Own [] → Stays but tree (added_at tree up it)
 added_at-stays but tree None it none n other = refl
 added_at-stays but tree (Some up) it none n other = added-stays but tree up.0 up.1 it none n other
 
@@ -70,7 +64,7 @@ removed_at-stays but tree (Some up) n other = refl
 
 renamed_at-stays : (but : Option ℕ) (tree : Hierarchy) (from to : Option (ℕ × Text)) → Stays but tree (renamed_at tree from to)
 unfolding renamed
-renamed_at-stays but tree (Some from) (Some to) n other = elim (is_same (child tree from.0 from.1) (child tree to.0 to.1)) as (λ (b : Bool). file_bytes (node (cond b tree (record tree { paths = with_path (path_of tree from.0) (λ p. with_path (path_of tree to.0) (λ q. moved_paths (Rattle.rk_base.specs.Text.join p from.1) (Rattle.rk_base.specs.Text.join q to.1) tree.paths) tree.paths) tree.paths })) n) ≡ file_bytes (node tree n)) [
+renamed_at-stays but tree (Some from) (Some to) n other = elim (is_same (child tree from.0 from.1) (child tree to.0 to.1)) as (λ (b : Bool). held_in (node (cond b tree (record tree { paths = with_path (path_of tree from.0) (λ p. with_path (path_of tree to.0) (λ q. moved_paths (Rattle.rk_base.specs.Text.join p from.1) (Rattle.rk_base.specs.Text.join q to.1) tree.paths) tree.paths) tree.paths })) n) ≡ held_in (node tree n)) [
   | true ↦ refl
   | false ↦ refl
 ]
@@ -83,43 +77,28 @@ behind_first : (f : Node → Node) (x : Node) (nodes : List Node) (m : ℕ) (it 
 behind_first f x nodes m None = refl
 behind_first f x nodes m (Some it) = refl
 
-other_node : (f : Node → Node) (nodes : List Node) (m n : ℕ) → m ≢ n → slice_get (changed_at f nodes m (slice_get nodes m)) n ≡ slice_get nodes n
+pub other_node : (f : Node → Node) (nodes : List Node) (m n : ℕ) → m ≢ n → slice_get (changed_at f nodes m (slice_get nodes m)) n ≡ slice_get nodes n
 other_node f [] m n other = refl
 other_node f (x ∷ nodes) zero zero other = absurd (other refl)
 other_node f (x ∷ nodes) zero (suc n) other = refl
 other_node f (x ∷ nodes) (suc m) zero other = ap (λ (all : List Node). slice_get all zero) (behind_first f x nodes m (slice_get nodes m))
 other_node f (x ∷ nodes) (suc m) (suc n) other = ap (λ (all : List Node). slice_get all (suc n)) (behind_first f x nodes m (slice_get nodes m)) ∙ other_node f nodes m n (λ e. other (ap suc e))
 
-same_bytes : (mode : ℕ) (it : Node) → file_bytes (Some (with_mode mode it)) ≡ file_bytes (Some it)
+same_bytes : (mode : ℕ) (it : Node) → held_in (Some (with_mode mode it)) ≡ held_in (Some it)
 same_bytes mode (File old bytes) = refl
 same_bytes mode (Dir old) = refl
 same_bytes mode (Link text) = refl
 
-moded : (mode : ℕ) (nodes : List Node) (m n : ℕ) → file_bytes (slice_get (changed_at (with_mode mode) nodes m (slice_get nodes m)) n) ≡ file_bytes (slice_get nodes n)
+moded : (mode : ℕ) (nodes : List Node) (m n : ℕ) → held_in (slice_get (changed_at (with_mode mode) nodes m (slice_get nodes m)) n) ≡ held_in (slice_get nodes n)
 moded mode [] m n = refl
 moded mode (x ∷ nodes) zero zero = same_bytes mode x
 moded mode (x ∷ nodes) zero (suc n) = refl
-moded mode (x ∷ nodes) (suc m) zero = ap (λ (all : List Node). file_bytes (slice_get all zero)) (behind_first (with_mode mode) x nodes m (slice_get nodes m))
-moded mode (x ∷ nodes) (suc m) (suc n) = ap (λ (all : List Node). file_bytes (slice_get all (suc n))) (behind_first (with_mode mode) x nodes m (slice_get nodes m)) ∙ moded mode nodes m n
+moded mode (x ∷ nodes) (suc m) zero = ap (λ (all : List Node). held_in (slice_get all zero)) (behind_first (with_mode mode) x nodes m (slice_get nodes m))
+moded mode (x ∷ nodes) (suc m) (suc n) = ap (λ (all : List Node). held_in (slice_get all (suc n))) (behind_first (with_mode mode) x nodes m (slice_get nodes m)) ∙ moded mode nodes m n
 
 with_mode_at-stays : (but : Option ℕ) (tree : Hierarchy) (place : Place) (mode : ℕ) → Stays but tree (with_mode_at tree place mode)
 with_mode_at-stays but tree (Found at) mode n other = moded mode tree.nodes at.node n
 with_mode_at-stays but tree (Absent dir name slash) mode n other = refl
-
--- bytes that are a file's own change nothing
-
-same_file : (bytes : Text) (it : Node) → bytes ≡ file_bytes (Some it) → replaced bytes it ≡ it
-same_file bytes (File mode old) is = ap (λ (text : Text). File mode text) is
-same_file bytes (Dir mode) is = refl
-same_file bytes (Link text) is = refl
-
-same_nodes : (bytes : Text) (nodes : List Node) (n : ℕ) → bytes ≡ file_bytes (slice_get nodes n) → changed_at (replaced bytes) nodes n (slice_get nodes n) ≡ nodes
-same_nodes bytes [] n is = refl
-same_nodes bytes (x ∷ nodes) zero is = ap (λ (it : Node). it ∷ nodes) (same_file bytes x is)
-same_nodes bytes (x ∷ nodes) (suc n) is = behind_first (replaced bytes) x nodes n (slice_get nodes n) ∙ ap (λ (all : List Node). x ∷ all) (same_nodes bytes nodes n is)
-
-pub shared : (tree : Hierarchy) (n : ℕ) (bytes : Text) → bytes ≡ file_bytes (node tree n) → set_bytes tree n bytes ≡ tree
-shared tree n bytes is = ap (λ (nodes : List Node). record tree { nodes = nodes }) (same_nodes bytes tree.nodes n is)
 
 -- Rows.
 
@@ -187,7 +166,7 @@ module _ (world : World) (refs : RefsHeld) (but : Option ℕ) where
 -- Write: the file that is written to may change.
 
 written : (world : World) (k : ℕ) (d : Description) (bytes : Text) (s : Source) → Stays (file_of s) world.tree (after_write world k d bytes s).tree
-written world k d bytes (source.Node m) n other = ap file_bytes (other_node (over_written (place_in d (file_bytes (node world.tree m))) bytes) world.tree.nodes m n other)
+written world k d bytes (source.Node m) n other = ap held_in (other_node (over_written (place_in d (file_bytes (node world.tree m))) bytes) world.tree.nodes m n other)
 written world k d bytes (source.Pipe p) n other = refl
 written world k d bytes source.Output n other = refl
 written world k d bytes source.ErrorText n other = refl
@@ -212,10 +191,10 @@ write-leaves world refs bytes (Some k) n other = write_by-leaves world refs byte
 
 open_new : (world : World) (refs : RefsHeld) (but : Option ℕ) (how : How) (dir : ℕ) (name : Text) (slash : Bool) → Stays but world.tree (open_at world refs how (Absent dir name slash)).world.tree
 open_new world refs but how dir name slash =
-    unless-leaves world refs but ((is_read how, NoEntry) ∷ (lacks_w world.tree dir, Denied) ∷ []) (opened world refs (added world.tree dir name (File 420 [])) how (length world.tree.nodes))
-    (added-stays but world.tree dir name (File 420 []) refl)
+    unless-leaves world refs but ((is_read how, NoEntry) ∷ (lacks_w world.tree dir, Denied) ∷ []) (opened world refs (added world.tree dir name (File 420 (Own []))) how (length world.tree.nodes))
+    (added-stays but world.tree dir name (File 420 (Own [])) refl)
 
-open_strictly : (world : World) (refs : RefsHeld) (but : Option ℕ) (how : How) (dir : ℕ) (name : Text) (slash : Bool) → Stays but world.tree (at_place world refs (strict (Ok (Absent dir name slash))) (open_at world refs how)).world.tree
+pub open_strictly : (world : World) (refs : RefsHeld) (but : Option ℕ) (how : How) (dir : ℕ) (name : Text) (slash : Bool) → Stays but world.tree (at_place world refs (strict (Ok (Absent dir name slash))) (open_at world refs how)).world.tree
 open_strictly world refs but how dir name true n other = refl
 open_strictly world refs but how dir name false n other = open_new world refs but how dir name false n other
 
@@ -232,7 +211,7 @@ open-leaves world refs how.Append (Ok (Found at)) n other =
     unless-leaves world refs None ((is_dir (node world.tree at.node), IsDir) ∷ (lacks how.Append (mode_of (node world.tree at.node)), Denied) ∷ []) (opened world refs world.tree how.Append at.node) (λ n other. refl) n other
 open-leaves world refs how.Make (Ok (Found at)) n other =
     unless-leaves world refs (Some at.node) ((is_dir (node world.tree at.node), IsDir) ∷ (lacks how.Make (mode_of (node world.tree at.node)), Denied) ∷ []) (opened world refs (set_bytes world.tree at.node []) how.Make at.node)
-    (λ n other. ap file_bytes (other_node (replaced []) world.tree.nodes at.node n other)) n other
+    (λ n other. ap held_in (other_node (replaced []) world.tree.nodes at.node n other)) n other
 
 -- a call changes the bytes of no other file
 pub stays : (world : World) (refs : RefsHeld) (c : Call) → Stays (file_changed world refs c) world.tree (answered world refs c).world.tree
@@ -279,7 +258,7 @@ kept_number (Some m) numbers n id at = left numbers m n id at
 pub still_numbered : (world : World) (refs : RefsHeld) (c : Call) (contents : List Text) (numbers : List (Option ℕ)) → AreNumbered contents numbers world.tree → AreNumbered contents (without_number (file_changed world refs c) numbers) (answered world refs c).world.tree
 still_numbered world refs c contents numbers h n id at =
     let k = kept_number (file_changed world refs c) numbers n id at in
-    h n id k.1 ∙ ap (λ (text : Text). Some text) (sym (stays world refs c n k.0))
+    h n id k.1 ∙ ap (λ (it : Content). Some (bytes_of it)) (sym (stays world refs c n k.0))
 
 -- the same, by what a call has left
 pub asked : (world now : World) (refs then : RefsHeld) (c : Call) (it : Rattle.rk_calls.specs.declared.answer.Answer.Answer) (contents : List Text) (numbers were fewer : List (Option ℕ)) (changed : Option ℕ) → AreNumbered contents numbers world.tree → changed ≡ file_changed world refs c → were ≡ numbers
@@ -342,4 +321,4 @@ pub read_whole : (world now : World) (refs then : RefsHeld) (c : Call) (n : ℕ)
 read_whole world now refs then c n it is gives =
     let h = whole world refs c n is in
     ap (λ (g : Given World). g.answer) gives ∙ h.0
-    ∙ ap (λ (text : Text). answer.Content text) (sym (stays world refs c n (rw h.1 tt)) ∙ sym (ap (λ (g : Given World). file_bytes (node g.world.tree n)) gives))
+    ∙ ap (λ (it : Content). answer.Content (bytes_of it)) (sym (stays world refs c n (rw h.1 tt)) ∙ sym (ap (λ (g : Given World). held_in (node g.world.tree n)) gives))

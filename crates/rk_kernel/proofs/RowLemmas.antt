@@ -9,6 +9,7 @@ use Rattle.rk_calls.specs.Refs.{RefsHeld}
 use Rattle.rk_tree.specs.Entries.{is_dir}
 use Rattle.rk_tree.specs.Hierarchy.{Hierarchy, added, node, child, is_same, moved_paths, path_of, renamed, with_path}
 use Rattle.rk_tree.specs.Refusals.{first_of, entry_checks, mode_checks, is_there, has_names, lacks_w, goes_below, rename_checks, rename_found, add_refusal, link_refusal, remove_refusal, remove_found, rename_refusal, mode_refusal}
+use Rattle.rk_tree.specs.declared.content.Content.TheVariants.{Own}
 use Rattle.rk_tree.specs.Node.{Node, File, Dir, Link}
 use Rattle.rk_calls.specs.declared.call.How.{How}
 use Rattle.rk_kernel.specs.Opening.{is_read, open_at, opened}
@@ -38,8 +39,8 @@ add-checks tree dir name (Link text) none = ap (λ (o : Option ℕ). first_of (e
 
 -- An empty file under a name that stands for nothing.
 
-file_checks : (tree : Hierarchy) (dir : ℕ) (name : Text) → child tree dir name ≡ None → add_refusal tree dir name (File 420 []) ≡ cond (lacks_w tree dir) (Some Denied) None
-file_checks tree dir name none = add-checks tree dir name (File 420 []) none
+file_checks : (tree : Hierarchy) (dir : ℕ) (name : Text) → child tree dir name ≡ None → add_refusal tree dir name (File 420 (Own [])) ≡ cond (lacks_w tree dir) (Some Denied) None
+file_checks tree dir name none = add-checks tree dir name (File 420 (Own [])) none
 
 denied_not : (w : Bool) → cond w (Some Denied) None ≡ None → w ≡ false
 denied_not true h = cc
@@ -49,21 +50,21 @@ denied_is : (w : Bool) (e : Errno) → cond w (Some Denied) None ≡ Some e → 
 denied_is true e h = (refl, cc)
 denied_is false e h = cc
 
-pub made : (tree : Hierarchy) (dir : ℕ) (name : Text) → child tree dir name ≡ None → add_refusal tree dir name (File 420 []) ≡ None → lacks_w tree dir ≡ false
+pub made : (tree : Hierarchy) (dir : ℕ) (name : Text) → child tree dir name ≡ None → add_refusal tree dir name (File 420 (Own [])) ≡ None → lacks_w tree dir ≡ false
 made tree dir name none h = denied_not (lacks_w tree dir) (sym (file_checks tree dir name none) ∙ h)
 
-pub not_made : (tree : Hierarchy) (dir : ℕ) (name : Text) (e : Errno) → child tree dir name ≡ None → add_refusal tree dir name (File 420 []) ≡ Some e → (lacks_w tree dir ≡ true) × (e ≡ Denied)
+pub not_made : (tree : Hierarchy) (dir : ℕ) (name : Text) (e : Errno) → child tree dir name ≡ None → add_refusal tree dir name (File 420 (Own [])) ≡ Some e → (lacks_w tree dir ≡ true) × (e ≡ Denied)
 not_made tree dir name e none h = denied_is (lacks_w tree dir) e (sym (file_checks tree dir name none) ∙ h)
 
 -- and then Open is refused, and nothing changes
-pub open_refused : (world : World) (refs : RefsHeld) (how : How) (dir : ℕ) (name : Text) (slash : Bool) (e : Errno) (now : World) → false ≡ is_read how → child world.tree dir name ≡ None → add_refusal world.tree dir name (File 420 []) ≡ Some e → now ≡ world
+pub open_refused : (world : World) (refs : RefsHeld) (how : How) (dir : ℕ) (name : Text) (slash : Bool) (e : Errno) (now : World) → false ≡ is_read how → child world.tree dir name ≡ None → add_refusal world.tree dir name (File 420 (Own [])) ≡ Some e → now ≡ world
     → ◌≡◌ {A = Given World} (record { answer = answer.No e; refs = refs; world = now }) (open_at world refs how (Absent dir name slash))
 open_refused world refs how dir name slash e now reads none h same =
     let d = not_made world.tree dir name e none h in
     ap (λ (w : World). record { answer = answer.No e; refs = refs; world = w }) same
     ∙ ap (λ (e : Errno). refused world refs e) d.1
-    ∙ sym (ap (λ (b : Bool). cond b (refused world refs NoEntry) (cond (lacks_w world.tree dir) (refused world refs Denied) (opened world refs (added world.tree dir name (File 420 [])) how (length world.tree.nodes)))) (sym reads)
-    ∙ ap (λ (b : Bool). cond b (refused world refs Denied) (opened world refs (added world.tree dir name (File 420 [])) how (length world.tree.nodes))) d.0)
+    ∙ sym (ap (λ (b : Bool). cond b (refused world refs NoEntry) (cond (lacks_w world.tree dir) (refused world refs Denied) (opened world refs (added world.tree dir name (File 420 (Own []))) how (length world.tree.nodes)))) (sym reads)
+    ∙ ap (λ (b : Bool). cond b (refused world refs Denied) (opened world refs (added world.tree dir name (File 420 (Own []))) how (length world.tree.nodes))) d.0)
 
 pub link-checks : (tree : Hierarchy) (dir : ℕ) (name : Text) (n : ℕ) → is_there (node tree n) ≡ true → child tree dir name ≡ None → link_refusal tree dir name n ≡ first_of ((is_dir (node tree n), Denied) ∷ (lacks_w tree dir, Denied) ∷ [])
 unfolding link_refusal

@@ -8,6 +8,7 @@ use Rattle.rk_base.specs.declared.errno.Errno.TheVariants.{NoEntry, IsDir, Denie
 use Rattle.rk_tree.specs.Hierarchy.{node, mode_of, added, text_of}
 use Rattle.rk_tree.specs.Entries.{is_dir}
 use Rattle.rk_tree.specs.Refusals.{lacks_w}
+use Rattle.rk_tree.specs.declared.content.Content.TheVariants.{Own}
 use Rattle.rk_tree.specs.Node.{Node, File, Dir, Link}
 use Rattle.rk_calls.specs.declared.call.Call.{Call}
 use Rattle.rk_calls.specs.declared.call.Call.TheVariants as call
@@ -48,7 +49,7 @@ place-passes test all world refs (Ok place) row h = h place
 open-fits : (world : World) (refs : RefsHeld) (how : How) (place : Place) → fits_open (open_at world refs how place).answer ≡ true
 open-fits world refs how (Absent dir name slash) =
     unless-passes fits_open (λ e. refl) world refs ((is_read how, NoEntry) ∷ (lacks_w world.tree dir, Denied) ∷ [])
-    (opened world refs (added world.tree dir name (File 420 [])) how (length world.tree.nodes)) refl
+    (opened world refs (added world.tree dir name (File 420 (Own []))) how (length world.tree.nodes)) refl
 open-fits world refs how (Found at) =
     unless-passes fits_open (λ e. refl) world refs ((is_dir (node world.tree at.node), IsDir) ∷ (lacks how (mode_of (node world.tree at.node)), Denied) ∷ [])
     (opened world refs (emptied how world.tree at.node) how at.node) refl

@@ -1,6 +1,9 @@
+pub mod Asking
+pub mod Causes
 pub mod Changes
 pub mod Do
 pub mod Fitting
+pub mod Full
 pub mod Numbers
 pub mod Opening
 pub mod Questions

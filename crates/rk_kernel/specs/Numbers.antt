@@ -9,7 +9,7 @@ use Rattle.rk_calls.specs.declared.call.Call.{Call}
 use Rattle.rk_calls.specs.declared.call.Call.TheVariants as call
 use Rattle.rk_calls.specs.declared.call.How.{How}
 use Rattle.rk_calls.specs.declared.call.How.TheVariants as how
-use Rattle.rk_tree.specs.Hierarchy.{Hierarchy, file_bytes, node}
+use Rattle.rk_tree.specs.Hierarchy.{Hierarchy, file_bytes, held_in, node}
 use Rattle.rk_walk.specs.Walk.{Spot, resolve}
 use Rattle.rk_walk.specs.declared.place.Place.TheVariants.{Found, Absent}
 use Rattle.rk_kernel.specs.World.{World}
@@ -75,6 +75,15 @@ abbrev pub file_changed : World → RefsHeld → Call → Option ℕ
 file_changed world refs (call.Open path how) = file_made how (resolve world.tree path true)
 file_changed world refs (call.Write r bytes) = file_opened world (λ d. true) (ref_at refs r)
 file_changed world refs _ = None
+
+-- another file than this one, if it is one
+abbrev pub IsOther : Option ℕ → ℕ → Type 0
+IsOther None n = Unit {0}
+IsOther (Some m) n = m ≢ n
+
+-- each file holds what it held, but perhaps this one
+abbrev pub Stays : Option ℕ → Hierarchy → Hierarchy → Type 0
+Stays but old new = (n : ℕ) → IsOther but n → held_in (node new n) ≡ held_in (node old n)
 
 -- a file that has lost its number
 abbrev pub without_number : Option ℕ → List (Option ℕ) → List (Option ℕ)

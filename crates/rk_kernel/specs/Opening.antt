@@ -11,6 +11,7 @@ use Rattle.rk_calls.specs.Refs.{RefsHeld, with_opened}
 use Rattle.rk_tree.specs.Entries.{is_dir}
 use Rattle.rk_tree.specs.Hierarchy.{Hierarchy, node, mode_of, has_r, has_w, added, set_bytes}
 use Rattle.rk_tree.specs.Refusals.{add_refusal, lacks_w}
+use Rattle.rk_tree.specs.declared.content.Content.TheVariants.{Own}
 use Rattle.rk_tree.specs.Node.{File}
 use Rattle.rk_walk.specs.declared.place.Place.{Place}
 use Rattle.rk_walk.specs.declared.place.Place.TheVariants.{Found, Absent}
@@ -44,14 +45,14 @@ emptied _ tree n = tree
 
 -- an empty file of mode 0644 was made in a directory, or why not
 abbrev pub MakesFile : World → ℕ → Text → World → Result ℕ Errno → Type 0
-MakesFile world dir name now (Ok n) = (add_refusal world.tree dir name (File 420 []) ≡ None) × (n ≡ length world.tree.nodes) × (now ≡ with_tree world (added world.tree dir name (File 420 [])))
-MakesFile world dir name now (Err e) = (add_refusal world.tree dir name (File 420 []) ≡ Some e) × (now ≡ world)
+MakesFile world dir name now (Ok n) = (add_refusal world.tree dir name (File 420 (Own [])) ≡ None) × (n ≡ length world.tree.nodes) × (now ≡ with_tree world (added world.tree dir name (File 420 (Own []))))
+MakesFile world dir name now (Err e) = (add_refusal world.tree dir name (File 420 (Own [])) ≡ Some e) × (now ≡ world)
 
 -- an empty file of mode 0644 is made under an absent name
 abbrev pub open_at : World → RefsHeld → How → Place → Given World
 open_at world refs how (Absent dir name slash) =
     unless world refs ((is_read how, NoEntry) ∷ (lacks_w world.tree dir, Denied) ∷ [])
-    (opened world refs (added world.tree dir name (File 420 [])) how (length world.tree.nodes))
+    (opened world refs (added world.tree dir name (File 420 (Own []))) how (length world.tree.nodes))
 open_at world refs how (Found at) =
     unless world refs ((is_dir (node world.tree at.node), IsDir) ∷ (lacks how (mode_of (node world.tree at.node)), Denied) ∷ [])
     (opened world refs (emptied how world.tree at.node) how at.node)

@@ -10,6 +10,7 @@ use Rattle.rk_calls.specs.declared.answer.Answer.TheVariants as answer
 use Rattle.rk_calls.specs.Given.{Given}
 use Rattle.rk_calls.specs.Refs.{RefsHeld}
 use Rattle.rk_tree.specs.Hierarchy.{has_r, has_x, names, path_of, text_of}
+use Rattle.rk_tree.specs.Content.{bytes_of}
 use Rattle.rk_tree.specs.Node.{Node, File, Dir, Link}
 use Rattle.rk_walk.specs.declared.place.Place.{Place}
 use Rattle.rk_walk.specs.declared.place.Place.TheVariants.{Found, Absent}
@@ -24,7 +25,7 @@ permissions mode = mode % 512
 
 abbrev pub stat_of : Option Node → Answer
 stat_of None = answer.No NoEntry
-stat_of (Some (File mode bytes)) = answer.Stat kind.File (permissions mode) (is_empty bytes)
+stat_of (Some (File mode content)) = answer.Stat kind.File (permissions mode) (is_empty (bytes_of content))
 stat_of (Some (Dir mode)) = answer.Stat kind.Dir (permissions mode) false
 stat_of (Some (Link text)) = answer.Stat kind.Link 511 false
 

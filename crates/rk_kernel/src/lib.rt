@@ -1,12 +1,17 @@
-//! The world that commands ask: a tree, open descriptions, pipes, output and error text; and numbers for what is read of it.
+//! The world that commands ask: a tree, open descriptions, pipes, output and error text; numbers for what is read of it; and
+//! what is fetched where a call looks at it first.
 #![tactic(auto)]
 
+mod answer_err;
+mod asking;
 mod description;
 mod numbered;
 mod pipe;
 mod spot;
 mod world;
 
+pub use answer_err::AnswerErr;
+pub use asking::Asking;
 pub use description::{Description, Source};
 pub use numbered::NumberedWorld;
 pub use world::World;

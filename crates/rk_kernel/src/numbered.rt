@@ -1,17 +1,20 @@
 // A world with numbers for the contents that were read of its files.
-ghost use Rattle.std.specs.Prelude.{◌≡◌, [], IfOk, IfSome, OnOk, Some, is_some, slice_get, true};
+ghost use Rattle.std.specs.Prelude.{◌≡◌, ◌↔◌, [], IfOk, IfSome, IsTrue, OnOk, Some, is_some, slice_get, true};
 ghost use Rattle.rk_base.specs.Text.{Text};
 ghost use Rattle.rk_content.specs.Contents.{IsContent, Keeps};
 ghost use Rattle.rk_tree.specs.Hierarchy.{file_bytes, node};
+ghost use Rattle.rk_tree.specs.Full.{AreFrom, is_known};
+ghost use Rattle.rk_kernel.specs.Causes.{Caused, Steadily};
 ghost use Rattle.rk_kernel.specs.Do.{answered};
+ghost use Rattle.rk_kernel.specs.Full.{file_seen, full_world};
 ghost use Rattle.rk_kernel.specs.Numbers.{AreNumbered, IsFileContent, file_changed, file_read, without_number};
 ghost use Rattle.rk_kernel.specs.World.{fresh};
 
-use crate::World;
+use crate::{AnswerErr, World};
 use rk_base::{Bytes, NoMemory};
 use rk_calls::{Answer, Answerer, Call, Refs};
 use rk_content::{ContentId, Contents, Numbering};
-use rk_tree::Tree;
+use rk_tree::{Fetch, Tree};
 use std::alloc::Global;
 use std::marker::Model;
 use std::mem;
@@ -119,6 +122,13 @@ impl NumberedWorld {
         Ok(id)
     }
 
+    /// Whether two contents are the same, by their numbers.
+    pub fn is_same(&self, a: ContentId, b: ContentId) -> bool
+        ensures { (text other : Text) → slice_get self.now.contents a ≡ Some text → slice_get self.now.contents b ≡ Some other → (IsTrue result ↔ (text ≡ other)) }
+    {
+        self.contents.is_same(a, b)
+    }
+
     // The number of a file's bytes.
     fn number_of(&mut self, n: usize, bytes: &Bytes) -> Result<ContentId, NoMemory>
         requires { bytes.now ≡ file_bytes (node self.old.world.tree n) }
@@ -135,6 +145,76 @@ impl NumberedWorld {
         put_number(&mut numbers, &self.contents, &self.world, n, id)?;
         self.numbers = numbers;
         Ok(id)
+    }
+
+    // The bytes of a file are known; where they weren't, it has no number yet. In full nothing changes.
+    fn look_at<G: Fetch>(&mut self, fetch: &mut G, n: usize) -> Result<(), AnswerErr>
+        requires { AreFrom (G.told fetch.old) self.old.world.tree }
+        ensures known { OnOk result (is_known (node self.new.world.tree n) ≡ true) }
+        ensures full { OnOk result (IfSome (G.told fetch.old) (λ told. full_world told self.new.world ≡ full_world told self.old.world)) }
+        ensures from { OnOk result (AreFrom (G.told fetch.new) self.new.world.tree) }
+        ensures contents { self.new.contents ≡ self.old.contents }
+        ensures told { G.told fetch.new ≡ G.told fetch.old }
+        ensures keeps { G.Keeps fetch.old fetch.new }
+        ensures stays { OnOk result (G.Stays fetch.old fetch.new) }
+        ensures steady { Steadily (G.steady fetch.old) (G.steady fetch.new) result }
+        ensures caused { Caused (G.faults fetch.old) (G.faults fetch.new) result }
+    {
+        if self.world.is_known(n) {
+            return Ok(());
+        }
+        let alloc = *self.numbers.allocator();
+        let mut numbers = mem::replace(&mut self.numbers, Vec::new(alloc));
+        without_number(&mut numbers, Some(n));
+        self.world.look_at(fetch, n)?;
+        self.numbers = numbers;
+        Ok(())
+    }
+
+    // The bytes that a call looks at are known. In full nothing changes.
+    fn look<G: Fetch>(&mut self, fetch: &mut G, refs: &Refs, call: &Call) -> Result<(), AnswerErr>
+        requires { AreFrom (G.told fetch.old) self.old.world.tree }
+        ensures sees { OnOk result (IfSome (file_seen self.old.world refs.now call.now) (λ n. is_known (node self.new.world.tree n) ≡ true)) }
+        ensures full { OnOk result (IfSome (G.told fetch.old) (λ told. full_world told self.new.world ≡ full_world told self.old.world)) }
+        ensures from { OnOk result (AreFrom (G.told fetch.new) self.new.world.tree) }
+        ensures contents { self.new.contents ≡ self.old.contents }
+        ensures told { G.told fetch.new ≡ G.told fetch.old }
+        ensures keeps { G.Keeps fetch.old fetch.new }
+        ensures stays { OnOk result (G.Stays fetch.old fetch.new) }
+        ensures steady { Steadily (G.steady fetch.old) (G.steady fetch.new) result }
+        ensures caused { Caused (G.faults fetch.old) (G.faults fetch.new) result }
+    {
+        match self.world.file_seen(refs, call) {
+            None => Ok(()),
+            Some(n) => self.look_at(fetch, n),
+        }
+    }
+
+    /// The answer to a call, with the number of the content that it is, where a file was read whole by one Read. The bytes that
+    /// it looks at are fetched first, where they aren't known yet; where they are told, the answer is that of the world in full.
+    pub fn answer_fetched<G: Fetch>(
+        &mut self,
+        fetch: &mut G,
+        refs: &mut Refs,
+        call: &Call,
+    ) -> Result<(Answer, Option<ContentId>), AnswerErr>
+        // What wasn't read can be read.
+        requires { AreFrom (G.told fetch.old) self.old.world.tree }
+        ensures given { IfOk result (λ r. IfSome (G.told fetch.old) (λ told. record { answer = r.0; refs = refs.new; world = full_world told self.new.world } ≡ answered (full_world told self.old.world) refs.old call.now)) }
+        ensures number { IfOk result (λ r. IfSome r.1 (λ id. IsContent self.new.contents id r.0)) }
+        ensures kept { IfOk result (λ _. Keeps self.old.contents self.new.contents) }
+        ensures from { OnOk result (AreFrom (G.told fetch.new) self.new.world.tree) }
+        ensures told { G.told fetch.new ≡ G.told fetch.old }
+        ensures keeps { G.Keeps fetch.old fetch.new }
+        ensures stays { OnOk result (G.Stays fetch.old fetch.new) }
+        ensures steady { Steadily (G.steady fetch.old) (G.steady fetch.new) result }
+
+        // A read fault comes only where the count of failures rose, and an answer only where it didn't.
+        ensures caused { Caused (G.faults fetch.old) (G.faults fetch.new) result }
+    {
+        self.look(fetch, refs, call)?;
+        let answer = self.answer_id(refs, call)?;
+        Ok(answer)
     }
 
     // The answer to a call. A file that it may change loses its number.
@@ -248,6 +328,12 @@ impl Answerer for NumberedWorld {
 impl Numbering for NumberedWorld {
     ghost contents = { λ it. it.contents };
 
+    ghost Keeps = { λ before now. Unit {0} };
+
+    ghost Stays = { λ before now. Unit {0} };
+
+    ghost Fails = { λ before now stop. Unit {0} };
+
     fn answer_id(
         &mut self,
         refs: &mut Refs,
@@ -261,6 +347,18 @@ impl Numbering for NumberedWorld {
     }
 
     fn is_same(&self, a: ContentId, b: ContentId) -> bool {
-        self.contents.is_same(a, b)
+        NumberedWorld::is_same(self, a, b)
     }
+
+    ghost keeps_itself = { λ x. tt };
+
+    ghost keeps_on = { λ x y z s t. tt };
+
+    ghost stays_itself = { λ x. tt };
+
+    ghost stays_on = { λ x y z s t. tt };
+
+    ghost fails_on = { λ x y z stop s t. tt };
+
+    ghost fails_want = { λ x y want stop s gives. tt };
 }

@@ -9,6 +9,7 @@ mod answering;
 mod asking;
 mod changing;
 mod files;
+mod looking;
 mod opening;
 mod piping;
 mod reading;

@@ -23,7 +23,7 @@ impl World {
             FileType::File => Answer::Stat {
                 kind: FileType::File,
                 mode: self.tree.mode(n) % 512,
-                empty: self.tree.bytes(n).is_empty(),
+                empty: self.file(n.number()).is_empty(),
             },
             FileType::Dir => Answer::Stat {
                 kind: FileType::Dir,

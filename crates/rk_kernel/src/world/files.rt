@@ -12,7 +12,8 @@ use rk_calls::{Call, How, Refs};
 use rk_tree::NodeId;
 use rk_walk::{Place, resolve};
 
-fn file_of(source: Source) -> Option<usize>
+// The file that is read or written, if it is one.
+pub(super) fn file_of(source: Source) -> Option<usize>
     ensures { result ≡ numbers.file_of source }
 {
     match source {
@@ -88,12 +89,11 @@ impl World {
     }
 
     /// The bytes of a file are these, which are its own: it shares their text.
-    #[tactic(auto, using(crate::proofs::NumberLemmas::shared))]
     pub(crate) fn share(&mut self, n: usize, text: Bytes)
         requires { text ≡ file_bytes (node self.old.tree n) }
         ensures { self.new ≡ self.old }
     {
-        self.tree.set_bytes(NodeId::new(n), text);
+        self.tree.share(NodeId::new(n), text);
     }
 
     /// The file that a call reads whole, if it is such a one.

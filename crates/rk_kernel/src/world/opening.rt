@@ -12,7 +12,7 @@ use crate::spot::{Spot, strict_spot_at};
 use crate::{Description, World};
 use rk_base::{Bytes, Errno, Name, NoMemory};
 use rk_calls::{Answer, How, Refs};
-use rk_tree::{Entry, NodeId, Refused, has_r, has_w};
+use rk_tree::{Content, Entry, NodeId, Refused, has_r, has_w};
 
 fn is_read(how: How) -> bool
     ensures { result ≡ opening.is_read how }
@@ -51,7 +51,10 @@ impl World {
         ensures { IfOk result (opening.MakesFile self.old dir name.now self.new) }
     {
         let none = Bytes::from_slice(self.allocator(), b"")?;
-        match self.tree.add(dir, name, Entry::File(0o644, none)) {
+        match self
+            .tree
+            .add(dir, name, Entry::File(0o644, Content::Own(none)))
+        {
             Ok(n) => Ok(Ok(n)),
             Err(Refused::No(e)) => Ok(Err(e)),
             Err(Refused::NoMemory) => Err(NoMemory),

@@ -82,11 +82,14 @@ fn line_end(text: &[u8], offset: usize) -> usize
 }
 
 impl World {
-    // The bytes of the file that is the node of a number.
+    // The bytes that are known of the file that is the node of a number.
     pub(super) fn file(&self, n: usize) -> &[u8]
         ensures { result.now ≡ file_bytes (node self.now.tree n) }
     {
-        self.tree.bytes(NodeId::new(n))
+        match self.tree.bytes(NodeId::new(n)) {
+            Some(bytes) => bytes,
+            None => b"",
+        }
     }
 
     // The bytes of a file from an offset on; a whole file shares its own.
