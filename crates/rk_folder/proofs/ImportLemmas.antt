@@ -8,12 +8,12 @@ use Rattle.rk_base.proofs.CanonicalLemmas.{root-canonical}
 use Rattle.rk_tree.specs.Entries as tree
 use Rattle.rk_tree.specs.Entries.{Entries}
 use Rattle.rk_tree.proofs.TextLemmas.{root_seen}
-use Rattle.rk_folder.specs.Told.{Held, standing, is_dir, is_file, bytes_in, can_list, item_of, items_of}
+use Rattle.rk_folder.specs.Told.{Held, standing, is_dir, is_file, bytes_in, can_list, item_of}
 use Rattle.rk_folder.specs.Whole.{IsWhole, TellsWhole}
 use Rattle.rk_folder.specs.Hidden.{hidden_dir, attrs_file, db_file, install_file, fresh_list_file}
 use Rattle.rk_folder.specs.Listing.{IsFirst}
 use Rattle.rk_folder.specs.Specials.{is_fault, first_special, state_special, hidden_fault, hidden_special}
-use Rattle.rk_folder.specs.Import.{Tells, has_database, hidden_read, snapshot_of}
+use Rattle.rk_folder.specs.Import.{Tells, has_database, hidden_read, listed_of}
 use Rattle.rk_folder.specs.Steps.{ListsRoot, agrees, has_db, hidden_listed, is_dir_item, is_odd_item, item_named, listed_in, nothing_found, first_within, first_fault, special_in, with_within, with_items, nothing_special, root_entry}
 use Rattle.rk_folder.specs.declared.hidden_files.Hidden.{Hidden}
 use Rattle.rk_folder.specs.declared.hidden_listing.Listed.{Listed}
@@ -179,7 +179,7 @@ taken_root told now dir items b old new result is whole at listed first odd plai
     (ap (λ (s : Entries). tree.is_dir (get s dir)) first ∙ ap (λ (p : Text). tree.is_dir (get root_entry p)) at ∙ root_entry-dir) (same_dir told dir items at listed) odd plain tells
 
 pub told-entries : {A : Type 0} (told now : Option Held) (dir : Text) (items : List Item) (b : Bool) (old new : Entries) (it : A) → now ≡ told → TellsWhole told → dir ≡ root → ListsRoot told items → old ≡ root_entry → b ≡ list_any is_odd_item items → b ≡ false
-    → Tells now (λ held. first_fault (special_in held dir) items) (λ held it. new ≡ with_items held dir old items) (Ok it) → IfSome told (λ held. (first_special held ≡ None) × (new ≡ snapshot_of held))
+    → Tells now (λ held. first_fault (special_in held dir) items) (λ held it. new ≡ with_items held dir old items) (Ok it) → IfSome told (λ held. (first_special held ≡ None) × (new ≡ listed_of held))
 told-entries told now dir items b old new it is whole at listed first odd plain tells =
     told-whole told dir old new whole at first (taken_root told now dir items b old new (Ok it) is whole at listed first odd plain tells)
 

@@ -1,10 +1,12 @@
 pub mod AttributesLemmas
 pub mod CopyLemmas
 pub mod CallsLemmas
+pub mod FetchingLemmas
 pub mod FirstLemmas
 pub mod HeldLemmas
 pub mod HiddenLemmas
 pub mod ImportLemmas
+pub mod ListedLemmas
 pub mod ListingLemmas
 pub mod LooksLemmas
 pub mod OrderLemmas

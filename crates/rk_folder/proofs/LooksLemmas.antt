@@ -4,7 +4,7 @@ use Rattle.std.specs.Prelude.{flat_map}
 use Rattle.rk_base.specs.Text.{Text, root, join, same_text}
 use Rattle.rk_folder.specs.Told.{Held, standing, is_dir, items_of}
 use Rattle.rk_folder.specs.Hidden.{hidden_dir, attrs_file, db_file, install_file}
-use Rattle.rk_folder.specs.Schedule.{AreSomeOf, Made, MakesCalls, Schedule}
+use Rattle.rk_folder.specs.Schedule.{MakesCalls, Schedule}
 use Rattle.rk_folder.specs.Looks.{LooksInOrder, item_looks, lists, looks, looks_within, reads, reads_unless, state_looks, state_reads}
 use Rattle.rk_folder.specs.declared.folder.FolderCall.{FolderCall}
 use Rattle.rk_folder.specs.declared.folder.Item.{Item}
@@ -12,7 +12,7 @@ use Rattle.rk_folder.specs.declared.folder.Item.TheVariants as item
 use Rattle.rk_folder.specs.declared.folder.Standing.{Standing}
 use Rattle.rk_folder.specs.declared.folder.Standing.TheVariants.{Dir}
 use Rattle.rk_folder.proofs.ReadingLemmas.{ToldItems}
-use Rattle.rk_folder.proofs.CallsLemmas.{makes-first, makes-last, makes-none, makes-same, makes-then}
+use Rattle.rk_folder.proofs.CallsLemmas.{makes-first, makes-none, makes-same, makes-then}
 
 pub looks-as : (told : Option Held) (some : List FolderCall) (all : Held → List FolderCall) (before now : Option Schedule) → ((held : Held) → MakesCalls some before now → MakesCalls (all held) before now) → MakesCalls some before now → LooksInOrder told all before now
 looks-as None some all before now h calls = tt
@@ -66,10 +66,6 @@ looks-last (Some held) cost left all before now so =
     makes-same (so.first ++ flat_map (cost held) left) (flat_map (cost held) all) before now so.rest (makes-first so.first (flat_map (cost held) left) before now so.calls)
 
 -- What is listed.
-
-pub file-read : (told : Option Held) (m : ℕ) (dir name : Text) (before now : Option Schedule) → MakesCalls (reads (join dir name)) before now → LooksInOrder told (λ held. item_looks (looks_within m held) dir (item.File name)) before now
-file-read None m dir name before now calls = tt
-file-read (Some held) m dir name before now calls = calls
 
 pub dir-hidden : (told : Option Held) (m : ℕ) (path dir name : Text) (b : Bool) (before now : Option Schedule) → path ≡ join dir name → b ≡ same_text path hidden_dir → b ≡ true → MakesCalls (lists hidden_dir) before now → LooksInOrder told (λ held. item_looks (looks_within m held) dir (item.Dir name)) before now
 dir-hidden told m path dir name b before now at is on calls =

@@ -9,16 +9,18 @@ use Rattle.rk_base.specs.Canonical.{is_canonical, is_name}
 use Rattle.rk_base.proofs.CanonicalLemmas.{either, root-canonical, join-canonical}
 use Rattle.rk_base.proofs.PathLemmas.{join-is_in, parent-join}
 use Rattle.rk_tree.proofs.TextLemmas.{ties_itself, parent-root, root_seen}
+use Rattle.rk_tree.specs.Rows.{map_of}
 use Rattle.rk_tree.proofs.RowsLemmas.{row_at, get-map_of, same_maps}
 use Rattle.rk_tree.specs.Entries as tree
 use Rattle.rk_tree.specs.Entries.{Entries, IsFit, IsWholeSnapshot}
 use Rattle.rk_tree.specs.Node.{Node as Entry}
 use Rattle.rk_tree.specs.Node as entry
+use Rattle.rk_tree.specs.declared.content.Content.TheVariants.{Unread}
 use Rattle.rk_folder.specs.Told.{Held, standing, is_nothing, is_file, is_dir, item_in, item_of, items_of, odd_in, is_odd}
 use Rattle.rk_folder.specs.Whole.{IsWhole}
 use Rattle.rk_folder.specs.Hidden.{hidden_dir}
-use Rattle.rk_folder.specs.Import.{entry_of, imported, snapshot_of}
-use Rattle.rk_folder.specs.Steps.{with_entry, with_entries, imported_in, with_within, with_item, with_items, root_entry}
+use Rattle.rk_folder.specs.Import.{listed_entry, listed_of}
+use Rattle.rk_folder.specs.Steps.{with_entry, with_entries, row_within, with_within, with_item, with_items, root_entry}
 use Rattle.rk_folder.specs.declared.folder.Item.{Item}
 use Rattle.rk_folder.specs.declared.folder.Item.TheVariants as item
 use Rattle.rk_folder.specs.declared.folder.Standing.{Standing}
@@ -77,16 +79,16 @@ get-with_entry path it snapshot q =
 
 -- The snapshot by what stands at each path.
 
-abbrev pub imported_at : Text → Option Standing → Option Entry
-imported_at q o = cond (is_within hidden_dir q) None (option_and_then entry_of o)
+abbrev pub entry_at_path : Text → Option Standing → Option Entry
+entry_at_path q o = cond (is_within hidden_dir q) None (option_and_then (listed_entry q) o)
 
-imported_none : (q : Text) → imported_at q None ≡ None
-imported_none q = elim (is_within hidden_dir q) as (λ (b : Bool). cond b None (option_and_then entry_of None) ≡ None) [ true ↦ refl | false ↦ refl ]
+entry_none : (q : Text) → entry_at_path q None ≡ None
+entry_none q = elim (is_within hidden_dir q) as (λ (b : Bool). cond b None (option_and_then (listed_entry q) None) ≡ None) [ true ↦ refl | false ↦ refl ]
 
 abbrev seen_in : Text → Text → Option Standing → Option Entry
-seen_in dir q o = cond (is_within dir q) (imported_at q o) None
+seen_in dir q o = cond (is_within dir q) (entry_at_path q o) None
 
-none_both : (b : Bool) (i : Option Entry) → i ≡ None → cond b i None ≡ None
+none_both : {X : Type 0} (b : Bool) (i : Option X) → i ≡ None → cond b i None ≡ None
 none_both true i h = h
 none_both false i h = refl
 
@@ -112,10 +114,10 @@ take_row g w m it true h is at =
     ∙ twice g it h ∙ ap (λ (x : Option Entry). kept g (upon x g)) (sym (at refl))
 take_row g w m it false h is at = ap (λ (x : Option Entry). kept x (cond h (upon w x) x)) (is ∙ kept-same g)
 
-row_here : (q dir k : Text) (it : Standing) (a b : Bool) → same_path q k ≡ true → is_within dir k ≡ a → is_within hidden_dir k ≡ b → seen_in dir q (Some it) ≡ cond a (cond b None (entry_of it)) None
+row_here : (q dir k : Text) (it : Standing) (a b : Bool) → same_path q k ≡ true → is_within dir k ≡ a → is_within hidden_dir k ≡ b → seen_in dir q (Some it) ≡ cond a (cond b None (listed_entry k it)) None
 row_here q dir k it a b s x y =
     let same = one_path q k s in
-    ap (λ (c : Bool). cond c (imported_at q (Some it)) None) (ap (is_within dir) same ∙ x) ∙ ap (λ (c : Bool). cond a (cond c None (entry_of it)) None) (ap (is_within hidden_dir) same ∙ y)
+    ap (λ (c : Bool). cond c (entry_at_path q (Some it)) None) (ap (is_within dir) same ∙ x) ∙ ap (λ (c : Bool). cond a (cond c None (listed_entry q it)) None) (ap (is_within hidden_dir) same ∙ y) ∙ ap (λ (t : Text). cond a (cond b None (listed_entry t it)) None) same
 
 lay_row : (q k : Text) (g w : Option Entry) (snapshot : Entries) (rest : List (Text × Entry)) (a b : Bool) (e : Option Entry) (h : Bool) → get snapshot q ≡ g → (same_path q k ≡ true → w ≡ cond a (cond b None e) None)
     → ((s : Entries) → get (with_entries rest s) q ≡ kept (get s q) (cond h (upon w (get s q)) (get s q)))
@@ -126,10 +128,10 @@ lay_row q k g w snapshot rest true false None h is at so = so snapshot ∙ ap (�
 lay_row q k g w snapshot rest true false (Some it) h is at so =
     so (with_entry k it snapshot) ∙ take_row g w (get (with_entry k it snapshot) q) it (same_path q k) h (get-with_entry k it snapshot q ∙ ap (λ (x : Option Entry). kept x (cond (same_path q k) (Some it) x)) is) at
 
-lay_rows : (held : Held) (dir q : Text) (rows : List (Text × Standing)) → EachStands (standing held) rows → (snapshot : Entries) → get (with_entries (filter_map (imported_in dir) rows) snapshot) q ≡ kept (get snapshot q) (cond (has q rows) (upon (seen_in dir q (standing held q)) (get snapshot q)) (get snapshot q))
+lay_rows : (held : Held) (dir q : Text) (rows : List (Text × Standing)) → EachStands (standing held) rows → (snapshot : Entries) → get (with_entries (filter_map (row_within dir) rows) snapshot) q ≡ kept (get snapshot q) (cond (has q rows) (upon (seen_in dir q (standing held q)) (get snapshot q)) (get snapshot q))
 lay_rows held dir q [] each snapshot = sym (kept-same (get snapshot q))
 lay_rows held dir q (row ∷ rows) each snapshot =
-    lay_row q row.0 (get snapshot q) (seen_in dir q (standing held q)) snapshot (filter_map (imported_in dir) rows) (is_within dir row.0) (is_within hidden_dir row.0) (entry_of row.1) (has q rows) refl
+    lay_row q row.0 (get snapshot q) (seen_in dir q (standing held q)) snapshot (filter_map (row_within dir) rows) (is_within dir row.0) (is_within hidden_dir row.0) (listed_entry row.0 row.1) (has q rows) refl
     (λ s. ap (seen_in dir q) (ap (standing held) (one_path q row.0 s) ∙ each.0) ∙ row_here q dir row.0 row.1 (is_within dir row.0) (is_within hidden_dir row.0) s refl refl)
     (lay_rows held dir q rows each.1)
 
@@ -141,7 +143,7 @@ get-within held dir snapshot q =
       | true ↦ λ e. refl
       | false ↦ λ e.
           let gone : standing held q ≡ None = get-entries held.places q ∙ not_had q (entries held.places) e in
-          ap (λ (x : Option Entry). kept (get snapshot q) (upon x (get snapshot q))) (sym (ap (seen_in dir q) gone ∙ none_both (is_within dir q) (imported_at q None) (imported_none q)))
+          ap (λ (x : Option Entry). kept (get snapshot q) (upon x (get snapshot q))) (sym (ap (seen_in dir q) gone ∙ none_both (is_within dir q) (entry_at_path q None) (entry_none q)))
     ] refl)
 
 -- By items.
@@ -162,17 +164,17 @@ one_item : (g i m : Option Entry) (w a : Bool) → m ≡ kept g (upon (cond w i 
 one_item g i m true a is = ap (λ (x : Option Entry). kept x (upon (cond a i None) x)) is ∙ kept_again g i a
 one_item g i m false a is = ap (λ (x : Option Entry). kept x (upon (cond a i None) x)) (is ∙ kept-same g)
 
-get-item : (held : Held) (dir : Text) (snapshot : Entries) (it : Item) (q : Text) → get (with_item held dir snapshot it) q ≡ kept (get snapshot q) (upon (cond (at_item dir q it) (imported_at q (standing held q)) None) (get snapshot q))
+get-item : (held : Held) (dir : Text) (snapshot : Entries) (it : Item) (q : Text) → get (with_item held dir snapshot it) q ≡ kept (get snapshot q) (upon (cond (at_item dir q it) (entry_at_path q (standing held q)) None) (get snapshot q))
 get-item held dir snapshot (item.File name) q = get-within held (join dir name) snapshot q
 get-item held dir snapshot (item.Dir name) q = get-within held (join dir name) snapshot q
 get-item held dir snapshot (item.Special name) q = get-within held (join dir name) snapshot q
 get-item held dir snapshot item.Odd q = sym (kept-same (get snapshot q))
 
-get-items : (held : Held) (dir : Text) (snapshot : Entries) (items : List Item) (q : Text) → get (with_items held dir snapshot items) q ≡ kept (get snapshot q) (upon (cond (list_any (at_item dir q) items) (imported_at q (standing held q)) None) (get snapshot q))
+get-items : (held : Held) (dir : Text) (snapshot : Entries) (items : List Item) (q : Text) → get (with_items held dir snapshot items) q ≡ kept (get snapshot q) (upon (cond (list_any (at_item dir q) items) (entry_at_path q (standing held q)) None) (get snapshot q))
 get-items held dir snapshot [] q = sym (kept-same (get snapshot q))
 get-items held dir snapshot (it ∷ its) q =
     get-items held dir (with_item held dir snapshot it) its q
-    ∙ one_item (get snapshot q) (imported_at q (standing held q)) (get (with_item held dir snapshot it) q) (at_item dir q it) (list_any (at_item dir q) its) (get-item held dir snapshot it q)
+    ∙ one_item (get snapshot q) (entry_at_path q (standing held q)) (get (with_item held dir snapshot it) q) (at_item dir q it) (list_any (at_item dir q) its) (get-item held dir snapshot it q)
 
 at_row : (dir q name : Text) (it : Standing) → at_item dir q (item_of name it) ≡ is_within (join dir name) q
 at_row dir q name (File bytes) = refl
@@ -208,12 +210,12 @@ dir_kept g a b d = ap (λ (c : Bool). cond c g a) d ∙ sym (ap (λ (c : Bool). 
 pub within-items : (held : Held) (dir : Text) (snapshot : Entries) → IsWhole held → is_canonical dir ≡ true → tree.is_dir (get snapshot dir) ≡ true → with_items held dir snapshot (items_of held dir) ≡ with_within held dir snapshot
 within-items held dir snapshot whole c d = same_maps _ _ (λ q.
     get-items held dir snapshot (items_of held dir) q
-    ∙ ap (λ (b : Bool). kept (get snapshot q) (upon (cond b (imported_at q (standing held q)) None) (get snapshot q))) (items-rows held dir q (entries held.places) whole (each_stands held))
-    ∙ (elim (same_path q dir) as (λ (b : Bool). same_path q dir ≡ b → kept (get snapshot q) (upon (cond (in_rows dir (entries held.places) q) (imported_at q (standing held q)) None) (get snapshot q)) ≡ kept (get snapshot q) (upon (seen_in dir q (standing held q)) (get snapshot q))) [
+    ∙ ap (λ (b : Bool). kept (get snapshot q) (upon (cond b (entry_at_path q (standing held q)) None) (get snapshot q))) (items-rows held dir q (entries held.places) whole (each_stands held))
+    ∙ (elim (same_path q dir) as (λ (b : Bool). same_path q dir ≡ b → kept (get snapshot q) (upon (cond (in_rows dir (entries held.places) q) (entry_at_path q (standing held q)) None) (get snapshot q)) ≡ kept (get snapshot q) (upon (seen_in dir q (standing held q)) (get snapshot q))) [
       | true ↦ λ e. dir_kept (get snapshot q) _ _ (ap (λ (t : Text). tree.is_dir (get snapshot t)) (one_path q dir e) ∙ d)
-      | false ↦ λ e. ap (λ (x : Option Entry). kept (get snapshot q) (upon x (get snapshot q))) (elim (standing held q) as (λ (o : Option Standing). standing held q ≡ o → cond (in_rows dir (entries held.places) q) (imported_at q o) None ≡ seen_in dir q o) [
-        | None ↦ λ none. none_both (in_rows dir (entries held.places) q) (imported_at q None) (imported_none q) ∙ sym (none_both (is_within dir q) (imported_at q None) (imported_none q))
-        | Some it ↦ λ at. ap (λ (b : Bool). cond b (imported_at q (Some it)) None) (both_same (in_rows dir (entries held.places) q) (is_within dir q)
+      | false ↦ λ e. ap (λ (x : Option Entry). kept (get snapshot q) (upon x (get snapshot q))) (elim (standing held q) as (λ (o : Option Standing). standing held q ≡ o → cond (in_rows dir (entries held.places) q) (entry_at_path q o) None ≡ seen_in dir q o) [
+        | None ↦ λ none. none_both (in_rows dir (entries held.places) q) (entry_at_path q None) (entry_none q) ∙ sym (none_both (is_within dir q) (entry_at_path q None) (entry_none q))
+        | Some it ↦ λ at. ap (λ (b : Bool). cond b (entry_at_path q (Some it)) None) (both_same (in_rows dir (entries held.places) q) (is_within dir q)
             (in_rows-within held dir q (entries held.places) whole (each_stands held))
             (λ h. elim (below-listed held dir q whole c h (ap is_nothing at)) [
               | inl same ↦ absurd (clash _ (ap (λ (t : Text). same_path t dir) same ∙ ties_itself dir) e)
@@ -224,18 +226,18 @@ within-items held dir snapshot whole c d = same_maps _ _ (λ q.
     ∙ sym (get-within held dir snapshot q))
 
 -- a file
-pub within-one : (held : Held) (path bytes : Text) (snapshot : Entries) → IsWhole held → is_within hidden_dir path ≡ false → standing held path ≡ Some (File bytes) → with_entry path (entry.File 420 bytes) snapshot ≡ with_within held path snapshot
+pub within-one : (held : Held) (path bytes : Text) (snapshot : Entries) → IsWhole held → is_within hidden_dir path ≡ false → standing held path ≡ Some (File bytes) → with_entry path (entry.File 420 (Unread path)) snapshot ≡ with_within held path snapshot
 within-one held path bytes snapshot whole seen file = same_maps _ _ (λ q.
-    get-with_entry path (entry.File 420 bytes) snapshot q
-    ∙ ap (kept (get snapshot q)) (elim (same_path q path) as (λ (b : Bool). same_path q path ≡ b → cond b (Some (entry.File 420 bytes)) (get snapshot q) ≡ upon (seen_in path q (standing held q)) (get snapshot q)) [
+    get-with_entry path (entry.File 420 (Unread path)) snapshot q
+    ∙ ap (kept (get snapshot q)) (elim (same_path q path) as (λ (b : Bool). same_path q path ≡ b → cond b (Some (entry.File 420 (Unread path))) (get snapshot q) ≡ upon (seen_in path q (standing held q)) (get snapshot q)) [
       | true ↦ λ e.
           let same = one_path q path e in
           ap (λ (x : Option Entry). upon x (get snapshot q)) (sym (
-          ap (λ (t : Text). seen_in path t (standing held t)) same ∙ ap (λ (b : Bool). cond b (imported_at path (standing held path)) None) (within-itself path)
-          ∙ ap (imported_at path) file ∙ ap (λ (b : Bool). cond b None (Some (entry.File 420 bytes))) seen))
+          ap (λ (t : Text). seen_in path t (standing held t)) same ∙ ap (λ (b : Bool). cond b (entry_at_path path (standing held path)) None) (within-itself path)
+          ∙ ap (entry_at_path path) file ∙ ap (λ (b : Bool). cond b None (Some (entry.File 420 (Unread path)))) seen))
       | false ↦ λ e. ap (λ (x : Option Entry). upon x (get snapshot q)) (sym (elim (standing held q) as (λ (o : Option Standing). standing held q ≡ o → seen_in path q o ≡ None) [
-        | None ↦ λ none. none_both (is_within path q) (imported_at q None) (imported_none q)
-        | Some it ↦ λ at. elim (is_within path q) as (λ (b : Bool). is_within path q ≡ b → cond b (imported_at q (Some it)) None ≡ None) [
+        | None ↦ λ none. none_both (is_within path q) (entry_at_path q None) (entry_none q)
+        | Some it ↦ λ at. elim (is_within path q) as (λ (b : Bool). is_within path q ≡ b → cond b (entry_at_path q (Some it)) None ≡ None) [
           | true ↦ λ h. absurd (clash _ (ap (λ (t : Text). same_path t path) (within-file held path q whole (ap is_file file) h (ap is_nothing at)) ∙ ties_itself path) e)
           | false ↦ λ h. refl
         ] refl
@@ -252,8 +254,8 @@ within-with_entry held path snapshot seen dir = same_maps _ _ (λ q.
       | true ↦ λ e.
           let same = one_path q path e in
           let is : seen_in path q (standing held q) ≡ Some (entry.Dir 493) =
-          ap (λ (t : Text). seen_in path t (standing held t)) same ∙ ap (λ (b : Bool). cond b (imported_at path (standing held path)) None) (within-itself path)
-          ∙ ap (imported_at path) dir ∙ ap (λ (b : Bool). cond b None (Some (entry.Dir 493))) seen in
+          ap (λ (t : Text). seen_in path t (standing held t)) same ∙ ap (λ (b : Bool). cond b (entry_at_path path (standing held path)) None) (within-itself path)
+          ∙ ap (entry_at_path path) dir ∙ ap (λ (b : Bool). cond b None (Some (entry.Dir 493))) seen in
           ap (λ (w : Option Entry). kept (kept (get snapshot q) (Some (entry.Dir 493))) (upon w (kept (get snapshot q) (Some (entry.Dir 493))))) is
           ∙ twice (get snapshot q) (entry.Dir 493) true ∙ ap (λ (w : Option Entry). kept (get snapshot q) (upon w (get snapshot q))) (sym is)
       | false ↦ λ e. ap (λ (x : Option Entry). kept x (upon (seen_in path q (standing held q)) x)) (kept-same (get snapshot q))
@@ -264,41 +266,55 @@ within-with_entry held path snapshot seen dir = same_maps _ _ (λ q.
 pub within-hidden : (held : Held) (snapshot : Entries) → snapshot ≡ with_within held hidden_dir snapshot
 within-hidden held snapshot = same_maps _ _ (λ q.
     sym (get-within held hidden_dir snapshot q
-    ∙ ap (λ (w : Option Entry). kept (get snapshot q) (upon w (get snapshot q))) (elim (is_within hidden_dir q) as (λ (b : Bool). cond b (cond b None (option_and_then entry_of (standing held q))) None ≡ None) [ true ↦ refl | false ↦ refl ])
+    ∙ ap (λ (w : Option Entry). kept (get snapshot q) (upon w (get snapshot q))) (elim (is_within hidden_dir q) as (λ (b : Bool). cond b (cond b None (option_and_then (listed_entry q) (standing held q))) None ≡ None) [ true ↦ refl | false ↦ refl ])
     ∙ kept-same (get snapshot q)))
 
 -- The whole folder.
 
-alike : (b : Bool) (w : Option Entry) → (b ≡ false → w ≡ None) → cond b w None ≡ w
+alike : {X : Type 0} (b : Bool) (w : Option X) → (b ≡ false → w ≡ None) → cond b w None ≡ w
 alike true w h = refl
 alike false w h = sym (h refl)
 
-head_row : (q k : Text) (more : List (Text × Entry)) (h : Bool) (w : Option Entry) (b : Bool) (e : Option Entry) → same_path q k ≡ true → w ≡ cond b None e → row_at more q ≡ cond h w None → row_at (cons_option (cond b None (option_map (λ it. (k, it)) e)) more) q ≡ w
+head_row : {X : Type 0} (q k : Text) (more : List (Text × X)) (h : Bool) (w : Option X) (b : Bool) (e : Option X) → same_path q k ≡ true → w ≡ cond b None e → row_at more q ≡ cond h w None → row_at (cons_option (cond b None (option_map (λ it. (k, it)) e)) more) q ≡ w
 head_row q k more h w true e s is rest = rest ∙ none_both h w is ∙ sym is
 head_row q k more h w false None s is rest = rest ∙ none_both h w is ∙ sym is
 head_row q k more h w false (Some it) s is rest = ap (λ (c : Bool). cond c (Some it) (row_at more q)) s ∙ sym is
 
-other_row : (q k : Text) (more : List (Text × Entry)) (b : Bool) (e : Option Entry) → same_path q k ≡ false → row_at (cons_option (cond b None (option_map (λ it. (k, it)) e)) more) q ≡ row_at more q
+other_row : {X : Type 0} (q k : Text) (more : List (Text × X)) (b : Bool) (e : Option X) → same_path q k ≡ false → row_at (cons_option (cond b None (option_map (λ it. (k, it)) e)) more) q ≡ row_at more q
 other_row q k more true e s = refl
 other_row q k more false None s = refl
 other_row q k more false (Some it) s = ap (λ (c : Bool). cond c (Some it) (row_at more q)) s
 
-imported_rows : (held : Held) (q : Text) (rows : List (Text × Standing)) → EachStands (standing held) rows → row_at (filter_map imported rows) q ≡ cond (has q rows) (imported_at q (standing held q)) None
-imported_rows held q [] each = refl
-imported_rows held q (row ∷ rows) each =
-    let rest = imported_rows held q rows each.1 in
-    elim (same_path q row.0) as (λ (b : Bool). same_path q row.0 ≡ b → row_at (filter_map imported (row ∷ rows)) q ≡ cond (b || has q rows) (imported_at q (standing held q)) None) [
-      | true ↦ λ s.
-          let here : standing held q ≡ Some row.1 = ap (standing held) (one_path q row.0 s) ∙ each.0 in
-          head_row q row.0 (filter_map imported rows) (has q rows) (imported_at q (standing held q)) (is_within hidden_dir row.0) (entry_of row.1) s
-          (ap (imported_at q) here ∙ ap (λ (p : Text). cond (is_within hidden_dir p) None (entry_of row.1)) (one_path q row.0 s)) rest
-      | false ↦ λ s. other_row q row.0 (filter_map imported rows) (is_within hidden_dir row.0) (entry_of row.1) s ∙ rest
-    ] refl
+-- what rows have that are made of what stands at each path, but where they are left out
+module _ {X : Type 0} (out : Text → Bool) (make : Text → Standing → Option X) where
+  abbrev made_row : Text × Standing → Option (Text × X)
+  made_row row = cond (out row.0) None (option_map (λ it. (row.0, it)) (make row.0 row.1))
 
-pub get-snapshot_of : (held : Held) (q : Text) → get (snapshot_of held) q ≡ imported_at q (standing held q)
-get-snapshot_of held q =
-    get-map_of (filter_map imported (entries held.places)) q ∙ imported_rows held q (entries held.places) (each_stands held)
-    ∙ alike (has q (entries held.places)) (imported_at q (standing held q)) (λ e. ap (imported_at q) (get-entries held.places q ∙ not_had q (entries held.places) e) ∙ imported_none q)
+  abbrev made_at : Text → Option Standing → Option X
+  made_at q o = cond (out q) None (option_and_then (make q) o)
+
+  made_none : (q : Text) → made_at q None ≡ None
+  made_none q = elim (out q) as (λ (b : Bool). cond b None (option_and_then (make q) None) ≡ None) [ true ↦ refl | false ↦ refl ]
+
+  made_rows : (held : Held) (q : Text) (rows : List (Text × Standing)) → EachStands (standing held) rows → row_at (filter_map made_row rows) q ≡ cond (has q rows) (made_at q (standing held q)) None
+  made_rows held q [] each = refl
+  made_rows held q (row ∷ rows) each =
+      let rest = made_rows held q rows each.1 in
+      elim (same_path q row.0) as (λ (b : Bool). same_path q row.0 ≡ b → row_at (filter_map made_row (row ∷ rows)) q ≡ cond (b || has q rows) (made_at q (standing held q)) None) [
+        | true ↦ λ s.
+            let here : standing held q ≡ Some row.1 = ap (standing held) (one_path q row.0 s) ∙ each.0 in
+            head_row q row.0 (filter_map made_row rows) (has q rows) (made_at q (standing held q)) (out row.0) (make row.0 row.1) s
+            (ap (made_at q) here ∙ ap (λ (p : Text). cond (out p) None (make p row.1)) (one_path q row.0 s)) rest
+        | false ↦ λ s. other_row q row.0 (filter_map made_row rows) (out row.0) (make row.0 row.1) s ∙ rest
+      ] refl
+
+  pub get-made : (held : Held) (q : Text) → get (map_of (filter_map made_row (entries held.places))) q ≡ made_at q (standing held q)
+  get-made held q =
+      get-map_of (filter_map made_row (entries held.places)) q ∙ made_rows held q (entries held.places) (each_stands held)
+      ∙ alike (has q (entries held.places)) (made_at q (standing held q)) (λ e. ap (made_at q) (get-entries held.places q ∙ not_had q (entries held.places) e) ∙ made_none q)
+
+pub get-listed_of : (held : Held) (q : Text) → get (listed_of held) q ≡ entry_at_path q (standing held q)
+get-listed_of held q = get-made (is_within hidden_dir) listed_entry held q
 
 -- the root with nothing in it
 pub get-root_entry : (q : Text) → get root_entry q ≡ cond (same_path q root) (Some (entry.Dir 493)) None
@@ -314,20 +330,20 @@ upon_none : (i : Option Entry) → upon i None ≡ i
 upon_none None = refl
 upon_none (Some it) = refl
 
-pub within-whole : (held : Held) → IsWhole held → with_within held root root_entry ≡ snapshot_of held
+pub within-whole : (held : Held) → IsWhole held → with_within held root root_entry ≡ listed_of held
 within-whole held whole = same_maps _ _ (λ q.
     get-within held root root_entry q
     ∙ ap (λ (x : Option Entry). kept x (upon (seen_in root q (standing held q)) x)) (get-root_entry q)
-    ∙ (elim (same_path q root) as (λ (b : Bool). same_path q root ≡ b → kept (cond b (Some (entry.Dir 493)) None) (upon (seen_in root q (standing held q)) (cond b (Some (entry.Dir 493)) None)) ≡ imported_at q (standing held q)) [
+    ∙ (elim (same_path q root) as (λ (b : Bool). same_path q root ≡ b → kept (cond b (Some (entry.Dir 493)) None) (upon (seen_in root q (standing held q)) (cond b (Some (entry.Dir 493)) None)) ≡ entry_at_path q (standing held q)) [
       | true ↦ λ e.
           let same = one_path q root e in
-          sym (ap (λ (t : Text). imported_at t (standing held t)) same ∙ ap (imported_at root) (dir_is (standing held root) whole.root_dir) ∙ ap (λ (b : Bool). cond b None (Some (entry.Dir 493))) root_seen)
-      | false ↦ λ e. upon_none (seen_in root q (standing held q)) ∙ (elim (standing held q) as (λ (o : Option Standing). standing held q ≡ o → seen_in root q o ≡ imported_at q o) [
-        | None ↦ λ none. none_both (is_within root q) (imported_at q None) (imported_none q) ∙ sym (imported_none q)
-        | Some it ↦ λ at. ap (λ (b : Bool). cond b (imported_at q (Some it)) None) (within-root q (whole.paths q (ap is_nothing at)))
+          sym (ap (λ (t : Text). entry_at_path t (standing held t)) same ∙ ap (entry_at_path root) (dir_is (standing held root) whole.root_dir) ∙ ap (λ (b : Bool). cond b None (Some (entry.Dir 493))) root_seen)
+      | false ↦ λ e. upon_none (seen_in root q (standing held q)) ∙ (elim (standing held q) as (λ (o : Option Standing). standing held q ≡ o → seen_in root q o ≡ entry_at_path q o) [
+        | None ↦ λ none. none_both (is_within root q) (entry_at_path q None) (entry_none q) ∙ sym (entry_none q)
+        | Some it ↦ λ at. ap (λ (b : Bool). cond b (entry_at_path q (Some it)) None) (within-root q (whole.paths q (ap is_nothing at)))
       ] refl)
     ] refl)
-    ∙ sym (get-snapshot_of held q))
+    ∙ sym (get-listed_of held q))
 
 -- The snapshot is whole.
 

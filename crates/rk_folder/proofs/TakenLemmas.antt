@@ -7,15 +7,17 @@ use Rattle.rk_base.specs.Canonical.{is_canonical, is_name}
 use Rattle.rk_base.proofs.CanonicalLemmas.{both, join-canonical}
 use Rattle.rk_tree.proofs.TextLemmas.{same_is}
 use Rattle.rk_tree.specs.Entries as tree
-use Rattle.rk_tree.specs.Entries.{Entries, IsFit, IsWholeSnapshot}
+use Rattle.rk_tree.specs.Entries.{Entries, IsWholeSnapshot}
 use Rattle.rk_tree.specs.Node.{Node as Entry}
 use Rattle.rk_tree.specs.Node as entry
-use Rattle.rk_folder.specs.Told.{Held, standing, is_file, is_dir, bytes_in, can_list, items_of}
+use Rattle.rk_tree.specs.declared.content.Content.{Content}
+use Rattle.rk_tree.specs.declared.content.Content.TheVariants.{Unread}
+use Rattle.rk_folder.specs.Told.{Held, standing, is_file, is_dir, can_list, items_of}
 use Rattle.rk_folder.specs.Whole.{IsWhole, TellsWhole}
 use Rattle.rk_folder.specs.Hidden.{hidden_dir}
 use Rattle.rk_folder.specs.Specials.{is_special, is_other_than_dir, is_fault, first_special, hidden_fault, state_special}
-use Rattle.rk_folder.specs.Import.{Tells, snapshot_of}
-use Rattle.rk_folder.specs.Steps.{agrees, content_in, is_odd_item, first_within, special_in, first_fault, with_entry, with_within, with_items, nothing_special, root_entry}
+use Rattle.rk_folder.specs.Import.{Tells, listed_of}
+use Rattle.rk_folder.specs.Steps.{agrees, is_odd_item, first_within, special_in, first_fault, with_entry, with_within, with_items, root_entry}
 use Rattle.rk_folder.specs.declared.folder.Item.{Item}
 use Rattle.rk_folder.specs.declared.folder.Item.TheVariants as item
 use Rattle.rk_folder.specs.declared.folder.Standing.{Standing}
@@ -52,9 +54,9 @@ pub with_entry-same : (new old : Entries) (path dir name : Text) (it : Entry) �
 with_entry-same new old path dir name it is at = is ∙ ap (λ (t : Text). with_entry t it old) at
 
 -- the snapshot stays whole
-pub with_file-whole : (old new : Entries) (path dir name bytes : Text) → IsWholeSnapshot old → tree.is_dir (get old dir) ≡ true → is_canonical dir ≡ true → is_name name ≡ true → is_within hidden_dir dir ≡ false → same_text (join dir name) hidden_dir ≡ false → path ≡ join dir name → new ≡ with_entry path (entry.File 420 bytes) old → IsWholeSnapshot new
-with_file-whole old new path dir name bytes whole d c n seen other at is =
-    subst IsWholeSnapshot (sym (with_entry-same new old path dir name (entry.File 420 bytes) is at)) (with_entry-whole old dir name (entry.File 420 bytes) whole d c n (seen-child dir name c n seen other) (omega arith))
+pub with_file-whole : (old new : Entries) (path dir name : Text) (content : Content) → IsWholeSnapshot old → tree.is_dir (get old dir) ≡ true → is_canonical dir ≡ true → is_name name ≡ true → is_within hidden_dir dir ≡ false → same_text (join dir name) hidden_dir ≡ false → path ≡ join dir name → new ≡ with_entry path (entry.File 420 content) old → IsWholeSnapshot new
+with_file-whole old new path dir name content whole d c n seen other at is =
+    subst IsWholeSnapshot (sym (with_entry-same new old path dir name (entry.File 420 content) is at)) (with_entry-whole old dir name (entry.File 420 content) whole d c n (seen-child dir name c n seen other) (omega arith))
 
 pub with_dir-whole : (old new : Entries) (path dir name : Text) → IsWholeSnapshot old → tree.is_dir (get old dir) ≡ true → is_canonical dir ≡ true → is_name name ≡ true → is_within hidden_dir dir ≡ false → same_text (join dir name) hidden_dir ≡ false → path ≡ join dir name → new ≡ with_entry path (entry.Dir 493) old → IsWholeSnapshot new
 with_dir-whole old new path dir name whole d c n seen other at is =
@@ -78,16 +80,15 @@ told-hidden_file (Some held) dir name path b a at is h =
     special-itself held (join dir name) (ap (is_fault held) same ∙ bad_dir held (file_other (standing held hidden_dir) (ap (λ (t : Text). is_file (standing held t)) (sym same) ∙ (both (is_name name) _ a).1)))
     ∙ ap (λ (t : Text). Some t) (sym at)
 
-pub told-file : (told : Option Held) (dir name path bytes : Text) (old new : Entries) → TellsWhole told → is_within hidden_dir dir ≡ false → is_canonical dir ≡ true → is_name name ≡ true → Agrees told dir (item.File name) → path ≡ join dir name → same_text (join dir name) hidden_dir ≡ false
-    → IfSome told (λ held. (nothing_special held ≡ None) × (bytes ≡ content_in (bytes_in (standing held path)))) → new ≡ with_entry path (entry.File 420 bytes) old → IfSome told (λ held. (first_within held (join dir name) ≡ None) × (new ≡ with_within held (join dir name) old))
-told-file None dir name path bytes old new whole seen c n a at other read is = tt
-told-file (Some held) dir name path bytes old new whole seen c n a at other read is =
+pub told-file : (told : Option Held) (dir name path copy : Text) (old new : Entries) → TellsWhole told → is_within hidden_dir dir ≡ false → is_canonical dir ≡ true → is_name name ≡ true → Agrees told dir (item.File name) → path ≡ join dir name → same_text (join dir name) hidden_dir ≡ false
+    → copy ≡ path → new ≡ with_entry path (entry.File 420 (Unread copy)) old → IfSome told (λ held. (first_within held (join dir name) ≡ None) × (new ≡ with_within held (join dir name) old))
+told-file None dir name path copy old new whole seen c n a at other same is = tt
+told-file (Some held) dir name path copy old new whole seen c n a at other same is =
     let out = seen-child dir name c n seen other in
     let file = (both (is_name name) _ a).1 in
-    let f = file_of (standing held (join dir name)) file in
-    let same : bytes ≡ f.0 = read.1 ∙ ap (λ (t : Text). content_in (bytes_in (standing held t))) at ∙ ap (λ (o : Option Standing). content_in (bytes_in o)) f.1 in (
+    let f = file_of (standing held (join dir name)) file in (
       special-file held (join dir name) whole out file,
-      with_entry-same new old path dir name (entry.File 420 bytes) is at ∙ ap (λ (t : Text). with_entry (join dir name) (entry.File 420 t) old) same ∙ within-one held (join dir name) f.0 old whole out f.1,
+      with_entry-same new old path dir name (entry.File 420 (Unread copy)) is at ∙ ap (λ (t : Text). with_entry (join dir name) (entry.File 420 (Unread t)) old) (same ∙ at) ∙ within-one held (join dir name) f.0 old whole out f.1,
     )
 
 -- A directory.
@@ -200,7 +201,7 @@ told-items {A = A} told now dir items all b old new result is same whole c lists
 
 -- The whole folder.
 
-pub told-whole : (told : Option Held) (dir : Text) (old new : Entries) → TellsWhole told → dir ≡ root → old ≡ root_entry → IfSome told (λ held. (first_within held dir ≡ None) × (new ≡ with_within held dir old)) → IfSome told (λ held. (first_special held ≡ None) × (new ≡ snapshot_of held))
+pub told-whole : (told : Option Held) (dir : Text) (old new : Entries) → TellsWhole told → dir ≡ root → old ≡ root_entry → IfSome told (λ held. (first_within held dir ≡ None) × (new ≡ with_within held dir old)) → IfSome told (λ held. (first_special held ≡ None) × (new ≡ listed_of held))
 told-whole None dir old new whole at is taken = tt
 told-whole (Some held) dir old new whole at is taken =
     (special-root held whole ∙ ap (first_within held) (sym at) ∙ taken.0, taken.1 ∙ ap (λ (t : Text). with_within held t old) at ∙ ap (with_within held root) is ∙ within-whole held whole)

@@ -4,6 +4,8 @@ use Rattle.std.specs.List.{filter_map}
 use Rattle.std.specs.FinMap.{entries}
 use Rattle.rk_base.specs.Text.{Text, is_within}
 use Rattle.rk_tree.specs.Entries.{Entries}
+use Rattle.rk_tree.specs.Full.{Told, EntriesFrom, full_entries}
+use Rattle.rk_tree.specs.declared.content.Content.TheVariants.{Own, Unread}
 use Rattle.rk_tree.specs.Rows.{map_of}
 use Rattle.rk_tree.specs.Node.{Node as Entry}
 use Rattle.rk_tree.specs.Node as entry
@@ -21,7 +23,7 @@ use Rattle.rk_folder.specs.declared.hidden_files.State.{State}
 
 -- a file and a directory have their default modes, 0644 and 0755
 abbrev pub entry_of : Standing → Option Entry
-entry_of (File bytes) = Some (entry.File file_mode bytes)
+entry_of (File bytes) = Some (entry.File file_mode (Own bytes))
 entry_of Dir = Some (entry.Dir dir_mode)
 entry_of Special = None
 
@@ -31,6 +33,30 @@ imported row = if is_within hidden_dir row.0 then None else option_map (λ it. (
 -- the files and directories outside `.rkr`
 abbrev pub snapshot_of : Held → Entries
 snapshot_of held = map_of (filter_map imported (entries held.places))
+
+-- What listings tell of them: a file stands there, whose bytes are at its path.
+
+abbrev pub listed_entry : Text → Standing → Option Entry
+listed_entry path (File bytes) = Some (entry.File file_mode (Unread path))
+listed_entry path Dir = Some (entry.Dir dir_mode)
+listed_entry path Special = None
+
+abbrev pub listed_row : Text × Standing → Option (Text × Entry)
+listed_row row = if is_within hidden_dir row.0 then None else option_map (λ it. (row.0, it)) (listed_entry row.0 row.1)
+
+abbrev pub listed_of : Held → Entries
+listed_of held = map_of (filter_map listed_row (entries held.places))
+
+-- the bytes of each file that is listed
+abbrev pub told_row : Text × Standing → Option (Text × Text)
+told_row row = if is_within hidden_dir row.0 then None else option_map (λ bytes. (row.0, bytes)) (bytes_in (Some row.1))
+
+unfoldable pub told_of : Held → Told
+told_of held = map_of (filter_map told_row (entries held.places))
+
+-- In full that is what stands there, and each file can be read.
+abbrev pub ListedInFull : Type 0
+ListedInFull = (held : Held) → (full_entries (told_of held) (listed_of held) ≡ snapshot_of held) × EntriesFrom (Some (told_of held)) (listed_of held)
 
 -- whether `.rkr` stands, the bytes of the state files that stand, and whether a list stands that isn't sealed yet
 abbrev pub state_of : Held → Hidden

@@ -1,6 +1,7 @@
 pub mod Attributes
 pub mod Calls
 pub mod Counts
+pub mod Fetching
 pub mod Hidden
 pub mod Import
 pub mod Listing

@@ -19,10 +19,10 @@ reads file = asks.Read file ∷ []
 abbrev pub removes : Text → List FolderCall
 removes file = asks.RemoveFile file ∷ []
 
--- for an item of a directory, by what another directory takes: a file is read, and a directory listed with what is in it; of
--- `.rkr` there is only the listing
+-- for an item of a directory, by what another directory takes: a directory is listed with what is in it; of `.rkr` there is only
+-- the listing
 abbrev pub item_looks : (Text → List FolderCall) → Text → Item → List FolderCall
-item_looks within dir (item.File name) = reads (join dir name)
+item_looks within dir (item.File name) = []
 item_looks within dir (item.Dir name) = if same_text (join dir name) hidden_dir then lists hidden_dir else within (join dir name)
 item_looks within dir (item.Special name) = []
 item_looks within dir item.Odd = []
@@ -44,7 +44,7 @@ state_reads skips_db = reads attrs_file ++ (reads_unless skips_db db_file ++ rea
 abbrev pub state_looks : Bool → Held → List FolderCall
 state_looks skips_db held = if is_dir (standing held hidden_dir) then state_reads skips_db else []
 
--- a listing of each directory and a read of each file, and then of the state files
+-- a listing of each directory, and then a read of each state file
 abbrev pub looks : Bool → ℕ → Held → List FolderCall
 looks skips_db reach held = looks_within (suc reach) held root ++ state_looks skips_db held
 

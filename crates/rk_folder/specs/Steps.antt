@@ -12,7 +12,7 @@ use Rattle.rk_folder.specs.Told.{Held, standing, is_dir, is_file, items_of}
 use Rattle.rk_folder.specs.Listing.{first_listed}
 use Rattle.rk_folder.specs.Specials.{is_special, is_fault, paths_of, or_else}
 use Rattle.rk_folder.specs.Hidden.{hidden_dir, attrs_file, db_file, db_name, install_file, install_name, fresh_list_file, fresh_list_name}
-use Rattle.rk_folder.specs.Import.{has_database, imported}
+use Rattle.rk_folder.specs.Import.{has_database, listed_row}
 use Rattle.rk_folder.specs.declared.folder.Item.{Item}
 use Rattle.rk_folder.specs.declared.folder.Item.TheVariants as item
 use Rattle.rk_folder.specs.declared.folder.Standing.{Standing}
@@ -65,10 +65,6 @@ agrees held dir (item.Dir name) = is_name name && is_dir (standing held (join di
 agrees held dir (item.Special name) = is_name name && is_special (standing held (join dir name))
 agrees held dir item.Odd = true
 
-abbrev pub content_in : Option Text → Text
-content_in None = []
-content_in (Some bytes) = bytes
-
 -- the first special at a path or below it
 unfoldable pub first_within : Held → Text → Option Text
 first_within held dir = first_listed (filter (λ q. is_within dir q && is_fault held q) (paths_of held))
@@ -95,11 +91,11 @@ abbrev pub with_entries : List (Text × Entry) → Entries → Entries
 with_entries [] snapshot = snapshot
 with_entries (row ∷ rows) snapshot = with_entries rows (with_entry row.0 row.1 snapshot)
 
-abbrev pub imported_in : Text → Text × Standing → Option (Text × Entry)
-imported_in dir row = if is_within dir row.0 then imported row else None
+abbrev pub row_within : Text → Text × Standing → Option (Text × Entry)
+row_within dir row = if is_within dir row.0 then listed_row row else None
 
 unfoldable pub with_within : Held → Text → Entries → Entries
-with_within held dir snapshot = with_entries (filter_map (imported_in dir) (entries held.places)) snapshot
+with_within held dir snapshot = with_entries (filter_map (row_within dir) (entries held.places)) snapshot
 
 abbrev pub with_item : Held → Text → Entries → Item → Entries
 with_item held dir snapshot (item.File name) = with_within held (join dir name) snapshot

@@ -18,9 +18,9 @@ fn file_with(mode: u16, it: Option<&Node>) -> Result<Option<Entry>, NoMemory>
     match it {
         None => Ok(None),
         Some(it) => match it.entry() {
-            Entry::File(_, bytes) => {
-                let bytes = bytes.copy()?;
-                Ok(Some(Entry::File(mode, bytes)))
+            Entry::File(_, content) => {
+                let content = content.clone()?;
+                Ok(Some(Entry::File(mode, content)))
             }
             Entry::Dir(_) => Ok(None),
             Entry::Link(_) => Ok(None),

@@ -7,7 +7,7 @@ ghost use Rattle.rk_base.specs.Text.{depth};
 ghost use Rattle.rk_tree.specs.Entries as tree;
 ghost use Rattle.rk_tree.specs.Entries.{IsWholeSnapshot};
 ghost use Rattle.rk_folder.specs.Specials.{first_special};
-ghost use Rattle.rk_folder.specs.Import.{Tells, ReadCaused, MemoryCounted, ReadSteadily, snapshot_of};
+ghost use Rattle.rk_folder.specs.Import.{Tells, ReadCaused, MemoryCounted, ReadSteadily, listed_of};
 ghost use Rattle.rk_folder.specs.Looks as looks;
 ghost use Rattle.rk_folder.specs.Looks.{LooksInOrder};
 ghost use Rattle.rk_folder.specs.Steps as steps;
@@ -139,7 +139,7 @@ pub(crate) fn entries_listed<F: Folder>(
     items: &[Item],
 ) -> Result<RootEntries, ImportErr>
     requires { steps.ListsRoot (F.told folder.old) items.now }
-    ensures told { Tells (F.told folder.old) first_special (λ held it. (it.entries ≡ snapshot_of held) × (it.listed ≡ steps.hidden_listed held)) result }
+    ensures told { Tells (F.told folder.old) first_special (λ held it. (it.entries ≡ listed_of held) × (it.listed ≡ steps.hidden_listed held)) result }
     ensures whole { IfOk result (λ it. IsWholeSnapshot it.entries) }
     ensures cause { ReadCaused (F.read_faults folder.old) (F.read_faults folder.new) result }
     ensures memory { MemoryCounted (F.memory_failures folder.old) (F.memory_failures folder.new) result }

@@ -10,7 +10,7 @@ ghost use Rattle.rk_tree.specs.Entries.{IsWholeSnapshot};
 ghost use Rattle.rk_folder.specs.Told as told;
 ghost use Rattle.rk_folder.specs.Hidden.{hidden_dir, attrs_name, db_name};
 ghost use Rattle.rk_folder.specs.Specials.{first_special, state_special};
-ghost use Rattle.rk_folder.specs.Import.{Tells, ReadCaused, MemoryCounted, ReadSteadily, has_database, snapshot_of};
+ghost use Rattle.rk_folder.specs.Import.{Tells, ReadCaused, MemoryCounted, ReadSteadily, has_database};
 ghost use Rattle.rk_folder.specs.Looks as looks;
 ghost use Rattle.rk_folder.specs.Looks.{LooksInOrder, lists, reads};
 ghost use Rattle.rk_folder.specs.Schedule.{MakesCalls};
@@ -23,7 +23,7 @@ use crate::hidden_listing::look_at_state;
 use crate::{Folder, FolderErr, Got, Item};
 use rk_attrs::{DIR_MODE, FILE_MODE};
 use rk_base::{Bytes, Name, NoMemory, Path};
-use rk_tree::{Entry, Node, Snapshot};
+use rk_tree::{Content, Entry, Node, Snapshot};
 use std::alloc::Global;
 
 /// Why a folder wasn't imported.
@@ -99,27 +99,6 @@ pub(crate) fn bytes_of<F: Folder>(
     }
 }
 
-// The bytes of a file; none where nothing stands.
-fn content<F: Folder>(alloc: Global, folder: &mut F, file: &Path) -> Result<Bytes, ImportErr>
-    requires { MayCall (F.told folder.old) (told.can_read file.now) }
-    ensures bytes { Tells (F.told folder.old) steps.nothing_special (λ held bytes. bytes ≡ steps.content_in (told.bytes_in (told.standing held file.now))) result }
-    ensures cause { ReadCaused (F.read_faults folder.old) (F.read_faults folder.new) result }
-    ensures memory { MemoryCounted (F.memory_failures folder.old) (F.memory_failures folder.new) result }
-    ensures steady { ReadSteadily (F.steady folder.old) (F.steady folder.new) result }
-    ensures held { F.told folder.new ≡ F.told folder.old }
-    ensures writes { F.write_faults folder.new ≡ F.write_faults folder.old }
-    ensures reach { F.reach folder.new ≡ F.reach folder.old }
-    ensures calls { MakesCalls (reads file.now) (F.schedule folder.old) (F.schedule folder.new) }
-{
-    match folder.read(alloc, file)? {
-        Got::Content(bytes) => Ok(bytes),
-        Got::Absent => {
-            let none = Bytes::from_slice(alloc, b"")?;
-            Ok(none)
-        }
-    }
-}
-
 fn is_named(name: &[u8], item: &Item) -> bool
     ensures { result ≡ steps.is_named name.now item.now }
 {
@@ -180,7 +159,7 @@ fn lay(snapshot: &mut Snapshot, path: Path, it: Entry) -> Result<(), NoMemory>
     Ok(())
 }
 
-// A file of a directory, put in the snapshot.
+// A file of a directory, put in the snapshot. Its bytes aren't looked at.
 fn take_file<F: Folder>(
     alloc: Global,
     folder: &mut F,
@@ -201,14 +180,18 @@ fn take_file<F: Folder>(
     ensures held { F.told folder.new ≡ F.told folder.old }
     ensures writes { F.write_faults folder.new ≡ F.write_faults folder.old }
     ensures reach { F.reach folder.new ≡ F.reach folder.old }
-    ensures calls { MakesCalls (reads (join dir.now name.now)) (F.schedule folder.old) (F.schedule folder.new) }
+    ensures calls { F.schedule folder.new ≡ F.schedule folder.old }
 {
     let path = dir.join(alloc, name)?;
     if is_hidden(&path) {
         return Err(ImportErr::Special(path));
     }
-    let bytes = content(alloc, folder, &path)?;
-    lay(snapshot, path, Entry::File(FILE_MODE, bytes))?;
+    let import = path.copy()?;
+    lay(
+        snapshot,
+        path,
+        Entry::File(FILE_MODE, Content::Unread(import)),
+    )?;
     Ok(())
 }
 

@@ -2,6 +2,7 @@
 #![tactic(auto)]
 
 mod attributes;
+mod by_folder;
 mod entries;
 mod folder;
 mod held;
@@ -15,11 +16,12 @@ mod specials;
 mod state_files;
 
 pub use attributes::{rows_apply, tree_of};
+pub use by_folder::ByFolder;
 pub use folder::{Folder, FolderCall, FolderErr, Got, Item, LONGEST_FILE, Standing};
 pub use hidden_files::{
     Hidden, State, attrs_file, db_file, fresh_list_file, hidden_dir, install_file,
 };
-pub use imported::{Imported, import};
+pub use imported::{Imported, import, listed_in_full};
 pub use importing::ImportErr;
 pub use memory::MemFolder;
 pub use sink::{MemSink, Sink, SinkErr};

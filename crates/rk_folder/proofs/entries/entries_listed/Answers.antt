@@ -1,7 +1,7 @@
 use Rattle.std.proofs.Common.{◌≡◌, ◌-◌, Option, arith, ap, refl}
 use Rattle.rk_folder.proofs.LooksLemmas.{looks-none, root-part}
 use Rattle.rk_base.specs.Text.{depth}
-use Rattle.rk_folder.specs.Import.{snapshot_of}
+use Rattle.rk_folder.specs.Import.{listed_of}
 use Rattle.rk_folder.specs.Specials.{first_special}
 use Rattle.rk_folder.specs.Steps.{hidden_listed}
 use Rattle.rk_folder.specs.declared.entries.RootEntries.{RootEntries}
@@ -18,13 +18,13 @@ take_root-requires-clause-agrees g c = told-agree_root _ c.in_ok-root.root c.arg
 
 pub returns-in-Ok-clause-told : goal.returns-in-Ok-clause-told
 returns-in-Ok-clause-told g c =
-    told-both (g.F.Folder.told c.args.folder.now) first_special (λ held. c.take_root.new.snapshot ≡ snapshot_of held) (λ held. c.in-Ok.listed ≡ hidden_listed held)
+    told-both (g.F.Folder.told c.args.folder.now) first_special (λ held. c.take_root.new.snapshot ≡ listed_of held) (λ held. c.in-Ok.listed ≡ hidden_listed held)
     (told-entries _ _ c.in_ok-root.root c.args.items.now c.has_odd.result c.in_ok-entries.entries c.take_root.new.snapshot c.in-Ok.listed refl (g.met.F.Folder.whole c.args.folder.now) c.in_ok-root.ensures c.requires c.in_ok-entries.ensures.entry c.has_odd.ensures c.if-has_odd.false c.in-Ok.ensures.taken)
     (told-root_listed (g.F.Folder.told c.args.folder.now) c.args.items.now c.in-Ok.listed (g.met.F.Folder.whole c.args.folder.now) c.requires c.in-Ok.ensures.listed)
 
 pub returns-clause-told : goal.returns-clause-told
 returns-clause-told g c =
-    told-no_entries (Option Listed) {B = RootEntries} _ _ c.in_ok-root.root c.args.items.now c.has_odd.result c.in_ok-entries.entries c.take_root.new.snapshot (λ held it. (it.entries ≡ snapshot_of held) × (it.listed ≡ hidden_listed held)) c.in-Err.e refl (g.met.F.Folder.whole c.args.folder.now) c.in_ok-root.ensures c.requires c.in_ok-entries.ensures.entry c.has_odd.ensures c.if-has_odd.false c.in-Err.ensures.taken
+    told-no_entries (Option Listed) {B = RootEntries} _ _ c.in_ok-root.root c.args.items.now c.has_odd.result c.in_ok-entries.entries c.take_root.new.snapshot (λ held it. (it.entries ≡ listed_of held) × (it.listed ≡ hidden_listed held)) c.in-Err.e refl (g.met.F.Folder.whole c.args.folder.now) c.in_ok-root.ensures c.requires c.in_ok-entries.ensures.entry c.has_odd.ensures c.if-has_odd.false c.in-Err.ensures.taken
 
 pub returns-in-Ok-clause-looks : goal.returns-in-Ok-clause-looks
 returns-in-Ok-clause-looks g c =
