@@ -4,9 +4,13 @@ use lib.Dec.{T}
 use Rattle.std.specs.List.{filter_map, cons_option, list_all}
 use Rattle.std.specs.Option.{option_and_then}
 use Rattle.std.specs.Ordering.{eq_by_cmp, is_lt}
-use Rattle.std.specs.FinMap.{entries, entries_sorted, find, get, get-entries}
+use Rattle.std.specs.FinMap.{empty, entries, entries_sorted, find, get, get-entries}
 use Rattle.std.proofs.lemmas.Bool.{le-leb, eqb-true}
 use Rattle.rk_base.specs.Text.{Text, text_cmp, root, hidden, join, parent, is_root, is_within}
+use Rattle.rk_tree.specs.Content.{bytes_of}
+use Rattle.rk_tree.specs.Full.{in_full, own}
+use Rattle.rk_tree.specs.declared.content.Content.TheVariants.{Own}
+use Rattle.rk_tree.proofs.EntriesLemmas.{get-full, node-own, own_node}
 use Rattle.rk_tree.specs.Entries.{Entries, is_dir, IsFit, IsWholeSnapshot}
 use Rattle.rk_tree.specs.Node.{Node as Entry, File, Dir, Link}
 use Rattle.rk_tree.proofs.TextLemmas.{same_is, told_apart}
@@ -105,7 +109,7 @@ text_is [] fit = absurd (fit.0 refl)
 text_is (b ∷ bs) fit = ap not fit.1
 
 suits_by : (path : Text) (e : Entry) (it : AttrRow) → IsFit e → ((text : List ℕ) → e ≡ Link text → is_root path ≡ false) → row_of e ≡ Some it → suits path it ≡ true
-suits_by path (File mode bytes) it fit link is = (elim (mode == file_mode) as (λ (b : Bool). (mode == file_mode) ≡ b → cond b None (Some (row.FileMode mode)) ≡ Some it → suits path it ≡ true) [
+suits_by path (File mode content) it fit link is = (elim (mode == file_mode) as (λ (b : Bool). (mode == file_mode) ≡ b → cond b None (Some (row.FileMode mode)) ≡ Some it → suits path it ≡ true) [
   | true ↦ λ e h. absurd (nothing it h)
   | false ↦ λ e h. subst (λ (r : AttrRow). suits path r ≡ true) (some_is (row.FileMode mode) it h) (mode_is mode file_mode fit e)
 ]) refl is
@@ -128,7 +132,7 @@ each_made (place ∷ rows) o h =
 
 no_link : (o : Option Entry) (text : List ℕ) → is_dir o ≡ true → o ≡ Some (Link text) → ⊥
 no_link None text d e = cc
-no_link (Some (File mode bytes)) text d e = cc
+no_link (Some (File mode content)) text d e = cc
 no_link (Some (Dir mode)) text d e = cc
 no_link (Some (Link t)) text d e = cc
 
@@ -167,14 +171,14 @@ taken false rows o e h n = cc
 
 plain_dir : (o : Option Entry) → is_dir (option_and_then plain_of o) ≡ is_dir o
 plain_dir None = refl
-plain_dir (Some (File mode bytes)) = refl
+plain_dir (Some (File mode content)) = refl
 plain_dir (Some (Dir mode)) = refl
 plain_dir (Some (Link text)) = refl
 
-kept_at : (o : Option Entry) (d : Bool) → ((e : Entry) → o ≡ Some e → d ≡ true) → stands_with (option_and_then row_of o) d (option_and_then plain_of o) ≡ o
+kept_at : (o : Option Entry) (d : Bool) → ((e : Entry) → o ≡ Some e → d ≡ true) → stands_with (option_and_then row_of o) d (option_and_then plain_of o) ≡ option_map own_node o
 kept_at None d h = refl
-kept_at (Some (File mode bytes)) d h = elim (mode == file_mode) as (λ (b : Bool). (mode == file_mode) ≡ b → stands_with (cond b None (Some (row.FileMode mode))) d (Some (File file_mode bytes)) ≡ Some (File mode bytes)) [
-  | true ↦ λ e. ap (λ (m : ℕ). Some (File m bytes)) (sym (eqb-true mode file_mode e))
+kept_at (Some (File mode content)) d h = elim (mode == file_mode) as (λ (b : Bool). (mode == file_mode) ≡ b → stands_with (cond b None (Some (row.FileMode mode))) d (Some (File file_mode (Own (bytes_of content)))) ≡ Some (File mode (Own (bytes_of content)))) [
+  | true ↦ λ e. ap (λ (m : ℕ). Some (File m (Own (bytes_of content)))) (sym (eqb-true mode file_mode e))
   | false ↦ λ e. refl
 ] refl
 kept_at (Some (Dir mode)) d h = elim (mode == dir_mode) as (λ (b : Bool). (mode == dir_mode) ≡ b → stands_with (cond b None (Some (row.DirMode mode))) d (Some (Dir dir_mode)) ≡ Some (Dir mode)) [
@@ -183,19 +187,24 @@ kept_at (Some (Dir mode)) d h = elim (mode == dir_mode) as (λ (b : Bool). (mode
 ] refl
 kept_at (Some (Link text)) d h = ap (λ (b : Bool). stands_with (Some (row.Link text)) b None) (h (Link text) refl)
 
-pub rows-keep : (snapshot : Entries) → IsWholeSnapshot snapshot → with_rows (plain snapshot) (attrs_of snapshot) ≡ snapshot
-rows-keep snapshot whole = same_maps (with_rows (plain snapshot) (attrs_of snapshot)) snapshot (λ q.
+owned : (o : Option Entry) → in_full empty o ≡ option_map own_node o
+owned None = refl
+owned (Some it) = ap (λ (e : Entry). Some e) (node-own it)
+
+pub rows-keep : (snapshot : Entries) → IsWholeSnapshot snapshot → with_rows (plain snapshot) (attrs_of snapshot) ≡ own snapshot
+rows-keep snapshot whole = same_maps (with_rows (plain snapshot) (attrs_of snapshot)) (own snapshot) (λ q.
     get-with_rows (plain snapshot) (attrs_of snapshot) q (attrs_ascend snapshot whole)
     ∙ ap (λ (r : Option AttrRow). stands_with r (is_dir (get (plain snapshot) (parent q))) (get (plain snapshot) q)) (found_row snapshot q)
     ∙ ap (λ (d : Bool). stands_with (option_and_then row_of (get snapshot q)) d (get (plain snapshot) q)) (ap is_dir (get-plain snapshot (parent q)) ∙ plain_dir (get snapshot (parent q)))
     ∙ ap (stands_with (option_and_then row_of (get snapshot q)) (is_dir (get snapshot (parent q)))) (get-plain snapshot q)
-    ∙ kept_at (get snapshot q) (is_dir (get snapshot (parent q))) (λ e at. whole.placed q e at))
+    ∙ kept_at (get snapshot q) (is_dir (get snapshot (parent q))) (λ e at. whole.placed q e at)
+    ∙ sym (get-full empty snapshot q ∙ owned (get snapshot q)))
 
 -- A folder that holds a snapshot.
 
 shown_placed : (o : Option Entry) → shown (placed o) false ≡ option_and_then plain_of o
 shown_placed None = refl
-shown_placed (Some (File mode bytes)) = refl
+shown_placed (Some (File mode content)) = refl
 shown_placed (Some (Dir mode)) = refl
 shown_placed (Some (Link text)) = refl
 
@@ -212,5 +221,5 @@ plain-held held holding h = same_maps (snapshot_of held) (plain holding.entries)
     ] refl)
     ∙ sym (get-plain holding.entries q))
 
-pub built-held : (held : Held) (holding : Holding) → Holds held holding → IsWholeSnapshot holding.entries → with_rows (snapshot_of held) (attrs_of holding.entries) ≡ holding.entries
+pub built-held : (held : Held) (holding : Holding) → Holds held holding → IsWholeSnapshot holding.entries → with_rows (snapshot_of held) (attrs_of holding.entries) ≡ own holding.entries
 built-held held holding h whole = ap (λ (s : Entries). with_rows s (attrs_of holding.entries)) (plain-held held holding h) ∙ rows-keep holding.entries whole

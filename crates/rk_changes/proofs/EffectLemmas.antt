@@ -5,6 +5,7 @@ use Rattle.rk_base.specs.Text.{Text, same_text}
 use Rattle.rk_folder.specs.Told.{is_file, is_dir, is_nothing, can_hold}
 use Rattle.rk_folder.specs.declared.folder.Standing.{Standing}
 use Rattle.rk_folder.specs.declared.folder.Standing.TheVariants as standing
+use Rattle.rk_tree.specs.Content.{bytes_of}
 use Rattle.rk_tree.specs.Entries as tree
 use Rattle.rk_tree.specs.Entries.{Entries}
 use Rattle.rk_tree.specs.Node.{Node as Entry, File, Dir, Link}
@@ -30,17 +31,17 @@ absent op e = cc
 
 -- each call is at the path of its entry
 removal_path : (path : Text) (entry : Entry) (after : Option Standing) (op : Op) → removal path entry after ≡ Some op → path_of op ≡ path
-removal_path path (File mode bytes) after op e = ap path_of (sym (chosen (is_file after) (RemoveFile path) op e))
+removal_path path (File mode content) after op e = ap path_of (sym (chosen (is_file after) (RemoveFile path) op e))
 removal_path path (Dir mode) after op e = ap path_of (sym (chosen (is_dir after) (RemoveDir path) op e))
 removal_path path (Link text) after op e = absurd (absent op e)
 
 making_path : (path : Text) (entry : Entry) (before : Option Standing) (op : Op) → making path entry before ≡ Some op → path_of op ≡ path
-making_path path (File mode bytes) before op e = absurd (absent op e)
+making_path path (File mode content) before op e = absurd (absent op e)
 making_path path (Dir mode) before op e = ap path_of (sym (chosen (is_dir before) (MakeDir path) op e))
 making_path path (Link text) before op e = absurd (absent op e)
 
 writing_path : (path : Text) (entry : Entry) (before : Option Standing) (op : Op) → writing path entry before ≡ Some op → path_of op ≡ path
-writing_path path (File mode bytes) before op e = ap path_of (sym (chosen (is_file_of bytes before) (Write path bytes) op e))
+writing_path path (File mode content) before op e = ap path_of (sym (chosen (is_file_of (bytes_of content) before) (Write path (bytes_of content)) op e))
 writing_path path (Dir mode) before op e = absurd (absent op e)
 writing_path path (Link text) before op e = absurd (absent op e)
 
@@ -55,7 +56,7 @@ writings_keep before row op e = writing_path row.0 row.1 (placed (get before row
 
 -- a removal leaves nothing
 removal_leaves : (path : Text) (entry : Entry) (after : Option Standing) (op : Op) → removal path entry after ≡ Some op → left_by op ≡ None
-removal_leaves path (File mode bytes) after op e = ap left_by (sym (chosen (is_file after) (RemoveFile path) op e))
+removal_leaves path (File mode content) after op e = ap left_by (sym (chosen (is_file after) (RemoveFile path) op e))
 removal_leaves path (Dir mode) after op e = ap left_by (sym (chosen (is_dir after) (RemoveDir path) op e))
 removal_leaves path (Link text) after op e = absurd (absent op e)
 
@@ -98,14 +99,14 @@ as_written before path (Some entry) it = refl
 -- nothing is left where nothing stands afterwards
 pub removed_all : (path : Text) (old : Option Entry) → removed path old None (placed old) ≡ None
 removed_all path None = refl
-removed_all path (Some (File mode bytes)) = refl
+removed_all path (Some (File mode content)) = refl
 removed_all path (Some (Dir mode)) = refl
 removed_all path (Some (Link text)) = refl
 
 -- a directory is made where nothing is left
 pub room_for_dir : (path : Text) (old : Option Entry) → is_dir (placed old) ≡ false → is_nothing (removed path old (Some standing.Dir) (placed old)) ≡ true
 room_for_dir path None h = refl
-room_for_dir path (Some (File mode bytes)) h = refl
+room_for_dir path (Some (File mode content)) h = refl
 room_for_dir path (Some (Dir mode)) h = cc
 room_for_dir path (Some (Link text)) h = refl
 
@@ -119,28 +120,28 @@ room_for_file path (Some (Link text)) bytes = refl
 -- a directory that is to stand does so before any file is written
 dir_stands : (path : Text) (old : Option Entry) (mode : ℕ) → is_dir (dir_made path (Some (Dir mode)) (placed old) (removed path old (Some standing.Dir) (placed old))) ≡ true
 dir_stands path None mode = refl
-dir_stands path (Some (File m bytes)) mode = refl
+dir_stands path (Some (File m content)) mode = refl
 dir_stands path (Some (Dir m)) mode = refl
 dir_stands path (Some (Link text)) mode = refl
 
 pub dirs_stand : (path : Text) (old new : Option Entry) → tree.is_dir new ≡ true → is_dir (dir_made path new (placed old) (removed path old (placed new) (placed old))) ≡ true
 dirs_stand path old None h = cc
-dirs_stand path old (Some (File mode bytes)) h = cc
+dirs_stand path old (Some (File mode content)) h = cc
 dirs_stand path old (Some (Dir mode)) h = dir_stands path old mode
 dirs_stand path old (Some (Link text)) h = cc
 
 -- and still does when they are
 pub dirs_stay : (path : Text) (new : Option Entry) (before it : Option Standing) → tree.is_dir new ≡ true → written path new before it ≡ it
 dirs_stay path None before it h = cc
-dirs_stay path (Some (File mode bytes)) before it h = cc
+dirs_stay path (Some (File mode content)) before it h = cc
 dirs_stay path (Some (Dir mode)) before it h = refl
 dirs_stay path (Some (Link text)) before it h = cc
 
 -- at the end what is to stand does
 file_stands : (path bytes : Text) (old : Option Entry) → made_at (cond (is_file_of bytes (placed old)) None (Some (Write path bytes))) (removed path old (Some (standing.File bytes)) (placed old)) ≡ Some (standing.File bytes)
 file_stands path bytes None = refl
-file_stands path bytes (Some (File mode old)) = elim (same_text old bytes) as (λ (b : Bool). same_text old bytes ≡ b → made_at (cond b None (Some (Write path bytes))) (Some (standing.File old)) ≡ Some (standing.File bytes)) [
-  | true ↦ λ e. ap (λ (t : Text). Some (standing.File t)) (same_is old bytes e)
+file_stands path bytes (Some (File mode content)) = elim (same_text (bytes_of content) bytes) as (λ (b : Bool). same_text (bytes_of content) bytes ≡ b → made_at (cond b None (Some (Write path bytes))) (Some (standing.File (bytes_of content))) ≡ Some (standing.File bytes)) [
+  | true ↦ λ e. ap (λ (t : Text). Some (standing.File t)) (same_is (bytes_of content) bytes e)
   | false ↦ λ e. refl
 ] refl
 file_stands path bytes (Some (Dir mode)) = refl
@@ -148,18 +149,18 @@ file_stands path bytes (Some (Link text)) = refl
 
 made_dir_stands : (path : Text) (old : Option Entry) (mode : ℕ) → dir_made path (Some (Dir mode)) (placed old) (removed path old (Some standing.Dir) (placed old)) ≡ Some standing.Dir
 made_dir_stands path None mode = refl
-made_dir_stands path (Some (File m bytes)) mode = refl
+made_dir_stands path (Some (File m content)) mode = refl
 made_dir_stands path (Some (Dir m)) mode = refl
 made_dir_stands path (Some (Link text)) mode = refl
 
 pub all_stand : (path : Text) (old new : Option Entry) → written path new (placed old) (dir_made path new (placed old) (removed path old (placed new) (placed old))) ≡ placed new
 all_stand path old None = removed_all path old
-all_stand path old (Some (File mode bytes)) = file_stands path bytes old
+all_stand path old (Some (File mode content)) = file_stands path (bytes_of content) old
 all_stand path old (Some (Dir mode)) = made_dir_stands path old mode
 all_stand path old (Some (Link text)) = removed_all path old
 
 pub placed_dir : (it : Option Entry) → tree.is_dir it ≡ true → is_dir (placed it) ≡ true
 placed_dir None h = cc
-placed_dir (Some (File mode bytes)) h = cc
+placed_dir (Some (File mode content)) h = cc
 placed_dir (Some (Dir mode)) h = refl
 placed_dir (Some (Link text)) h = cc

@@ -11,7 +11,7 @@ use Rattle.rk_folder.specs.Specials.{state_fault, hidden_fault, state_special, f
 use Rattle.rk_folder.specs.Import.{entry_of, snapshot_of}
 use Rattle.rk_folder.proofs.ImportLemmas.{hidden-plain}
 use Rattle.rk_folder.proofs.ReadingLemmas.{are_plain}
-use Rattle.rk_folder.proofs.SnapshotLemmas.{get-snapshot_of}
+use Rattle.rk_folder.proofs.ListedLemmas.{get-snapshot_of}
 use Rattle.rk_folder.specs.declared.folder.Standing.{Standing}
 use Rattle.rk_folder.specs.declared.folder.Standing.TheVariants.{File, Dir, Special}
 use Rattle.rk_changes.specs.declared.holding.Holding.{Holding}

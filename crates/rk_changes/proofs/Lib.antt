@@ -5,11 +5,13 @@ pub mod OrderLemmas
 pub mod SeenLemmas
 pub mod ImportedLemmas
 pub mod ReachLemmas
+pub mod WritingLemmas
 pub mod AllowLemmas
 pub mod EffectLemmas
 pub mod PhaseLemmas
 pub mod StateLemmas
 pub mod PlannedLemmas
+pub mod FullPlanLemmas
 pub mod PlanLemmas
 pub mod ListLemmas
 pub mod NeededLemmas

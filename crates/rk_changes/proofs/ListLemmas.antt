@@ -20,7 +20,8 @@ use Rattle.rk_seal.specs.Ops.{are_calls, attrs_file, db_file, follow, group, hid
 use Rattle.rk_seal.specs.declared.ops.Op.{Op}
 use Rattle.rk_seal.specs.declared.ops.Op.TheVariants.{RemoveFile, RemoveDir, MakeDir, Write}
 use Rattle.rk_changes.specs.Holdings.{placed}
-use Rattle.rk_changes.specs.Planned.{attrs_calls, db_calls, hidden_making, is_bytes, is_file_of, making, making_of, planned, removal, removal_of, writing, writing_of}
+use Rattle.rk_changes.specs.Fetched.{AreWritings, IsWriting}
+use Rattle.rk_changes.specs.Planned.{attrs_calls, back_calls, db_calls, front_calls, hidden_making, is_bytes, making, making_of, removal, removal_of}
 use Rattle.rk_changes.specs.declared.holding.Holding.{Holding}
 use Rattle.rk_changes.proofs.OrderLemmas.{Below, InOrder, below_first, below_rest, in_order_first, in_order_rest, clash, find_first, find_later}
 use Rattle.rk_changes.proofs.HiddenLemmas.{attrs_hidden, db_hidden, dir_hidden}
@@ -233,7 +234,7 @@ module _ (snapshot : Entries) (whole : IsWholeSnapshot snapshot) where
   root_placed = by (get snapshot root) refl where
     by : (o : Option Entry) → get snapshot root ≡ o → is_dir (placed (get snapshot root)) ≡ true
     by None e = absurd (clash _ (sym (ap tree.is_dir e) ∙ whole.root_dir) refl)
-    by (Some (entry.File mode bytes)) e = absurd (clash _ (sym (ap tree.is_dir e) ∙ whole.root_dir) refl)
+    by (Some (entry.File mode content)) e = absurd (clash _ (sym (ap tree.is_dir e) ∙ whole.root_dir) refl)
     by (Some (entry.Dir mode)) e = ap (λ (o : Option Entry). is_dir (placed o)) e
     by (Some (entry.Link text)) e = absurd (clash _ (sym (ap tree.is_dir e) ∙ whole.root_dir) refl)
 
@@ -241,7 +242,7 @@ module _ (snapshot : Entries) (whole : IsWholeSnapshot snapshot) where
   root_entry : (path : Text) (it : Entry) → get snapshot path ≡ Some it → is_root path ≡ true → (mode : ℕ) × (it ≡ entry.Dir mode)
   root_entry path it at r = by it (sym (ap tree.is_dir (ap (get snapshot) (sym (same_is path root r)) ∙ at)) ∙ whole.root_dir) where
     by : (e : Entry) → tree.is_dir (Some e) ≡ true → (mode : ℕ) × (e ≡ entry.Dir mode)
-    by (entry.File mode bytes) h = absurd (clash _ h refl)
+    by (entry.File mode content) h = absurd (clash _ h refl)
     by (entry.Dir mode) h = (mode, refl)
     by (entry.Link text) h = absurd (clash _ h refl)
 
@@ -277,11 +278,11 @@ not_root path h = by (is_root path) refl where
   by false e = e
 
 removed : (before after : Entries) → IsWholeSnapshot before → IsWholeSnapshot after → (path : Text) (it : Entry) (op : Op) → get before path ≡ Some it → removal path it (placed (get after path)) ≡ Some op → IsMade 0 path op
-removed before after whole new path (entry.File mode bytes) op at h =
+removed before after whole new path (entry.File mode content) op at h =
     let m = if_made (is_file (placed (get after path))) (RemoveFile path) op h in
-    let r = not_root path (λ r. no_dir (root_entry before whole path (entry.File mode bytes) at r).1) in
-    made_as 0 path (RemoveFile path) op m.1 refl (remove_file_group path (not_within before whole path (entry.File mode bytes) at)) (seen_at before whole path (entry.File mode bytes) at r) where
-      no_dir : {m : ℕ} → entry.File mode bytes ≡ entry.Dir m → ⊥
+    let r = not_root path (λ r. no_dir (root_entry before whole path (entry.File mode content) at r).1) in
+    made_as 0 path (RemoveFile path) op m.1 refl (remove_file_group path (not_within before whole path (entry.File mode content) at)) (seen_at before whole path (entry.File mode content) at r) where
+      no_dir : {m : ℕ} → entry.File mode content ≡ entry.Dir m → ⊥
       no_dir e = cc
 removed before after whole new path (entry.Dir mode) op at h =
     let m = if_made (is_dir (placed (get after path))) (RemoveDir path) op h in
@@ -290,22 +291,12 @@ removed before after whole new path (entry.Dir mode) op at h =
 removed before after whole new path (entry.Link text) op at h = absurd (no_op op h)
 
 dir_made : (before after : Entries) → IsWholeSnapshot before → IsWholeSnapshot after → (path : Text) (it : Entry) (op : Op) → get after path ≡ Some it → making path it (placed (get before path)) ≡ Some op → IsMade 1 path op
-dir_made before after whole new path (entry.File mode bytes) op at h = absurd (no_op op h)
+dir_made before after whole new path (entry.File mode content) op at h = absurd (no_op op h)
 dir_made before after whole new path (entry.Dir mode) op at h =
     let m = if_made (is_dir (placed (get before path))) (MakeDir path) op h in
     let r = not_root path (λ r. clash _ (ap (λ (p : Text). is_dir (placed (get before p))) (same_is path root r) ∙ root_placed before whole) m.0) in
     made_as 1 path (MakeDir path) op m.1 refl (make_dir_group path (not_within after new path (entry.Dir mode) at)) (seen_at after new path (entry.Dir mode) at r)
 dir_made before after whole new path (entry.Link text) op at h = absurd (no_op op h)
-
-file_written : (before after : Entries) → IsWholeSnapshot after → (path : Text) (it : Entry) (op : Op) → get after path ≡ Some it → writing path it (placed (get before path)) ≡ Some op → IsMade 2 path op
-file_written before after new path (entry.File mode bytes) op at h =
-    let m = if_made (is_file_of bytes (placed (get before path))) (Write path bytes) op h in
-    let r = not_root path (λ r. no_dir (root_entry after new path (entry.File mode bytes) at r).1) in
-    made_as 2 path (Write path bytes) op m.1 refl (write_file_group path bytes (not_within after new path (entry.File mode bytes) at)) (seen_at after new path (entry.File mode bytes) at r) where
-      no_dir : {m : ℕ} → entry.File mode bytes ≡ entry.Dir m → ⊥
-      no_dir e = cc
-file_written before after new path (entry.Dir mode) op at h = absurd (no_op op h)
-file_written before after new path (entry.Link text) op at h = absurd (no_op op h)
 
 -- A part of the plan, of one group.
 
@@ -411,6 +402,61 @@ db_part : (before after : Option Text) → IsPart 5 (db_calls before after)
 db_part before None = none_part 5
 db_part before (Some bytes) = maybe_part 5 (Write db_file bytes) (is_bytes bytes before) (db_written-group bytes) (and_true (is_canonical db_file) _ db-canonical (db_written-rest bytes))
 
+-- Files that are written, whatever their bytes.
+
+file_call : (after : Entries) → IsWholeSnapshot after → (path : Text) (it : Entry) (bytes : Text) → get after path ≡ Some it → is_file (placed (Some it)) ≡ true → IsMade 2 path (Write path bytes)
+file_call after new path (entry.File mode content) bytes at file =
+    let r = not_root path (λ r. no_dir (root_entry after new path (entry.File mode content) at r).1) in
+    made_as 2 path (Write path bytes) (Write path bytes) refl refl (write_file_group path bytes (not_within after new path (entry.File mode content) at)) (seen_at after new path (entry.File mode content) at r) where
+      no_dir : {m : ℕ} → entry.File mode content ≡ entry.Dir m → ⊥
+      no_dir e = cc
+file_call after new path (entry.Dir mode) bytes at file = cc
+file_call after new path (entry.Link text) bytes at file = cc
+
+-- each row's file may be written
+abbrev MayWrite : List (Text × Entry) → Type 0
+MayWrite rows = (row : Text × Entry) (bytes : Text) → find text_cmp row.0 rows ≡ Some row.1 → is_file (placed (Some row.1)) ≡ true → IsMade 2 row.0 (Write row.0 bytes)
+
+may_write-rest : (row : Text × Entry) (rows : List (Text × Entry)) → InOrder (row ∷ rows) → MayWrite (row ∷ rows) → MayWrite rows
+may_write-rest row rows o may r bytes found file = may r bytes (find_later row rows r.0 r.1 (in_order_first row rows o) found) file
+
+written_here : (row : Text × Entry) (rows : List (Text × Entry)) (op : Op) → MayWrite (row ∷ rows) → IsWriting row.0 row.1 op → IsMade 2 row.0 op
+written_here row rows op may is = subst (IsMade 2 row.0) (sym is.1) (may row is.0 (find_first row rows) is.2)
+
+follow_writings : (last : Op) (rows : List (Text × Entry)) (ops : List Op) → InOrder rows → MayWrite rows → group last ≡ 2 → Below (path_of last) rows → AreWritings rows ops → follow last ops ≡ true
+follow_writings last [] ops o may at below are = ap (follow last) are
+follow_writings last (row ∷ rows) ops o may at below (inl rest) = follow_writings last rows ops (in_order_rest row rows o) (may_write-rest row rows o may) at (below_rest (path_of last) row rows below) rest
+follow_writings last (row ∷ rows) ops o may at below (inr some) =
+    let made = written_here row rows some.0 may some.3 in
+    ap (follow last) some.2
+    ∙ and_true (is_before last some.0) _ (ascending 2 last some.0 at made.in_group refl (ap (text_cmp (path_of last)) made.at ∙ below_first (path_of last) row rows below))
+    (follow_writings some.0 rows some.1 (in_order_rest row rows o) (may_write-rest row rows o may) made.in_group (subst (λ (p : Text). Below p rows) (sym made.at) (in_order_first row rows o)) some.4)
+
+order_writings : (rows : List (Text × Entry)) (ops : List Op) → InOrder rows → MayWrite rows → AreWritings rows ops → in_order ops ≡ true
+order_writings [] ops o may are = ap in_order are
+order_writings (row ∷ rows) ops o may (inl rest) = order_writings rows ops (in_order_rest row rows o) (may_write-rest row rows o may) rest
+order_writings (row ∷ rows) ops o may (inr some) =
+    let made = written_here row rows some.0 may some.3 in
+    ap in_order some.2
+    ∙ follow_writings some.0 rows some.1 (in_order_rest row rows o) (may_write-rest row rows o may) made.in_group (subst (λ (p : Text). Below p rows) (sym made.at) (in_order_first row rows o)) some.4
+
+all_writings : (f : Op → Bool) (rows : List (Text × Entry)) (ops : List Op) → InOrder rows → MayWrite rows → ((path : Text) (op : Op) → IsMade 2 path op → f op ≡ true) → AreWritings rows ops → list_all f ops ≡ true
+all_writings f [] ops o may each are = ap (list_all f) are
+all_writings f (row ∷ rows) ops o may each (inl rest) = all_writings f rows ops (in_order_rest row rows o) (may_write-rest row rows o may) each rest
+all_writings f (row ∷ rows) ops o may each (inr some) =
+    ap (list_all f) some.2
+    ∙ and_true (f some.0) _ (each row.0 some.0 (written_here row rows some.0 may some.3)) (all_writings f rows some.1 (in_order_rest row rows o) (may_write-rest row rows o may) each some.4)
+
+writings_part : (after : Entries) (ops : List Op) → IsWholeSnapshot after → AreWritings (entries after) ops → IsPart 2 ops
+writings_part after ops new are =
+    let may : MayWrite (entries after) = λ row bytes found file. file_call after new row.0 row.1 bytes (found_at after row found) file in
+    let sorted = entries_sorted after in
+    record {
+      in_group = all_writings (λ op. group op == 2) (entries after) ops sorted may (λ path op made. number_same (group op) 2 made.in_group) are;
+      calls = all_writings is_call (entries after) ops sorted may (λ path op made. made.call) are;
+      ordered = order_writings (entries after) ops sorted may are;
+    }
+
 -- The whole plan.
 
 -- what comes after a group
@@ -441,16 +487,12 @@ unfolding are_calls
 calls-are [] calls ordered = inl refl
 calls-are (op ∷ ops) calls ordered = inr (and_true (list_all is_call (op ∷ ops)) (follow op ops) calls ordered)
 
--- the parts, one after another
-six : (a b c d e f : List Op) → a ++ b ++ c ++ d ++ e ++ f ≡ a ++ (b ++ (c ++ (d ++ (e ++ f))))
-six a b c d e f = append_assoc (a ++ b ++ c ++ d) e f ∙ append_assoc (a ++ b ++ c) d (e ++ f) ∙ append_assoc (a ++ b) c (d ++ (e ++ f)) ∙ append_assoc a b (c ++ (d ++ (e ++ f)))
-
--- the calls of a plan between whole entries are none, or such as a sealed list has
-pub planned-are : (before after : Holding) → IsWholeSnapshot before.entries → IsWholeSnapshot after.entries → (planned before after ≡ []) ⊎ (are_calls (planned before after) ≡ true)
-planned-are before after whole new =
+-- the calls of a plan between whole entries are none, or such as a sealed list has, whichever of the files they write
+pub planned-are : (before after : Holding) (writings : List Op) → IsWholeSnapshot before.entries → IsWholeSnapshot after.entries → AreWritings (entries after.entries) writings
+    → (front_calls before after ++ (writings ++ back_calls before after) ≡ []) ⊎ (are_calls (front_calls before after ++ (writings ++ back_calls before after)) ≡ true)
+planned-are before after writings whole new are =
     let removals : List Op = reverse (filter_map (removal_of after.entries) (entries before.entries)) in
     let makings : List Op = filter_map (making_of before.entries) (entries after.entries) in
-    let writings : List Op = filter_map (writing_of before.entries) (entries after.entries) in
     let hidden : List Op = hidden_making before.rkr after.rkr in
     let attrs : List Op = attrs_calls before.state.attrs after.state.attrs in
     let db : List Op = db_calls before.state.db after.state.db in
@@ -458,10 +500,11 @@ planned-are before after whole new =
     let from_db : IsTail 4 db = last-tail 4 5 db refl (db_part before.state.db after.state.db) in
     let from_attrs : IsTail 3 (attrs ++ db) = more-tail 3 4 attrs db refl (attrs_part before.state.attrs after.state.attrs) from_db in
     let from_hidden : IsTail 2 (hidden ++ (attrs ++ db)) = more-tail 2 3 hidden (attrs ++ db) refl (hidden_part before.rkr after.rkr) from_attrs in
-    let from_writings : IsTail 1 (writings ++ (hidden ++ (attrs ++ db))) =
-    more-tail 1 2 writings (hidden ++ (attrs ++ db)) refl (up_part 2 after.entries (writing_of before.entries) refl (λ row op at is. file_written before.entries after.entries new row.0 row.1 op at is)) from_hidden in
+    let from_writings : IsTail 1 (writings ++ (hidden ++ (attrs ++ db))) = more-tail 1 2 writings (hidden ++ (attrs ++ db)) refl (writings_part after.entries writings new are) from_hidden in
     let from_makings : IsTail 0 (makings ++ (writings ++ (hidden ++ (attrs ++ db)))) =
     more-tail 0 1 makings (writings ++ (hidden ++ (attrs ++ db))) refl (up_part 1 after.entries (making_of before.entries) refl (λ row op at is. dir_made before.entries after.entries whole new row.0 row.1 op at is)) from_writings in
     let rest : List Op = makings ++ (writings ++ (hidden ++ (attrs ++ db))) in
-    subst (λ (ops : List Op). (ops ≡ []) ⊎ (are_calls ops ≡ true)) (sym (six removals makings writings hidden attrs db))
+    let shape : (removals ++ makings) ++ (writings ++ ((hidden ++ attrs) ++ db)) ≡ removals ++ rest =
+    append_assoc removals makings (writings ++ ((hidden ++ attrs) ++ db)) ∙ ap (λ (l : List Op). removals ++ (makings ++ (writings ++ l))) (append_assoc hidden attrs db) in
+    subst (λ (ops : List Op). (ops ≡ []) ⊎ (are_calls ops ≡ true)) (sym shape)
     (calls-are (removals ++ rest) (all-append is_call removals rest first.calls from_makings.calls) (order-then 0 removals rest first.in_group first.ordered from_makings.after from_makings.ordered))

@@ -8,6 +8,7 @@ use Rattle.rk_base.specs.Text.{Text, text_cmp}
 use Rattle.rk_folder.specs.Told.{Held, standing, is_file, is_dir, is_nothing}
 use Rattle.rk_folder.specs.declared.folder.Standing.{Standing}
 use Rattle.rk_folder.specs.declared.folder.Standing.TheVariants as standing
+use Rattle.rk_tree.specs.Content.{bytes_of}
 use Rattle.rk_tree.specs.Node.{Node as Entry, File, Dir, Link}
 use Rattle.rk_tree.proofs.TextLemmas.{same_itself}
 use Rattle.rk_seal.specs.declared.ops.Op.{Op}
@@ -40,17 +41,17 @@ all_made P make (row ∷ rows) o h = All-cons_option P (make row) (filter_map ma
 -- the call of an entry, by what stands at its path
 
 needed_removal : (held : Held) (path : Text) (entry : Entry) (after : Option Standing) (op : Op) → removal path entry after ≡ Some op → standing held path ≡ placed (Some entry) → IsNeeded held op
-needed_removal held path (File mode bytes) after op e stands = subst (IsNeeded held) (chosen (is_file after) (RemoveFile path) op e) (λ same. clash _ (sym (ap is_nothing same)) (ap is_nothing stands))
+needed_removal held path (File mode content) after op e stands = subst (IsNeeded held) (chosen (is_file after) (RemoveFile path) op e) (λ same. clash _ (sym (ap is_nothing same)) (ap is_nothing stands))
 needed_removal held path (Dir mode) after op e stands = subst (IsNeeded held) (chosen (is_dir after) (RemoveDir path) op e) (λ same. clash _ (sym (ap is_nothing same)) (ap is_nothing stands))
 needed_removal held path (Link text) after op e stands = absurd (absent op e)
 
 needed_making : (held : Held) (path : Text) (entry : Entry) (before : Option Standing) (op : Op) → making path entry before ≡ Some op → standing held path ≡ before → IsNeeded held op
-needed_making held path (File mode bytes) before op e stands = absurd (absent op e)
+needed_making held path (File mode content) before op e stands = absurd (absent op e)
 needed_making held path (Dir mode) before op e stands = subst (IsNeeded held) (chosen (is_dir before) (MakeDir path) op e) (λ same. clash _ (ap is_dir (sym (same ∙ stands))) (not_spared (is_dir before) (MakeDir path) op e))
 needed_making held path (Link text) before op e stands = absurd (absent op e)
 
 needed_writing : (held : Held) (path : Text) (entry : Entry) (before : Option Standing) (op : Op) → writing path entry before ≡ Some op → standing held path ≡ before → IsNeeded held op
-needed_writing held path (File mode bytes) before op e stands = subst (IsNeeded held) (chosen (is_file_of bytes before) (Write path bytes) op e) (λ same. clash _ (ap (is_file_of bytes) (sym (same ∙ stands)) ∙ same_itself bytes) (not_spared (is_file_of bytes before) (Write path bytes) op e))
+needed_writing held path (File mode content) before op e stands = subst (IsNeeded held) (chosen (is_file_of (bytes_of content) before) (Write path (bytes_of content)) op e) (λ same. clash _ (ap (is_file_of (bytes_of content)) (sym (same ∙ stands)) ∙ same_itself (bytes_of content)) (not_spared (is_file_of (bytes_of content) before) (Write path (bytes_of content)) op e))
 needed_writing held path (Dir mode) before op e stands = absurd (absent op e)
 needed_writing held path (Link text) before op e stands = absurd (absent op e)
 

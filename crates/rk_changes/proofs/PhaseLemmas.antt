@@ -12,8 +12,8 @@ use Rattle.rk_folder.specs.declared.folder.Item.{Item}
 use Rattle.rk_folder.specs.declared.folder.Item.TheVariants as item
 use Rattle.rk_folder.specs.declared.folder.Standing.{Standing}
 use Rattle.rk_folder.specs.declared.folder.Standing.TheVariants as standing
+use Rattle.rk_tree.specs.Content.{bytes_of}
 use Rattle.rk_tree.specs.Entries as tree
-use Rattle.rk_tree.specs.Entries.{Entries}
 use Rattle.rk_tree.specs.Node.{Node as Entry, File, Dir, Link}
 use Rattle.rk_tree.proofs.TextLemmas.{same_is, within-join, root_seen, hidden-back}
 use Rattle.rk_seal.specs.declared.ops.Op.{Op}
@@ -134,8 +134,8 @@ module _ (held : Held) (before after : Holding) (ready : MayBecome held before a
       → ((q : Text) → text_cmp path q ≡ Less → standing now q ≡ made (removal_of after.entries) q (find text_cmp q (entries before.entries)) (standing held q))
       → ((q : Text) → (standing now q ≡ standing held q) ⊎ (standing now q ≡ made (removal_of after.entries) q (find text_cmp q (entries before.entries)) (standing held q)))
       → allowed op now ≡ true
-  allows_removal path (File mode bytes) op now old e odd own upper any =
-      let stands : standing now path ≡ Some (standing.File bytes) = own ∙ ready.holds.outside path (old_outside path (File mode bytes) old) ∙ ap placed old in
+  allows_removal path (File mode content) op now old e odd own upper any =
+      let stands : standing now path ≡ Some (standing.File (bytes_of content)) = own ∙ ready.holds.outside path (old_outside path (File mode content) old) ∙ ap placed old in
       subst (λ (o : Op). allowed o now ≡ true) (chosen (is_file (placed (get after.entries path))) (RemoveFile path) op e) (ap is_file stands)
   allows_removal path (Dir mode) op now old e odd own upper any =
       let outside = old_outside path (Dir mode) old in
@@ -189,7 +189,7 @@ module _ (held : Held) (before after : Holding) (ready : MayBecome held before a
   allows_making : (path : Text) (entry : Entry) (op : Op) (now : Held) → get after.entries path ≡ Some entry → making path entry (placed (get before.entries path)) ≡ Some op → standing now path ≡ standing held_removed path
       → ((q : Text) → text_cmp q path ≡ Less → standing now q ≡ made (making_of before.entries) q (find text_cmp q (entries after.entries)) (standing held_removed q))
       → allowed op now ≡ true
-  allows_making path (File mode bytes) op now new e own lower = absurd (none_of op e)
+  allows_making path (File mode content) op now new e own lower = absurd (none_of op e)
   allows_making path (Dir mode) op now new e own lower =
       let new_dir = not_spared (is_dir (placed (get before.entries path))) (MakeDir path) op e in
       let at_root : is_root path ≡ false = elim (is_root path) as (λ (b : Bool). is_root path ≡ b → b ≡ false) [
@@ -236,19 +236,19 @@ module _ (held : Held) (before after : Holding) (ready : MayBecome held before a
   allows_writing : (path : Text) (entry : Entry) (op : Op) (now : Held) → get after.entries path ≡ Some entry → writing path entry (placed (get before.entries path)) ≡ Some op → standing now path ≡ standing held_made path
       → ((q : Text) → text_cmp q path ≡ Less → standing now q ≡ made (writing_of before.entries) q (find text_cmp q (entries after.entries)) (standing held_made q))
       → allowed op now ≡ true
-  allows_writing path (File mode bytes) op now new e own lower =
+  allows_writing path (File mode content) op now new e own lower =
       let at_root : is_root path ≡ false = not_root (placed (get after.entries path)) path (new_at_root path) (ap (λ (found : Option Entry). is_dir (placed found)) new) in
-      let less = parent-less path (ready.built.entries.canonical path (File mode bytes) new) at_root in
-      let in_dir = ready.built.entries.placed path (File mode bytes) new in
+      let less = parent-less path (ready.built.entries.canonical path (File mode content) new) at_root in
+      let in_dir = ready.built.entries.placed path (File mode content) new in
       let out = dir_outside (parent path) in_dir in
       let within : is_dir (standing now (parent path)) ≡ true =
       ap is_dir (lower (parent path) less ∙ written_outside (parent path) out ∙ dirs_stay (parent path) (get after.entries (parent path)) (placed (get before.entries (parent path))) (with_dirs (parent path)) in_dir)
       ∙ dirs_stand (parent path) (get before.entries (parent path)) (get after.entries (parent path)) in_dir in
-      let left : standing now path ≡ removed path (get before.entries path) (Some (standing.File bytes)) (placed (get before.entries path)) =
-      own ∙ standing-made path ∙ made_outside path (new_outside path (File mode bytes) new)
+      let left : standing now path ≡ removed path (get before.entries path) (Some (standing.File (bytes_of content))) (placed (get before.entries path)) =
+      own ∙ standing-made path ∙ made_outside path (new_outside path (File mode content) new)
       ∙ ap (λ (found : Option Entry). dir_made path found (placed (get before.entries path)) (removed path (get before.entries path) (placed found) (placed (get before.entries path)))) new in
-      subst (λ (o : Op). allowed o now ≡ true) (chosen (is_file_of bytes (placed (get before.entries path))) (Write path bytes) op e) (
-      ap (can_hold (standing now path)) within ∙ ap (λ (it : Option Standing). can_hold it true) left ∙ room_for_file path (get before.entries path) bytes)
+      subst (λ (o : Op). allowed o now ≡ true) (chosen (is_file_of (bytes_of content) (placed (get before.entries path))) (Write path (bytes_of content)) op e) (
+      ap (can_hold (standing now path)) within ∙ ap (λ (it : Option Standing). can_hold it true) left ∙ room_for_file path (get before.entries path) (bytes_of content))
   allows_writing path (Dir mode) op now new e own lower = absurd (none_of op e)
   allows_writing path (Link text) op now new e own lower = absurd (none_of op e)
 

@@ -7,6 +7,7 @@ use Rattle.rk_base.specs.Text.{Text, text_cmp, root, is_within}
 use Rattle.rk_folder.specs.Told.{Held, standing, is_dir}
 use Rattle.rk_folder.specs.declared.folder.Standing.{Standing}
 use Rattle.rk_folder.specs.declared.folder.Standing.TheVariants as standing
+use Rattle.rk_tree.specs.Content.{bytes_of}
 use Rattle.rk_tree.specs.Node.{Node as Entry, File, Dir, Link}
 use Rattle.rk_tree.proofs.TextLemmas.{told_apart, root_seen, same_itself}
 use Rattle.rk_seal.specs.declared.ops.Op.{Op}
@@ -185,17 +186,17 @@ module _ (held : Held) (before after : Holding) (ready : MayBecome held before a
 -- Nothing is planned where both hold the same.
 
 no_removal : (path : Text) (entry : Entry) (after : Option Standing) → placed (Some entry) ≡ after → removal path entry after ≡ None
-no_removal path (File mode bytes) after e = ap (λ (it : Option Standing). removal path (File mode bytes) it) (sym e)
+no_removal path (File mode content) after e = ap (λ (it : Option Standing). removal path (File mode content) it) (sym e)
 no_removal path (Dir mode) after e = ap (λ (it : Option Standing). removal path (Dir mode) it) (sym e)
 no_removal path (Link text) after e = refl
 
 no_making : (path : Text) (entry : Entry) (before : Option Standing) → before ≡ placed (Some entry) → making path entry before ≡ None
-no_making path (File mode bytes) before e = refl
+no_making path (File mode content) before e = refl
 no_making path (Dir mode) before e = ap (λ (it : Option Standing). making path (Dir mode) it) e
 no_making path (Link text) before e = refl
 
 no_writing : (path : Text) (entry : Entry) (before : Option Standing) → before ≡ placed (Some entry) → writing path entry before ≡ None
-no_writing path (File mode bytes) before e = ap (λ (it : Option Standing). writing path (File mode bytes) it) e ∙ ap (λ (b : Bool). cond b None (Some (Write path bytes))) (same_itself bytes)
+no_writing path (File mode content) before e = ap (λ (it : Option Standing). writing path (File mode content) it) e ∙ ap (λ (b : Bool). cond b None (Some (Write path (bytes_of content)))) (same_itself (bytes_of content))
 no_writing path (Dir mode) before e = refl
 no_writing path (Link text) before e = refl
 

@@ -9,7 +9,9 @@ use Rattle.rk_folder.specs.Told.{Held, is_file, is_file_or_nothing, standing}
 use Rattle.rk_folder.specs.declared.folder.Standing.{Standing}
 use Rattle.rk_folder.specs.declared.folder.Standing.TheVariants.{File, Dir}
 use Rattle.rk_folder.specs.Whole.{IsWhole}
+use Rattle.rk_tree.specs.Content.{bytes_of}
 use Rattle.rk_tree.specs.Entries.{IsWholeSnapshot}
+use Rattle.rk_tree.specs.Full.{Told, full_entries}
 use Rattle.rk_tree.specs.Node.{Node as Entry}
 use Rattle.rk_tree.specs.Node as entry
 use Rattle.rk_changes.specs.declared.holding.Holding.{Holding}
@@ -17,7 +19,7 @@ use Rattle.rk_changes.specs.declared.holding.Holding.{Holding}
 -- what an entry is in a folder: a link isn't there
 abbrev pub placed : Option Entry → Option Standing
 placed None = None
-placed (Some (entry.File mode bytes)) = Some (File bytes)
+placed (Some (entry.File mode content)) = Some (File (bytes_of content))
 placed (Some (entry.Dir mode)) = Some Dir
 placed (Some (entry.Link text)) = None
 
@@ -88,3 +90,7 @@ pub record Agree (before after : Holding) : Type 0 where
   pub rkr : before.rkr ≡ after.rkr
   pub db : before.state.db ≡ after.state.db
   pub attrs : before.state.attrs ≡ after.state.attrs
+
+-- what it holds in full: each file with its bytes as they are told
+abbrev pub full_holding : Told → Holding → Holding
+full_holding told holding = record { entries = full_entries told holding.entries; rkr = holding.rkr; state = holding.state }

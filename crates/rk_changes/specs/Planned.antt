@@ -6,6 +6,7 @@ use Rattle.rk_base.specs.Text.{Text, same_text}
 use Rattle.rk_folder.specs.Told.{Held, is_file, is_dir, standing}
 use Rattle.rk_folder.specs.declared.folder.Standing.{Standing}
 use Rattle.rk_folder.specs.declared.folder.Standing.TheVariants.{File, Dir, Special}
+use Rattle.rk_tree.specs.Content.{bytes_of}
 use Rattle.rk_tree.specs.Entries.{Entries}
 use Rattle.rk_tree.specs.Node.{Node as Entry}
 use Rattle.rk_tree.specs.Node as entry
@@ -20,13 +21,13 @@ use Rattle.rk_changes.specs.Holdings.{placed, hidden_dir, attrs_file, db_file, M
 
 -- what stood is taken away where nothing of its kind stands there afterwards
 abbrev pub removal : Text → Entry → Option Standing → Option Op
-removal path (entry.File mode bytes) after = if is_file after then None else Some (RemoveFile path)
+removal path (entry.File mode content) after = if is_file after then None else Some (RemoveFile path)
 removal path (entry.Dir mode) after = if is_dir after then None else Some (RemoveDir path)
 removal path (entry.Link text) after = None
 
 -- a directory is made where none stood before
 abbrev pub making : Text → Entry → Option Standing → Option Op
-making path (entry.File mode bytes) before = None
+making path (entry.File mode content) before = None
 making path (entry.Dir mode) before = if is_dir before then None else Some (MakeDir path)
 making path (entry.Link text) before = None
 
@@ -41,8 +42,12 @@ is_file_of bytes (Some Dir) = false
 is_file_of bytes (Some Special) = false
 
 -- a file is written where none of its bytes stood before
+
+abbrev pub written : Text → Text → Option Standing → Option Op
+written path bytes before = if is_file_of bytes before then None else Some (Write path bytes)
+
 abbrev pub writing : Text → Entry → Option Standing → Option Op
-writing path (entry.File mode bytes) before = if is_file_of bytes before then None else Some (Write path bytes)
+writing path (entry.File mode content) before = written path (bytes_of content) before
 writing path (entry.Dir mode) before = None
 writing path (entry.Link text) before = None
 
@@ -82,6 +87,14 @@ planned before after =
     ++ hidden_making before.rkr after.rkr
     ++ attrs_calls before.state.attrs after.state.attrs
     ++ db_calls before.state.db after.state.db
+
+-- those before the files, and those after them
+
+abbrev pub front_calls : Holding → Holding → List Op
+front_calls before after = reverse (filter_map (removal_of after.entries) (entries before.entries)) ++ filter_map (making_of before.entries) (entries after.entries)
+
+abbrev pub back_calls : Holding → Holding → List Op
+back_calls before after = hidden_making before.rkr after.rkr ++ attrs_calls before.state.attrs after.state.attrs ++ db_calls before.state.db after.state.db
 
 -- the plan between them, where there is one
 abbrev pub IsPlan : Holding → Holding → Plan → Type 0

@@ -3,6 +3,7 @@ ghost use Rattle.std.specs.Prelude.{◌≡◌, ◌++◌, [], IfOk, OnOk};
 ghost use Rattle.std.specs.List.{cons_option};
 ghost use Rattle.rk_tree.specs.Entries.{IsWholeSnapshot};
 ghost use Rattle.rk_tree.specs.Node.{File, Dir};
+ghost use Rattle.rk_tree.specs.declared.content.Content.TheVariants.{Own};
 ghost use Rattle.rk_changes.specs.Attributes.{row_of, attr_row, attrs_of, RowsKeep, PlainHeld, BuiltHeld};
 
 use rk_attrs::{AttrRow, Attrs, DIR_MODE, FILE_MODE};
@@ -11,7 +12,7 @@ use rk_tree::{Entry, Node, Snapshot};
 use std::alloc::Global;
 
 fn file_row(mode: u16) -> Option<AttrRow>
-    ensures { result ≡ row_of (File mode []) }
+    ensures { result ≡ row_of (File mode (Own [])) }
 {
     if mode == FILE_MODE {
         None
@@ -78,8 +79,8 @@ pub fn attrs_of(alloc: Global, snapshot: &Snapshot) -> Result<Attrs, NoMemory>
     }
 }
 
-/// What a folder keeps of a whole snapshot is, with its rows, the snapshot again: what is imported of a folder that
-/// holds what a build leaves has, with the rows, the entries that the build left. It does nothing.
+/// What a folder keeps of a whole snapshot is, with its rows, the snapshot again, each file with its bytes: what is imported of
+/// a folder that holds what a build leaves has, with the rows, the entries that the build left. It does nothing.
 pub fn rows_keep()
     ensures keep { RowsKeep }
     ensures plain { PlainHeld }

@@ -5,8 +5,9 @@ mod attributes;
 mod holding;
 mod imported;
 mod planning;
+mod writing;
 
 pub use attributes::{attrs_of, rows_keep};
 pub use holding::Holding;
 pub use imported::imported_holds;
-pub use planning::plan;
+pub use planning::{plan, planned_leads};

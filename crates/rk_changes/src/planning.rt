@@ -1,18 +1,22 @@
 // The plan that leads from what a folder holds to what it is to hold.
-ghost use Rattle.std.specs.Prelude.{◌≡◌, [], ◌++◌, IfOk, IfSome, IsSome, None, OnOk, Some, reverse, option_copied};
+ghost use Rattle.std.specs.Prelude.{◌≡◌, [], ◌++◌, IfOk, IsSome, OnOk, reverse, option_copied};
 ghost use Rattle.std.specs.List.{filter_map};
 ghost use Rattle.std.specs.FinMap.{entries, get};
 ghost use Rattle.rk_folder.specs.Told.{is_file, is_dir};
-ghost use Rattle.rk_seal.specs.Plans.{calls_in, plan_of, with_calls};
 ghost use Rattle.rk_tree.specs.Entries.{IsWholeSnapshot};
 ghost use Rattle.rk_changes.specs.Holdings.{placed, Agree};
-ghost use Rattle.rk_changes.specs.Planned.{removal, making, writing, removal_of, making_of, writing_of, hidden_making, attrs_calls, db_calls, planned, is_file_of, is_bytes, state_writing, AreAllowed, LeadTo, AreNeeded};
+ghost use Rattle.rk_tree.specs.Fetched.{Counted, Steadily};
+ghost use Rattle.rk_tree.specs.Full.{EntriesFrom};
+ghost use Rattle.rk_changes.specs.Fetched.{IsFullPlan, WhereTold};
+ghost use Rattle.rk_changes.specs.Planned.{removal, making, removal_of, making_of, hidden_making, attrs_calls, db_calls, planned, front_calls, back_calls, is_bytes, state_writing, AreAllowed, LeadTo, AreNeeded};
+ghost use Rattle.rk_changes.specs.declared.holding.Holding.{Holding as HoldingValue};
 
 use crate::Holding;
+use crate::writing::writings;
 use rk_base::{Bytes, NoMemory, Path};
 use rk_folder::{attrs_file, db_file, hidden_dir};
 use rk_seal::{Op, Plan};
-use rk_tree::{Entry, Node, Snapshot};
+use rk_tree::{Entry, Fetch, FetchErr, Node, Snapshot};
 use std::alloc::Global;
 
 fn is_file(it: Option<&Node>) -> bool
@@ -35,19 +39,6 @@ fn is_dir(it: Option<&Node>) -> bool
         Some(it) => match it.entry() {
             Entry::File(_, _) => false,
             Entry::Dir(_) => true,
-            Entry::Link(_) => false,
-        },
-        None => false,
-    }
-}
-
-fn is_file_of(bytes: &Bytes, it: Option<&Node>) -> bool
-    ensures { result ≡ is_file_of bytes.now (placed (option_copied it.entry)) }
-{
-    match it {
-        Some(it) => match it.entry() {
-            Entry::File(_, old) => old.same(bytes),
-            Entry::Dir(_) => false,
             Entry::Link(_) => false,
         },
         None => false,
@@ -91,23 +82,6 @@ fn making(path: &Path, it: &Node, before: &Snapshot) -> Result<Option<Op>, NoMem
     }
 }
 
-// The call that writes a file, where none of its bytes stood before.
-fn writing(path: &Path, it: &Node, before: Option<&Node>) -> Result<Option<Op>, NoMemory>
-    ensures { IfOk result (λ op. op ≡ writing path.now it.now (placed (option_copied before.entry))) }
-{
-    match it.entry() {
-        Entry::File(_, bytes) => {
-            if is_file_of(bytes, before) {
-                return Ok(None);
-            }
-            let path = path.copy()?;
-            Ok(Some(Op::Write(path, bytes.copy()?)))
-        }
-        Entry::Dir(_) => Ok(None),
-        Entry::Link(_) => Ok(None),
-    }
-}
-
 // Removals, descending by path.
 fn removals(alloc: Global, before: &Snapshot, after: &Snapshot) -> Result<Vec<Op>, NoMemory>
     ensures { IfOk result (λ ops. ops.items ≡ reverse (filter_map (removal_of after.now) (entries before.now))) }
@@ -128,18 +102,6 @@ fn add_makings(ops: &mut Vec<Op>, before: &Snapshot, after: &Snapshot) -> Result
 {
     for (path, it) in after.rows() {
         if let Some(op) = making(path, it, before)? {
-            ops.push(op)?;
-        }
-    }
-    Ok(())
-}
-
-// Files written, ascending by path.
-fn add_writings(ops: &mut Vec<Op>, before: &Snapshot, after: &Snapshot) -> Result<(), NoMemory>
-    ensures { OnOk result (ops.new.items ≡ ops.old.items ++ filter_map (writing_of before.now) (entries after.now)) }
-{
-    for (path, it) in after.rows() {
-        if let Some(op) = writing(path, it, before.get(path))? {
             ops.push(op)?;
         }
     }
@@ -221,31 +183,64 @@ fn add_db_calls(
     Ok(())
 }
 
-fn planned(alloc: Global, before: &Holding, after: &Holding) -> Result<Vec<Op>, NoMemory>
-    ensures { IfOk result (λ ops. ops.items ≡ planned before.now after.now) }
+// The calls of the plan but for the writing of files, which stand between the two lists.
+fn around(alloc: Global, before: &Holding, after: &Holding) -> Result<(Vec<Op>, Vec<Op>), NoMemory>
+    ensures front { IfOk result (λ it. it.0.items ≡ front_calls before.now after.now) }
+    ensures back { IfOk result (λ it. it.1.items ≡ back_calls before.now after.now) }
 {
-    let mut ops = removals(alloc, &before.entries, &after.entries)?;
-    add_makings(&mut ops, &before.entries, &after.entries)?;
-    add_writings(&mut ops, &before.entries, &after.entries)?;
-    add_hidden_making(alloc, &mut ops, before.rkr, after.rkr)?;
-    add_attrs_calls(alloc, &mut ops, &before.state.attrs, &after.state.attrs)?;
-    add_db_calls(alloc, &mut ops, &before.state.db, &after.state.db)?;
-    Ok(ops)
+    let mut front = removals(alloc, &before.entries, &after.entries)?;
+    add_makings(&mut front, &before.entries, &after.entries)?;
+    let mut back = Vec::new(alloc);
+    add_hidden_making(alloc, &mut back, before.rkr, after.rkr)?;
+    add_attrs_calls(alloc, &mut back, &before.state.attrs, &after.state.attrs)?;
+    add_db_calls(alloc, &mut back, &before.state.db, &after.state.db)?;
+    Ok((front, back))
+}
+
+fn join(mut front: Vec<Op>, mut writings: Vec<Op>, mut back: Vec<Op>) -> Result<Vec<Op>, NoMemory>
+    ensures { IfOk result (λ ops. ops.items ≡ front.items ++ (writings.items ++ back.items)) }
+{
+    front.append(&mut writings)?;
+    front.append(&mut back)?;
+    Ok(front)
 }
 
 /// The plan of the calls that lead from what a folder holds to what it is to hold: only what differs, removals first,
 /// descending by path, then directories made and files written, ascending, the directory `.rkr`, attrs written
 /// or removed, and db written; and whether a list of calls stands that isn't sealed. `None` only where there are calls that
 /// no such list may have, as between entries that aren't whole.
-pub fn plan(alloc: Global, before: &Holding, after: &Holding) -> Result<Option<Plan>, NoMemory>
-    ensures planned { IfOk result (λ plan. plan ≡ plan_of (planned before.now after.now) before.now.state.fresh_list) }
+///
+/// The bytes of files that aren't known are fetched, ascending by path, where they are to be compared or written: those of
+/// the start's file where another, a written or an emptied file stands now, and those of a file that stands at a path other
+/// than its import path. Where the bytes are told, it is the plan between both in full.
+pub fn plan<G: Fetch>(
+    alloc: Global,
+    fetch: &mut G,
+    before: &Holding,
+    after: &Holding,
+) -> Result<Option<Plan>, FetchErr>
+    requires before { EntriesFrom (G.told fetch.old) before.now.entries }
+    requires after { EntriesFrom (G.told fetch.old) after.now.entries }
+    ensures planned { WhereTold (G.told fetch.old) (λ told plan. IsFullPlan told before.now after.now plan) result }
     // Between whole entries there is one.
     ensures whole { IsWholeSnapshot before.now.entries → IsWholeSnapshot after.now.entries → IfOk result (λ plan. IsSome plan) }
-    ensures allowed { IfOk result (λ plan. IfSome plan (λ it. AreAllowed (calls_in it) before.now after.now)) }
-    ensures leads { IfOk result (λ plan. IfSome plan (λ it. LeadTo (calls_in it) before.now after.now)) }
-    ensures needed { IfOk result (λ plan. IfSome plan (λ it. AreNeeded (calls_in it) before.now after.now)) }
-    ensures nothing { Agree before.now after.now → IfOk result (λ plan. plan ≡ Some (with_calls before.now.state.fresh_list None)) }
+    ensures told { G.told fetch.new ≡ G.told fetch.old }
+    ensures keeps { G.Keeps fetch.old fetch.new }
+    ensures stays { OnOk result (G.Stays fetch.old fetch.new) }
+    ensures steady { Steadily (G.steady fetch.old) (G.steady fetch.new) result }
+    ensures counted { Counted (G.faults fetch.old) (G.faults fetch.new) result }
 {
-    let ops = planned(alloc, before, after)?;
+    let (front, back) = around(alloc, before, after)?;
+    let writings = writings(alloc, fetch, &before.entries, &after.entries)?;
+    let ops = join(front, writings, back)?;
     Ok(Plan::new(ops, before.state.fresh_list))
 }
+
+/// The calls of a plan between what a folder holds and what a build leaves are allowed, lead from the one to the other, and each
+/// is needed; and there are none where both agree. It does nothing.
+pub fn planned_leads()
+    ensures allowed { (before after : HoldingValue) → AreAllowed (planned before after) before after }
+    ensures leads { (before after : HoldingValue) → LeadTo (planned before after) before after }
+    ensures needed { (before after : HoldingValue) → AreNeeded (planned before after) before after }
+    ensures nothing { (before after : HoldingValue) → Agree before after → planned before after ≡ [] }
+{}
