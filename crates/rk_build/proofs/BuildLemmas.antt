@@ -33,7 +33,7 @@ use Rattle.rk_build.specs.declared.outcome.Outcome.{Outcome}
 use Rattle.rk_build.specs.declared.outcome.Outcome.TheVariants as out
 use Rattle.rk_build.specs.declared.build.Ended.{Ended}
 use Rattle.rk_build.proofs.CheckLemmas.{both-cut}
-use Rattle.rk_build.specs.declared.prepare.Prepared.{Prepared}
+use Rattle.rk_build.specs.declared.work.Prepared.{Prepared}
 use Rattle.rk_build.specs.declared.stop.BuildErr.{BuildErr}
 use Rattle.rk_build.specs.declared.stop.BuildErr.TheVariants as stop
 
@@ -124,11 +124,11 @@ IsTextOf first request text told it = IfSome told (λ held. Keeping (is_fresh re
 
 pub output-told : (first : KeyValue → Says) (request : Request) (told : Option Held) (before now : ℕ) (p : Prepared) → IfSome told (λ held. IsPrepared first request held before now p) → IsTextOf first request output_of told p.finished.world.out
 output-told first request None before now p is = tt
-output-told first request (Some held) before now p is = record { plain = is.plain; rows = is.rows; old = is.old; kept = is.kept; so = λ spoken. sym (ap (output_of request is.old) (is.run.ends spoken).1) }
+output-told first request (Some held) before now p is = record { plain = is.plain; rows = is.rows; old = is.old; kept = is.kept; so = λ spoken. is.out ∙ sym (ap (output_of request is.old) (is.run.ends spoken).1) }
 
 pub error_text-told : (first : KeyValue → Says) (request : Request) (told : Option Held) (before now : ℕ) (p : Prepared) → IfSome told (λ held. IsPrepared first request held before now p) → IsTextOf first request error_text_of told p.error_text
 error_text-told first request None before now p is = tt
-error_text-told first request (Some held) before now p is = record { plain = is.plain; rows = is.rows; old = is.old; kept = is.kept; so = λ spoken. is.text ∙ ap (λ (ran : List Ran). p.finished.world.err ++ explanation request ran (length p.finished.table)) is.run.ran ∙ sym (ap (error_text_of request is.old) (is.run.ends spoken).1) }
+error_text-told first request (Some held) before now p is = record { plain = is.plain; rows = is.rows; old = is.old; kept = is.kept; so = λ spoken. is.text ∙ ap (λ (ran : List Ran). is.world.err ++ explanation request ran (length p.finished.built.table)) is.replay.ran ∙ sym (ap (error_text_of request is.old) (is.run.ends spoken).1) }
 
 -- of a text that is the same
 pub text-told : (first : KeyValue → Says) (request : Request) (text : RunText) (told : Option Held) (it out : Text) → it ≡ out → IsTextOf first request text told out → IsTextOf first request text told it
@@ -189,12 +189,12 @@ put-ticked request before now text old new stop.ReadFault p most = most
 put-ticked request before now text old new stop.WriteFault p most = most
 put-ticked request before now text old new stop.NoMemory p most = most
 
-pub left : (first : KeyValue → Says) (request : Request) (held : Held) (before now : ℕ) (p : Prepared) → (is : IsPrepared first request held before now p) → AreSpoken first is.old → IsLeft (fresh_run first request (with_rows (snapshot_of held) is.rows)) p.finished.world p.finished.table
+pub left : (first : KeyValue → Says) (request : Request) (held : Held) (before now : ℕ) (p : Prepared) → (is : IsPrepared first request held before now p) → AreSpoken first is.old → IsLeft (fresh_run first request (with_rows (snapshot_of held) is.rows)) is.world p.finished.built.table
 left first request held before now p is spoken =
-    subst (λ (r : Run World). IsLeft r p.finished.world p.finished.table) (sym (is.run.ends spoken).1) (refl, refl)
+    subst (λ (r : Run World). IsLeft r is.world p.finished.built.table) (sym (is.run.ends spoken).1) (refl, refl)
 
 -- so many commands ran
-ran-so : (first : KeyValue → Says) (request : Request) (told : Option Held) (before now : ℕ) (p : Prepared) → IfSome told (λ held. IsPrepared first request held before now p) → RanSo first request told (length p.finished.ran)
+ran-so : (first : KeyValue → Says) (request : Request) (told : Option Held) (before now : ℕ) (p : Prepared) → IfSome told (λ held. IsPrepared first request held before now p) → RanSo first request told (length p.finished.built.ran)
 ran-so first request None before now p is = tt
 ran-so first request (Some held) before now p is = record {
   plain = is.plain;
@@ -202,28 +202,28 @@ ran-so first request (Some held) before now p is = record {
   old = is.old;
   kept = is.kept;
   so = record {
-    world = p.finished.world;
-    table = p.finished.table;
+    world = is.world;
+    table = p.finished.built.table;
     is_left = λ spoken. left first request held before now p is spoken;
-    count = ap (λ (ran : List Ran). length ran) is.run.ran;
+    count = ap (λ (ran : List Ran). length ran) is.replay.ran;
   };
 }
 
-pub put-starts : (first : KeyValue → Says) (request : Request) (told : Option Held) (live late before now : ℕ) (p : Prepared) (text : Text) (old new : SinkState) (e : BuildErr) → IfSome told (λ held. IsPrepared first request held live late p) → PutsOutput {T = Unit {0}} text old new (Err e) → length p.finished.ran ≤ turns request + 1 → StartsBoth request told before now (length p.finished.ran) → StartsSo {T = Ended} (λ e. length e.ran) first request told before now (Err e)
+pub put-starts : (first : KeyValue → Says) (request : Request) (told : Option Held) (live late before now : ℕ) (p : Prepared) (text : Text) (old new : SinkState) (e : BuildErr) → IfSome told (λ held. IsPrepared first request held live late p) → PutsOutput {T = Unit {0}} text old new (Err e) → length p.finished.built.ran ≤ turns request + 1 → StartsBoth request told before now (length p.finished.built.ran) → StartsSo {T = Ended} (λ e. length e.ran) first request told before now (Err e)
 put-starts first request told live late before now p text old new (stop.Refused refusal) is put few starts = absurd put
 put-starts first request told live late before now p text old new (stop.Forged rec step) is put few starts = absurd put
 put-starts first request told live late before now p text old new stop.Spent is put few starts = absurd put
 put-starts first request told live late before now p text old new stop.ReadFault is put few starts = absurd put
-put-starts first request told live late before now p text old new stop.WriteFault is put few starts = (length p.finished.ran, (ran-so first request told live late p is, starts))
-put-starts first request told live late before now p text old new stop.NoMemory is put few starts = both-cut request told before now (length p.finished.ran) starts few
+put-starts first request told live late before now p text old new stop.WriteFault is put few starts = (length p.finished.built.ran, (ran-so first request told live late p is, starts))
+put-starts first request told live late before now p text old new stop.NoMemory is put few starts = both-cut request told before now (length p.finished.built.ran) starts few
 
-pub install-starts : (first : KeyValue → Says) (request : Request) (told h k : Option Held) (plan : Plan) (live late before now : ℕ) (p : Prepared) (e : BuildErr) → IfSome told (λ held. IsPrepared first request held live late p) → InstallsSo {T = Unit {0}} plan h k (Err e) → length p.finished.ran ≤ turns request + 1 → StartsBoth request told before now (length p.finished.ran) → StartsSo {T = Ended} (λ e. length e.ran) first request told before now (Err e)
+pub install-starts : (first : KeyValue → Says) (request : Request) (told h k : Option Held) (plan : Plan) (live late before now : ℕ) (p : Prepared) (e : BuildErr) → IfSome told (λ held. IsPrepared first request held live late p) → InstallsSo {T = Unit {0}} plan h k (Err e) → length p.finished.built.ran ≤ turns request + 1 → StartsBoth request told before now (length p.finished.built.ran) → StartsSo {T = Ended} (λ e. length e.ran) first request told before now (Err e)
 install-starts first request told h k plan live late before now p (stop.Refused refusal) is part few starts = absurd part
 install-starts first request told h k plan live late before now p (stop.Forged rec step) is part few starts = absurd part
 install-starts first request told h k plan live late before now p stop.Spent is part few starts = absurd part
 install-starts first request told h k plan live late before now p stop.ReadFault is part few starts = absurd part
-install-starts first request told h k plan live late before now p stop.WriteFault is part few starts = (length p.finished.ran, (ran-so first request told live late p is, starts))
-install-starts first request told h k plan live late before now p stop.NoMemory is part few starts = both-cut request told before now (length p.finished.ran) starts few
+install-starts first request told h k plan live late before now p stop.WriteFault is part few starts = (length p.finished.built.ran, (ran-so first request told live late p is, starts))
+install-starts first request told h k plan live late before now p stop.NoMemory is part few starts = both-cut request told before now (length p.finished.built.ran) starts few
 
 -- A call of the installation failed.
 
@@ -240,8 +240,8 @@ partly first request (Some held) new before now p e is stops clean = record {
   old = is.old;
   kept = is.kept;
   so = record {
-    world = p.finished.world;
-    table = p.finished.table;
+    world = is.world;
+    table = p.finished.built.table;
     is_left = λ spoken. left first request held before now p is spoken;
     readable = is.readable;
     plan = p.plan;
@@ -330,17 +330,17 @@ end-leaves first request None new before now b n p status launched ran is same =
 end-leaves first request (Some held) new before now b n p status launched ran is same =
     record { plain = is.plain; rows = is.rows; old = is.old; kept = is.kept; so = λ spoken. ended first request held before now p new is same spoken }
 
-pub end-status : (first : KeyValue → Says) (request : Request) (told : Option Held) (before now : ℕ) (p : Prepared) → IfSome told (λ held. IsPrepared first request held before now p) → HasStatus first request told p.finished.status
+pub end-status : (first : KeyValue → Says) (request : Request) (told : Option Held) (before now : ℕ) (p : Prepared) → IfSome told (λ held. IsPrepared first request held before now p) → HasStatus first request told p.finished.built.status
 end-status first request None before now p is = tt
 end-status first request (Some held) before now p is =
-    record { plain = is.plain; rows = is.rows; old = is.old; kept = is.kept; so = λ spoken. subst (λ (r : Run World). EndsWith r p.finished.status) (sym (is.run.ends spoken).1) refl }
+    record { plain = is.plain; rows = is.rows; old = is.old; kept = is.kept; so = λ spoken. subst (λ (r : Run World). EndsWith r p.finished.built.status) (sym (is.run.ends spoken).1) refl }
 
 -- where every record was to be checked, each is spoken
 pub end-checked : (first : KeyValue → Says) (request : Request) (told : Option Held) (before now : ℕ) (p : Prepared) → IfSome told (λ held. IsPrepared first request held before now p) → Checked first request told
 end-checked first request None before now p is = tt
 end-checked first request (Some held) before now p is = record { plain = is.plain; rows = is.rows; old = is.old; kept = is.kept; so = is.checked }
 
-pub end-tally : (first : KeyValue → Says) (request : Request) (told new : Option Held) (before now : ℕ) (p : Prepared) (launched : ℕ) → IfSome told (λ held. IsPrepared first request held before now p) → new ≡ option_map (carried p.plan) told → launched ≡ length p.finished.table → Tallies first request told new before now launched (length p.finished.ran)
+pub end-tally : (first : KeyValue → Says) (request : Request) (told new : Option Held) (before now : ℕ) (p : Prepared) (launched : ℕ) → IfSome told (λ held. IsPrepared first request held before now p) → new ≡ option_map (carried p.plan) told → launched ≡ length p.finished.built.table → Tallies first request told new before now launched (length p.finished.built.ran)
 end-tally first request None new before now p launched is same number = tt
 end-tally first request (Some held) new before now p launched is same number = record {
   plain = is.plain;
@@ -348,13 +348,13 @@ end-tally first request (Some held) new before now p launched is same number = r
   old = is.old;
   kept = is.kept;
   so = record {
-    world = p.finished.world;
-    table = p.finished.table;
+    world = is.world;
+    table = p.finished.built.table;
     is_left = λ spoken. left first request held before now p is spoken;
     installed = record { after = carried p.plan held; told = same; is_after = is.leads; readable = is.readable };
     launched = number;
-    ran = ap (λ (ran : List Ran). length ran) is.run.ran;
-    paid = is.run.ticked;
+    ran = ap (λ (ran : List Ran). length ran) is.replay.ran;
+    paid = is.replay.ticked;
   };
 }
 

@@ -1,5 +1,5 @@
 -- What the check of an old table is no cause of.
-use Rattle.std.proofs.Common.{◌≡◌, ◌∙◌, ◌+◌, ◌≤◌, ℕ, Bool, true, false, List, length, Option, Some, None, Err, Ok, refl, ap, sym, subst, true≢false, arith, inl, inr}
+use Rattle.std.proofs.Common.{◌≡◌, ◌∙◌, ◌+◌, ◌≤◌, ℕ, Bool, true, false, List, length, Option, Some, None, Result, Err, Ok, refl, ap, sym, subst, true≢false, arith, inl, inr}
 use Rattle.std.specs.Prelude.{if◌then◌else◌}
 use Rattle.rk_calls.specs.Keys.{KeyValue}
 use Rattle.rk_calls.specs.Talk.{Says}
@@ -10,13 +10,15 @@ use Rattle.tr_record.specs.declared.records.Record.{Record}
 use Rattle.rk_request.specs.Asked.{checks, turns}
 use Rattle.rk_request.specs.declared.requests.Request.{Request}
 use Rattle.rk_tree.specs.Entries.{Entries}
+use Rattle.rk_tree.specs.Full.{Told}
 use Rattle.rk_build.specs.Checks.{ChecksSo, ChecksWhole, StartsChecked, checked_count}
 use Rattle.rk_replay.specs.Starts.{StartsRan, StartsUpTo}
-use Rattle.rk_build.specs.Run.{Runs, StartsRun}
+use Rattle.rk_build.specs.Run.{StartsRun, StopsRun}
 use Rattle.rk_build.specs.Outcomes.{KeepsMany, StartsBoth, StartsCut}
-use Rattle.rk_build.specs.Stages.{FindsSo, ReadsCounted, StartsSo}
+use Rattle.rk_build.specs.Stages.{FindsSo, ReadsCounted, StartsSo, WorksSo, found_entries}
 use Rattle.rk_build.specs.Texts.{IsNoFault}
 use Rattle.rk_build.specs.declared.found.Found.{Found}
+use Rattle.rk_build.specs.declared.work.Prepared.{Prepared}
 use Rattle.rk_build.specs.declared.stop.Refusal.TheVariants as refusal
 use Rattle.rk_build.specs.declared.stop.BuildErr.{BuildErr}
 use Rattle.rk_build.specs.declared.stop.BuildErr.TheVariants as stop
@@ -62,7 +64,7 @@ find-starts ran first request told n (stop.Refused (refusal.Special path)) so = 
 find-starts ran first request told n (stop.Refused (refusal.Damaged file damage)) so = refl
 find-starts ran first request told n (stop.Forged rec step) so = absurd so
 find-starts ran first request told n stop.Spent so = absurd so
-find-starts ran first request told n stop.ReadFault so = refl
+find-starts ran first request told n stop.ReadFault so = inl refl
 find-starts ran first request told n stop.WriteFault so = absurd so
 find-starts ran first request told n stop.NoMemory so = inl refl
 
@@ -76,17 +78,9 @@ started-last : (a b c n : ℕ) → started a (started b (started c n)) ≡ start
 started-last a b c n = ap (started a) (started-swap b c n) ∙ sym (started-adds a c (started b n))
 
 -- where every record was checked, the run finds none that is forged
-pub run-starts : {T : Type 0} (ran : T → ℕ) (first : KeyValue → Says) (request : Request) (told : Option Held) (f : Found) (entries : Entries) (live late before mid now : ℕ) (e : BuildErr) → FindsSo request told (Ok f) → Runs first request entries f.old live late (Err e) → ChecksWhole first (checks request) f.old → mid ≡ started (checked_count (checks request) f.old) before → StartsRun request f.old mid now (Err e) → StartsSo ran first request told before now (Err e)
-run-starts ran first request told f entries live late before mid now (stop.Refused refusal) found runs whole was starts = absurd runs
-run-starts ran first request told f entries live late before mid now (stop.Forged rec step) found runs whole was starts = (
-  λ all. absurd (forged-clash first f.old rec step (whole all) runs),
-  λ none. subst (λ n. StartsUpTo (turns request) (rec + 1) n now) (was ∙ ap (λ n. started n before) (unasked (checks request) f.old none)) starts,
-)
-run-starts ran first request told f entries live late before mid now stop.Spent found runs whole was starts =
-    (checked_count (checks request) f.old, (checks-many request told f found, (length f.old, (keeps-many request told f found, subst (λ n. StartsRan (turns request) (length f.old) n now) was starts))))
-run-starts ran first request told f entries live late before mid now stop.ReadFault found runs whole was starts = absurd runs
-run-starts ran first request told f entries live late before mid now stop.WriteFault found runs whole was starts = absurd runs
-run-starts ran first request told f entries live late before mid now stop.NoMemory found runs whole was starts =
+-- where it stopped, or there was no memory
+starts-cut : (request : Request) (told : Option Held) (f : Found) (before mid now : ℕ) → FindsSo request told (Ok f) → mid ≡ started (checked_count (checks request) f.old) before → StartsUpTo (turns request) (length f.old) mid now → StartsCut request told before now
+starts-cut request told f before mid now found was starts =
     let within : starts.looked ≤ length f.old = starts.within in
     inr (
       length f.old,
@@ -104,10 +98,26 @@ run-starts ran first request told f entries live late before mid now stop.NoMemo
       ),
     )
 
+run-starts : {T : Type 0} (ran : T → ℕ) (first : KeyValue → Says) (request : Request) (told : Option Held) (o : Option Told) (f : Found) (entries : Entries) (before mid now : ℕ) (e : BuildErr) → FindsSo request told (Ok f) → StopsRun first request o entries f.old e → ChecksWhole first (checks request) f.old → mid ≡ started (checked_count (checks request) f.old) before → StartsRun ran request f.old mid now (Err e) → StartsSo ran first request told before now (Err e)
+run-starts ran first request told o f entries before mid now (stop.Refused refusal) found stops whole was starts = absurd stops
+run-starts ran first request told o f entries before mid now (stop.Forged rec step) found stops whole was starts = (
+  λ all. absurd (forged-clash first f.old rec step (whole all) stops),
+  λ none. subst (λ n. StartsUpTo (turns request) (rec + 1) n now) (was ∙ ap (λ n. started n before) (unasked (checks request) f.old none)) starts,
+)
+run-starts ran first request told o f entries before mid now stop.Spent found stops whole was starts =
+    (checked_count (checks request) f.old, (checks-many request told f found, (length f.old, (keeps-many request told f found, subst (λ n. StartsRan (turns request) (length f.old) n now) was starts))))
+run-starts ran first request told o f entries before mid now stop.ReadFault found stops whole was starts = starts-cut request told f before mid now found was starts
+run-starts ran first request told o f entries before mid now stop.WriteFault found stops whole was starts = absurd stops
+run-starts ran first request told o f entries before mid now stop.NoMemory found stops whole was starts = starts-cut request told f before mid now found was starts
+
 -- a machine for each record that is checked, and then for each command that ran
 pub starts-both : (request : Request) (told : Option Held) (f : Found) (before mid now ran : ℕ) → FindsSo request told (Ok f) → mid ≡ started (checked_count (checks request) f.old) before → now ≡ started ran mid → StartsBoth request told before now ran
 starts-both request told f before mid now ran found checked runs =
     (checked_count (checks request) f.old, (checks-many request told f found, runs ∙ ap (started ran) checked))
+
+pub work-starts : (first : KeyValue → Says) (request : Request) (told : Option Held) (o : Option Told) (f : Found) (live late before mid now : ℕ) (result : Result Prepared BuildErr) → FindsSo request told (Ok f) → WorksSo first request o f live late result → ChecksWhole first (checks request) f.old → mid ≡ started (checked_count (checks request) f.old) before → StartsRun (λ (p : Prepared). length p.finished.built.ran) request f.old mid now result → StartsSo (λ (p : Prepared). length p.finished.built.ran) first request told before now result
+work-starts first request told o f live late before mid now (Ok p) found works whole was starts = starts-both request told f before mid now _ found was starts.0
+work-starts first request told o f live late before mid now (Err e) found works whole was starts = run-starts {T = Prepared} (λ (p : Prepared). length p.finished.built.ran) first request told o f (found_entries f) before mid now e found works whole was starts
 
 -- a run that ended, and then no memory
 cut-after : (request : Request) (told : Option Held) (before now ran many kept : ℕ) → KeepsMany request told kept → many ≤ kept + (if checks request then kept else 0) → now ≡ started ran (started many before) → ran ≤ turns request + 1 → StartsCut request told before now

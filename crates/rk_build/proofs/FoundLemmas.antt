@@ -2,7 +2,7 @@
 use Rattle.std.proofs.Common.{◌≡◌, Bool, Option, Some, None, Result, Ok, Err, ap, subst}
 use Rattle.rk_folder.specs.Told.{Held}
 use Rattle.rk_folder.specs.declared.hidden_files.State.{State}
-use Rattle.rk_changes.specs.Imported.{holding_of}
+use Rattle.rk_changes.specs.Imported.{listed_holding}
 use Rattle.rk_changes.specs.declared.holding.Holding.{Holding}
 use Rattle.rk_request.specs.declared.requests.Request.{Request}
 use Rattle.rk_request.specs.Asked.{is_fresh}
@@ -14,7 +14,7 @@ use Rattle.rk_build.specs.declared.stop.Refusal.TheVariants as refusal
 use Rattle.rk_build.specs.declared.stop.BuildErr.{BuildErr}
 use Rattle.rk_build.specs.declared.stop.BuildErr.TheVariants as stop
 
-state-same : (fresh : Bool) (held : Held) (holding : Holding) → holding ≡ holding_of fresh held → holding.state ≡ decoded fresh (state_in held)
+state-same : (fresh : Bool) (held : Held) (holding : Holding) → holding ≡ listed_holding fresh held → holding.state ≡ decoded fresh (state_in held)
 state-same fresh held holding same = ap (λ (h : Holding). h.state) same
 
 -- the look failed

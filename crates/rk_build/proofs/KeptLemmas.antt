@@ -17,6 +17,9 @@ use Rattle.rk_tree.specs.Entries.{IsWholeSnapshot}
 use Rattle.rk_tree.specs.Node.{Node}
 use Rattle.rk_tree.specs.Node as entry
 use Rattle.rk_kernel.specs.World.{World}
+use Rattle.rk_kernel.specs.Full.{full_world}
+use Rattle.rk_tree.specs.Full.{Told}
+use Rattle.rk_build.proofs.FullLemmas.{entries-own}
 use Rattle.rk_folder.specs.Hidden.{install_file, fresh_list_file}
 use Rattle.rk_folder.specs.Listing.{IsFirst}
 use Rattle.rk_folder.specs.Told.{Held, standing, bytes_in, is_dir, is_odd}
@@ -32,6 +35,7 @@ use Rattle.rk_changes.proofs.HiddenLemmas.{install_hidden, install_state}
 use Rattle.rk_changes.proofs.SeenLemmas.{odd-within}
 use Rattle.rk_build.specs.Fresh.{AreInMemory, IsInMemory, attrs_bytes, held_after}
 use Rattle.rk_build.specs.Kept.{AreRows, IsTable, state_in}
+use Rattle.rk_build.specs.Laws.{KeepsLeft}
 use Rattle.rk_build.specs.Outcomes.{IsNext}
 
 -- Nothing of it is special.
@@ -144,7 +148,7 @@ rows-kept (row ∷ rows) are small = ((are, refl), λ other spells. one_attrs (r
 table-kept : (table : List Record) → Fits table → IsInMemory (Some (db_spelling table)) → IsTable (Some (db_spelling table)) table
 table-kept table fits small = ((fits, refl), λ other spells. one_table table other fits spells.0 small spells.1)
 
-pub finds-next : (held after : Held) (world : World) (table : List Record) → IsWhole held → first_special held ≡ None → IsAfter held after (held_after world table) → IsWholeSnapshot (entries_of world.tree) → Fits table → AreInMemory world table → IsNext world table after
+pub finds-next : (held after : Held) (world : World) (table : List Record) → IsWhole held → first_special held ≡ None → IsAfter held after (held_after world table) → IsWholeSnapshot (entries_of world.tree) → Fits table → AreInMemory world table → KeepsLeft world table after
 finds-next held after world table whole plain is entries fits small =
     let rows = attrs_of (entries_of world.tree) in
     let attrs : (state_in after).attrs ≡ attrs_bytes rows = ap bytes_in is.holds.attrs ∙ bytes_held (attrs_bytes rows) in
@@ -156,3 +160,7 @@ finds-next held after world table whole plain is entries fits small =
       kept = (subst (λ (o : Option Text). AreRows o rows) (sym attrs) (rows-kept rows (attrs_are (entries_of world.tree) entries) small.0), subst (λ (o : Option Text). IsTable o table) (sym db) (table-kept table fits small.1));
       so = (built-held after (held_after world table) is.holds entries, refl);
     }
+
+-- of a world in full it is the very tree
+pub next-in-full : (told : Told) (world : World) (table : List Record) (after : Held) → KeepsLeft (full_world told world) table after → IsNext (full_world told world) table after
+next-in-full told world table after left = record { plain = left.plain; rows = left.rows; old = left.old; kept = left.kept; so = (left.so.0 ∙ entries-own told world, left.so.1) }

@@ -3,6 +3,7 @@ pub mod BuiltLemmas
 pub mod CallsLemmas
 pub mod CheckLemmas
 pub mod FoundLemmas
+pub mod FullLemmas
 pub mod InstalledLemmas
 pub mod KeptLemmas
 pub mod PrepareLemmas
@@ -13,3 +14,4 @@ pub mod SettledLemmas
 pub mod StopLemmas
 pub mod TellLemmas
 pub mod TextsLemmas
+pub mod WorkLemmas

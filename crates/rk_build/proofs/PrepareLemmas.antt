@@ -1,19 +1,23 @@
 -- What a build has come to before anything is put out.
-use Rattle.std.proofs.Common.{◌≡◌, ◌<◌, Bool, true, false, true≢false, IsSome, is_some, refl, ℕ, ◌+◌, ◌++◌, ◌≤◌, List, length, Option, Some, None, Result, Ok, Err, sym, ap, subst, ◌∙◌, arith}
+use Rattle.std.proofs.Common.{◌≡◌, ◌<◌, Bool, true, false, true≢false, IsSome, is_some, refl, ℕ, ◌+◌, ◌++◌, ◌≤◌, List, length, Option, Some, None, option_map, Result, Ok, Err, sym, ap, subst, ◌∙◌, arith}
 use Rattle.std.specs.Prelude.{IfOk, OnOk}
 use Rattle.rk_base.specs.declared.memory.NoMemory.{NoMemory}
 use Rattle.rk_calls.specs.Keys.{KeyValue}
 use Rattle.rk_calls.specs.Talk.{Says}
 use Rattle.rk_kernel.specs.World.{World}
+use Rattle.rk_kernel.specs.Full.{full_world}
 use Rattle.rk_tree.specs.Entries.{Entries}
+use Rattle.rk_tree.specs.Full.{Told, EntriesFrom, full_entries}
 use Rattle.rk_folder.specs.Told.{Held, longest_file}
 use Rattle.rk_folder.specs.Whole.{TellsWhole}
 use Rattle.rk_folder.specs.Attributes.{with_rows}
-use Rattle.rk_folder.specs.Import.{snapshot_of}
+use Rattle.rk_folder.specs.Fetching.{MakesReads, no-reads}
+use Rattle.rk_folder.specs.Import.{snapshot_of, told_of}
+use Rattle.rk_folder.specs.Looks.{LooksInOrder, looks}
+use Rattle.rk_folder.specs.Schedule.{Schedule}
 use Rattle.rk_install.specs.Install.{carried}
-use Rattle.rk_seal.specs.declared.plan.Plan.{Plan}
-use Rattle.rk_changes.specs.Holdings.{HasPlaces, IsAfter, IsBuilt, MayBecome}
-use Rattle.rk_changes.specs.Imported.{holding_of}
+use Rattle.rk_changes.specs.Holdings.{HasPlaces, IsAfter, IsBuilt, MayBecome, full_holding}
+use Rattle.rk_changes.specs.Imported.{holding_of, listed_holding}
 use Rattle.rk_changes.specs.Planned.{IsPlan}
 use Rattle.rk_changes.specs.declared.holding.Holding.{Holding}
 use Rattle.rk_changes.proofs.ImportedLemmas.{has_places-imported, may_become-imported}
@@ -30,18 +34,21 @@ use Rattle.tr_codec.specs.Fits.{Fits}
 use Rattle.tr_codec.specs.Sound.{IsSound}
 use Rattle.tr_codec.specs.Spelling.{db_spelling}
 use Rattle.rk_build.specs.Outcomes.{ChecksMany}
-use Rattle.rk_build.specs.Run.{fresh_run, IsRun, Runs}
-use Rattle.rk_build.specs.Stages.{FindsSo, PreparesSo}
+use Rattle.rk_build.specs.Calls.{PreparesCalls, ReadsAlone}
+use Rattle.rk_build.specs.Run.{fresh_run, IsRun, StartsRun, StopsRun}
+use Rattle.rk_build.specs.Stages.{FindsSo, IsWork, PreparesSo, ReadsCounted, Steadily, WorksSo, found_entries}
 use Rattle.rk_build.specs.Fresh.{AreInMemory, AreReadable, IsInMemory, IsReadable, held_after}
 use Rattle.rk_build.specs.declared.found.Found.{Found}
-use Rattle.rk_build.specs.declared.run.Finished.{Finished}
+use Rattle.rk_build.specs.declared.work.Prepared.{Prepared}
 use Rattle.rk_build.specs.declared.stop.BuildErr.{BuildErr}
 use Rattle.rk_build.specs.declared.stop.BuildErr.TheVariants as stop
+use Rattle.rk_build.proofs.FullLemmas.{err-full, held_after-full, listed_holding-from, listed_holding-full, listed_rows-full, out-full, whole-left}
 use Rattle.rk_build.proofs.InstalledLemmas.{plan-allows, plan-leads}
-use Rattle.rk_build.proofs.KeptLemmas.{finds-next}
+use Rattle.rk_build.proofs.KeptLemmas.{finds-next, next-in-full}
 
-entries-same : (request : Request) (held : Held) (found : Found) → found.holding ≡ holding_of (is_fresh request) held → with_rows found.holding.entries found.attrs ≡ with_rows (snapshot_of held) found.attrs
-entries-same request held found same = ap (λ (h : Holding). with_rows h.entries found.attrs) same
+-- the entries that were found, in full
+entries-same : (request : Request) (held : Held) (found : Found) → found.holding ≡ listed_holding (is_fresh request) held → full_entries (told_of held) (found_entries found) ≡ with_rows (snapshot_of held) found.attrs
+entries-same request held found same = ap (λ (h : Holding). full_entries (told_of held) (with_rows h.entries found.attrs)) same ∙ listed_rows-full held found.attrs
 
 pub unasked : (check : Bool) (old : List Record) → check ≡ false → checked_count check old ≡ 0
 unasked true old is = absurd (true≢false is)
@@ -76,22 +83,18 @@ pub checks-many : (request : Request) (told : Option Held) (f : Found) → Finds
 checks-many request None f found = (unasked (checks request) f.old, tt)
 checks-many request (Some held) f found = (unasked (checks request) f.old, record { plain = found.0; rows = f.attrs; old = f.old; kept = found.2; so = refl })
 
--- the run failed
-pub run-stops : (first : KeyValue → Says) (request : Request) (told : Option Held) (f : Found) (before now : ℕ) (e : BuildErr) → FindsSo request told (Ok f) → Runs first request (with_rows f.holding.entries f.attrs) f.old before now (Err e) → ChecksWhole first (checks request) f.old → now ≤ before + turns request → PreparesSo first request told before now (Err e)
-run-stops first request told f before now (stop.Refused refusal) found runs whole most = absurd runs
-run-stops first request None f before now (stop.Forged rec step) found runs whole most = (tt, most, unchecked first request f.old rec step runs whole)
-run-stops first request (Some held) f before now (stop.Forged rec step) found runs whole most =
-    (record { plain = found.0; rows = f.attrs; old = f.old; kept = found.2; so = record { wrong = runs; earliest = λ check i h. whole check i (let here : rec < length f.old = runs.0 in omega arith) } }, most, unchecked first request f.old rec step runs whole)
-run-stops first request None f before now stop.Spent found runs whole most = (tt, most)
-run-stops first request (Some held) f before now stop.Spent found runs whole most =
-    (record { plain = found.0; rows = f.attrs; old = f.old; kept = found.2; so = (runs.0, ap (fresh_run first request) (sym (entries-same request held f found.1)) ∙ runs.1) }, most)
-run-stops first request told f before now stop.ReadFault found runs whole most = absurd runs
-run-stops first request told f before now stop.WriteFault found runs whole most = absurd runs
-run-stops first request told f before now stop.NoMemory found runs whole most = most
-
--- what was written out can be read, and stands in memory
-can-read : (f : Finished) (after : Holding) → after ≡ held_after f.world f.table → IsReadable after.state.attrs × IsReadable after.state.db → AreReadable f.world f.table
-can-read f after left small = subst (λ (h : Holding). IsReadable h.state.attrs × IsReadable h.state.db) left small
+-- the run stopped, or the plan
+pub work-stops : (first : KeyValue → Says) (request : Request) (told : Option Held) (f : Found) (before now : ℕ) (e : BuildErr) → FindsSo request told (Ok f) → StopsRun first request (option_map told_of told) (found_entries f) f.old e → ChecksWhole first (checks request) f.old → now ≤ before + turns request → PreparesSo first request told before now (Err e)
+work-stops first request told f before now (stop.Refused refusal) found stops whole most = absurd stops
+work-stops first request None f before now (stop.Forged rec step) found stops whole most = (tt, most, unchecked first request f.old rec step stops whole)
+work-stops first request (Some held) f before now (stop.Forged rec step) found stops whole most =
+    (record { plain = found.0; rows = f.attrs; old = f.old; kept = found.2; so = record { wrong = stops; earliest = λ check i h. whole check i (let here : rec < length f.old = stops.0 in omega arith) } }, most, unchecked first request f.old rec step stops whole)
+work-stops first request None f before now stop.Spent found stops whole most = (tt, most)
+work-stops first request (Some held) f before now stop.Spent found stops whole most =
+    (record { plain = found.0; rows = f.attrs; old = f.old; kept = found.2; so = (stops.0, ap (fresh_run first request) (sym (entries-same request held f found.1)) ∙ stops.1) }, most)
+work-stops first request told f before now stop.ReadFault found stops whole most = most
+work-stops first request told f before now stop.WriteFault found stops whole most = absurd stops
+work-stops first request told f before now stop.NoMemory found stops whole most = most
 
 in-memory : (it : Option Text) → IsReadable it → IsInMemory it
 in-memory None small = tt
@@ -114,27 +117,102 @@ pub never-none : {X : Type 0} (found : Option X) → IsSome found → found ≡ 
 never-none {X = X} found some none = true≢false (sym some ∙ ap (λ (o : Option X). is_some o) none)
 
 -- all went well
-pub is_prepared : (first : KeyValue → Says) (request : Request) (told : Option Held) (found : Found) (after : Holding) (before now : ℕ) (f : Finished) (plan : Plan) (text : Text) → TellsWhole told → FindsSo request told (Ok found) → ChecksWhole first (checks request) found.old → Runs first request (with_rows found.holding.entries found.attrs) found.old before now (Ok f) → now ≤ before + turns request → after ≡ held_after f.world f.table → IsBuilt after → IsReadable after.state.attrs × IsReadable after.state.db → (AllByRecursion IsSound f.table → Fits f.table) → IsPlan found.holding after plan → text ≡ f.world.err ++ explanation request f.ran (length f.table) → PreparesSo first request told before now (Ok (record { finished = f; plan = plan; error_text = text }))
-is_prepared first request None found after before now f plan text whole is_found spoken_all runs most left built small spelt is is_text = (tt, most)
-is_prepared first request (Some held) found after before now f plan text whole is_found spoken_all runs most left built small spelt is is_text =
-    let becomes : MayBecome held found.holding after = subst (λ h. MayBecome held h after) (sym is_found.1) (may_become-imported held whole is_found.0 (is_fresh request) after built) in
-    let places : HasPlaces held found.holding = subst (HasPlaces held) (sym is_found.1) (has_places-imported held whole is_found.0 (is_fresh request)) in
-    let goes : IsAfter held (carried plan held) (held_after f.world f.table) = subst (λ h. IsAfter held (carried plan held) h) left (plan-leads held found.holding after becomes places plan is) in
-    let stays : IsBuilt (held_after f.world f.table) = subst IsBuilt left built in (
+pub is_prepared : (first : KeyValue → Says) (request : Request) (told : Option Held) (found : Found) (before now : ℕ) (p : Prepared) → TellsWhole told → FindsSo request told (Ok found) → ChecksWhole first (checks request) found.old → IsWork first request (option_map told_of told) found before now p → now ≤ before + turns request → PreparesSo first request told before now (Ok p)
+is_prepared first request None found before now p whole is_found spoken_all work most = (tt, most)
+is_prepared first request (Some held) found before now p whole is_found spoken_all work most =
+    let t : Told = told_of held in
+    let left : World = p.finished.world in
+    let table : List Record = p.finished.built.table in
+    let world : World = full_world t left in
+    let fresh : Bool = is_fresh request in
+    let after_is : full_holding t (held_after left table) ≡ held_after world table = sym (held_after-full t left table) in
+    let before_is : full_holding t found.holding ≡ holding_of fresh held = ap (full_holding t) is_found.1 ∙ listed_holding-full fresh held in
+    let built : IsBuilt (held_after world table) = record { entries = whole-left t left work.planned.whole; rkr = refl; db = refl } in
+    let plan : IsPlan (holding_of fresh held) (held_after world table) p.plan = subst (λ (h : Holding). IsPlan h (held_after world table) p.plan) before_is (subst (λ (h : Holding). IsPlan (full_holding t found.holding) h p.plan) after_is work.planned.plan) in
+    let becomes : MayBecome held (holding_of fresh held) (held_after world table) = may_become-imported held whole is_found.0 fresh (held_after world table) built in
+    let places : HasPlaces held (holding_of fresh held) = has_places-imported held whole is_found.0 fresh in
+    let goes : IsAfter held (carried p.plan held) (held_after world table) = plan-leads held (holding_of fresh held) (held_after world table) becomes places p.plan plan in
+    let readable : AreReadable world table = subst (λ (h : Holding). IsReadable h.state.attrs × IsReadable h.state.db) after_is work.planned.readable in
+    let run : IsRun first request (with_rows (snapshot_of held) found.attrs) found.old world p.finished.built = subst (λ (e : Entries). IsRun first request e found.old world p.finished.built) (entries-same request held found is_found.1) work.ran.run in (
       record {
         plain = is_found.0;
         rows = found.attrs;
         old = found.old;
         kept = is_found.2;
         checked = spoken_all;
-        run = subst (λ (e : Entries). IsRun first request e found.old before now f) (entries-same request held found is_found.1) runs;
-        text = is_text;
-        plan = subst (λ h. IsPlan h (held_after f.world f.table) plan) is_found.1 (subst (λ h. IsPlan found.holding h plan) left is);
-        allowed = plan-allows held found.holding after becomes places plan is;
+        replay = work.ran.replay;
+        world = world;
+        out = sym (out-full t left);
+        run = run;
+        text = work.planned.text ∙ ap (λ (err : Text). err ++ explanation request p.finished.built.ran (length table)) (sym (err-full t left));
+        plan = plan;
+        allowed = plan-allows held (holding_of fresh held) (held_after world table) becomes places p.plan plan;
         leads = goes;
-        readable = can-read f after left small;
-        fits = λ spoken. spelt (runs.sound spoken);
-        next = λ spoken. finds-next held (carried plan held) f.world f.table whole is_found.0 goes stays.entries (spelt (runs.sound spoken)) (both-in-memory f.world f.table (can-read f after left small));
+        readable = readable;
+        fits = λ spoken. work.planned.fits (run.sound spoken);
+        next = λ spoken. next-in-full t left table (carried p.plan held) (finds-next held (carried p.plan held) world table whole is_found.0 goes built.entries (work.planned.fits (run.sound spoken)) (both-in-memory world table readable));
       },
       most,
     )
+
+-- What was asked of the folder.
+
+reads-alone : (request : Request) (reach : ℕ) (told : Option Held) (before on now : Option Schedule) → LooksInOrder told (looks (is_fresh request) reach) before on → MakesReads told on now → ReadsAlone request reach told before now
+reads-alone request reach None before on now looked read = tt
+reads-alone request reach (Some held) before on now looked read = (on, looked, read)
+
+-- no file was read
+pub looked-alone : (request : Request) (reach : ℕ) (told : Option Held) (before now : Option Schedule) → LooksInOrder told (looks (is_fresh request) reach) before now → ReadsAlone request reach told before now
+looked-alone request reach told before now looked = reads-alone request reach told before now now looked (no-reads told now)
+
+-- before anything is run
+pub looks-calls : (T : Type 0) (request : Request) (reach : ℕ) (told : Option Held) (before now : Option Schedule) (e : BuildErr) → LooksInOrder told (looks (is_fresh request) reach) before now → PreparesCalls {T = T} request reach told before now (Err e)
+looks-calls T request reach told before now (stop.Refused refusal) looked = looked
+looks-calls T request reach told before now (stop.Forged rec step) looked = looked-alone request reach told before now looked
+looks-calls T request reach told before now stop.Spent looked = looked-alone request reach told before now looked
+looks-calls T request reach told before now stop.ReadFault looked = looked-alone request reach told before now looked
+looks-calls T request reach told before now stop.WriteFault looked = looked-alone request reach told before now looked
+looks-calls T request reach told before now stop.NoMemory looked = looked-alone request reach told before now looked
+
+-- and then
+pub work-calls : (first : KeyValue → Says) (request : Request) (reach : ℕ) (told : Option Held) (o : Option Told) (f : Found) (live late : ℕ) (before on now : Option Schedule) (result : Result Prepared BuildErr) → WorksSo first request o f live late result → LooksInOrder told (looks (is_fresh request) reach) before on → MakesReads told on now → PreparesCalls request reach told before now result
+work-calls first request reach told o f live late before on now (Ok p) works looked read = reads-alone request reach told before on now looked read
+work-calls first request reach told o f live late before on now (Err (stop.Refused refusal)) works looked read = absurd works
+work-calls first request reach told o f live late before on now (Err (stop.Forged rec step)) works looked read = reads-alone request reach told before on now looked read
+work-calls first request reach told o f live late before on now (Err stop.Spent) works looked read = reads-alone request reach told before on now looked read
+work-calls first request reach told o f live late before on now (Err stop.ReadFault) works looked read = reads-alone request reach told before on now looked read
+work-calls first request reach told o f live late before on now (Err stop.WriteFault) works looked read = absurd works
+work-calls first request reach told o f live late before on now (Err stop.NoMemory) works looked read = reads-alone request reach told before on now looked read
+
+-- of a result by its arms
+pub prepares : (first : KeyValue → Says) (request : Request) (told : Option Held) (f : Found) (before now : ℕ) (result : Result Prepared BuildErr) → TellsWhole told → FindsSo request told (Ok f) → ChecksWhole first (checks request) f.old → WorksSo first request (option_map told_of told) f before now result → now ≤ before + turns request → PreparesSo first request told before now result
+prepares first request told f before now (Ok p) whole found spoken_all works most = is_prepared first request told f before now p whole found spoken_all works most
+prepares first request told f before now (Err e) whole found spoken_all works most = work-stops first request told f before now e found works spoken_all most
+
+pub few-started : (request : Request) (old : List Record) (before now : ℕ) (result : Result Prepared BuildErr) → StartsRun (λ (p : Prepared). length p.finished.built.ran) request old before now result → IfOk result (λ p. length p.finished.built.ran ≤ turns request + 1)
+few-started request old before now (Ok p) starts = starts.1
+few-started request old before now (Err e) starts = tt
+
+-- What was found can be read, and what the work leaves of a folder goes on from what was found.
+
+entries-found : (request : Request) (told : Option Held) (f : Found) → FindsSo request told (Ok f) → EntriesFrom (option_map told_of told) f.holding.entries
+entries-found request None f found = tt
+entries-found request (Some held) f found = listed_holding-from (Some held) f.holding (is_fresh request) found.1
+
+pub readable-found : (request : Request) (told mid : Option Held) (f : Found) → mid ≡ told → FindsSo request told (Ok f) → EntriesFrom (option_map told_of mid) f.holding.entries
+readable-found request told mid f same found = subst (λ (t : Option Held). EntriesFrom (option_map told_of t) f.holding.entries) (sym same) (entries-found request told f found)
+
+pub works-told : (first : KeyValue → Says) (request : Request) (told mid : Option Held) (f : Found) (before now : ℕ) (result : Result Prepared BuildErr) → mid ≡ told → WorksSo first request (option_map told_of mid) f before now result → WorksSo first request (option_map told_of told) f before now result
+works-told first request told mid f before now result same works = subst (λ (t : Option Held). WorksSo first request (option_map told_of t) f before now result) same works
+
+pub reads-told : (told mid : Option Held) (on now : Option Schedule) → mid ≡ told → MakesReads mid on now → MakesReads told on now
+reads-told told mid on now same reads = subst (λ (t : Option Held). MakesReads t on now) same reads
+
+pub reads-counted : (before mid now : ℕ) (result : Result Prepared BuildErr) → mid ≡ before → ReadsCounted mid now result → ReadsCounted before now result
+reads-counted before mid now result same counted = subst (λ (n : ℕ). ReadsCounted n now result) same counted
+
+pub steady-still : (was mid now : Bool) (result : Result Prepared BuildErr) → mid ≡ was → Steadily mid now result → Steadily was now result
+steady-still was mid now result same steady = subst (λ (b : Bool). Steadily b now result) same steady
+
+pub memory-same : (before mid now : ℕ) (result : Result Prepared BuildErr) → mid ≡ before → OnOk result (now ≡ mid) → OnOk result (now ≡ before)
+memory-same before mid now result same is = subst (λ (n : ℕ). OnOk result (now ≡ n)) same is

@@ -15,6 +15,7 @@ use Rattle.rk_build.specs.Telling.{SinkState, IsNamed, IsTold, Put, PutsLine, Te
 use Rattle.rk_build.specs.declared.outcome.Outcome.{Outcome}
 use Rattle.rk_build.specs.declared.outcome.Outcome.TheVariants as out
 use Rattle.rk_build.proofs.BuildLemmas.{counts-same}
+use Rattle.rk_build.proofs.PrepareLemmas.{looked-alone}
 
 -- by what is said of want of memory where the outcome names something
 pub as_told : (P : Outcome → Type 0) (outcome it : Outcome) → IsTold outcome it → P outcome → (IsNamed outcome → P outcome → P out.NoMemory) → P it
@@ -38,8 +39,8 @@ line-leaves first request told new b n outcome it t l = as_told (Leaves first re
 
 unnamed-asks : (first : KeyValue → Says) (request : Request) (reach : ℕ) (told : Option Held) (before now : Option Schedule) (outcome : Outcome) → IsNamed outcome → AsksSo first request reach told before now outcome → AsksSo first request reach told before now out.NoMemory
 unfolding AsksSo
-unnamed-asks first request reach told before now (out.Special path) named a = inl a
-unnamed-asks first request reach told before now (out.Damaged file damage) named a = inl a
+unnamed-asks first request reach told before now (out.Special path) named a = inl (looked-alone request reach told before now a)
+unnamed-asks first request reach told before now (out.Damaged file damage) named a = inl (looked-alone request reach told before now a)
 unnamed-asks first request reach told before now (out.Forged rec step) named a = inl a
 unnamed-asks first request reach told before now (out.Ended status launched ran) named a = absurd named
 unnamed-asks first request reach told before now out.Usage named a = absurd named

@@ -1,11 +1,12 @@
 -- What a folder holds calls for one outcome alone, and what a run leaves is what the next one finds.
-use Rattle.std.specs.Prelude.{◌≡◌, ◌⊎◌, ℕ, List, None}
+use Rattle.std.specs.Prelude.{◌≡◌, ◌⊎◌, ℕ, List, None, false}
 use Rattle.rk_calls.specs.Keys.{KeyValue}
 use Rattle.rk_calls.specs.Talk.{Says}
 use Rattle.tr_record.specs.declared.records.Record.{Record}
 use Rattle.tr_codec.specs.Fits.{Fits}
 use Rattle.rk_tree.specs.Copies.{snapshot_of as entries_of}
 use Rattle.rk_tree.specs.Entries.{Entries, IsWholeSnapshot}
+use Rattle.rk_tree.specs.Full.{own}
 use Rattle.rk_kernel.specs.World.{World}
 use Rattle.rk_runs.specs.Lasting.{AllLast}
 use Rattle.rk_runs.specs.Run.{Outcome as Run, Done, Spent}
@@ -19,7 +20,7 @@ use Rattle.rk_request.specs.declared.requests.Request.{Request}
 use Rattle.rk_build.specs.Fresh.{AreInMemory, held_after}
 use Rattle.rk_build.specs.Kept.{Keeping, Refuses}
 use Rattle.rk_build.specs.Run.{fresh_run}
-use Rattle.rk_build.specs.Outcomes.{IsNext, Settles, outcome_of_refusal}
+use Rattle.rk_build.specs.Outcomes.{Settles, outcome_of_refusal}
 use Rattle.rk_build.specs.declared.stop.Refusal.{Refusal}
 use Rattle.rk_build.specs.declared.outcome.Outcome.{Outcome}
 use Rattle.rk_build.specs.declared.outcome.Outcome.TheVariants as out
@@ -47,12 +48,16 @@ KeepsSpoken first request held it = Keeping (is_fresh request) held (λ entries 
 abbrev pub SpokenSettle : Type 0
 SpokenSettle = (first : KeyValue → Says) (request : Request) (held : Held) (entries : Entries) (outcome : Outcome) → KeepsSpoken first request held entries → Settles first request held outcome → Answers (fresh_run first request entries) outcome
 
--- a folder that holds what a run leaves has, with the rows of its attributes, the very entries that the run left, and keeps
--- its records (where both state files have fewer than 2^64 bytes, as all bytes in memory do)
+-- a folder that holds what a run leaves has, with the rows of its attributes, the very entries that the run left, each file with
+-- its bytes, and keeps its records
+abbrev pub KeepsLeft : World → List Record → Held → Type 0
+KeepsLeft world table after = Keeping false after (λ entries old. (entries ≡ own (entries_of world.tree)) × (old ≡ table))
+
+-- (where both state files have fewer than 2^64 bytes, as all bytes in memory do)
 abbrev pub FindsNext : Type 0
 FindsNext = (held after : Held) (world : World) (table : List Record) → IsWhole held → first_special held ≡ None → IsAfter held after (held_after world table)
     → IsWholeSnapshot (entries_of world.tree) → Fits table → AreInMemory world table
-    → IsNext world table after
+    → KeepsLeft world table after
 
 -- each record of a fresh run is what its command says, where fewer turns only cut what commands say
 abbrev pub FreshSpoken : Type 0

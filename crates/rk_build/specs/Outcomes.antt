@@ -281,7 +281,7 @@ Ticked request before now (out.Forged rec step) = (now ≤ before + turns reques
 Ticked request before now other = now ≤ before + turns request
 
 -- The count of starts: one for each record that is checked, then one for each command that ran; none where the folder is
--- refused or couldn't be read.
+-- refused.
 
 -- so many records are checked: none where that isn't asked for
 abbrev pub ChecksMany : Request → Option Held → ℕ → Type 0
@@ -311,14 +311,14 @@ abbrev pub StartsSpent : Request → Option Held → ℕ → ℕ → Type 0
 StartsSpent request told before now =
     (many : ℕ) × (ChecksMany request told many × ((kept : ℕ) × (KeepsMany request told kept × StartsRan (turns request) kept (started many before) now)))
 
--- Where there was no memory: none yet, or some of those of a check, of a run that ended or not, and of a look at each record.
+-- Where a read failed or there was no memory: none yet, or some of those of a check, of a run that ended or not, and of a look at
+-- each record.
 abbrev pub StartsCut : Request → Option Held → ℕ → ℕ → Type 0
 StartsCut request told before now =
     (now ≡ before) ⊎ ((kept : ℕ) × (KeepsMany request told kept × StartsUpTo (turns request) (kept + (if checks request then kept else 0)) before now))
 
--- Nothing is read once a machine was started, and a run was made before anything is written. A check of all starts the
--- records up to the one that is forged; a run that finds one forged starts no more than each command that ran, and the
--- records up to that one.
+-- A run was made before anything is written. A check of all starts the records up to the one that is forged; a run that finds one
+-- forged starts no more than each command that ran, and the records up to that one.
 abbrev pub Started : (KeyValue → Says) → Request → Option Held → ℕ → ℕ → Outcome → Type 0
 Started first request told before now (out.Ended status launched ran) = StartsBoth request told before now ran
 Started first request told before now out.Usage = now ≡ before
@@ -326,7 +326,7 @@ Started first request told before now (out.Special path) = now ≡ before
 Started first request told before now (out.Damaged file damage) = now ≡ before
 Started first request told before now (out.Forged rec step) = (checks request ≡ true → now ≡ started (rec + 1) before) × (checks request ≡ false → StartsUpTo (turns request) (rec + 1) before now)
 Started first request told before now out.Spent = StartsSpent request told before now
-Started first request told before now out.ReadFault = now ≡ before
+Started first request told before now out.ReadFault = StartsCut request told before now
 Started first request told before now out.WriteFault = (ran : ℕ) × (RanSo first request told ran × StartsBoth request told before now ran)
 Started first request told before now out.NoMemory = StartsCut request told before now
 Started first request told before now (out.Said status) = ⊥

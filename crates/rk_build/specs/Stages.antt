@@ -11,11 +11,21 @@ use Rattle.rk_folder.specs.declared.importing.ImportErr.{ImportErr}
 use Rattle.rk_folder.specs.declared.importing.ImportErr.TheVariants as import
 use Rattle.rk_install.specs.Install.{AllowsPlan, IsMomentOf, StopsPlan, carried}
 use Rattle.rk_seal.specs.declared.plan.Plan.{Plan}
-use Rattle.rk_changes.specs.Holdings.{IsAfter}
-use Rattle.rk_changes.specs.Imported.{holding_of}
+use Rattle.rk_changes.specs.Holdings.{IsAfter, full_holding}
+use Rattle.rk_changes.specs.Imported.{holding_of, listed_holding}
 use Rattle.rk_changes.specs.Planned.{IsPlan}
 use Rattle.rk_changes.specs.declared.holding.Holding.{Holding}
+use Rattle.std.specs.List.{AllByRecursion}
 use Rattle.tr_codec.specs.Fits.{Fits}
+use Rattle.tr_codec.specs.Sound.{IsSound}
+use Rattle.rk_kernel.specs.World.{World}
+use Rattle.rk_kernel.specs.declared.answer_err.AnswerErr.{AnswerErr}
+use Rattle.rk_kernel.specs.declared.answer_err.AnswerErr.TheVariants as answer
+use Rattle.rk_tree.specs.Copies.{snapshot_of as entries_of}
+use Rattle.rk_tree.specs.Entries.{Entries, IsWholeSnapshot}
+use Rattle.rk_tree.specs.Full.{Told}
+use Rattle.rk_tree.specs.declared.fetch.FetchErr.{FetchErr}
+use Rattle.rk_tree.specs.declared.fetch.FetchErr.TheVariants as fetch
 use Rattle.rk_attrs.specs.declared.rows.AttrRow.{AttrRow}
 use Rattle.tr_record.specs.declared.records.Record.{Record}
 use Rattle.rk_base.specs.Text.{Text}
@@ -24,7 +34,7 @@ use Rattle.rk_runs.specs.Spoken.{AreSpoken}
 use Rattle.rk_request.specs.Asked.{checks, is_fresh, turns}
 use Rattle.rk_request.specs.declared.requests.Request.{Request}
 use Rattle.rk_build.specs.Checks.{ChecksWhole, TellsForged}
-use Rattle.rk_build.specs.Run.{IsRun, fresh_run}
+use Rattle.rk_build.specs.Run.{IsReplay, IsRun, IsRunInFull, StopsRun, fresh_run}
 use Rattle.rk_build.specs.Explained.{explanation}
 use Rattle.rk_build.specs.Fresh.{AreReadable, held_after}
 use Rattle.rk_build.specs.Kept.{IsKept, Keeping, Refuses, state_in, decoded}
@@ -32,7 +42,8 @@ use Rattle.rk_build.specs.Outcomes.{IsNext, Started, StartsBoth, outcome_of_stop
 use Rattle.rk_build.specs.Texts.{IsNoFault}
 use Rattle.rk_build.specs.declared.stop.Refusal.TheVariants as refusal
 use Rattle.rk_build.specs.declared.found.Found.{Found}
-use Rattle.rk_build.specs.declared.prepare.Prepared.{Prepared}
+use Rattle.rk_build.specs.declared.after.Finished.{Finished}
+use Rattle.rk_build.specs.declared.work.Prepared.{Prepared}
 use Rattle.rk_build.specs.declared.stop.BuildErr.{BuildErr}
 use Rattle.rk_build.specs.declared.stop.BuildErr.TheVariants as stop
 
@@ -41,9 +52,17 @@ stop_of (import.Special path) = stop.Refused (refusal.Special path)
 stop_of import.ReadFault = stop.ReadFault
 stop_of import.NoMemory = stop.NoMemory
 
--- nothing is special and this is what the folder holds, or this is the first special path
+abbrev pub stop_of_answer : AnswerErr → BuildErr
+stop_of_answer answer.ReadFault = stop.ReadFault
+stop_of_answer answer.NoMemory = stop.NoMemory
+
+abbrev pub stop_of_fetch : FetchErr → BuildErr
+stop_of_fetch fetch.Failed = stop.ReadFault
+stop_of_fetch fetch.NoMemory = stop.NoMemory
+
+-- nothing is special and this is what the folder holds, as it is listed; or this is the first special path
 abbrev pub LooksSo : Bool → Option Held → Result Holding BuildErr → Type 0
-LooksSo fresh told (Ok holding) = IfSome told (λ held. (first_special held ≡ None) × (holding ≡ holding_of fresh held))
+LooksSo fresh told (Ok holding) = IfSome told (λ held. (first_special held ≡ None) × (holding ≡ listed_holding fresh held))
 LooksSo fresh told (Err (stop.Refused (refusal.Special path))) = IfSome told (λ held. first_special held ≡ Some path)
 LooksSo fresh told (Err stop.ReadFault) = Unit {0}
 LooksSo fresh told (Err stop.NoMemory) = Unit {0}
@@ -58,14 +77,18 @@ ReadsCounted before now other = now ≡ before
 abbrev pub Steadily : {T : Type 0} → Bool → Bool → Result T BuildErr → Type 0
 Steadily before now result = (now ≡ before) × (before ≡ true → IsNoFault result)
 
--- nothing is special, this is what the folder holds, and these are the records and the rows that it keeps; or why it is
--- refused
+-- nothing is special, this is what the folder holds, as it is listed, and these are the records and the rows that it keeps; or why
+-- it is refused
 abbrev pub FindsSo : Request → Option Held → Result Found BuildErr → Type 0
-FindsSo request told (Ok found) = IfSome told (λ held. (first_special held ≡ None) × (found.holding ≡ holding_of (is_fresh request) held) × IsKept (decoded (is_fresh request) (state_in held)) found.attrs found.old)
+FindsSo request told (Ok found) = IfSome told (λ held. (first_special held ≡ None) × (found.holding ≡ listed_holding (is_fresh request) held) × IsKept (decoded (is_fresh request) (state_in held)) found.attrs found.old)
 FindsSo request told (Err (stop.Refused refusal)) = IfSome told (λ held. Refuses (is_fresh request) held refusal)
 FindsSo request told (Err stop.ReadFault) = Unit {0}
 FindsSo request told (Err stop.NoMemory) = Unit {0}
 FindsSo request told (Err other) = ⊥
+
+-- the entries that were found, with the rows of attributes
+abbrev pub found_entries : Found → Entries
+found_entries found = with_rows found.holding.entries found.attrs
 
 -- the plan leads on, or its install stopped
 abbrev pub InstallsSo : {T : Type 0} → Plan → Option Held → Option Held → Result T BuildErr → Type 0
@@ -84,22 +107,51 @@ abbrev pub MemoryRose : {T : Type 0} → Option Held → Option Held → ℕ →
 MemoryRose old new before now (Err stop.NoMemory) = (new ≡ old) ⊎ Rose before now
 MemoryRose old new before now other = now ≡ before
 
+-- What the run on what was found has come to, over the records that were found.
+pub record HasRun (first : KeyValue → Says) (request : Request) (told : Option Told) (found : Found) (before now : ℕ) (f : Finished) : Type 0 where
+  pub replay : IsReplay found.old before now f.built
+  pub run : IsRunInFull first request told (found_entries found) found.old f.world f.built
+
+abbrev pub FinishesSo : (KeyValue → Says) → Request → Option Told → Found → ℕ → ℕ → Result Finished BuildErr → Type 0
+FinishesSo first request told found before now (Ok f) = HasRun first request told found before now f
+FinishesSo first request told found before now (Err e) = StopsRun first request told (found_entries found) found.old e
+
+-- What it left has a spelling, where each answer fits its call; and the plan leads from what was found to what is to be held,
+-- both in full, where the bytes of files are told.
+pub record IsPlanned (request : Request) (told : Option Told) (found : Found) (p : Prepared) : Type 0 where
+  pub text : p.error_text ≡ p.finished.world.err ++ explanation request p.finished.built.ran (length p.finished.built.table)
+  pub whole : IsWholeSnapshot (entries_of p.finished.world.tree)
+  pub readable : AreReadable p.finished.world p.finished.built.table
+  pub fits : AllByRecursion IsSound p.finished.built.table → Fits p.finished.built.table
+  pub plan : IfSome told (λ t. IsPlan (full_holding t found.holding) (full_holding t (held_after p.finished.world p.finished.built.table)) p.plan)
+
+pub record IsWork (first : KeyValue → Says) (request : Request) (told : Option Told) (found : Found) (before now : ℕ) (p : Prepared) : Type 0 where
+  pub ran : HasRun first request told found before now p.finished
+  pub planned : IsPlanned request told found p
+
+abbrev pub WorksSo : (KeyValue → Says) → Request → Option Told → Found → ℕ → ℕ → Result Prepared BuildErr → Type 0
+WorksSo first request told found before now (Ok p) = IsWork first request told found before now p
+WorksSo first request told found before now (Err e) = StopsRun first request told (found_entries found) found.old e
+
 -- The run on what the folder holds with its rows, over the records that it keeps, has ended so, and the plan leads to what
--- it leaves; over spoken records what it leaves has a spelling, and the next build finds just that.
+-- it leaves, each file with its bytes; over spoken records what it leaves has a spelling, and the next build finds just that.
 pub record IsPrepared (first : KeyValue → Says) (request : Request) (held : Held) (before now : ℕ) (p : Prepared) : Type 0 where
   pub plain : first_special held ≡ None
   pub rows : List (Text × AttrRow)
   pub old : List Record
   pub kept : IsKept (decoded (is_fresh request) (state_in held)) rows old
   pub checked : ChecksWhole first (checks request) old
-  pub run : IsRun first request (with_rows (snapshot_of held) rows) old before now p.finished
-  pub text : p.error_text ≡ p.finished.world.err ++ explanation request p.finished.ran (length p.finished.table)
-  pub plan : IsPlan (holding_of (is_fresh request) held) (held_after p.finished.world p.finished.table) p.plan
+  pub replay : IsReplay old before now p.finished.built
+  pub world : World
+  pub out : p.finished.world.out ≡ world.out
+  pub run : IsRun first request (with_rows (snapshot_of held) rows) old world p.finished.built
+  pub text : p.error_text ≡ world.err ++ explanation request p.finished.built.ran (length p.finished.built.table)
+  pub plan : IsPlan (holding_of (is_fresh request) held) (held_after world p.finished.built.table) p.plan
   pub allowed : AllowsPlan p.plan held
-  pub leads : IsAfter held (carried p.plan held) (held_after p.finished.world p.finished.table)
-  pub readable : AreReadable p.finished.world p.finished.table
-  pub fits : AreSpoken first old → Fits p.finished.table
-  pub next : AreSpoken first old → IsNext p.finished.world p.finished.table (carried p.plan held)
+  pub leads : IsAfter held (carried p.plan held) (held_after world p.finished.built.table)
+  pub readable : AreReadable world p.finished.built.table
+  pub fits : AreSpoken first old → Fits p.finished.built.table
+  pub next : AreSpoken first old → IsNext world p.finished.built.table (carried p.plan held)
 
 abbrev pub PreparesSo : (KeyValue → Says) → Request → Option Held → ℕ → ℕ → Result Prepared BuildErr → Type 0
 PreparesSo first request told before now (Ok p) = IfSome told (λ held. IsPrepared first request held before now p) × (now ≤ before + turns request)

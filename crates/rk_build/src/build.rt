@@ -9,9 +9,11 @@ ghost use Rattle.rk_build.specs.Outcomes.{Checked, outcome_of, Leaves, HasStatus
 ghost use Rattle.rk_build.specs.Stages.{StartsSo, InstallsSo, WritesCounted, MemoryRose, Steadily};
 ghost use Rattle.rk_build.specs.Texts.{IsNoFault};
 
-use crate::prepare::{Prepared, prepare};
+use crate::after::Finished;
+use crate::prepare::prepare;
 use crate::stop::BuildErr;
 use crate::texts::put_texts;
+use crate::work::Prepared;
 use rk_base::Steps;
 use rk_calls::Maker;
 use rk_folder::{Folder, Sink};
@@ -82,10 +84,11 @@ pub(crate) fn build<M: Maker, F: Folder, O: Sink, E: Sink, L: Ledger>(
     } = prepare(alloc, maker, request, folder, live)?;
     put_texts(out, err, finished.world.out(), error_text.as_slice())?;
     carry_out(alloc, folder, plan)?;
-    let launched = finished.table.len() as u64;
+    let Finished { built, .. } = finished;
+    let launched = built.table.len() as u64;
     Ok(Ended {
-        status: finished.status,
+        status: built.status,
         launched,
-        ran: finished.ran,
+        ran: built.ran,
     })
 }

@@ -3,8 +3,8 @@ ghost use Rattle.std.specs.Prelude.{◌≡◌, ◌++◌, IfOk, OnOk, length};
 ghost use Rattle.std.specs.List.{flat_map};
 ghost use Rattle.rk_build.specs.Explained.{explained, explanation, line_of_ran, why_of};
 
+use crate::after::Finished;
 use crate::options::explains;
-use crate::run::Finished;
 use rk_base::{Bytes, NoMemory};
 use rk_replay::{Cause, Ran, RanList};
 use rk_request::Request;
@@ -64,10 +64,10 @@ pub(crate) fn error_text(
     request: &Request,
     finished: &Finished,
 ) -> Result<Bytes, NoMemory>
-    ensures { IfOk result (λ text. text ≡ finished.now.world.err ++ explanation request.now finished.now.ran (length finished.now.table)) }
+    ensures { IfOk result (λ text. text ≡ finished.now.world.err ++ explanation request.now finished.now.built.ran (length finished.now.built.table)) }
 {
     let mut text = Vec::from_slice(alloc, finished.world.err())?;
-    let launched = finished.table.len() as u64;
-    add_explanation(&mut text, request, &finished.ran, launched)?;
+    let launched = finished.built.table.len() as u64;
+    add_explanation(&mut text, request, &finished.built.ran, launched)?;
     Bytes::new(alloc, text)
 }

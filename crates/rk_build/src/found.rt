@@ -28,7 +28,7 @@ pub(crate) struct Found {
     pub contents: RecordedContents,
 }
 
-/// Lists and reads the folder, and reads what its state files keep; of a build that begins afresh the database is passed
+/// Lists the folder, and reads what its state files keep; of a build that begins afresh the database is passed
 /// over, and there are no records.
 pub(crate) fn find<F: Folder>(
     alloc: Global,

@@ -1,6 +1,7 @@
 //! A build as one call over a folder and two sinks, by the machines of any maker, and how it ends.
 #![tactic(auto)]
 
+mod after;
 mod build;
 mod checked;
 mod entry;
@@ -17,6 +18,7 @@ mod prepare;
 mod run;
 mod stop;
 mod texts;
+mod work;
 
 pub use entry::build_in;
 pub use exits::exit_code;

@@ -19,7 +19,7 @@ fn stop_of(e: ImportErr) -> BuildErr
     }
 }
 
-/// Lists and reads the folder; of a build that begins afresh the database is passed over.
+/// Lists the folder and reads its state files; of a build that begins afresh the database is passed over.
 pub(crate) fn look<F: Folder>(
     alloc: Global,
     folder: &mut F,

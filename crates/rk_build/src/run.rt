@@ -1,35 +1,26 @@
 // The run of the script.
-ghost use Rattle.std.specs.Prelude.{◌≡◌, ◌+◌, ◌<◌, ◌≤◌, ◌^◌, IfOk};
-ghost use Rattle.rk_tree.specs.Entries.{IsWholeSnapshot};
-ghost use Rattle.rk_folder.specs.Attributes.{with_rows};
+ghost use Rattle.std.specs.Prelude.{◌≡◌, ◌+◌, ◌<◌, ◌≤◌, ◌^◌, IfOk, OnOk, length, true};
+ghost use Rattle.rk_kernel.specs.Asking.{Kept};
+ghost use Rattle.rk_kernel.specs.World.{fresh_world};
 ghost use Rattle.rk_request.specs.Asked.{turns};
+ghost use Rattle.rk_tree.specs.Full.{AreFrom};
 ghost use Rattle.tr_record.specs.Contents.{AreContents};
 ghost use Rattle.rk_replay.specs.Ran.{AreKept};
 ghost use Rattle.rk_build.specs.Run.{Runs, StartsRun};
+ghost use Rattle.rk_build.specs.Stages.{ReadsCounted, found_entries};
+ghost use Rattle.rk_build.specs.Texts.{IsNoFault};
 
+use crate::found::Found;
 use crate::options::turns;
 use crate::stop::BuildErr;
-use rk_attrs::Attrs;
 use rk_base::{Budget, Steps};
 use rk_calls::Maker;
-use rk_folder::tree_of;
-use rk_kernel::{NumberedWorld, World};
-use rk_replay::{Built, RanList, build_with, script_key};
+use rk_kernel::{Asking, NumberedWorld};
+use rk_replay::{Built, ReplayErr, build_with, script_key};
 use rk_request::Request;
-use rk_tree::Snapshot;
+use rk_tree::Fetch;
 use std::alloc::Global;
 use std::sync::ledger::Ledger;
-use tr_record::{RecordedContents, Table};
-
-/// A run that ended: the world that it left, the script's status, the records of its commands, and those of them that ran,
-/// each with why.
-#[derive(Drop)]
-pub(crate) struct Finished {
-    pub world: World,
-    pub status: u8,
-    pub table: Table,
-    pub ran: RanList,
-}
 
 // A budget of the turns that are asked for, of which nothing is paid yet.
 fn budget(request: &Request) -> Budget
@@ -41,50 +32,78 @@ fn budget(request: &Request) -> Budget
     Budget::new(turns(request)).unwrap()
 }
 
-/// Runs the script, by the machines of the maker, on a tree of these entries with these rows, within the turns that are asked
-/// for. The commands of the old table whose answers still hold don't run.
+// The run over a world and what fetches the bytes of its files, told of each of the two.
 #[tactic(auto, unfolding(crate::specs::Run::fresh_run))]
-pub(crate) fn run<M: Maker, L: Ledger>(
+fn run_asking<'a, M: Maker, G: Fetch, L: Ledger>(
     alloc: Global,
     maker: &mut M,
     request: &Request,
-    entries: &Snapshot,
-    attrs: &Attrs,
-    old: &Table,
-    contents: &RecordedContents,
+    asking: &mut Asking<'a, G>,
+    found: &Found,
     live: &mut Steps<L>,
-) -> Result<Finished, BuildErr>
-    requires whole { IsWholeSnapshot entries.now }
+) -> Result<Built, BuildErr>
     requires some { 0 < turns request.now }
-    requires contents { AreContents contents.now old.now }
-    ensures runs { Runs M.first request.now (with_rows entries.now attrs.now) old.now live.old live.new result }
-    ensures kept { IfOk result (λ f. AreKept old.now f.table) }
+    requires contents { AreContents found.now.contents found.now.old }
+    requires fresh { asking.old.world.now.world ≡ fresh_world (found_entries found.now) }
+    requires from { AreFrom (G.told asking.old.fetch.now) asking.old.world.now.world.tree }
+    ensures runs { Runs M.first request.now (G.told asking.old.fetch.now) (found_entries found.now) found.now.old live.old live.new asking.new.world.now.world result }
+    ensures kept { IfOk result (λ b. AreKept found.now.old b.table) }
     ensures at_least { live.old ≤ live.new }
     ensures at_most { live.new ≤ live.old + turns request.now }
-    ensures starts { StartsRun request.now old.now (M.starts maker.old) (M.starts maker.new) result }
+    ensures starts { StartsRun (λ b. length b.ran) request.now found.now.old (M.starts maker.old) (M.starts maker.new) result }
+    ensures same_world { asking.new.world.ghost_name ≡ asking.old.world.ghost_name }
+    ensures same_fetch { asking.new.fetch.ghost_name ≡ asking.old.fetch.ghost_name }
+    ensures keeps { Kept (G.told asking.old.fetch.now) (G.told asking.new.fetch.now) (G.steady asking.old.fetch.now) (G.steady asking.new.fetch.now) (G.Keeps asking.old.fetch.now asking.new.fetch.now) }
+    ensures stays { OnOk result (G.Stays asking.old.fetch.now asking.new.fetch.now) }
+    ensures from { OnOk result (AreFrom (G.told asking.new.fetch.now) asking.new.world.now.world.tree) }
+    ensures reads { ReadsCounted (G.faults asking.old.fetch.now) (G.faults asking.new.fetch.now) result }
+    ensures steady { G.steady asking.old.fetch.now ≡ true → IsNoFault result }
 {
-    let tree = tree_of(alloc, entries, attrs)?;
-    let mut world = NumberedWorld::new(alloc, tree)?;
     let key = script_key(alloc)?;
     let mut budget = budget(request);
     match build_with(
         alloc,
         maker,
-        &mut world,
+        asking,
         &key,
-        old,
-        contents,
+        &found.old,
+        &found.contents,
         &mut budget,
         live,
     ) {
-        Ok(Built { status, table, ran }) => Ok(Finished {
-            world: world.into_world(),
-            status,
-            table,
-            ran,
-        }),
-        Err(rk_replay::ReplayErr::Forged { rec, step }) => Err(BuildErr::Forged { rec, step }),
-        Err(rk_replay::ReplayErr::Spent) => Err(BuildErr::Spent),
-        Err(rk_replay::ReplayErr::Stopped(_)) => Err(BuildErr::NoMemory),
+        Ok(built) => Ok(built),
+        Err(ReplayErr::Forged { rec, step }) => Err(BuildErr::Forged { rec, step }),
+        Err(ReplayErr::Spent) => Err(BuildErr::Spent),
+        Err(ReplayErr::Stopped(reason)) => Err(BuildErr::from(reason)),
     }
+}
+
+/// Runs the script, by the machines of the maker, on the world of what was found, within the turns that are asked for. The
+/// commands of the old table whose answers still hold don't run. A file is fetched when a call first looks at its bytes.
+pub(crate) fn run<M: Maker, G: Fetch, L: Ledger>(
+    alloc: Global,
+    maker: &mut M,
+    request: &Request,
+    world: &mut NumberedWorld,
+    fetch: &mut G,
+    found: &Found,
+    live: &mut Steps<L>,
+) -> Result<Built, BuildErr>
+    requires some { 0 < turns request.now }
+    requires contents { AreContents found.now.contents found.now.old }
+    requires fresh { world.old.world ≡ fresh_world (found_entries found.now) }
+    requires from { AreFrom (G.told fetch.old) world.old.world.tree }
+    ensures runs { Runs M.first request.now (G.told fetch.old) (found_entries found.now) found.now.old live.old live.new world.new.world result }
+    ensures kept { IfOk result (λ b. AreKept found.now.old b.table) }
+    ensures at_least { live.old ≤ live.new }
+    ensures at_most { live.new ≤ live.old + turns request.now }
+    ensures starts { StartsRun (λ b. length b.ran) request.now found.now.old (M.starts maker.old) (M.starts maker.new) result }
+    ensures keeps { Kept (G.told fetch.old) (G.told fetch.new) (G.steady fetch.old) (G.steady fetch.new) (G.Keeps fetch.old fetch.new) }
+    ensures stays { OnOk result (G.Stays fetch.old fetch.new) }
+    ensures from { OnOk result (AreFrom (G.told fetch.new) world.new.world.tree) }
+    ensures reads { ReadsCounted (G.faults fetch.old) (G.faults fetch.new) result }
+    ensures steady { G.steady fetch.old ≡ true → IsNoFault result }
+{
+    let mut asking = Asking::new(world, fetch);
+    run_asking(alloc, maker, request, &mut asking, found, live)
 }

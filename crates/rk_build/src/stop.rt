@@ -4,6 +4,8 @@ ghost use Rattle.rk_build.specs.declared.stop.BuildErr.TheVariants as stop;
 
 use crate::outcome::StateFile;
 use rk_base::{NoMemory, Path};
+use rk_kernel::AnswerErr;
+use rk_tree::FetchErr;
 use tr_codec::Damage;
 
 /// Why a folder is refused as it stands.
@@ -29,5 +31,31 @@ impl From<NoMemory> for BuildErr {
 
     fn from(_: NoMemory) -> BuildErr {
         BuildErr::NoMemory
+    }
+}
+
+impl From<AnswerErr> for BuildErr {
+    ghost use Rattle.rk_build.specs.Stages.{stop_of_answer};
+
+    ghost from_gives = { λ reason e. e ≡ stop_of_answer reason };
+
+    fn from(reason: AnswerErr) -> BuildErr {
+        match reason {
+            AnswerErr::ReadFault => BuildErr::ReadFault,
+            AnswerErr::NoMemory => BuildErr::NoMemory,
+        }
+    }
+}
+
+impl From<FetchErr> for BuildErr {
+    ghost use Rattle.rk_build.specs.Stages.{stop_of_fetch};
+
+    ghost from_gives = { λ reason e. e ≡ stop_of_fetch reason };
+
+    fn from(reason: FetchErr) -> BuildErr {
+        match reason {
+            FetchErr::Failed => BuildErr::ReadFault,
+            FetchErr::NoMemory => BuildErr::NoMemory,
+        }
     }
 }

@@ -77,19 +77,19 @@ returns-in_err-carry_out-clause-starts g c =
 pub returns-in_err-finished-clause-calls : goal.returns-in_err-finished-clause-calls
 returns-in_err-finished-clause-calls g c =
     let p = err_from_is_err_and c.from_residual.result c.from_residual.ensures.1 in
-    rw (p.1, p.2) (prepare-asks g.M.Maker.first c.args.request.now (g.F.Folder.reach c.args.folder.now) (g.F.Folder.told c.args.folder.now) _ _ _ _ _ c.in_err-finished.ensures.prepares c.prepare.ensures.looks)
+    rw (p.1, p.2) (prepare-asks g.M.Maker.first c.args.request.now (g.F.Folder.reach c.args.folder.now) (g.F.Folder.told c.args.folder.now) _ _ _ _ _ c.in_err-finished.ensures.prepares c.in_err-finished.ensures.looks)
 
 pub returns-in_err-put_texts-clause-calls : goal.returns-in_err-put_texts-clause-calls
 returns-in_err-put_texts-clause-calls g c =
     let p = err_from_is_err_and c.from_residual-in_err-put_texts.result c.from_residual-in_err-put_texts.ensures.1 in
-    rw (p.1, p.2) (put-asks g.M.Maker.first c.args.request.now (g.F.Folder.reach c.args.folder.now) (g.F.Folder.told c.args.folder.now) _ _ _ _ _ _ c.in_err-put_texts.ensures.output (asks-all g.M.Maker.first c.args.request.now (g.F.Folder.reach c.args.folder.now) (g.F.Folder.told c.args.folder.now) _ _ c.in_ok-finished.field-0 _ _ _ c.in_ok-finished.ensures.prepares.0 c.prepare.ensures.looks (makes-none _ _ _ refl)))
+    rw (p.1, p.2) (put-asks g.M.Maker.first c.args.request.now (g.F.Folder.reach c.args.folder.now) (g.F.Folder.told c.args.folder.now) _ _ _ _ _ _ c.in_err-put_texts.ensures.output (asks-all g.M.Maker.first c.args.request.now (g.F.Folder.reach c.args.folder.now) (g.F.Folder.told c.args.folder.now) _ _ c.in_ok-finished.field-0 _ _ _ c.in_ok-finished.ensures.prepares.0 c.in_ok-finished.ensures.looks (makes-none _ _ _ refl)))
 
 pub returns-in_err-carry_out-clause-calls : goal.returns-in_err-carry_out-clause-calls
 returns-in_err-carry_out-clause-calls g c =
     let p = err_from_is_err_and c.from_residual-in_err-carry_out.result c.from_residual-in_err-carry_out.ensures.1 in
-    rw (p.1, p.2) (install-asks g.M.Maker.first c.args.request.now (g.F.Folder.reach c.args.folder.now) (g.F.Folder.told c.args.folder.now) (g.F.Folder.told c.prepare.new.folder) (g.F.Folder.told c.carry_out.new.folder) c.in_ok-finished.field-0.plan _ _ c.in_err-carry_out.field-0.0 c.in_err-carry_out.ensures.held (asks-all g.M.Maker.first c.args.request.now (g.F.Folder.reach c.args.folder.now) (g.F.Folder.told c.args.folder.now) _ _ c.in_ok-finished.field-0 _ _ _ c.in_ok-finished.ensures.prepares.0 c.prepare.ensures.looks c.carry_out.ensures.calls))
+    rw (p.1, p.2) (install-asks g.M.Maker.first c.args.request.now (g.F.Folder.reach c.args.folder.now) (g.F.Folder.told c.args.folder.now) (g.F.Folder.told c.prepare.new.folder) (g.F.Folder.told c.carry_out.new.folder) c.in_ok-finished.field-0.plan _ _ c.in_err-carry_out.field-0.0 c.in_err-carry_out.ensures.held (asks-all g.M.Maker.first c.args.request.now (g.F.Folder.reach c.args.folder.now) (g.F.Folder.told c.args.folder.now) _ _ c.in_ok-finished.field-0 _ _ _ c.in_ok-finished.ensures.prepares.0 c.in_ok-finished.ensures.looks c.carry_out.ensures.calls))
 
 pub returns-clause-calls : goal.returns-clause-calls
 returns-clause-calls g c =
     end-asks g.M.Maker.first c.args.request.now (g.F.Folder.reach c.args.folder.now) (g.F.Folder.told c.args.folder.now) _ _ _ _ _
-    (asks-all g.M.Maker.first c.args.request.now (g.F.Folder.reach c.args.folder.now) (g.F.Folder.told c.args.folder.now) _ _ c.in_ok-finished.field-0 _ _ _ c.in_ok-finished.ensures.prepares.0 c.prepare.ensures.looks c.carry_out.ensures.calls)
+    (asks-all g.M.Maker.first c.args.request.now (g.F.Folder.reach c.args.folder.now) (g.F.Folder.told c.args.folder.now) _ _ c.in_ok-finished.field-0 _ _ _ c.in_ok-finished.ensures.prepares.0 c.in_ok-finished.ensures.looks c.carry_out.ensures.calls)

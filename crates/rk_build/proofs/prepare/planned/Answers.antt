@@ -1,5 +1,0 @@
-use Rattle.rk_build.proofs.PrepareLemmas.{never-none}
-use Rattle.rk_build.proofs.prepare.planned.Goals as goal
-
-pub unreachable-requires : goal.unreachable-requires
-unreachable-requires c = never-none c.in_ok-plan.plan (c.in_ok-plan.ensures.whole c.requires.before c.requires.after) c.in-None.is
