@@ -2,7 +2,7 @@
 ghost use Rattle.rk_tree.specs.Entries.{IsWholeSnapshot};
 
 use rk_attrs::{AttrRow, Attrs};
-use rk_base::{Bytes, NoMemory, Path};
+use rk_base::{Bytes, FileType, NoMemory, Path};
 use rk_changes::attrs_of;
 use rk_folder::{
     Folder, FolderCall, FolderErr, Got, ImportErr, Imported, Item, MemFolder, MemSink, Sink,
@@ -87,16 +87,22 @@ fn kind_and_mode(alloc: Global, kind: &str, mode: u16) -> Result<String, NoMemor
 }
 
 fn push_content(alloc: Global, out: &mut String, node: &Node) -> Result<(), NoMemory> {
-    if node.is_dir() {
-        return Ok(());
+    match node.kind() {
+        FileType::File => push_file_content(alloc, out, node),
+        FileType::Dir => Ok(()),
+        FileType::Link => push_behind(alloc, out, "", node.link_text()),
     }
-    let link = node.link_text();
-    push_behind(
-        alloc,
-        out,
-        "",
-        if link.is_empty() { node.bytes() } else { link },
-    )
+}
+
+// Where a file came from, if it has no bytes of its own, and its bytes, where they are known.
+fn push_file_content(alloc: Global, out: &mut String, node: &Node) -> Result<(), NoMemory> {
+    if let Some(path) = node.import_path() {
+        push_behind(alloc, out, " from", path.text())?;
+    }
+    match node.bytes() {
+        Some(bytes) => push_behind(alloc, out, "", bytes),
+        None => Ok(()),
+    }
 }
 
 fn push_node(alloc: Global, out: &mut String, node: &Node) -> Result<(), NoMemory> {

@@ -3,16 +3,17 @@ use rk_base::{Bytes, NoMemory, Path};
 use rk_changes::{Holding, plan};
 use rk_folder::State;
 use rk_seal::{InstallList, Op, Plan};
-use rk_steps::{number_shown, path_of, plain, push_shown, text, word};
-use rk_tree::{Entry, Snapshot};
+use rk_steps::{Fetches, number_shown, path_of, plain, push_shown, text, word};
+use rk_tree::{Content, Entry, FetchErr, Snapshot};
 use std::alloc::Global;
 
-/// What is held before and after.
+/// What is held before and after, and what is fetched of it.
 #[derive(Drop)]
 pub(crate) struct Holdings {
     alloc: Global,
     before: Holding,
     after: Holding,
+    fetches: Fetches,
 }
 
 fn nothing(alloc: Global) -> Holding {
@@ -34,7 +35,7 @@ fn keep(alloc: Global, file: &mut Option<Bytes>, bytes: &[u8]) -> Result<String,
     plain(alloc, "held")
 }
 
-// `PATH dir`, `PATH file BYTES`, `PATH link TEXT`, or one of `rkr`, `fresh-list`, `attrs BYTES` and `db BYTES`.
+// `PATH dir`, `PATH file BYTES`, `PATH from PATH`, `PATH read PATH BYTES`, `PATH link TEXT`, or one of `rkr`, `fresh-list`, `attrs BYTES` and `db BYTES`.
 fn hold(alloc: Global, holding: &mut Holding, words: &[Vec<u8>]) -> Result<String, NoMemory> {
     match text(words, 0) {
         "rkr" => {
@@ -51,12 +52,33 @@ fn hold(alloc: Global, holding: &mut Holding, words: &[Vec<u8>]) -> Result<Strin
     }
 }
 
-fn entry_of(kind: &str, bytes: Bytes) -> Entry {
-    match kind {
-        "dir" => Entry::Dir(0o755),
-        "link" => Entry::Link(bytes),
-        _ => Entry::File(0o644, bytes),
+// What a file holds that came from a path, and was read where there are bytes behind that.
+fn content_from(alloc: Global, import: Path, words: &[Vec<u8>]) -> Result<Content, NoMemory> {
+    if text(words, 1) == "from" {
+        return Ok(Content::Unread(import));
     }
+    let bytes = Bytes::from_slice(alloc, word(words, 3))?;
+    Ok(Content::Read(import, bytes))
+}
+
+fn content_of(alloc: Global, words: &[Vec<u8>]) -> Result<Content, NoMemory> {
+    let bytes = Bytes::from_slice(alloc, word(words, 2))?;
+    match text(words, 1) {
+        "from" | "read" => match path_of(alloc, word(words, 2))? {
+            Some(import) => content_from(alloc, import, words),
+            None => Ok(Content::Own(bytes)),
+        },
+        _ => Ok(Content::Own(bytes)),
+    }
+}
+
+fn entry_of(alloc: Global, words: &[Vec<u8>]) -> Result<Entry, NoMemory> {
+    let entry = match text(words, 1) {
+        "dir" => Entry::Dir(0o755),
+        "link" => Entry::Link(Bytes::from_slice(alloc, word(words, 2))?),
+        _ => Entry::File(0o644, content_of(alloc, words)?),
+    };
+    Ok(entry)
 }
 
 fn hold_entry(
@@ -64,10 +86,10 @@ fn hold_entry(
     entries: &mut Snapshot,
     words: &[Vec<u8>],
 ) -> Result<String, NoMemory> {
-    let bytes = Bytes::from_slice(alloc, word(words, 2))?;
+    let entry = entry_of(alloc, words)?;
     match path_of(alloc, word(words, 0))? {
         Some(path) => {
-            entries.put(path, entry_of(text(words, 1), bytes))?;
+            entries.put(path, entry)?;
             plain(alloc, "held")
         }
         None => plain(alloc, "no path"),
@@ -121,10 +143,15 @@ fn all_shown(alloc: Global, plan: &Plan) -> Result<String, NoMemory> {
 }
 
 /// A plan's calls, of more than 20 only how many; and whether a list stands that isn't sealed.
-pub(crate) fn plan_shown(alloc: Global, plan: &Option<Plan>) -> Result<String, NoMemory> {
+pub(crate) fn plan_shown(
+    alloc: Global,
+    plan: Result<Option<Plan>, FetchErr>,
+) -> Result<String, NoMemory> {
     match plan {
-        Some(plan) => all_shown(alloc, plan),
-        None => plain(alloc, "no plan"),
+        Ok(Some(plan)) => all_shown(alloc, &plan),
+        Ok(None) => plain(alloc, "no plan"),
+        Err(FetchErr::Failed) => plain(alloc, "read fault"),
+        Err(FetchErr::NoMemory) => Err(NoMemory),
     }
 }
 
@@ -134,6 +161,7 @@ impl Holdings {
             alloc,
             before: nothing(alloc),
             after: nothing(alloc),
+            fetches: Fetches::new(alloc),
         }
     }
 
@@ -152,7 +180,13 @@ impl Holdings {
         plain(self.alloc, "next")
     }
 
-    pub(crate) fn plan(&self) -> Result<Option<Plan>, NoMemory> {
-        plan(self.alloc, &self.before, &self.after)
+    /// The plan between both, with what is told fetched for it.
+    pub(crate) fn plan(&mut self) -> Result<Option<Plan>, FetchErr> {
+        plan(self.alloc, &mut self.fetches, &self.before, &self.after)
+    }
+
+    /// A step of what is fetched, if it is one.
+    pub(crate) fn fetches(&mut self, words: &[Vec<u8>]) -> Result<Option<String>, NoMemory> {
+        self.fetches.step(words)
     }
 }

@@ -3,12 +3,13 @@
 use crate::folders::{folder_step, put_shown};
 use crate::plans::{Holdings, plan_shown};
 use crate::recoveries::{call_of, install_list_of, install_shown, recovery_shown};
-use rk_base::NoMemory;
-use rk_folder::Sink;
+use rk_base::{Bytes, NoMemory};
+use rk_folder::{ByFolder, Sink};
 use rk_install::{install, recover};
 use rk_real::{RealFolder, RealSink};
 use rk_seal::{Op, Plan};
-use rk_steps::{Subject, behind, mode, number, plain, shown, text};
+use rk_steps::{Subject, behind, mode, number, path_of, plain, shown, text, word};
+use rk_tree::{Fetch, FetchErr};
 use std::alloc::Global;
 use std::fs::{File, Permissions};
 use std::io::Write;
@@ -139,6 +140,20 @@ fn puts(rt: &HostRuntime, alloc: Global, words: &[Vec<u8>]) -> Result<String, No
     }
 }
 
+fn no_bytes(alloc: Global, e: FetchErr) -> Result<String, NoMemory> {
+    match e {
+        FetchErr::Failed => plain(alloc, "read fault"),
+        FetchErr::NoMemory => Err(NoMemory),
+    }
+}
+
+fn fetched_shown(alloc: Global, bytes: Result<Bytes, FetchErr>) -> Result<String, NoMemory> {
+    match bytes {
+        Ok(bytes) => shown(alloc, bytes.as_slice()),
+        Err(e) => no_bytes(alloc, e),
+    }
+}
+
 fn done_shown(alloc: Global, done: io::Result<()>) -> Result<String, NoMemory> {
     plain(alloc, if done.is_ok() { "done" } else { "not done" })
 }
@@ -181,8 +196,21 @@ impl Real {
     }
 
     fn install_planned(&mut self) -> Result<String, NoMemory> {
-        let plan = self.holdings.plan()?;
-        self.carry_out(plan)
+        match self.holdings.plan() {
+            Ok(plan) => self.carry_out(plan),
+            Err(e) => no_bytes(self.alloc, e),
+        }
+    }
+
+    // The bytes of a file, fetched as a build fetches them.
+    fn fetch(&mut self, path: &[u8]) -> Result<String, NoMemory> {
+        match path_of(self.alloc, path)? {
+            Some(path) => {
+                let mut fetch = ByFolder::new(&mut self.folder);
+                fetched_shown(self.alloc, fetch.get(self.alloc, &path))
+            }
+            None => plain(self.alloc, "no path"),
+        }
     }
 
     fn put(&mut self, words: &[Vec<u8>]) -> Result<String, NoMemory> {
@@ -219,7 +247,7 @@ impl Real {
             "before" => self.holdings.before(behind(words)),
             "after" => self.holdings.after(behind(words)),
             "next" => self.holdings.next(),
-            "plan" => plan_shown(self.alloc, &self.holdings.plan()?),
+            "plan" => plan_shown(self.alloc, self.holdings.plan()),
             _ => self.install_planned(),
         }
     }
@@ -233,6 +261,9 @@ impl Subject for Real {
 
     fn step(&mut self, words: &[Vec<u8>]) -> Result<String, NoMemory> {
         let alloc = self.alloc;
+        if let Some(told) = self.holdings.fetches(words)? {
+            return Ok(told);
+        }
         match text(words, 0) {
             "really-begin"
             | "really-end"
@@ -242,6 +273,7 @@ impl Subject for Real {
             | "really-long"
             | "really-remove" => { done_shown(alloc, change(&self.rt, alloc, words)) }
             "really-read" => self.bytes(text(words, 1)),
+            "fetch" => self.fetch(word(words, 1)),
             "mode" => self.mode(text(words, 1)),
             "put-in" => put_in_file(&self.rt, alloc, words),
             "puts" => puts(&self.rt, alloc, words),

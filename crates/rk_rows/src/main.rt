@@ -4,6 +4,7 @@
 
 mod arithmetic;
 mod expressions;
+mod fetching;
 mod names;
 mod table;
 mod tokens;
@@ -12,6 +13,7 @@ mod world;
 
 use crate::arithmetic::Arithmetic;
 use crate::expressions::Expressions;
+use crate::fetching::Fetching;
 use crate::names::Names;
 use crate::tokens::Tokens;
 use crate::tree::Grown;
@@ -28,6 +30,7 @@ impl Subjects<HostRuntime> for Program {
         let told = match subject_of(text) {
             "arithmetic" => steps_of(alloc, name, text, Arithmetic::new(alloc))?,
             "expressions" => steps_of(alloc, name, text, Expressions::new(alloc))?,
+            "fetching" => steps_of(alloc, name, text, Fetching::new(alloc))?,
             "names" => steps_of(alloc, name, text, Names::new(alloc))?,
             "tokens" => steps_of(alloc, name, text, Tokens::new(alloc))?,
             "tree" => steps_of(alloc, name, text, Grown::new(alloc))?,

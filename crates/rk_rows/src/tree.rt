@@ -2,13 +2,13 @@
 ghost use Rattle.std.specs.Prelude.{IsTrue};
 ghost use Rattle.rk_tree.specs.Whole.{MayHold};
 
-use crate::world::snapshot_shown;
+use crate::world::{push_from, snapshot_shown};
 use rk_base::{Bytes, Name, NoMemory, Path};
 use rk_steps::{
     Subject, behind, flag, kind_shown, mode, name_of, names_shown, number, number_shown, path_of,
     plain, refusal_shown, shown, text, word,
 };
-use rk_tree::{Entry, Node, NodeId, Refused, Snapshot, Tree};
+use rk_tree::{Content, Entry, Node, NodeId, Refused, Snapshot, Tree};
 use std::alloc::Global;
 
 /// A tree, and a snapshot that is put together by itself.
@@ -19,12 +19,33 @@ pub(crate) struct Grown {
     snapshot: Snapshot,
 }
 
-// The entry of `file MODE BYTES`, `dir MODE` or `link TEXT`.
+// The path of a word, and the root where it is none.
+fn import_of(alloc: Global, word: &[u8]) -> Result<Path, NoMemory> {
+    match path_of(alloc, word)? {
+        Some(path) => Ok(path),
+        None => Path::root(alloc),
+    }
+}
+
+// What a file holds of which these words tell, the first of them whether it was read.
+fn content_of(alloc: Global, words: &[Vec<u8>]) -> Result<Content, NoMemory> {
+    let content = match text(words, 0) {
+        "unread" => Content::Unread(import_of(alloc, word(words, 2))?),
+        "read" => {
+            let path = import_of(alloc, word(words, 2))?;
+            Content::Read(path, Bytes::from_slice(alloc, word(words, 3))?)
+        }
+        _ => Content::Own(Bytes::from_slice(alloc, word(words, 2))?),
+    };
+    Ok(content)
+}
+
+// The entry of `file MODE BYTES`, `unread MODE PATH`, `read MODE PATH BYTES`, `dir MODE` or `link TEXT`.
 fn entry_of(alloc: Global, words: &[Vec<u8>]) -> Result<Entry, NoMemory> {
     let entry = match text(words, 0) {
         "dir" => Entry::Dir(mode(words, 1)),
         "link" => Entry::Link(Bytes::from_slice(alloc, word(words, 1))?),
-        _ => Entry::File(mode(words, 1), Bytes::from_slice(alloc, word(words, 2))?),
+        _ => Entry::File(mode(words, 1), content_of(alloc, words)?),
     };
     Ok(entry)
 }
@@ -145,6 +166,22 @@ fn both(alloc: Global, copy: &Bytes, bytes: &[u8]) -> Result<String, NoMemory> {
     }
 }
 
+// The bytes of a file, where they are known.
+fn bytes_step(alloc: Global, tree: &Tree, n: NodeId) -> Result<String, NoMemory> {
+    match tree.bytes(n) {
+        Some(bytes) => both(alloc, &tree.copy_bytes(n)?, bytes),
+        None => plain(alloc, "unknown"),
+    }
+}
+
+// Where a file came from.
+fn import_step(alloc: Global, tree: &Tree, n: NodeId) -> Result<String, NoMemory> {
+    match tree.import_path(n) {
+        Some(path) => shown(alloc, path.text()),
+        None => plain(alloc, "none"),
+    }
+}
+
 fn node_step(alloc: Global, tree: &Tree, path: Option<Path>) -> Result<String, NoMemory> {
     match path {
         Some(path) => number_shown(alloc, tree.node(&path).map(|n| n.number())),
@@ -162,14 +199,18 @@ fn get_step(alloc: Global, snapshot: &Snapshot, path: &Path) -> Result<String, N
         return plain(alloc, "another copy");
     }
     let kind = kind_shown(copy.kind());
-    let bytes = shown(alloc, copy.bytes())?;
+    let bytes = match copy.bytes() {
+        Some(bytes) => shown(alloc, bytes)?,
+        None => plain(alloc, "unknown")?,
+    };
     let link = shown(alloc, copy.link_text())?;
-    let text = format!(in alloc;
+    let mut text = format!(in alloc;
         "{kind} {:o} {} {}",
         copy.mode(),
         bytes.as_str(),
         link.as_str()
     )?;
+    push_from(alloc, &mut text, &copy)?;
     Ok(text)
 }
 
@@ -243,6 +284,19 @@ impl Grown {
         plain(self.alloc, "done")
     }
 
+    fn know(&mut self, n: NodeId, bytes: &[u8]) -> Result<String, NoMemory> {
+        let bytes = Bytes::from_slice(self.alloc, bytes)?;
+        self.tree.know(n, bytes)?;
+        plain(self.alloc, "done")
+    }
+
+    // A file shares the text of a copy of its bytes.
+    fn share(&mut self, n: NodeId) -> Result<String, NoMemory> {
+        let text = self.tree.copy_bytes(n)?;
+        self.tree.share(n, text);
+        plain(self.alloc, "done")
+    }
+
     fn write(&mut self, n: NodeId, at: u64, bytes: &[u8]) -> Result<String, NoMemory> {
         self.tree.write(n, at as usize, bytes)?;
         plain(self.alloc, "done")
@@ -272,6 +326,12 @@ impl Grown {
         }
     }
 
+    /// The tree, in whose place the root alone stands then.
+    pub(crate) fn take(&mut self) -> Result<Tree, NoMemory> {
+        let tree = Tree::new(self.alloc)?;
+        Ok(std::mem::replace(&mut self.tree, tree))
+    }
+
     // The tree of its own snapshot.
     fn again(&mut self) -> Result<String, NoMemory> {
         let snapshot = self.tree.snapshot()?;
@@ -288,6 +348,8 @@ impl Grown {
             "rename" => self.rename(words),
             "chmod" => self.set_mode(n, mode(words, 2)),
             "set" => self.set_bytes(n, word(words, 2)),
+            "know" => self.know(n, word(words, 2)),
+            "share" => self.share(n),
             "write" => self.write(n, number(words, 2), word(words, 3)),
             "again" => self.again(),
             _ => plain(self.alloc, "unknown step"),
@@ -327,7 +389,8 @@ impl Subject for Grown {
             "path" => path_step(alloc, tree, n),
             "kind" => kind_step(alloc, tree, n),
             "mode" => mode_step(alloc, tree, n),
-            "bytes" => both(alloc, &tree.copy_bytes(n)?, tree.bytes(n)),
+            "bytes" => bytes_step(alloc, tree, n),
+            "import" => import_step(alloc, tree, n),
             "text" => both(alloc, &tree.copy_link_text(n)?, tree.link_text(n)),
             "root" => number_shown(alloc, Some(tree.root().number())),
             "show" => snapshot_shown(alloc, &tree.snapshot()?),

@@ -1,10 +1,10 @@
 // Steps of a world and of the descriptors of its commands.
-use rk_base::NoMemory;
+use rk_base::{FileType, NoMemory};
 use rk_calls::{Answerer, Call, Key, Refs};
 use rk_kernel::World;
 use rk_steps::{
     Seen, Subject, answer_of, answer_shown, behind, call_of, call_shown, key_of, key_of_parts,
-    key_shown, kind_shown, map_of, number, number_shown, plain, shown, text,
+    key_shown, kind_shown, map_of, number, number_shown, plain, push_shown, shown, text,
 };
 use rk_tree::{Node, Snapshot, Tree};
 use std::alloc::Global;
@@ -19,25 +19,41 @@ pub(crate) struct Asked {
     seen: Seen,
 }
 
+/// Where a file came from, behind `from`; nothing where it has bytes of its own, nor of any other node.
+pub(crate) fn push_from(alloc: Global, out: &mut String, node: &Node) -> Result<(), NoMemory> {
+    if let Some(path) = node.import_path() {
+        out.push_str(" from ")?;
+        push_shown(alloc, out, path.text())?;
+    }
+    Ok(())
+}
+
+// The bytes of a file that are known, shared as they are looked at.
+fn push_bytes(alloc: Global, out: &mut String, node: &Node) -> Result<(), NoMemory> {
+    if node.bytes().is_some() {
+        let bytes = node.copy_bytes(alloc)?;
+        out.push(' ')?;
+        push_shown(alloc, out, bytes.as_slice())?;
+    }
+    Ok(())
+}
+
+fn push_link_text(alloc: Global, out: &mut String, node: &Node) -> Result<(), NoMemory> {
+    let text = node.copy_link_text(alloc)?;
+    out.push(' ')?;
+    push_shown(alloc, out, text.as_slice())
+}
+
 // What stands at a path.
 fn node_shown(alloc: Global, node: &Node) -> Result<String, NoMemory> {
-    let kind = kind_shown(node.kind());
-    let bytes = if node.is_dir() {
-        String::new(alloc)
-    } else {
-        let bytes = node.copy_bytes(alloc)?;
-        let link = node.copy_link_text(alloc)?;
-        shown(
-            alloc,
-            if link.is_empty() {
-                bytes.as_slice()
-            } else {
-                link.as_slice()
-            },
-        )?
-    };
-    let space = if bytes.is_empty() { "" } else { " " };
-    let text = format!(in alloc; "{kind} {:o}{space}{}", node.mode(), bytes.as_str())?;
+    let kind = node.kind();
+    let mut text = format!(in alloc; "{} {:o}", kind_shown(kind), node.mode())?;
+    push_from(alloc, &mut text, node)?;
+    match kind {
+        FileType::File => push_bytes(alloc, &mut text, node)?,
+        FileType::Dir => {}
+        FileType::Link => push_link_text(alloc, &mut text, node)?,
+    }
     Ok(text)
 }
 

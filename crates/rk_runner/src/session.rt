@@ -301,6 +301,7 @@ impl<P: Program> Session<P> {
             StepKind::Fresh => self.begin(text),
             StepKind::Script => self.put("/Rikerfile", text),
             StepKind::File => self.put(rest, text),
+            StepKind::Files => self.put_files(rest),
             StepKind::Dir => self.make_dir(rest),
             StepKind::Removed => self.remove(rest),
             StepKind::Costs => {

@@ -11,6 +11,8 @@ pub enum StepKind {
     Script,
     /// A file is written.
     File,
+    /// So many files are written, each with its number.
+    Files,
     /// A directory is made.
     Dir,
     /// A file is removed.
@@ -98,6 +100,7 @@ fn kind_of(word: &str) -> StepKind {
         "fresh" => StepKind::Fresh,
         "script" => StepKind::Script,
         "file" => StepKind::File,
+        "files" => StepKind::Files,
         "dir" => StepKind::Dir,
         "removed" => StepKind::Removed,
         "costs" => StepKind::Costs,

@@ -1,11 +1,12 @@
-//! Files of steps, a step a line with what is wanted beside it, for the programs that carry them out: rows, words, and calls
-//! and answers as words.
+//! Files of steps, a step a line with what is wanted beside it, for the programs that carry them out: rows, words, calls and
+//! answers as words, and what fetches the bytes that steps tell.
 #![tactic(auto)]
 
 mod answers;
 mod attributes;
 mod calls;
 mod escapes;
+mod fetches;
 mod keys;
 mod parts;
 mod programs;
@@ -18,6 +19,7 @@ pub use answers::{answer_of, answer_shown, kind_shown, refusal_shown};
 pub use attributes::{attrs_shown, row_of};
 pub use calls::{call_of, call_shown};
 pub use escapes::{push_shown, shown};
+pub use fetches::Fetches;
 pub use keys::{key_of, key_of_parts, key_shown, map_of};
 pub use parts::{
     name_list, name_of, names_shown, path_of, var_list, vars_shown, word_list, words_shown,

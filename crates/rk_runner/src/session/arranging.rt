@@ -13,6 +13,17 @@ impl<P: Program> Session<P> {
         self.is_done(is_put, path)
     }
 
+    // Files of so many numbers, from 0 on, each behind the path, with its number as its line.
+    pub(crate) fn put_files(&mut self, line: &str) -> Result<(), NoMemory> {
+        let (path, count) = line.split_once(' ').unwrap_or((line, ""));
+        'files: for file in 0..number(count) {
+            let place = format!(in self.alloc; "{path}{file}")?;
+            let text = format!(in self.alloc; "{file}\n")?;
+            self.put(place.as_str(), text.as_str())?;
+        }
+        Ok(())
+    }
+
     // The bytes of a file of the first folder; none where there is no file.
     fn bytes_at(&self, path: &str) -> Result<Bytes, NoMemory> {
         let place = at(self.alloc, path)?;
