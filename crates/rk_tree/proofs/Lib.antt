@@ -3,6 +3,7 @@ pub mod ChangedLemmas
 pub mod ClimbingLemmas
 pub mod CompareLemmas
 pub mod CopiesLemmas
+mod DirsLemmas
 pub mod EntriesLemmas
 pub mod FullLemmas
 pub mod GrownLemmas

@@ -26,7 +26,7 @@ use Rattle.rk_tree.proofs.ClimbingLemmas.{root_path}
 use Rattle.rk_tree.proofs.CompareLemmas.{cmp-front}
 use Rattle.rk_tree.proofs.CopiesLemmas.{find_numbered, below_less, not_below_root}
 use Rattle.rk_tree.proofs.HierarchyLemmas.{dir_path}
-use Rattle.rk_tree.proofs.RowsLemmas.{row_at, empty_rows, find_head, find_later, get-map_of, get-found, same_maps, and_first, and_second}
+use Rattle.rk_tree.proofs.RowsLemmas.{empty_rows, find_head, find_later, get-found, same_maps, and_first, and_second}
 use Rattle.rk_tree.proofs.TextLemmas.{told_apart}
 
 clash : (b : Bool) → b ≡ true → b ≡ false → ⊥
@@ -90,10 +90,6 @@ unfolding added linked
 added_at tree path name it up l =
     ap (λ (o : Option Text). record { paths = with_path o (λ p. insert tree.paths (join p name) (length tree.nodes)) tree.paths; nodes = tree.nodes ++ it ∷ [] }) l.at
     ∙ ap (λ (p : Text). record { paths = insert tree.paths p (length tree.nodes); nodes = tree.nodes ++ it ∷ [] }) l.whole
-
--- the number of a path, by the rows of numbers
-pub number_by : (tree : Hierarchy) (rows : List (Text × ℕ)) (path key : Text) (o : Option ℕ) → map_of rows ≡ tree.paths → key ≡ path → o ≡ row_at rows key → o ≡ number_at tree path
-number_by tree rows path key o kept is found = found ∙ ap (row_at rows) is ∙ sym (get-map_of rows path) ∙ ap (λ (m : Paths). get m path) kept
 
 -- Rows in order.
 

@@ -1,5 +1,5 @@
 -- What the map that rows make has, by the words of a `BTreeMap`.
-use Rattle.std.proofs.Common.{◌≡◌, ◌⊎◌, ℕ, zero, suc, inl, inr, List, [], ◌∷◌, Option, Some, None, Bool, true, false, ◌&&◌, length, refl, map, sym, ap, subst, ◌∙◌, cond}
+use Rattle.std.proofs.Common.{◌≡◌, ◌⊎◌, ℕ, zero, suc, inl, inr, List, [], ◌∷◌, Option, Some, None, IsSome, Bool, true, false, ◌&&◌, ◌<◌, arith, length, refl, map, sym, ap, subst, ◌∙◌, cond}
 use Rattle.std.specs.Ordering.{eq_by_cmp, is_lt, is_eq}
 use Rattle.std.specs.declared.cmp.Ordering.{Ordering}
 use Rattle.std.specs.declared.cmp.Ordering.TheVariants.{Less, Equal, Greater}
@@ -9,15 +9,17 @@ use Rattle.std.specs.List.Sorted.{IsStrictlySortedBy}
 use Rattle.std.specs.Cmp.{eq_by_cmp_equiv, Equal-is}
 use Rattle.std.specs.Cmp.Lexicographic.{nat_list_cmp_total}
 use Rattle.std.specs.BTreeMap.{is_at}
-use Rattle.std.specs.Map.{lookup}
+use Rattle.std.specs.Map.{lookup, update, update_all}
 use Rattle.std.specs.FinMap.Entries.{below_all}
-use Rattle.std.specs.FinMap.{FinMap, empty, get, insert, find, is_sorted, entries, from_entries, from_sorted, get-from_sorted, entries-from_sorted, get-from_entries, get-insert, same_map, len, len-entries}
-use Rattle.std.specs.Prelude.{slice_get}
-use Rattle.std.specs.List.{fold}
+use Rattle.std.specs.FinMap.{FinMap, empty, get, insert, find, is_sorted, entries, entries_sorted, from_entries, get-entries, from_sorted, get-from_sorted, entries-from_sorted, get-from_entries, get-insert, same_map, len, len-entries}
+use Rattle.std.specs.Prelude.{All, slice_get, slice_index_or}
+use Rattle.std.specs.List.{cons_option, fold}
+use Rattle.std.proofs.lemmas.List.Elements.{All-tail}
 use Rattle.std.specs.Option.{option_or}
 use Rattle.std.specs.FinMap.{get-empty}
 use Rattle.rk_base.specs.Text.{Text, text_cmp}
-use Rattle.rk_tree.specs.Rows.{map_of}
+use Rattle.std.proofs.lemmas.Option.{slice_get-get_or}
+use Rattle.rk_tree.specs.Rows.{IsRowOf, map_of}
 use Rattle.rk_tree.proofs.TextLemmas.{exact_texts, told_apart, ties_itself}
 
 pub is_yes : (b : Bool) → T b → b ≡ true
@@ -88,6 +90,17 @@ module _ {X : Type 0} where
   unfolding map_of
   empty_rows rows none = ap (λ (r : List (Text × X)). from_entries r) none
 
+  pub no_rows : (rows : List (Text × X)) (q : Text) → (0 < length rows → false ≡ true) → get (map_of rows) q ≡ None
+  no_rows [] q none = get-map_of [] q
+  no_rows (row ∷ rows) q none = let clash : false ≡ true = none (omega arith) in cc
+
+  -- what comes after each row's path
+  pub past_all : (rows : List (Text × X)) (last q : Text) → ((q : Text) → IsSome (row_at rows q) → is_lt (text_cmp last q) ≡ false) → text_cmp last q ≡ Less → get (map_of rows) q ≡ None
+  past_all rows last q bound less = get-map_of rows q ∙ by (row_at rows q) (bound q) where
+    by : (o : Option X) → (IsSome o → is_lt (text_cmp last q) ≡ false) → o ≡ None
+    by None h = refl
+    by (Some x) h = let clash : is_lt (text_cmp last q) ≡ true = ap is_lt less in let not : is_lt (text_cmp last q) ≡ false = h refl in cc
+
   pub len-map_of : (rows : List (Text × X)) → IsStrictlySortedBy text_cmp (map (λ (row : Text × X). row.0) rows) → len (map_of rows) ≡ length rows
   len-map_of rows h = len-entries (map_of rows) ∙ ap length (entries-map_of rows h)
 
@@ -136,6 +149,17 @@ module _ {X : Type 0} where
       ∙ ap (option_or (find text_cmp q rows)) (get-insert nat_list_cmp_total m row.0 row.1 q)
       ∙ or_put (find text_cmp q rows) (eq_by_cmp text_cmp q row.0) row.1 (get m q) (λ e. ap (λ (t : Text). find text_cmp t rows) (exact_texts q row.0 ((Equal-is (text_cmp q row.0)).0 e)) ∙ find_below row.0 rows (and_first _ _ h))
 
+  -- what rows put one after another into a map have at a path, by the words of a `BTreeMap`
+  get-put_on : (rows : List (Text × X)) (m : FinMap text_cmp X) (f : Text → Option X) (q : Text) → ((k : Text) → get m k ≡ f k) → get (puts m rows) q ≡ update_all (eq_by_cmp text_cmp) f rows q
+  get-put_on [] m f q same = same q
+  get-put_on (row ∷ rows) m f q same = get-put_on rows (insert m row.0 row.1) (update (eq_by_cmp text_cmp) f row.0 (Some row.1)) q (λ k.
+      get-insert nat_list_cmp_total m row.0 row.1 k
+      ∙ ap (cond (eq_by_cmp text_cmp k row.0) (Some row.1)) (same k)
+      ∙ ap (λ (b : Bool). cond b (Some row.1) (f k)) ((eq_by_cmp_equiv nat_list_cmp_total).symm k row.0))
+
+  pub collected : (rows : List (Text × X)) (made : List (Text × X)) → ((q : Text) → row_at made q ≡ update_all (eq_by_cmp text_cmp) (λ _. None) rows q) → map_of made ≡ puts empty rows
+  collected rows made h = same_maps _ _ (λ q. get-map_of made q ∙ h q ∙ sym (get-put_on rows empty (λ _. None) q (λ k. get-empty text_cmp k)))
+
   option_or-none : (o : Option X) → option_or o None ≡ o
   option_or-none None = refl
   option_or-none (Some x) = refl
@@ -155,3 +179,16 @@ module _ {X : Type 0} where
   place_found [] path place x h at = cc
   place_found (row ∷ rows) path zero x h at = find_head path row rows (ap (λ (r : Text × X). r.0) (same_row (path, x) row at refl)) ∙ ap (λ (r : Text × X). Some r.1) (same_row row (path, x) refl at)
   place_found (row ∷ rows) path (suc place) x h at = find_later path row rows x h (place_found rows path place x (and_second _ _ h) at)
+
+  -- each row that a map lists
+  pub all_rows : (m : FinMap text_cmp X) → All (IsRowOf m) (entries m)
+  all_rows m = λ place d within.
+      let row = slice_index_or (entries m) place d in
+      get-entries m row.0 ∙ place_found (entries m) row.0 place row.1 (entries_sorted m) (slice_get-get_or (entries m) place d within)
+
+  -- of rows that have one in front
+  pub first_row : (m : FinMap text_cmp X) (first : Option (Text × X)) (rows : List (Text × X)) (row : Text × X) → first ≡ Some row → All (IsRowOf m) (cons_option first rows) → IsRowOf m row
+  first_row m first rows row is all = subst (λ (o : Option (Text × X)). All (IsRowOf m) (cons_option o rows)) is all 0 row (omega arith)
+
+  pub later_rows : (m : FinMap text_cmp X) (first : Option (Text × X)) (rows : List (Text × X)) (row : Text × X) → first ≡ Some row → All (IsRowOf m) (cons_option first rows) → All (IsRowOf m) rows
+  later_rows m first rows row is all = All-tail (IsRowOf m) row rows (subst (λ (o : Option (Text × X)). All (IsRowOf m) (cons_option o rows)) is all)

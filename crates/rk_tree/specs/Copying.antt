@@ -1,15 +1,20 @@
 -- The steps by which the code makes a snapshot, and a tree of one.
-use Rattle.std.specs.Prelude.{◌≡◌, ℕ, [], ◌∷◌, ◌++◌, length, true, false, if◌then◌else◌, Option, Some, None}
+use Rattle.std.specs.Prelude.{◌≡◌, ℕ, List, [], ◌∷◌, ◌++◌, length, true, false, if◌then◌else◌, Option, Some, None}
 use Rattle.std.specs.List.{fold}
 use Rattle.std.specs.Option.{option_and_then}
-use Rattle.std.specs.FinMap.{insert}
+use Rattle.std.specs.FinMap.{empty, get, insert}
 use Rattle.rk_base.specs.Text.{Text, root, hidden, join, is_within}
 use Rattle.rk_base.specs.Canonical.{is_canonical}
 use Rattle.rk_tree.specs.Copies.{put_found}
 use Rattle.rk_tree.specs.Entries.{Entries, is_dir, IsFit}
 use Rattle.rk_tree.specs.Hierarchy.{Hierarchy, node, number_at, path_of, names}
 use Rattle.rk_tree.specs.Node.{Node}
+use Rattle.rk_tree.specs.Rows.{map_of}
 use Rattle.rk_tree.specs.Whole.{IsPlaced}
+
+-- rows, put one after another
+abbrev pub made_of : List (Text × Node) → Entries
+made_of rows = fold (λ m row. insert m row.0 row.1) empty rows
 
 -- what stands under a name of the directory at a path, put at its path
 abbrev pub put_name : Hierarchy → Text → Entries → Text → Entries
@@ -34,3 +39,7 @@ pub record MayTake (tree : Hierarchy) (path : Text) (it : Node) : Type 0 where
 -- a new node at a path
 abbrev pub with_node_at : Hierarchy → Text → Node → Hierarchy
 with_node_at tree path it = record { paths = insert tree.paths path (length tree.nodes); nodes = tree.nodes ++ it ∷ [] }
+
+-- rows that have the number of each directory at its path
+abbrev pub HasDirs : Hierarchy → List (Text × ℕ) → Type 0
+HasDirs tree rows = (path : Text) (n : ℕ) → number_at tree path ≡ Some n → is_dir (node tree n) ≡ true → get (map_of rows) path ≡ Some n

@@ -1,6 +1,7 @@
 //! The tree of a world, which node stands at each path, and snapshots of it.
 #![tactic(auto)]
 
+mod beside;
 mod content;
 mod entry;
 mod fetch;
@@ -13,6 +14,7 @@ mod refused;
 mod snapshot;
 mod tree;
 
+pub use beside::Beside;
 pub use content::Content;
 pub use entry::Entry;
 pub use fetch::{Fetch, FetchErr};

@@ -1,13 +1,13 @@
 // Snapshots of trees, and trees of snapshots.
-ghost use Rattle.std.specs.Prelude.{◌≡◌, IfOk, OnOk, option_copied, true, Some};
-ghost use Rattle.std.specs.FinMap.{get};
+ghost use Rattle.std.specs.Prelude.{◌≡◌, IfOk, MatchBool, OnOk, option_copied, true, Some};
+ghost use Rattle.std.specs.FinMap.{get, insert};
 ghost use Rattle.rk_base.specs.Text.{root};
 ghost use Rattle.rk_tree.specs.Copies.{put_found, snapshot_of, tree_of};
-ghost use Rattle.rk_tree.specs.Copying.{MayTake, put_dir, put_names, with_node_at};
+ghost use Rattle.rk_tree.specs.Copying.{HasDirs, MayTake, made_of, put_dir, put_names, with_node_at};
 ghost use Rattle.rk_tree.specs.Entries.{is_dir, IsWholeSnapshot};
 ghost use Rattle.rk_tree.specs.Hierarchy as hierarchy;
-ghost use Rattle.rk_tree.specs.Rows.{map_of};
 ghost use Rattle.rk_tree.specs.Node.{Dir};
+ghost use Rattle.rk_tree.specs.Rows.{map_of};
 ghost use Rattle.rk_tree.specs.Whole.{IsWhole};
 
 use crate::{Entry, Node, NodeId, Snapshot, Tree};
@@ -16,24 +16,45 @@ use std::alloc::Global;
 use std::collections::BTreeMap;
 
 // What is found, put at a path.
-fn put_found(snapshot: &mut Snapshot, path: Path, found: Option<&Node>) -> Result<(), NoMemory>
-    ensures { OnOk result (snapshot.new ≡ put_found snapshot.old path (option_copied found.entry)) }
+fn put_found(rows: &mut Vec<(Path, Node)>, path: Path, found: Option<&Node>) -> Result<(), NoMemory>
+    ensures { OnOk result (made_of rows.new.items ≡ put_found (made_of rows.old.items) path (option_copied found.entry)) }
 {
     match found {
         None => Ok(()),
         Some(it) => {
-            snapshot.put_node(path, it.copy()?)?;
+            rows.push((path, it.copy()?))?;
             Ok(())
         }
     }
 }
 
+// The number of a directory, put at its path.
+fn put_number(
+    numbers: &mut BTreeMap<Path, NodeId>,
+    path: &Path,
+    it: &Node,
+    n: NodeId,
+) -> Result<(), NoMemory>
+    ensures { OnOk result (MatchBool (is_dir (Some it.now)) (map_of numbers.new.entries ≡ insert (map_of numbers.old.entries) path.now n) (numbers.new.entries ≡ numbers.old.entries)) }
+{
+    if !it.is_dir() {
+        return Ok(());
+    }
+    numbers.insert(path.copy()?, n)?;
+    Ok(())
+}
+
 impl Tree {
     // What stands under the names of a directory.
-    fn put_names(&self, snapshot: &mut Snapshot, dir: NodeId, path: &Path) -> Result<(), NoMemory>
+    fn put_names(
+        &self,
+        rows: &mut Vec<(Path, Node)>,
+        dir: NodeId,
+        path: &Path,
+    ) -> Result<(), NoMemory>
         requires in_dir { is_dir (hierarchy.node self.now dir) ≡ true }
         requires at { hierarchy.path_of self.now dir ≡ Some path.now }
-        ensures { OnOk result (snapshot.new ≡ put_names self.now dir snapshot.old (Some path.now)) }
+        ensures { OnOk result (made_of rows.new.items ≡ put_names self.now dir (made_of rows.old.items) (Some path.now)) }
     {
         let alloc = *self.nodes.allocator();
         let names = self.names(dir)?;
@@ -41,22 +62,22 @@ impl Tree {
             let path = path.join(alloc, name)?;
             match self.child(dir, name.as_slice()) {
                 None => {}
-                Some(n) => put_found(snapshot, path, self.look(n))?,
+                Some(n) => put_found(rows, path, self.look(n))?,
             }
         }
         Ok(())
     }
 
     // What stands in a directory, if this is one that stands somewhere.
-    fn put_dir(&self, snapshot: &mut Snapshot, dir: NodeId) -> Result<(), NoMemory>
-        ensures { OnOk result (snapshot.new ≡ put_dir self.now snapshot.old dir) }
+    fn put_dir(&self, rows: &mut Vec<(Path, Node)>, dir: NodeId) -> Result<(), NoMemory>
+        ensures { OnOk result (made_of rows.new.items ≡ put_dir self.now (made_of rows.old.items) dir) }
     {
         if !self.is_dir(dir) {
             return Ok(());
         }
         match self.path_of(dir)? {
             None => Ok(()),
-            Some(path) => self.put_names(snapshot, dir, &path),
+            Some(path) => self.put_names(rows, dir, &path),
         }
     }
 
@@ -67,26 +88,27 @@ impl Tree {
         ensures whole { IfOk result IsWholeSnapshot }
     {
         let alloc = *self.nodes.allocator();
-        let mut snapshot = Snapshot::new(alloc);
+        let mut rows = Vec::new(alloc);
         let root = self.look(NodeId::root());
-        put_found(&mut snapshot, Path::root(alloc)?, root)?;
+        put_found(&mut rows, Path::root(alloc)?, root)?;
         for dir in 0..self.nodes.len() {
-            self.put_dir(&mut snapshot, NodeId::new(dir))?;
+            self.put_dir(&mut rows, NodeId::new(dir))?;
         }
+        let snapshot = Snapshot::of_rows(alloc, rows)?;
         Ok(snapshot)
     }
 
-    // A node more, at a path whose directory stands.
+    // A node more, at a path whose directory stands, found by the numbers of directories.
     fn put_path(
         &mut self,
         numbers: &mut BTreeMap<Path, NodeId>,
         path: &Path,
         it: &Node,
     ) -> Result<(), NoMemory>
-        requires numbers { map_of numbers.old.entries ≡ self.old.paths }
+        requires numbers { HasDirs self.old numbers.old.entries }
         requires takes { MayTake self.old path.now it.now }
         ensures tree { OnOk result (self.new ≡ with_node_at self.old path.now it.now) }
-        ensures numbers { OnOk result (map_of numbers.new.entries ≡ self.new.paths) }
+        ensures numbers { OnOk result (HasDirs self.new numbers.new.entries) }
     {
         let _ = &self.nodes;
         let Some(name) = path.last()? else {
@@ -96,7 +118,7 @@ impl Tree {
             None => unreachable!(),
             Some(up) => {
                 let n = self.adds(*up, &name, it.copy()?)?;
-                numbers.insert(path.copy()?, n)?;
+                put_number(numbers, path, it, n)?;
                 Ok(())
             }
         }

@@ -1,11 +1,9 @@
 use Rattle.std.proofs.Common.{◌≡◌, ◌∙◌, sym, ap, Some, None, subst}
-use Rattle.std.specs.FinMap.{insert}
-use Rattle.rk_base.specs.Text.{Text, parent}
-use Rattle.rk_tree.specs.Hierarchy.{Hierarchy, Paths, added}
-use Rattle.rk_tree.specs.Copying.{with_node_at}
+use Rattle.rk_tree.specs.Hierarchy.{Hierarchy, added}
+use Rattle.rk_tree.specs.Copying.{HasDirs, with_node_at}
 use Rattle.rk_tree.proofs.BelowLemmas.{none_some}
-use Rattle.rk_tree.proofs.PlantedLemmas.{Lands, lands, may_hold, child_absent, added_at, number_by, not_the_root, has_last}
-use Rattle.rk_tree.proofs.RowsLemmas.{map_of-put}
+use Rattle.rk_tree.proofs.PlantedLemmas.{Lands, lands, may_hold, child_absent, added_at, not_the_root, has_last}
+use Rattle.rk_tree.proofs.DirsLemmas.{numbers_more, up_by}
 use Rattle.rk_tree.specs.Whole.{IsWhole}
 use Rattle.rk_tree.proofs.tree.Tree.put_path.Goals as goal
 use Rattle.rk_tree.proofs.tree.Tree.put_path.Goals.{In-Some-get, After-drop-name-inside-2}
@@ -15,11 +13,11 @@ unreachable-requires c = has_last c.args.path.now c.in_ok-name.field-0 (not_the_
 
 pub unreachable-requires-in-None : goal.unreachable-requires-in-None
 unreachable-requires-in-None c =
-    none_some (sym (number_by c.args.self.now c.args.numbers.now.entries (parent c.args.path.now) c.in_ok-parent.field-0 None c.requires.numbers c.in_ok-parent.ensures c.in-None.ensures.value)) c.requires.takes.placed.stands
+    none_some (sym (up_by c.args.self.now c.args.numbers.now.entries c.args.path.now c.in_ok-parent.field-0 None c.requires.numbers c.requires.takes.placed c.in_ok-parent.ensures c.in-None.ensures.value)) c.requires.takes.placed.stands
 
 lands_at : (c : In-Some-get) → Lands c.args.self.now c.args.path.now c.in-Some.name c.in-Some-get.up.now
 lands_at c = lands c.args.self.now c.args.path.now c.in-Some.name c.args.it.now c.in-Some-get.up.now (subst IsWhole c.self.view_is c.self.invariant.0) c.requires.takes (sym c.in_ok-name.ensures ∙ c.in-Some.is)
-    (sym (number_by c.args.self.now c.args.numbers.now.entries (parent c.args.path.now) c.in_ok-parent.field-0 (Some c.in-Some-get.up.now) c.requires.numbers c.in_ok-parent.ensures c.in-Some-get.ensures.value))
+    (sym (up_by c.args.self.now c.args.numbers.now.entries c.args.path.now c.in_ok-parent.field-0 (Some c.in-Some-get.up.now) c.requires.numbers c.requires.takes.placed c.in_ok-parent.ensures c.in-Some-get.ensures.value))
 
 pub adds-requires-clause-holds : goal.adds-requires-clause-holds
 adds-requires-clause-holds c = may_hold c.args.self.now c.args.path.now c.in-Some.name c.args.it.now c.in-Some-get.up.now (subst IsWhole c.self.view_is c.self.invariant.0) c.requires.takes (lands_at (goal.at.adds-requires-clause-holds c).In-Some-get)
@@ -38,8 +36,6 @@ returns-clause-tree c = planted c (lands_at (goal.at.returns-clause-tree c).In-S
 
 pub returns-clause-numbers : goal.returns-clause-numbers
 returns-clause-numbers c =
-    map_of-put c.args.numbers.now.entries c.insert.new.self.entries c.in_ok-copy-in-Some-get-2.field-0 c.in_ok-n-in-Some-get.n c.in_ok-insert-in-Some-get.ensures.updates.0
-    ∙ ap (λ (m : Paths). insert m c.in_ok-copy-in-Some-get-2.field-0 c.in_ok-n-in-Some-get.n) c.requires.numbers
-    ∙ ap (λ (path : Text). insert c.args.self.now.paths path c.in_ok-n-in-Some-get.n) c.in_ok-copy-in-Some-get-2.ensures.copy
-    ∙ ap (insert c.args.self.now.paths c.args.path.now) c.in_ok-n-in-Some-get.ensures.number
-    ∙ sym (ap (λ (h : Hierarchy). h.paths) (planted c (lands_at (goal.at.returns-clause-numbers c).In-Some-get)))
+    subst (λ (tree : Hierarchy). HasDirs tree c.put_number.new.numbers.entries) (sym (planted c (lands_at (goal.at.returns-clause-numbers c).In-Some-get)))
+    (numbers_more c.args.self.now c.args.path.now c.args.it.now c.args.numbers.now.entries (subst IsWhole c.self.view_is c.self.invariant.0) c.requires.numbers
+    c.put_number.new.numbers.entries c.in_ok-n-in-Some-get.n c.in_ok-n-in-Some-get.ensures.number c.in_ok-put_number-in-Some-get.ensures)
