@@ -4,27 +4,18 @@ ghost use Rattle.rk_base.specs.Text.{depth};
 ghost use Rattle.rk_folder.specs.Calls.{Caused, MemoryCaused};
 
 use crate::lasting::{Unsynced, dir_of, is_seal, is_sealing};
-use rk_base::{Bytes, Name, Path, PathFault};
-use rk_folder::{Folder, FolderErr, Got, Item, LONGEST_FILE};
+use crate::listing::{RootListing, items_at};
+use crate::reading::content;
+use rk_base::Path;
+use rk_folder::{Folder, FolderErr, Got, Item};
 use std::alloc::Global;
 use std::fs::{File, Files, Permissions};
-use std::io::{ErrorKind, Read, Write};
+use std::io::{ErrorKind, Write};
 use std::os::unix::fs::MetadataExt;
 use std::{fs, io, str};
 
 /// A path has at most so many names.
 const DEEPEST: usize = 4096;
-
-/// A directory has at most so many names.
-const MOST_NAMES: usize = 1 << 20;
-
-/// A read asks for at least and at most so many bytes. What it asks for is made zero before.
-const SHORTEST_PIECE: usize = 1 << 8;
-
-const LONGEST_PIECE: usize = 1 << 20;
-
-/// A listing is about so long.
-const LISTING: usize = 1 << 12;
 
 /// The folder below one directory. Links, devices and the like are special, and a file name that
 /// is no name is odd. What was written, and which names stand in a directory, is on the disk before a name in `.rkr` is put in
@@ -34,6 +25,7 @@ pub struct RealFolder<R: Files + AllocGlobal + Drop> {
     rt: R,
     top: String,
     unsynced: Unsynced,
+    root: RootListing,
     read_faults: u64,
     write_faults: u64,
     memory_failures: u64,
@@ -47,46 +39,6 @@ fn place_of(alloc: Global, top: &str, path: &Path) -> io::Result<String> {
     let mut place = String::from_str(alloc, top)?;
     place.push_str(text)?;
     Ok(place)
-}
-
-// All bytes of a reader, of which there are not too many: about so many.
-fn all_bytes(alloc: Global, reader: &mut impl Read, about: usize) -> io::Result<Vec<u8>> {
-    let mut bytes = Vec::with_capacity(alloc, about)?;
-    let mut piece = vec![in alloc; 0u8; about.max(SHORTEST_PIECE).min(LONGEST_PIECE)]?;
-    for _ in 0..u64::MAX {
-        let n = reader.read(&mut piece)?;
-        if n == 0 {
-            return Ok(bytes);
-        }
-        bytes.extend_from_slice(&piece[..n])?;
-        if bytes.len() as u64 > LONGEST_FILE {
-            break;
-        }
-    }
-    Err(io::Error::from(ErrorKind::FileTooLarge))
-}
-
-// Nothing stands at a path, be it that what is before it is a file.
-fn is_absent(e: &io::Error) -> bool {
-    matches!(e.kind(), ErrorKind::NotFound | ErrorKind::NotADirectory)
-}
-
-// A file that is too long is told by its length, before it is read.
-fn content(rt: &impl Files, alloc: Global, place: &str) -> io::Result<Got> {
-    match fs::symlink_metadata(rt, place) {
-        Ok(it) if !it.is_file() => Err(io::Error::from(ErrorKind::InvalidInput)),
-        Ok(it) if it.len() > LONGEST_FILE => Err(io::Error::from(ErrorKind::FileTooLarge)),
-        Ok(it) => {
-            let mut file = File::open(rt, place)?;
-            let bytes = all_bytes(alloc, &mut file, it.len() as usize)?;
-            match Bytes::new(alloc, bytes) {
-                Ok(bytes) => Ok(Got::Content(bytes)),
-                Err(_) => Err(io::Error::from(ErrorKind::OutOfMemory)),
-            }
-        }
-        Err(e) if is_absent(&e) => Ok(Got::Absent),
-        Err(e) => Err(e),
-    }
 }
 
 fn overwrite(rt: &impl Files, place: &str, bytes: &[u8]) -> io::Result<()> {
@@ -113,71 +65,12 @@ fn put_content(rt: &impl Files, place: &str, bytes: &[u8]) -> io::Result<()> {
     }
 }
 
-// The name of a real file, where it is one.
-fn name_of(alloc: Global, bytes: &[u8]) -> io::Result<Option<Name>> {
-    match Name::new(alloc, bytes) {
-        Ok(name) => Ok(Some(name)),
-        Err(PathFault::Invalid) => Ok(None),
-        Err(PathFault::NoMemory) => Err(io::Error::from(ErrorKind::OutOfMemory)),
-    }
-}
-
-// What stands at a name in the directory at this place.
-fn item_at(rt: &impl Files, alloc: Global, place: &str, bytes: &[u8]) -> io::Result<Item> {
-    let (Some(name), Ok(text)) = (name_of(alloc, bytes)?, str::from_utf8(bytes)) else {
-        return Ok(Item::Odd);
-    };
-    let mut below = String::from_str(alloc, place)?;
-    below.push_str("/")?;
-    below.push_str(text)?;
-    let it = fs::symlink_metadata(rt, below.as_str())?;
-    Ok(if it.is_file() {
-        Item::File(name)
-    } else if it.is_dir() {
-        Item::Dir(name)
-    } else {
-        Item::Special(name)
-    })
-}
-
-// The names in a listing, each ended by a NUL, ascending and without `.` and `..`.
-fn sorted_names(alloc: Global, listing: &[u8]) -> io::Result<Vec<&[u8]>> {
-    let mut names = Vec::new(alloc);
-    for name in listing.split(|b| *b == 0) {
-        if !name.is_empty() && name != b".".as_slice() && name != b"..".as_slice() {
-            names.push(name)?;
-        }
-        if names.len() > MOST_NAMES {
-            return Err(io::Error::from(ErrorKind::FileTooLarge));
-        }
-    }
-    names.sort()?;
-    Ok(names)
-}
-
-// The place has no last slash, so that a link that was put there is not followed.
-fn items_at(rt: &impl Files, alloc: Global, place: &str) -> io::Result<Vec<Item>> {
-    let mut dir = rt.open_dir(place)?;
-    let listing = all_bytes(alloc, &mut dir, LISTING)?;
-    let mut items = Vec::new(alloc);
-    let mut odd = false;
-    for name in &sorted_names(alloc, &listing)? {
-        match item_at(rt, alloc, place, name)? {
-            Item::Odd => odd = true,
-            item => items.push(item)?,
-        }
-    }
-    if odd {
-        items.push(Item::Odd)?;
-    }
-    Ok(items)
-}
-
 fn list_in(
     rt: &impl Files,
     alloc: Global,
     top: &str,
     unsynced: &mut Unsynced,
+    root: &mut RootListing,
     dir: &Path,
 ) -> io::Result<Vec<Item>>
     ensures { OnOk result (depth dir.now ≤ 4096) }
@@ -187,6 +80,13 @@ fn list_in(
     }
     let place = place_of(alloc, top, dir)?;
     unsynced.add_listed(alloc, place.as_str())?;
+    if dir.is_root() {
+        let items = root.items(rt, alloc, place.as_str())?;
+        return Ok(items);
+    }
+    if dir.text() != b"/.rkr".as_slice() {
+        root.forget();
+    }
     let items = items_at(rt, alloc, place.as_str())?;
     Ok(items)
 }
@@ -237,6 +137,7 @@ impl<R: Files + AllocGlobal + Drop> RealFolder<R> {
             rt,
             top,
             unsynced,
+            root: RootListing::new(),
             read_faults: 0,
             write_faults: 0,
             memory_failures: 0,
@@ -342,16 +243,25 @@ impl<R: Files + AllocGlobal + Drop> Folder for RealFolder<R> {
     ghost whole = { λ _. tt };
 
     fn list(&mut self, alloc: Global, dir: &Path) -> Result<Vec<Item>, FolderErr> {
-        let items = list_in(&self.rt, alloc, self.top.as_str(), &mut self.unsynced, dir);
+        let items = list_in(
+            &self.rt,
+            alloc,
+            self.top.as_str(),
+            &mut self.unsynced,
+            &mut self.root,
+            dir,
+        );
         answer(items, &mut self.read_faults, &mut self.memory_failures)
     }
 
     fn read(&mut self, alloc: Global, file: &Path) -> Result<Got, FolderErr> {
+        self.root.forget();
         let got = read_in(&self.rt, alloc, self.top.as_str(), &mut self.unsynced, file);
         answer(got, &mut self.read_faults, &mut self.memory_failures)
     }
 
     fn write(&mut self, alloc: Global, file: &Path, bytes: &[u8]) -> Result<(), FolderErr> {
+        self.root.forget();
         let done = write_in(
             &self.rt,
             alloc,
@@ -364,21 +274,25 @@ impl<R: Files + AllocGlobal + Drop> Folder for RealFolder<R> {
     }
 
     fn make_dir(&mut self, alloc: Global, dir: &Path) -> Result<(), FolderErr> {
+        self.root.forget();
         let done = make_dir_in(&self.rt, alloc, self.top.as_str(), &mut self.unsynced, dir);
         answer(done, &mut self.write_faults, &mut self.memory_failures)
     }
 
     fn remove_file(&mut self, alloc: Global, file: &Path) -> Result<(), FolderErr> {
+        self.root.forget();
         let done = remove_file_in(&self.rt, alloc, self.top.as_str(), &mut self.unsynced, file);
         answer(done, &mut self.write_faults, &mut self.memory_failures)
     }
 
     fn remove_dir(&mut self, alloc: Global, dir: &Path) -> Result<(), FolderErr> {
+        self.root.forget();
         let done = remove_dir_in(&self.rt, alloc, self.top.as_str(), &mut self.unsynced, dir);
         answer(done, &mut self.write_faults, &mut self.memory_failures)
     }
 
     fn rename(&mut self, alloc: Global, from: &Path, to: &Path) -> Result<(), FolderErr> {
+        self.root.forget();
         let done = rename_in(
             &self.rt,
             alloc,

@@ -3,6 +3,8 @@
 
 mod folder;
 mod lasting;
+mod listing;
+mod reading;
 mod sink;
 
 pub use folder::RealFolder;
