@@ -18,8 +18,8 @@ use std::{fs, io, str};
 const DEEPEST: usize = 4096;
 
 /// The folder below one directory. Links, devices and the like are special, and a file name that
-/// is no name is odd. What was written, and which names stand in a directory, is on the disk before a name in `.rkr` is put in
-/// place or taken away, and that when its call answers.
+/// is no name is odd. What was written is on the disk before a file is renamed, and which names stand in each directory when
+/// that call answers; and all of it is before a file in `.rkr` is removed, and that when its call answers.
 #[derive(Drop)]
 pub struct RealFolder<R: Files + AllocGlobal + Drop> {
     rt: R,
@@ -208,6 +208,7 @@ fn remove_dir_in(
     fs::remove_dir(rt, place.as_str())
 }
 
+// What is renamed lasts first; that it was lasts with the names of both directories.
 fn rename_in(
     rt: &impl Files,
     alloc: Global,
@@ -218,9 +219,7 @@ fn rename_in(
 ) -> io::Result<()> {
     let old = to_change(alloc, top, from, unsynced)?;
     let new = to_change(alloc, top, to, unsynced)?;
-    unsynced.settle(rt)?;
-    unsynced.add_dir(alloc, dir_of(old.as_str()))?;
-    unsynced.add_dir(alloc, dir_of(new.as_str()))?;
+    unsynced.settle_files(rt)?;
     fs::rename(rt, old.as_str(), new.as_str())?;
     unsynced.settle_made(rt)
 }

@@ -1,6 +1,6 @@
-// What makes the changes of a real directory last: files that were written, and then the directories whose names changed, are
-// synced before the seal of an install is put in its place or taken away. One after another they cost little, since the system
-// writes down together what changed. Where a sealed list is read, a call that was killed has made some of its changes and
+// What makes the changes of a real directory last: files that were written are synced before the seal of an install is put in
+// its place, and the directories whose names changed before that call answers; and both before the seal is taken away. One
+// after another they cost little, since the system writes down together what changed. Where a sealed list is read, a call that was killed has made some of its changes and
 // synced none of these directories, so each that is listed from there on is synced too; each file is written anew.
 use rk_base::Path;
 use std::alloc::Global;
@@ -90,15 +90,21 @@ impl Unsynced {
         Ok(())
     }
 
-    /// Syncs each of them, the files first.
-    pub(crate) fn settle(&mut self, rt: &impl Files) -> io::Result<()> {
+    /// Syncs the files.
+    pub(crate) fn settle_files(&mut self, rt: &impl Files) -> io::Result<()> {
         for place in &self.files {
             sync(rt, place.as_str())?;
         }
+        self.files.clear();
+        Ok(())
+    }
+
+    /// Syncs each of them, the files first.
+    pub(crate) fn settle(&mut self, rt: &impl Files) -> io::Result<()> {
+        self.settle_files(rt)?;
         for place in &self.dirs {
             sync(rt, place.as_str())?;
         }
-        self.files.clear();
         self.dirs.clear();
         Ok(())
     }
