@@ -6,6 +6,7 @@ pub mod CopiesLemmas
 mod DirsLemmas
 pub mod EntriesLemmas
 pub mod FullLemmas
+mod GrowingLemmas
 pub mod GrownLemmas
 pub mod HierarchyLemmas
 pub mod KnownLemmas

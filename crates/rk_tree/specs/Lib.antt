@@ -5,6 +5,7 @@ pub mod Counts
 pub mod Entries
 pub mod Fetched
 pub mod Full
+pub mod Growing
 pub mod Hierarchy
 pub mod Inodes
 pub mod Moves
