@@ -6,7 +6,7 @@ use Rattle.rk_base.specs.Text.{Text, root, hidden, join, is_within, same_text}
 use Rattle.rk_base.specs.Canonical.{is_canonical, is_name}
 use Rattle.rk_base.proofs.CanonicalLemmas.{both, root-canonical, join-canonical}
 use Rattle.rk_base.proofs.PathLemmas.{parent-join}
-use Rattle.rk_tree.proofs.TextLemmas.{same_is, same_itself, one_of, or_right}
+use Rattle.rk_tree.proofs.TextLemmas.{same_is, same_itself, one_of}
 use Rattle.rk_folder.specs.Told.{Held, standing, is_nothing, is_dir, is_odd}
 use Rattle.rk_folder.specs.Whole.{IsWhole}
 use Rattle.rk_folder.specs.Hidden.{hidden_dir, attrs_name, db_name, install_name, fresh_list_name, attrs_file, db_file, install_file, fresh_list_file}

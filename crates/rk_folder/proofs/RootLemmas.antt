@@ -1,25 +1,24 @@
 -- What the items of the root tell, one after another, of what is listed in the hidden directory.
-use Rattle.std.proofs.Common.{◌≡◌, inl, inr, ℕ, ◌+◌, ◌<◌, List, [], ◌∷◌, length, drop, get_or, Bool, true, false, ◌||◌, Option, Some, None, IfSome, Result, Ok, Err, suc, refl, sym, ap, subst, ◌∙◌, cond, add-one, drop-cons}
+use Rattle.std.proofs.Common.{◌≡◌, inl, inr, ℕ, ◌+◌, ◌<◌, List, [], ◌∷◌, length, drop, get_or, Bool, true, false, ◌||◌, Option, Some, None, IfSome, Ok, Err, suc, refl, sym, ap, subst, ◌∙◌, cond, add-one, drop-cons}
 use Rattle.std.specs.List.{list_all, list_any}
-use Rattle.rk_base.specs.Text.{Text, root, hidden, join, same_text}
+use Rattle.rk_base.specs.Text.{Text, root, hidden, join}
 use Rattle.rk_base.specs.Canonical.{is_name}
 use Rattle.rk_base.proofs.CanonicalLemmas.{both}
 use Rattle.rk_tree.specs.Entries.{Entries}
-use Rattle.rk_tree.proofs.TextLemmas.{one_of, or_right, same_is, same_itself}
+use Rattle.rk_tree.proofs.TextLemmas.{one_of, or_right, same_is}
 use Rattle.rk_folder.specs.Told.{Held, standing, is_dir, items_of}
 use Rattle.rk_folder.specs.Whole.{IsWhole, TellsWhole}
 use Rattle.rk_folder.specs.Hidden.{hidden_dir}
-use Rattle.rk_folder.specs.Specials.{hidden_fault, hidden_special, state_special}
+use Rattle.rk_folder.specs.Specials.{hidden_fault, state_special}
 use Rattle.rk_folder.specs.Import.{Tells}
 use Rattle.rk_folder.specs.Steps.{ListsRoot, agrees, first_within, hidden_listed, is_dir_item, is_hidden_dir, is_named, item_named, listed_at, listed_by, listed_in, newer, special_in, with_item, with_within}
 use Rattle.rk_folder.specs.declared.hidden_listing.Listed.{Listed}
 use Rattle.rk_folder.specs.declared.folder.Item.{Item}
 use Rattle.rk_folder.specs.declared.folder.Item.TheVariants as item
 use Rattle.rk_folder.specs.declared.folder.Standing.{Standing}
-use Rattle.rk_folder.specs.declared.folder.Standing.TheVariants.{File, Dir, Special}
+use Rattle.rk_folder.specs.declared.folder.Standing.TheVariants.{Dir}
 use Rattle.rk_folder.specs.declared.importing.ImportErr.{ImportErr}
 use Rattle.rk_folder.specs.declared.importing.ImportErr.TheVariants as err
-use Rattle.rk_folder.proofs.FirstLemmas.{clash}
 use Rattle.rk_folder.proofs.HiddenLemmas.{special-hidden}
 use Rattle.rk_folder.proofs.ImportLemmas.{a_dir, item_dir}
 use Rattle.rk_folder.proofs.ListingLemmas.{items-agree}

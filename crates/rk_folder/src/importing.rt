@@ -23,7 +23,7 @@ use crate::hidden_listing::look_at_state;
 use crate::{Folder, FolderErr, Got, Item};
 use rk_attrs::{DIR_MODE, FILE_MODE};
 use rk_base::{Bytes, Name, NoMemory, Path};
-use rk_tree::{Content, Entry, Node, Snapshot};
+use rk_tree::{Content, Entry, Growing};
 use std::alloc::Global;
 
 /// Why a folder wasn't imported.
@@ -111,7 +111,7 @@ fn is_named(name: &[u8], item: &Item) -> bool
 }
 
 /// The first item of this name.
-pub(crate) fn named<'a>(items: &'a [Item], name: &[u8]) -> Option<&'a Item>
+pub fn named<'a>(items: &'a [Item], name: &[u8]) -> Option<&'a Item>
     ensures { option_copied result ≡ steps.item_named name.now items.now }
 {
     for item in items {
@@ -137,25 +137,16 @@ fn is_hidden(path: &Path) -> bool
     path.text() == b"/.rkr".as_slice()
 }
 
-fn is_dir(it: Option<&Node>) -> bool
-    ensures { result ≡ tree.is_dir (option_copied it.entry) }
-{
-    match it {
-        Some(it) => it.is_dir(),
-        None => false,
-    }
-}
-
 // Puts an entry where no directory stands. A folder lists no name twice, but only one that tells what
 // it holds is held to that.
 #[tactic(auto, unfolding(crate::specs::Steps::with_entry))]
-fn lay(snapshot: &mut Snapshot, path: Path, it: Entry) -> Result<(), NoMemory>
+fn lay(alloc: Global, snapshot: &mut Growing, path: Path, it: Entry) -> Result<(), NoMemory>
     ensures { OnOk result (snapshot.new ≡ steps.with_entry path (tree.node_of it) snapshot.old) }
 {
-    if is_dir(snapshot.get(&path)) {
+    if snapshot.is_dir(alloc, &path)? {
         return Ok(());
     }
-    snapshot.put(path, it)?;
+    snapshot.put(alloc, path, it)?;
     Ok(())
 }
 
@@ -165,7 +156,7 @@ fn take_file<F: Folder>(
     folder: &mut F,
     dir: &Path,
     name: &Name,
-    snapshot: &mut Snapshot,
+    snapshot: &mut Growing,
 ) -> Result<(), ImportErr>
     requires agrees { MayCall (F.told folder.old) (λ held. steps.agrees held dir.now (item.File name.now)) }
     requires seen { is_within hidden_dir dir.now ≡ false }
@@ -188,6 +179,7 @@ fn take_file<F: Folder>(
     }
     let import = path.copy()?;
     lay(
+        alloc,
         snapshot,
         path,
         Entry::File(FILE_MODE, Content::Unread(import)),
@@ -203,7 +195,7 @@ fn take_dir<F: Folder>(
     folder: &mut F,
     dir: &Path,
     name: &Name,
-    snapshot: &mut Snapshot,
+    snapshot: &mut Growing,
 ) -> Result<(), ImportErr>
     requires agrees { MayCall (F.told folder.old) (λ held. steps.agrees held dir.now (item.Dir name.now)) }
     requires seen { is_within hidden_dir dir.now ≡ false }
@@ -225,7 +217,7 @@ fn take_dir<F: Folder>(
     if is_hidden(&path) {
         return look_at_state(alloc, folder);
     }
-    lay(snapshot, path.copy()?, Entry::Dir(DIR_MODE))?;
+    lay(alloc, snapshot, path.copy()?, Entry::Dir(DIR_MODE))?;
     take_all(alloc, folder, &path, snapshot)
 }
 
@@ -236,7 +228,7 @@ pub(crate) fn take_item<F: Folder>(
     folder: &mut F,
     dir: &Path,
     item: &Item,
-    snapshot: &mut Snapshot,
+    snapshot: &mut Growing,
 ) -> Result<(), ImportErr>
     requires agrees { MayCall (F.told folder.old) (λ held. steps.agrees held dir.now item.now) }
     requires seen { is_within hidden_dir dir.now ≡ false }
@@ -269,7 +261,7 @@ fn take_items<F: Folder>(
     folder: &mut F,
     dir: &Path,
     items: &[Item],
-    snapshot: &mut Snapshot,
+    snapshot: &mut Growing,
 ) -> Result<(), ImportErr>
     requires agrees { MayCall (F.told folder.old) (λ held. list_all (steps.agrees held dir.now) items.now) }
     requires seen { is_within hidden_dir dir.now ≡ false }
@@ -299,7 +291,7 @@ fn take_all<F: Folder>(
     alloc: Global,
     folder: &mut F,
     dir: &Path,
-    snapshot: &mut Snapshot,
+    snapshot: &mut Growing,
 ) -> Result<(), ImportErr>
     requires lists { MayCall (F.told folder.old) (told.can_list dir.now) }
     requires canonical { is_canonical dir.now ≡ true }

@@ -22,7 +22,7 @@ pub use hidden_files::{
     Hidden, State, attrs_file, db_file, fresh_list_file, hidden_dir, install_file,
 };
 pub use imported::{Imported, import, listed_in_full};
-pub use importing::ImportErr;
+pub use importing::{ImportErr, named};
 pub use memory::MemFolder;
 pub use sink::{MemSink, Sink, SinkErr};
 pub use specials::special_is_first;

@@ -1,4 +1,5 @@
-use Rattle.std.proofs.Common.{◌≡◌, ◌-◌, Option, arith, ap, refl}
+use Rattle.std.proofs.Common.{◌≡◌, ◌-◌, Option, None, IfSome, arith, ap, refl, subst, sym}
+use Rattle.rk_tree.specs.Entries.{Entries}
 use Rattle.rk_folder.proofs.LooksLemmas.{looks-none, root-part}
 use Rattle.rk_base.specs.Text.{depth}
 use Rattle.rk_folder.specs.Import.{listed_of}
@@ -18,8 +19,9 @@ take_root-requires-clause-agrees g c = told-agree_root _ c.in_ok-root.root c.arg
 
 pub returns-in-Ok-clause-told : goal.returns-in-Ok-clause-told
 returns-in-Ok-clause-told g c =
-    told-both (g.F.Folder.told c.args.folder.now) first_special (λ held. c.take_root.new.snapshot ≡ listed_of held) (λ held. c.in-Ok.listed ≡ hidden_listed held)
-    (told-entries _ _ c.in_ok-root.root c.args.items.now c.has_odd.result c.in_ok-entries.entries c.take_root.new.snapshot c.in-Ok.listed refl (g.met.F.Folder.whole c.args.folder.now) c.in_ok-root.ensures c.requires c.in_ok-entries.ensures.entry c.has_odd.ensures c.if-has_odd.false c.in-Ok.ensures.taken)
+    told-both (g.F.Folder.told c.args.folder.now) first_special (λ held. c.in_ok-entries-in-Ok.entries ≡ listed_of held) (λ held. c.in-Ok.listed ≡ hidden_listed held)
+    (subst (λ (s : Entries). IfSome (g.F.Folder.told c.args.folder.now) (λ held. (first_special held ≡ None) × (s ≡ listed_of held))) (sym c.in_ok-entries-in-Ok.ensures)
+    (told-entries _ _ c.in_ok-root.root c.args.items.now c.has_odd.result c.in_ok-entries.entries c.take_root.new.snapshot c.in-Ok.listed refl (g.met.F.Folder.whole c.args.folder.now) c.in_ok-root.ensures c.requires c.in_ok-entries.ensures.entry c.has_odd.ensures c.if-has_odd.false c.in-Ok.ensures.taken))
     (told-root_listed (g.F.Folder.told c.args.folder.now) c.args.items.now c.in-Ok.listed (g.met.F.Folder.whole c.args.folder.now) c.requires c.in-Ok.ensures.listed)
 
 pub returns-clause-told : goal.returns-clause-told
@@ -28,6 +30,11 @@ returns-clause-told g c =
 
 pub returns-in-Ok-clause-looks : goal.returns-in-Ok-clause-looks
 returns-in-Ok-clause-looks g c =
+    let deep : g.F.Folder.reach c.args.folder.now - depth c.in_ok-root.root ≡ g.F.Folder.reach c.args.folder.now = omega (arith, ap depth c.in_ok-root.ensures, root-depth) in
+    root-part (g.F.Folder.told c.args.folder.now) (g.F.Folder.told c.args.folder.now) _ (g.F.Folder.reach c.args.folder.now) c.in_ok-root.root c.args.items.now _ _ refl c.in_ok-root.ensures deep c.take_root.ensures.looks
+
+pub returns-in_err-entries-in-Ok-clause-looks : goal.returns-in_err-entries-in-Ok-clause-looks
+returns-in_err-entries-in-Ok-clause-looks g c =
     let deep : g.F.Folder.reach c.args.folder.now - depth c.in_ok-root.root ≡ g.F.Folder.reach c.args.folder.now = omega (arith, ap depth c.in_ok-root.ensures, root-depth) in
     root-part (g.F.Folder.told c.args.folder.now) (g.F.Folder.told c.args.folder.now) _ (g.F.Folder.reach c.args.folder.now) c.in_ok-root.root c.args.items.now _ _ refl c.in_ok-root.ensures deep c.take_root.ensures.looks
 

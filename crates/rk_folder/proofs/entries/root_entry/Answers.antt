@@ -10,10 +10,10 @@ use Rattle.rk_folder.proofs.entries.root_entry.Goals as goal
 
 pub returns-clause-whole : goal.returns-clause-whole
 returns-clause-whole c =
-    let is : c.put.new.self ≡ root_entry = c.in_ok-put.ensures.ok ∙ ap (λ (s : Entries). insert s c.in_ok-root.field-0 (Dir 493)) c.new-snapshot.ensures ∙ ap (λ (p : Text). insert empty p (Dir 493)) c.in_ok-root.ensures in
+    let is : c.put.new.self ≡ root_entry = c.in_ok-put.ensures ∙ ap (λ (s : Entries). insert s c.in_ok-root.field-0 (Dir 493)) c.new-snapshot.ensures ∙ ap (λ (p : Text). insert empty p (Dir 493)) c.in_ok-root.ensures in
     subst IsWholeSnapshot (sym is) root_entry-whole
 
 pub returns-clause-placed : goal.returns-clause-placed
 returns-clause-placed c =
-    let is : c.put.new.self ≡ root_entry = c.in_ok-put.ensures.ok ∙ ap (λ (s : Entries). insert s c.in_ok-root.field-0 (Dir 493)) c.new-snapshot.ensures ∙ ap (λ (p : Text). insert empty p (Dir 493)) c.in_ok-root.ensures in
+    let is : c.put.new.self ≡ root_entry = c.in_ok-put.ensures ∙ ap (λ (s : Entries). insert s c.in_ok-root.field-0 (Dir 493)) c.new-snapshot.ensures ∙ ap (λ (p : Text). insert empty p (Dir 493)) c.in_ok-root.ensures in
     ap (λ (s : Entries). tree.is_dir (get s root)) is ∙ root_entry-dir

@@ -1,4 +1,4 @@
-use Rattle.std.proofs.Common.{◌≡◌, ℕ, ◌+◌, ◌-◌, List, rules, refl, ap, subst, ◌∙◌, arith}
+use Rattle.std.proofs.Common.{ℕ, ◌-◌, List, rules, subst, arith}
 use Rattle.rk_base.specs.Text.{depth}
 use Rattle.rk_folder.specs.Looks.{LooksInOrder, item_looks, looks_within}
 use Rattle.rk_folder.specs.Told.{Held}

@@ -1,4 +1,4 @@
-use Rattle.std.proofs.Common.{List, Option, Some, sym, ap, ◌∙◌}
+use Rattle.std.proofs.Common.{List, sym, ap, ◌∙◌}
 use Rattle.rk_folder.specs.Hidden.{hidden_dir}
 use Rattle.rk_folder.specs.Steps.{listed_among}
 use Rattle.rk_folder.specs.declared.folder.Item.{Item}
