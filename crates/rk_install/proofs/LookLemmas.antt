@@ -1,26 +1,30 @@
 -- What listings tell of a path, name by name.
-use Rattle.std.proofs.Common.{◌≡◌, ℕ, List, [], ◌∷◌, ◌++◌, Bool, true, false, ◌&&◌, not, cond, Option, Some, None, IfSome, is_some, drop, position, refl, sym, ap, subst, ◌∙◌, append_assoc}
+use Rattle.std.proofs.Common.{◌≡◌, ℕ, List, [], ◌∷◌, ◌++◌, Bool, true, false, ◌&&◌, not, cond, Option, Some, None, IfSome, is_some, drop, option_map, position, refl, sym, ap, subst, ◌∙◌, append_assoc}
 use Rattle.std.specs.List.{list_all, join_with_byte}
 use Rattle.std.proofs.lemmas.Bool.{eqb-true}
 use Rattle.std.proofs.lemmas.List.Splits.{join_with_byte-slice_split}
-use Rattle.rk_base.specs.Text.{Text, is_slash, is_root, root, stem, join, parent, components}
+use Rattle.rk_base.specs.Text.{Text, hidden, is_slash, is_root, root, stem, join, name_of, parent, components}
 use Rattle.rk_base.specs.Canonical.{is_canonical, is_empty, is_name}
 use Rattle.rk_base.proofs.CanonicalLemmas.{both, components_alone, components_first, join-canonical, root-canonical}
-use Rattle.rk_base.proofs.PathLemmas.{join-not_root, parent-join}
+use Rattle.rk_base.proofs.PathLemmas.{join-not_root, parent-join, path-is_cut}
 use Rattle.rk_base.proofs.WithinLemmas.{stem-below}
-use Rattle.rk_folder.specs.Told.{Held, standing, bytes_in, can_hold, can_list, can_make_dir, can_read, can_remove_dir, can_remove_file, can_write, is_dir, is_file, is_file_or_nothing, is_nothing, items_of}
+use Rattle.rk_folder.specs.Told.{Held, standing, bytes_in, can_hold, can_list, can_make_dir, can_remove_dir, can_remove_file, can_write, is_dir, is_file, is_nothing, item_of, items_of}
 use Rattle.rk_folder.specs.Whole.{IsWhole, TellsWhole}
-use Rattle.rk_folder.specs.Hidden.{install_file}
+use Rattle.rk_folder.specs.Hidden.{hidden_dir, install_file, install_name}
 use Rattle.rk_folder.specs.Calls.{Reads, got_of}
 use Rattle.rk_folder.specs.Looks.{lists, reads, state_listings}
+use Rattle.rk_folder.specs.Steps.{item_named}
 use Rattle.rk_folder.specs.Schedule.{MakesCalls, Schedule}
 use Rattle.rk_folder.proofs.CallsLemmas.{makes-first, makes-same, makes-then, reads-at}
+use Rattle.rk_folder.proofs.HiddenLemmas.{hidden-canonical, hidden-is_name, install-named}
+use Rattle.rk_folder.proofs.ListingLemmas.{item_named-is}
+use Rattle.rk_folder.specs.declared.folder.Item.{Item}
 use Rattle.rk_folder.specs.declared.folder.Got.{Got}
 use Rattle.rk_folder.specs.declared.folder.Got.TheVariants.{Content, Absent}
 use Rattle.rk_folder.specs.declared.folder.Standing.{Standing}
 use Rattle.rk_folder.specs.declared.folder.Standing.TheVariants as standing
-use Rattle.rk_install.specs.Looks.{content_of, is_dir_place, is_file_place, is_free_place, lists_down, may_hold, place_at, place_below, place_of}
-use Rattle.rk_install.specs.Recovery.{seal_looks, sealed_in}
+use Rattle.rk_install.specs.Looks.{content_of, is_dir_place, is_file_place, is_free_place, lists_down, may_hold, place_at, place_below, place_by, place_of}
+use Rattle.rk_install.specs.Recovery.{seal_looks}
 use Rattle.rk_install.specs.declared.looking.Place.{Place}
 use Rattle.rk_install.specs.declared.looking.Place.TheVariants.{Nowhere, Free}
 
@@ -178,9 +182,6 @@ first-named name rest names are all = (both (is_name name) _ (ap (list_all is_na
 pub rest-named : (name rest names : Text) → components names ≡ name ∷ components rest → list_all is_name (components names) ≡ true → list_all is_name (components rest) ≡ true
 rest-named name rest names are all = (both (is_name name) _ (ap (list_all is_name) (sym are) ∙ all)).1
 
-pub last-named : (names : Text) → components names ≡ names ∷ [] → list_all is_name (components names) ≡ true → is_name names ≡ true
-last-named names alone all = (both (is_name names) _ (ap (list_all is_name) (sym alone) ∙ all)).0
-
 -- Whether a call is allowed.
 
 file_allowed : (in_dir : Bool) (o : Option Standing) → is_file_place (place_of in_dir o) ≡ is_file o
@@ -251,36 +252,73 @@ told-may_not (Some held) path place b found is off =
     let none : is_dir (standing held path) ≡ false = sym (dir_allowed (is_dir (standing held (parent path))) (standing held path)) ∙ ap is_dir_place (sym found) ∙ sym is ∙ off in
     sym (ap (λ (d : Bool). d && not (is_root path) && is_empty (items_of held path)) none)
 
+-- What a listing of its directory tells of a path.
+
+item_place : (name : Text) (o : Option Standing) → place_by (option_map (item_of name) o) ≡ place_of true o
+item_place name None = refl
+item_place name (Some (standing.File bytes)) = refl
+item_place name (Some standing.Dir) = refl
+item_place name (Some standing.Special) = refl
+
+listed_place : (held : Held) (path : Text) → IsWhole held → is_canonical path ≡ true → is_root path ≡ false → place_by (item_named (name_of path) (items_of held (parent path))) ≡ place_of true (standing held path)
+listed_place held path whole c r =
+    let cut = path-is_cut path c r in
+    ap place_by (item_named-is held (parent path) (name_of path) whole cut.dir cut.name)
+    ∙ item_place (name_of path) (standing held (join (parent path) (name_of path)))
+    ∙ ap (λ (p : Text). place_of true (standing held p)) cut.whole
+
+pub told-listed : (told : Option Held) (path dir name : Text) (items same : List Item) (found : Option Item) (place : Place) → TellsWhole told → is_canonical path ≡ true → is_root path ≡ false → dir ≡ parent path → name ≡ name_of path → IfSome told (λ held. items ≡ items_of held dir) → same ≡ items → found ≡ item_named name same → place ≡ place_by found
+    → IfSome told (λ held. place ≡ place_of true (standing held path))
+told-listed None path dir name items same found place whole c r at called are is first so = tt
+told-listed (Some held) path dir name items same found place whole c r at called are is first so =
+    so ∙ ap place_by (first ∙ ap (λ (n : Text). item_named n same) called ∙ ap (item_named (name_of path)) (is ∙ are ∙ ap (items_of held) at)) ∙ listed_place held path whole c r
+
 -- The sealed list.
 
-file_read : (o : Option Standing) → is_file o ≡ true → is_file_or_nothing o ≡ true
-file_read None h = cc
-file_read (Some (standing.File bytes)) h = refl
-file_read (Some standing.Dir) h = cc
-file_read (Some standing.Special) h = cc
+hidden-parent : parent hidden_dir ≡ root
+hidden-parent = parent-join root hidden root-canonical hidden-is_name
 
-no_bytes : (o : Option Standing) → is_file o ≡ false → bytes_in o ≡ None
-no_bytes None h = refl
-no_bytes (Some (standing.File bytes)) h = cc
-no_bytes (Some standing.Dir) h = refl
-no_bytes (Some standing.Special) h = refl
+install-parent : parent install_file ≡ hidden_dir
+install-parent = parent-join hidden_dir install_name hidden-canonical install-named
 
-reads_seal : (told : Option Held) (path : Text) (place : Place) (b : Bool) → Found told path place → b ≡ is_file_place place → b ≡ true → IfSome told (λ held. can_read path held ≡ true)
-reads_seal None path place b found is on = tt
-reads_seal (Some held) path place b found is on =
-    file_read (standing held path) (sym (file_allowed (is_dir (standing held (parent path))) (standing held path)) ∙ ap is_file_place (sym found) ∙ sym is ∙ on)
+pub install-canonical : is_canonical install_file ≡ true
+install-canonical = join-canonical hidden_dir install_name hidden-canonical install-named
 
-pub told-reads_seal : (now told : Option Held) (path : Text) (place : Place) (b : Bool) → now ≡ told → Found told path place → b ≡ is_file_place place → b ≡ true → IfSome now (λ held. can_read path held ≡ true)
-told-reads_seal now told path place b same found is on = moved-told (λ held. can_read path held ≡ true) told now (sym same) (reads_seal told path place b found is on)
+-- the directory `.rkr`
+pub hidden-below_root : is_root hidden_dir ≡ false
+unfolding join
+hidden-below_root = refl
 
-pub told-seal : (now told : Option Held) (path : Text) (bytes : Option Text) → now ≡ told → path ≡ install_file → IfSome now (λ held. bytes ≡ bytes_in (standing held path)) → IfSome told (λ held. bytes ≡ sealed_in held)
-told-seal now told path bytes same at is =
-    moved-told (λ held. bytes ≡ sealed_in held) now told same (subst (λ (p : Text). IfSome now (λ held. bytes ≡ bytes_in (standing held p))) at is)
+pub told-hidden_listed : (told : Option Held) (dir : Text) → TellsWhole told → dir ≡ hidden_dir → IfSome told (λ held. can_list (parent dir) held ≡ true)
+told-hidden_listed None dir whole at = tt
+told-hidden_listed (Some held) dir whole at = ap (λ (p : Text). can_list (parent p) held) at ∙ ap (λ (p : Text). can_list p held) hidden-parent ∙ whole.root_dir
 
-pub told-no_seal : (told : Option Held) (path : Text) (place : Place) (b : Bool) → path ≡ install_file → Found told path place → b ≡ is_file_place place → b ≡ false → IfSome told (λ held. None ≡ sealed_in held)
-told-no_seal None path place b at found is off = tt
-told-no_seal (Some held) path place b at found is off =
-    sym (ap (λ (p : Text). bytes_in (standing held p)) (sym at) ∙ no_bytes (standing held path) (sym (file_allowed (is_dir (standing held (parent path))) (standing held path)) ∙ ap is_file_place (sym found) ∙ sym is ∙ off))
+is_hidden_dir : (held : Held) (dir : Text) (place : Place) (b : Bool) → dir ≡ hidden_dir → place ≡ place_of true (standing held dir) → b ≡ is_dir_place place → is_dir (standing held hidden_dir) ≡ b
+is_hidden_dir held dir place b at found is = ap (λ (p : Text). is_dir (standing held p)) (sym at) ∙ sym (dir_place (standing held dir)) ∙ ap is_dir_place (sym found) ∙ sym is
+
+-- it is a directory
+seal_listed : (told : Option Held) (path dir : Text) (place : Place) (b : Bool) → path ≡ install_file → dir ≡ hidden_dir → IfSome told (λ held. place ≡ place_of true (standing held dir)) → b ≡ is_dir_place place → b ≡ true → IfSome told (λ held. can_list (parent path) held ≡ true)
+seal_listed None path dir place b in_dir at found is on = tt
+seal_listed (Some held) path dir place b in_dir at found is on =
+    ap (λ (p : Text). can_list (parent p) held) in_dir ∙ ap (λ (p : Text). can_list p held) install-parent ∙ is_hidden_dir held dir place b at found is ∙ on
+
+pub told-seal_listed : (now told : Option Held) (path dir : Text) (place : Place) (b : Bool) → now ≡ told → path ≡ install_file → dir ≡ hidden_dir → IfSome told (λ held. place ≡ place_of true (standing held dir)) → b ≡ is_dir_place place → b ≡ true
+    → IfSome now (λ held. can_list (parent path) held ≡ true)
+told-seal_listed now told path dir place b same in_dir at found is on = moved-told (λ held. can_list (parent path) held ≡ true) told now (sym same) (seal_listed told path dir place b in_dir at found is on)
+
+-- it is none
+pub told-no_hidden_dir : (told : Option Held) (dir : Text) (place : Place) (b : Bool) → TellsWhole told → dir ≡ hidden_dir → IfSome told (λ held. place ≡ place_of true (standing held dir)) → b ≡ is_dir_place place → b ≡ false → IfSome told (λ held. false ≡ is_file (standing held install_file))
+told-no_hidden_dir None dir place b whole at found is off = tt
+told-no_hidden_dir (Some held) dir place b whole at found is off =
+    sym (ap is_file (none_in held install_file whole (ap (λ (p : Text). is_dir (standing held p)) install-parent ∙ is_hidden_dir held dir place b at found is ∙ off)))
+
+-- whether it stands
+seal_stands : (told : Option Held) (path : Text) (place : Place) (b : Bool) → path ≡ install_file → IfSome told (λ held. place ≡ place_of true (standing held path)) → b ≡ is_file_place place → IfSome told (λ held. b ≡ is_file (standing held install_file))
+seal_stands None path place b at found is = tt
+seal_stands (Some held) path place b at found is = is ∙ ap is_file_place found ∙ file_allowed true (standing held path) ∙ ap (λ (p : Text). is_file (standing held p)) at
+
+pub told-seal_stands : (now told : Option Held) (path : Text) (place : Place) (b : Bool) → now ≡ told → path ≡ install_file → IfSome now (λ held. place ≡ place_of true (standing held path)) → b ≡ is_file_place place → IfSome told (λ held. b ≡ is_file (standing held install_file))
+told-seal_stands now told path place b same at found is = moved-told (λ held. b ≡ is_file (standing held install_file)) now told same (seal_stands now path place b at found is)
 
 content_read : (o : Option Standing) (got : Got) → got_of o ≡ Some got → content_of got ≡ bytes_in o
 content_read None got h = ap content_of (sym (some_got h)) where
@@ -316,14 +354,17 @@ pub calls-last : (dir names : Text) (before now : Option Schedule) → component
 calls-last dir names before now alone calls = makes-same (lists dir) (lists_down dir (components names)) before now (sym (ap (lists_down dir) alone)) calls
 
 -- to the sealed list
-install-names : lists_down root (components (drop 1 install_file)) ≡ state_listings
-unfolding join
-install-names = refl
+listings-at : (dir path : Text) → dir ≡ hidden_dir → path ≡ install_file → lists (parent dir) ++ lists (parent path) ≡ state_listings
+listings-at dir path at in_dir = ap (λ (d : Text). lists d ++ lists (parent path)) (ap parent at ∙ hidden-parent) ∙ ap (λ (d : Text). lists root ++ lists d) (ap parent in_dir ∙ install-parent)
 
-pub calls-listed : (path : Text) (before now : Option Schedule) → path ≡ install_file → MakesCalls (lists_down root (components (drop 1 path))) before now → MakesCalls seal_looks before now
-calls-listed path before now at calls =
-    makes-first state_listings (reads install_file) before now (makes-same (lists_down root (components (drop 1 path))) state_listings before now (ap (λ (p : Text). lists_down root (components (drop 1 p))) at ∙ install-names) calls)
+pub calls-root : (dir path : Text) (before now : Option Schedule) → dir ≡ hidden_dir → path ≡ install_file → MakesCalls (lists (parent dir)) before now → MakesCalls state_listings before now
+calls-root dir path before now at in_dir calls = makes-same (lists (parent dir) ++ lists (parent path)) state_listings before now (listings-at dir path at in_dir) (makes-first (lists (parent dir)) (lists (parent path)) before now calls)
 
-pub calls-read : (path : Text) (before on now : Option Schedule) → path ≡ install_file → MakesCalls (lists_down root (components (drop 1 path))) before on → MakesCalls (reads path) on now → MakesCalls seal_looks before now
-calls-read path before on now at calls read =
-    makes-then state_listings (reads install_file) before on now (makes-same (lists_down root (components (drop 1 path))) state_listings before on (ap (λ (p : Text). lists_down root (components (drop 1 p))) at ∙ install-names) calls) (reads-at path install_file on now at read)
+pub calls-hidden : (dir path : Text) (before on now : Option Schedule) → dir ≡ hidden_dir → path ≡ install_file → MakesCalls (lists (parent dir)) before on → MakesCalls (lists (parent path)) on now → MakesCalls state_listings before now
+calls-hidden dir path before on now at in_dir first more = makes-same (lists (parent dir) ++ lists (parent path)) state_listings before now (listings-at dir path at in_dir) (makes-then (lists (parent dir)) (lists (parent path)) before on now first more)
+
+pub calls-listed : (before now : Option Schedule) → MakesCalls state_listings before now → MakesCalls seal_looks before now
+calls-listed before now calls = makes-first state_listings (reads install_file) before now calls
+
+pub calls-read : (path : Text) (before on now : Option Schedule) → path ≡ install_file → MakesCalls state_listings before on → MakesCalls (reads path) on now → MakesCalls seal_looks before now
+calls-read path before on now at calls read = makes-then state_listings (reads install_file) before on now calls (reads-at path install_file on now at read)

@@ -1,14 +1,16 @@
 // What stands at a path, as listings tell it.
-ghost use Rattle.std.specs.Prelude.{◌≡◌, IfSome, option_copied, true};
+ghost use Rattle.std.specs.Prelude.{◌≡◌, IfSome, option_copied, false, true};
 ghost use Rattle.rk_base.specs.Canonical as base;
+ghost use Rattle.rk_base.specs.Canonical.{is_canonical};
+ghost use Rattle.rk_base.specs.Text.{is_root, parent};
 ghost use Rattle.rk_folder.specs.Told.{bytes_in, can_list, can_read, items_of, standing};
 ghost use Rattle.rk_folder.specs.Looks.{lists, reads};
 ghost use Rattle.rk_folder.specs.Schedule.{MakesCalls};
-ghost use Rattle.rk_install.specs.Looks.{Tells, ReadCaused, MemoryCounted, Steadily, content_of, is_dir_place, is_file_place, is_free_place, place_by};
+ghost use Rattle.rk_install.specs.Looks.{Tells, ReadCaused, MemoryCounted, Steadily, content_of, is_dir_place, is_file_place, is_free_place, place_by, place_of};
 ghost use Rattle.rk_install.specs.declared.looking.LookErr.TheVariants as err;
 
 use rk_base::{Bytes, NoMemory, Path};
-use rk_folder::{Folder, FolderErr, Got, Item};
+use rk_folder::{Folder, FolderErr, Got, Item, named};
 use std::alloc::Global;
 
 /// Why a look told nothing.
@@ -110,6 +112,28 @@ pub(crate) fn listed<F: Folder>(
         Err(FolderErr::Failed) => Err(LookErr::ReadFault),
         Err(FolderErr::NoMemory) => Err(LookErr::NoMemory),
     }
+}
+
+/// What stands at a path, which isn't the root, by a listing of the directory that it is in.
+pub(crate) fn place_listed<F: Folder>(
+    alloc: Global,
+    folder: &mut F,
+    path: &Path,
+) -> Result<Place, LookErr>
+    requires canonical { is_canonical path.now ≡ true }
+    requires below_root { is_root path.now ≡ false }
+    requires dir { IfSome (F.told folder.old) (λ held. can_list (parent path.now) held ≡ true) }
+    ensures told { Tells (F.told folder.old) (λ held place. place ≡ place_of true (standing held path.now)) result }
+    ensures cause { ReadCaused (F.read_faults folder.old) (F.read_faults folder.new) result }
+    ensures memory { MemoryCounted (F.memory_failures folder.old) (F.memory_failures folder.new) result }
+    ensures steady { Steadily (F.steady folder.old) (F.steady folder.new) result }
+    ensures held { F.told folder.new ≡ F.told folder.old }
+    ensures writes { F.write_faults folder.new ≡ F.write_faults folder.old }
+    ensures calls { MakesCalls (lists (parent path.now)) (F.schedule folder.old) (F.schedule folder.new) }
+{
+    let dir = path.parent()?;
+    let items = listed(alloc, folder, &dir)?;
+    Ok(place_by(named(&items, path.name())))
 }
 
 fn is_empty(items: &[Item]) -> bool

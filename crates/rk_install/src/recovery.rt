@@ -1,6 +1,7 @@
 // Finishing a sealed list of calls.
 ghost use Rattle.std.specs.Prelude.{◌≡◌, Some, None, IfSome, OnOk, OnErr, option_map, true};
 ghost use Rattle.rk_folder.specs.Hidden as hidden;
+ghost use Rattle.rk_folder.specs.Looks.{state_listings};
 ghost use Rattle.rk_folder.specs.Schedule.{MakesCalls};
 ghost use Rattle.rk_folder.specs.Told.{is_file, standing};
 ghost use Rattle.rk_seal.specs.Ops.{are_calls};
@@ -11,13 +12,31 @@ ghost use Rattle.rk_install.specs.Recovery.{ReadCaused, WriteCaused, MemoryCount
 
 use crate::fault::{RecoverErr, of_codec};
 use crate::finishing::{finish, make};
-use crate::knowing::Known;
-use crate::looking::{LookErr, bytes_of};
-use crate::places::place_at;
-use rk_base::Bytes;
-use rk_folder::{Folder, install_file};
+use crate::looking::{LookErr, bytes_of, place_listed};
+use rk_base::{Bytes, Path};
+use rk_folder::{Folder, hidden_dir, install_file};
 use rk_seal::{InstallList, Op, decode};
 use std::alloc::Global;
+
+// Whether a file stands at this path, that of the sealed list, in a directory `.rkr`.
+fn is_sealed<F: Folder>(alloc: Global, folder: &mut F, path: &Path) -> Result<bool, LookErr>
+    requires { path.now ≡ hidden.install_file }
+    ensures told { looks.Tells (F.told folder.old) (λ held is. is ≡ is_file (standing held hidden.install_file)) result }
+    ensures cause { looks.ReadCaused (F.read_faults folder.old) (F.read_faults folder.new) result }
+    ensures memory { looks.MemoryCounted (F.memory_failures folder.old) (F.memory_failures folder.new) result }
+    ensures steady { looks.Steadily (F.steady folder.old) (F.steady folder.new) result }
+    ensures held { F.told folder.new ≡ F.told folder.old }
+    ensures writes { F.write_faults folder.new ≡ F.write_faults folder.old }
+    ensures calls { MakesCalls state_listings (F.schedule folder.old) (F.schedule folder.new) }
+{
+    let dir = hidden_dir(alloc)?;
+    let place = place_listed(alloc, folder, &dir)?;
+    if !place.is_dir() {
+        return Ok(false);
+    }
+    let place = place_listed(alloc, folder, path)?;
+    Ok(place.is_file())
+}
 
 // The bytes of the sealed list; `None` where no file `install` stands in a directory `.rkr`.
 fn sealed<F: Folder>(alloc: Global, folder: &mut F) -> Result<Option<Bytes>, LookErr>
@@ -30,9 +49,7 @@ fn sealed<F: Folder>(alloc: Global, folder: &mut F) -> Result<Option<Bytes>, Loo
     ensures calls { MakesCalls seal_looks (F.schedule folder.old) (F.schedule folder.new) }
 {
     let path = install_file(alloc)?;
-    let mut known = Known::new(alloc);
-    let place = place_at(alloc, folder, &mut known, &path)?;
-    if !place.is_file() {
+    if !is_sealed(alloc, folder, &path)? {
         return Ok(None);
     }
     let bytes = bytes_of(alloc, folder, &path)?;
