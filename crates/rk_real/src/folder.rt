@@ -4,7 +4,7 @@ ghost use Rattle.rk_base.specs.Text.{depth};
 ghost use Rattle.rk_folder.specs.Calls.{Caused, MemoryCaused};
 
 use crate::lasting::{Unsynced, dir_of, is_seal, is_sealing};
-use crate::listing::{RootListing, items_at};
+use crate::listing::Listings;
 use crate::reading::content;
 use rk_base::Path;
 use rk_folder::{Folder, FolderErr, Got, Item};
@@ -25,7 +25,7 @@ pub struct RealFolder<R: Files + AllocGlobal + Drop> {
     rt: R,
     top: String,
     unsynced: Unsynced,
-    root: RootListing,
+    listings: Listings,
     read_faults: u64,
     write_faults: u64,
     memory_failures: u64,
@@ -54,23 +54,12 @@ fn make_anew(rt: &impl Files, place: &str, mode: Permissions, bytes: &[u8]) -> i
     fs::set_permissions(rt, place, mode)
 }
 
-// What has another name too keeps its bytes there.
-fn put_content(rt: &impl Files, place: &str, bytes: &[u8]) -> io::Result<()> {
-    match fs::symlink_metadata(rt, place) {
-        Ok(it) if !it.is_file() => Err(io::Error::from(ErrorKind::InvalidInput)),
-        Ok(it) if it.nlink() > 1 => make_anew(rt, place, it.permissions(), bytes),
-        Ok(_) => overwrite(rt, place, bytes),
-        Err(e) if e.kind() == ErrorKind::NotFound => overwrite(rt, place, bytes),
-        Err(e) => Err(e),
-    }
-}
-
 fn list_in(
     rt: &impl Files,
     alloc: Global,
     top: &str,
     unsynced: &mut Unsynced,
-    root: &mut RootListing,
+    listings: &mut Listings,
     dir: &Path,
 ) -> io::Result<Vec<Item>>
     ensures { OnOk result (depth dir.now ≤ 4096) }
@@ -80,14 +69,10 @@ fn list_in(
     }
     let place = place_of(alloc, top, dir)?;
     unsynced.add_listed(alloc, place.as_str())?;
-    if dir.is_root() {
-        let items = root.items(rt, alloc, place.as_str())?;
-        return Ok(items);
+    if !dir.is_root() && dir.text() != b"/.rkr".as_slice() {
+        listings.forget_root();
     }
-    if dir.text() != b"/.rkr".as_slice() {
-        root.forget();
-    }
-    let items = items_at(rt, alloc, place.as_str())?;
+    let items = listings.items(rt, alloc, dir, place.as_str())?;
     Ok(items)
 }
 
@@ -97,13 +82,14 @@ fn read_in(
     alloc: Global,
     top: &str,
     unsynced: &mut Unsynced,
+    listings: &Listings,
     file: &Path,
 ) -> io::Result<Got> {
     let place = place_of(alloc, top, file)?;
     if is_seal(file) {
         unsynced.set_finishes(true);
     }
-    content(rt, alloc, place.as_str())
+    content(rt, alloc, place.as_str(), listings.file_id(file))
 }
 
 // The answer of a call. Each error but want of memory is a fault.
@@ -133,11 +119,12 @@ impl<R: Files + AllocGlobal + Drop> RealFolder<R> {
     /// The folder whose root is this directory.
     pub fn new(rt: R, top: String) -> RealFolder<R> {
         let unsynced = Unsynced::new(rt.alloc());
+        let listings = Listings::new(rt.alloc());
         RealFolder {
             rt,
             top,
             unsynced,
-            root: RootListing::new(),
+            listings,
             read_faults: 0,
             write_faults: 0,
             memory_failures: 0,
@@ -152,6 +139,7 @@ fn to_change(alloc: Global, top: &str, path: &Path, unsynced: &mut Unsynced) -> 
     Ok(place)
 }
 
+// What has another name too keeps its bytes there. A file that stands keeps its name, so that its directory needn't be synced.
 fn write_in(
     rt: &impl Files,
     alloc: Global,
@@ -160,9 +148,21 @@ fn write_in(
     file: &Path,
     bytes: &[u8],
 ) -> io::Result<()> {
-    let place = to_change(alloc, top, file, unsynced)?;
+    let place = place_of(alloc, top, file)?;
     unsynced.add_file(alloc, place.as_str())?;
-    put_content(rt, place.as_str(), bytes)
+    match fs::symlink_metadata(rt, place.as_str()) {
+        Ok(it) if !it.is_file() => Err(io::Error::from(ErrorKind::InvalidInput)),
+        Ok(it) if it.nlink() > 1 => {
+            unsynced.add_dir(alloc, dir_of(place.as_str()))?;
+            make_anew(rt, place.as_str(), it.permissions(), bytes)
+        }
+        Ok(_) => overwrite(rt, place.as_str(), bytes),
+        Err(e) if e.kind() == ErrorKind::NotFound => {
+            unsynced.add_dir(alloc, dir_of(place.as_str()))?;
+            overwrite(rt, place.as_str(), bytes)
+        }
+        Err(e) => Err(e),
+    }
 }
 
 fn make_dir_in(
@@ -184,12 +184,12 @@ fn remove_file_in(
     unsynced: &mut Unsynced,
     file: &Path,
 ) -> io::Result<()> {
-    let place = to_change(alloc, top, file, unsynced)?;
     if !is_sealing(file) {
+        let place = to_change(alloc, top, file, unsynced)?;
         return fs::remove_file(rt, place.as_str());
     }
     unsynced.settle(rt)?;
-    unsynced.add_dir(alloc, dir_of(place.as_str()))?;
+    let place = to_change(alloc, top, file, unsynced)?;
     fs::remove_file(rt, place.as_str())?;
     if is_seal(file) {
         unsynced.set_finishes(false);
@@ -247,20 +247,27 @@ impl<R: Files + AllocGlobal + Drop> Folder for RealFolder<R> {
             alloc,
             self.top.as_str(),
             &mut self.unsynced,
-            &mut self.root,
+            &mut self.listings,
             dir,
         );
         answer(items, &mut self.read_faults, &mut self.memory_failures)
     }
 
     fn read(&mut self, alloc: Global, file: &Path) -> Result<Got, FolderErr> {
-        self.root.forget();
-        let got = read_in(&self.rt, alloc, self.top.as_str(), &mut self.unsynced, file);
+        self.listings.forget_root();
+        let got = read_in(
+            &self.rt,
+            alloc,
+            self.top.as_str(),
+            &mut self.unsynced,
+            &self.listings,
+            file,
+        );
         answer(got, &mut self.read_faults, &mut self.memory_failures)
     }
 
     fn write(&mut self, alloc: Global, file: &Path, bytes: &[u8]) -> Result<(), FolderErr> {
-        self.root.forget();
+        self.listings.forget_root();
         let done = write_in(
             &self.rt,
             alloc,
@@ -273,25 +280,25 @@ impl<R: Files + AllocGlobal + Drop> Folder for RealFolder<R> {
     }
 
     fn make_dir(&mut self, alloc: Global, dir: &Path) -> Result<(), FolderErr> {
-        self.root.forget();
+        self.listings.forget_root();
         let done = make_dir_in(&self.rt, alloc, self.top.as_str(), &mut self.unsynced, dir);
         answer(done, &mut self.write_faults, &mut self.memory_failures)
     }
 
     fn remove_file(&mut self, alloc: Global, file: &Path) -> Result<(), FolderErr> {
-        self.root.forget();
+        self.listings.forget_root();
         let done = remove_file_in(&self.rt, alloc, self.top.as_str(), &mut self.unsynced, file);
         answer(done, &mut self.write_faults, &mut self.memory_failures)
     }
 
     fn remove_dir(&mut self, alloc: Global, dir: &Path) -> Result<(), FolderErr> {
-        self.root.forget();
+        self.listings.forget_root();
         let done = remove_dir_in(&self.rt, alloc, self.top.as_str(), &mut self.unsynced, dir);
         answer(done, &mut self.write_faults, &mut self.memory_failures)
     }
 
     fn rename(&mut self, alloc: Global, from: &Path, to: &Path) -> Result<(), FolderErr> {
-        self.root.forget();
+        self.listings.forget_root();
         let done = rename_in(
             &self.rt,
             alloc,

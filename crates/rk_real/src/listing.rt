@@ -1,10 +1,13 @@
-// What a real directory lists, and the listing of the root, which a request asks for twice.
+// What real directories list. A request lists the root, and `.rkr`, to look for a sealed list, and then the root again to
+// import it; and a file that was listed is opened when it is read, so that no name has to be looked at twice.
 use crate::reading::all_bytes;
-use rk_base::{Name, NoMemory, PathFault};
+use rk_base::{Name, NoMemory, Path, PathFault};
 use rk_folder::Item;
 use std::alloc::Global;
-use std::fs::Files;
+use std::collections::BTreeMap;
+use std::fs::{Files, Metadata};
 use std::io::ErrorKind;
+use std::os::unix::fs::MetadataExt;
 use std::{fs, io, str};
 
 /// A directory has at most so many names.
@@ -13,31 +16,74 @@ const MOST_NAMES: usize = 1 << 20;
 /// A listing is about so long.
 const LISTING: usize = 1 << 12;
 
+/// Which file it is, whatever its names are: its device and its serial number there, which identify it in the system (XBD
+/// `<sys/stat.h>`).
+#[derive(Clone, Copy, PartialEq, Eq)]
+pub(crate) struct FileId {
+    device: u64,
+    serial: u64,
+}
+
+impl FileId {
+    pub(crate) fn of(it: &Metadata) -> FileId {
+        FileId {
+            device: it.dev(),
+            serial: it.ino(),
+        }
+    }
+}
+
+// A file that was listed.
+#[derive(Drop)]
+struct ListedFile {
+    name: Name,
+    id: FileId,
+}
+
+// What a directory lists, ascending by names, and which files are among it.
+#[derive(Drop)]
+struct Listing {
+    items: Vec<Item>,
+    files: Vec<ListedFile>,
+    has_odd: bool,
+}
+
+fn no_memory() -> io::Error {
+    io::Error::from(ErrorKind::OutOfMemory)
+}
+
 // The name of a real file, where it is one.
 fn name_of(alloc: Global, bytes: &[u8]) -> io::Result<Option<Name>> {
     match Name::new(alloc, bytes) {
         Ok(name) => Ok(Some(name)),
         Err(PathFault::Invalid) => Ok(None),
-        Err(PathFault::NoMemory) => Err(io::Error::from(ErrorKind::OutOfMemory)),
+        Err(PathFault::NoMemory) => Err(no_memory()),
+    }
+}
+
+fn name_again(name: &Name) -> io::Result<Name> {
+    match name.copy() {
+        Ok(name) => Ok(name),
+        Err(NoMemory) => Err(no_memory()),
     }
 }
 
 // What stands at a name in the directory at this place.
-fn item_at(rt: &impl Files, alloc: Global, place: &str, bytes: &[u8]) -> io::Result<Item> {
-    let (Some(name), Ok(text)) = (name_of(alloc, bytes)?, str::from_utf8(bytes)) else {
-        return Ok(Item::Odd);
-    };
+fn metadata_in(rt: &impl Files, alloc: Global, place: &str, name: &str) -> io::Result<Metadata> {
     let mut below = String::from_str(alloc, place)?;
     below.push_str("/")?;
-    below.push_str(text)?;
-    let it = fs::symlink_metadata(rt, below.as_str())?;
-    Ok(if it.is_file() {
+    below.push_str(name)?;
+    fs::symlink_metadata(rt, below.as_str())
+}
+
+fn item_of(name: Name, it: &Metadata) -> Item {
+    if it.is_file() {
         Item::File(name)
     } else if it.is_dir() {
         Item::Dir(name)
     } else {
         Item::Special(name)
-    })
+    }
 }
 
 // The names in a listing, each ended by a NUL, ascending and without `.` and `..`.
@@ -55,37 +101,47 @@ fn sorted_names(alloc: Global, listing: &[u8]) -> io::Result<Vec<&[u8]>> {
     Ok(names)
 }
 
-// What stands in the directory at a place. The place has no last slash, so that a link that was put there is not followed.
-pub(crate) fn items_at(rt: &impl Files, alloc: Global, place: &str) -> io::Result<Vec<Item>> {
-    let mut dir = rt.open_dir(place)?;
-    let listing = all_bytes(alloc, &mut dir, LISTING, None)?;
-    let mut items = Vec::new(alloc);
-    let mut odd = false;
-    for name in &sorted_names(alloc, &listing)? {
-        match item_at(rt, alloc, place, name)? {
-            Item::Odd => odd = true,
-            item => items.push(item)?,
+impl Listing {
+    // A name of the directory at this place.
+    fn put(&mut self, rt: &impl Files, alloc: Global, place: &str, bytes: &[u8]) -> io::Result<()> {
+        let (Some(name), Ok(text)) = (name_of(alloc, bytes)?, str::from_utf8(bytes)) else {
+            self.has_odd = true;
+            return Ok(());
+        };
+        let it = metadata_in(rt, alloc, place, text)?;
+        if it.is_file() {
+            let name = name_again(&name)?;
+            let id = FileId::of(&it);
+            self.files.push(ListedFile { name, id })?;
         }
+        self.items.push(item_of(name, &it))?;
+        Ok(())
     }
-    if odd {
-        items.push(Item::Odd)?;
+
+    // What stands in the directory at a place. The place has no last slash, so that a link that was put there is not followed.
+    fn at(rt: &impl Files, alloc: Global, place: &str) -> io::Result<Listing> {
+        let mut dir = rt.open_dir(place)?;
+        let names = all_bytes(alloc, &mut dir, LISTING, None)?;
+        let mut listing = Listing {
+            items: Vec::new(alloc),
+            files: Vec::new(alloc),
+            has_odd: false,
+        };
+        for name in &sorted_names(alloc, &names)? {
+            listing.put(rt, alloc, place, name)?;
+        }
+        if listing.has_odd {
+            listing.items.push(Item::Odd)?;
+        }
+        Ok(listing)
     }
-    Ok(items)
 }
 
-/// What the root was listed as. A request lists the root, and `.rkr`, to look for a sealed list, and then the root again to
-/// import it: it is told the same once more where nothing but a listing of `.rkr` was asked between, so that each name is
-/// looked at once.
-#[derive(Drop)]
-pub(crate) struct RootListing {
-    items: Option<Vec<Item>>,
-}
-
-fn copy_of(item: &Item) -> Result<Item, NoMemory> {
+fn copy_of(item: &Item) -> io::Result<Item> {
     match item {
-        Item::File(name) => Ok(Item::File(name.copy()?)),
-        Item::Dir(name) => Ok(Item::Dir(name.copy()?)),
-        Item::Special(name) => Ok(Item::Special(name.copy()?)),
+        Item::File(name) => Ok(Item::File(name_again(name)?)),
+        Item::Dir(name) => Ok(Item::Dir(name_again(name)?)),
+        Item::Special(name) => Ok(Item::Special(name_again(name)?)),
         Item::Odd => Ok(Item::Odd),
     }
 }
@@ -93,36 +149,72 @@ fn copy_of(item: &Item) -> Result<Item, NoMemory> {
 fn copies(alloc: Global, items: &[Item]) -> io::Result<Vec<Item>> {
     let mut copies = Vec::new(alloc);
     for item in items {
-        match copy_of(item) {
-            Ok(copy) => copies.push(copy)?,
-            Err(_) => return Err(io::Error::from(ErrorKind::OutOfMemory)),
-        }
+        copies.push(copy_of(item)?)?;
     }
     Ok(copies)
 }
 
-impl RootListing {
-    pub(crate) fn new() -> RootListing {
-        RootListing { items: None }
+/// What directories were listed as.
+#[derive(Drop)]
+pub(crate) struct Listings {
+    // The root is told the same once more where nothing but a listing of `.rkr` was asked since.
+    root: Option<Vec<Item>>,
+    // The files of each directory, by its path.
+    files: BTreeMap<Vec<u8>, Vec<ListedFile>>,
+}
+
+impl Listings {
+    pub(crate) fn new(alloc: Global) -> Listings {
+        Listings {
+            root: None,
+            files: BTreeMap::new(alloc),
+        }
     }
 
-    /// What the root at this place is listed as.
+    /// What the directory at this path and place is listed as.
     pub(crate) fn items(
         &mut self,
         rt: &impl Files,
         alloc: Global,
+        dir: &Path,
         place: &str,
     ) -> io::Result<Vec<Item>> {
-        if let Some(items) = self.items.take() {
+        if !dir.is_root() {
+            return self.items_anew(rt, alloc, dir, place);
+        }
+        if let Some(items) = self.root.take() {
             return Ok(items);
         }
-        let items = items_at(rt, alloc, place)?;
-        self.items = Some(copies(alloc, &items)?);
+        let items = self.items_anew(rt, alloc, dir, place)?;
+        self.root = Some(copies(alloc, &items)?);
         Ok(items)
     }
 
-    /// Something else was asked.
-    pub(crate) fn forget(&mut self) {
-        self.items = None;
+    fn items_anew(
+        &mut self,
+        rt: &impl Files,
+        alloc: Global,
+        dir: &Path,
+        place: &str,
+    ) -> io::Result<Vec<Item>> {
+        let Listing { items, files, .. } = Listing::at(rt, alloc, place)?;
+        let _ = self
+            .files
+            .insert(Vec::from_slice(alloc, dir.text())?, files)?;
+        Ok(items)
+    }
+
+    /// Which file was listed at this path, where one was.
+    pub(crate) fn file_id(&self, file: &Path) -> Option<FileId> {
+        let files = self.files.get(file.parent_text())?;
+        let i = files
+            .binary_search_by(|it| it.name.as_slice().cmp(file.name()))
+            .ok()?;
+        Some(files.get(i)?.id)
+    }
+
+    /// Something else was asked: the root is listed anew.
+    pub(crate) fn forget_root(&mut self) {
+        self.root = None;
     }
 }

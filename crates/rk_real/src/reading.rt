@@ -1,8 +1,9 @@
 // What a real file holds.
+use crate::listing::FileId;
 use rk_base::Bytes;
 use rk_folder::{Got, LONGEST_FILE};
 use std::alloc::Global;
-use std::fs::{File, Files};
+use std::fs::{File, Files, OpenFile};
 use std::io::{ErrorKind, Read};
 use std::{fs, io};
 
@@ -38,26 +39,61 @@ pub(crate) fn all_bytes(
     Err(io::Error::from(ErrorKind::FileTooLarge))
 }
 
+// The bytes of an open file that has so many. One that is too long is told by its length, before it is read.
+fn content_of(alloc: Global, file: &mut impl Read, length: u64) -> io::Result<Got> {
+    if length > LONGEST_FILE {
+        return Err(io::Error::from(ErrorKind::FileTooLarge));
+    }
+    let length = length as usize;
+    let bytes = all_bytes(alloc, file, length, Some(length))?;
+    match Bytes::new(alloc, bytes) {
+        Ok(bytes) => Ok(Got::Content(bytes)),
+        Err(_) => Err(io::Error::from(ErrorKind::OutOfMemory)),
+    }
+}
+
 // Nothing stands at a path, be it that what is before it is a file.
 fn is_absent(e: &io::Error) -> bool {
     matches!(e.kind(), ErrorKind::NotFound | ErrorKind::NotADirectory)
 }
 
-/// What is read of a file. One that is too long is told by its length, before it is read.
-pub(crate) fn content(rt: &impl Files, alloc: Global, place: &str) -> io::Result<Got> {
+// What is read at a place. Only a file is opened.
+fn content_at(rt: &impl Files, alloc: Global, place: &str) -> io::Result<Got> {
     match fs::symlink_metadata(rt, place) {
         Ok(it) if !it.is_file() => Err(io::Error::from(ErrorKind::InvalidInput)),
-        Ok(it) if it.len() > LONGEST_FILE => Err(io::Error::from(ErrorKind::FileTooLarge)),
         Ok(it) => {
             let mut file = File::open(rt, place)?;
-            let length = it.len() as usize;
-            let bytes = all_bytes(alloc, &mut file, length, Some(length))?;
-            match Bytes::new(alloc, bytes) {
-                Ok(bytes) => Ok(Got::Content(bytes)),
-                Err(_) => Err(io::Error::from(ErrorKind::OutOfMemory)),
-            }
+            content_of(alloc, &mut file, it.len())
         }
         Err(e) if is_absent(&e) => Ok(Got::Absent),
         Err(e) => Err(e),
+    }
+}
+
+// This file, and how many bytes it has, where it still stands at its place.
+fn opened<R: Files>(rt: &R, place: &str, id: FileId) -> Option<(R::File, u64)> {
+    let file = File::open(rt, place).ok()?;
+    let it = file.metadata().ok()?;
+    if it.is_file() && FileId::of(&it) == id {
+        Some((file, it.len()))
+    } else {
+        None
+    }
+}
+
+/// What is read at a place, where this file was listed, if one was. It is opened first, and then it is told whether it is that
+/// file; anything else is looked at before it is opened.
+pub(crate) fn content(
+    rt: &impl Files,
+    alloc: Global,
+    place: &str,
+    listed: Option<FileId>,
+) -> io::Result<Got> {
+    let Some(id) = listed else {
+        return content_at(rt, alloc, place);
+    };
+    match opened(rt, place, id) {
+        Some((mut file, length)) => content_of(alloc, &mut file, length),
+        None => content_at(rt, alloc, place),
     }
 }
