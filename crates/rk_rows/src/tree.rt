@@ -8,15 +8,16 @@ use rk_steps::{
     Subject, behind, flag, kind_shown, mode, name_of, names_shown, number, number_shown, path_of,
     plain, refusal_shown, shown, text, word,
 };
-use rk_tree::{Content, Entry, Node, NodeId, Refused, Snapshot, Tree};
+use rk_tree::{Content, Entry, Growing, Node, NodeId, Refused, Snapshot, Tree};
 use std::alloc::Global;
 
-/// A tree, and a snapshot that is put together by itself.
+/// A tree, a snapshot that is put together by itself, and one that grows.
 #[derive(Drop)]
 pub(crate) struct Grown {
     alloc: Global,
     tree: Tree,
     snapshot: Snapshot,
+    growing: Growing,
 }
 
 // The path of a word, and the root where it is none.
@@ -232,6 +233,7 @@ impl Grown {
             alloc,
             tree: Tree::new(alloc)?,
             snapshot: Snapshot::new(alloc),
+            growing: Growing::new(alloc),
         })
     }
 
@@ -326,6 +328,30 @@ impl Grown {
         }
     }
 
+    fn grow(&mut self, path: Option<Path>, it: Entry) -> Result<String, NoMemory> {
+        match path {
+            Some(path) => {
+                self.growing.put(self.alloc, path, it)?;
+                plain(self.alloc, "done")
+            }
+            None => plain(self.alloc, "no path"),
+        }
+    }
+
+    fn is_dir(&mut self, path: Option<Path>) -> Result<String, NoMemory> {
+        match path {
+            Some(path) => flag(self.alloc, self.growing.is_dir(self.alloc, &path)?),
+            None => plain(self.alloc, "no path"),
+        }
+    }
+
+    // The snapshot that grew, and another one begins.
+    fn grown(&mut self) -> Result<String, NoMemory> {
+        let alloc = self.alloc;
+        let growing = std::mem::replace(&mut self.growing, Growing::new(alloc));
+        snapshot_shown(alloc, &growing.finish(alloc)?)
+    }
+
     /// The tree, in whose place the root alone stands then.
     pub(crate) fn take(&mut self) -> Result<Tree, NoMemory> {
         let tree = Tree::new(self.alloc)?;
@@ -361,6 +387,8 @@ impl Grown {
         match text(words, 0) {
             "put" => self.put(path, entry_of(self.alloc, behind(behind(words)))?),
             "get" => self.get(path),
+            "grow" => self.grow(path, entry_of(self.alloc, behind(behind(words)))?),
+            "is-dir" => self.is_dir(path),
             _ => self.same(path, entry_of(self.alloc, behind(behind(words)))?),
         }
     }
@@ -395,7 +423,8 @@ impl Subject for Grown {
             "root" => number_shown(alloc, Some(tree.root().number())),
             "show" => snapshot_shown(alloc, &tree.snapshot()?),
             "rows" => snapshot_shown(alloc, &self.snapshot),
-            "put" | "get" | "is" => self.snapshot_step(words),
+            "put" | "get" | "is" | "grow" | "is-dir" => self.snapshot_step(words),
+            "grown" => self.grown(),
             _ => self.change(words),
         }
     }
