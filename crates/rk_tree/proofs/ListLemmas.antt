@@ -1,7 +1,7 @@
 -- The names in a directory.
-use Rattle.std.proofs.Common.{◌≡◌, inl, inr, ℕ, suc, List, [], ◌∷◌, Bool, true, false, cond, if◌then◌else◌, ◌&&◌, Option, Some, None, refl, sym, ap, subst, ◌∙◌, map}
+use Rattle.std.proofs.Common.{◌≡◌, inl, inr, ℕ, suc, List, [], ◌∷◌, Bool, true, false, cond, if◌then◌else◌, ◌&&◌, Option, Some, None, Result, Ok, Err, Vec, Global, refl, sym, ap, subst, ◌∙◌, map}
 use lib.Dec.{T}
-use Rattle.std.specs.Prelude.{slice_get}
+use Rattle.std.specs.Prelude.{All, IfOk, slice_get, slice_index_or}
 use Rattle.std.specs.List.{cons_option, filter_map, list_all}
 use Rattle.std.specs.Option.{option_and_then}
 use Rattle.std.specs.declared.cmp.Ordering.{Ordering}
@@ -15,16 +15,17 @@ use Rattle.rk_base.specs.Names.{ascend, ascend_from, are_names}
 use Rattle.rk_base.proofs.PathLemmas.{is_in-join, join-is_in}
 use Rattle.rk_tree.specs.declared.inode.Inode.{Inode}
 use Rattle.rk_tree.specs.Entries.{is_dir}
-use Rattle.rk_tree.specs.Hierarchy.{Hierarchy, Paths, node, path_of, names, names_at, name_in}
+use Rattle.rk_tree.specs.Hierarchy.{Hierarchy, Paths, node, path_of, names, names_at, name_in, child}
 use Rattle.rk_tree.specs.Inodes.{names_in, under, hierarchy_of, AreAttached}
+use Rattle.rk_tree.specs.Rows.{IsRowOf}
 use Rattle.rk_tree.specs.Whole.{IsWhole}
 use Rattle.rk_tree.proofs.BelowLemmas.{none_some, row_stands}
 use Rattle.rk_tree.proofs.CompareLemmas.{cmp-front}
 use Rattle.rk_tree.proofs.HierarchyLemmas.{dir_path, path_stands}
-use Rattle.rk_tree.proofs.RowsLemmas.{and_both, and_first, and_second, is_yes}
+use Rattle.rk_tree.proofs.RowsLemmas.{all_rows, and_both, and_first, and_second, is_yes}
 use Rattle.rk_tree.proofs.ShownLemmas.{Steps}
 use Rattle.rk_tree.proofs.TextLemmas.{exact_texts, told_apart}
-use Rattle.rk_tree.proofs.UnderLemmas.{none_of}
+use Rattle.rk_tree.proofs.UnderLemmas.{child-under, none_of}
 
 -- They are names, and ascend.
 
@@ -79,6 +80,10 @@ no_list given tree dir whole is none = nothing (none ∙ ap (λ (b : Bool). cond
   nothing e = cc
 
 -- They are what the directory's node has.
+
+pub if_rows : {E : Type 0} (r : Result (Vec (Text × ℕ) Global) E) (all : List (Text × ℕ)) (P : List (Text × ℕ) → Type 0) → ((rows : List (Text × ℕ)) → rows ≡ all → P rows) → IfOk r (λ rows. rows.items ≡ all) → IfOk r (λ rows. P rows.items)
+if_rows (Ok rows) all P h is = h rows.items is
+if_rows (Err e) all P h is = is
 
 abbrev row_in : Text → Text × ℕ → Option (Text × ℕ)
 row_in dir row = if is_in dir row.0 then Some (name_of row.0, row.1) else None
@@ -169,3 +174,13 @@ module _ (paths : Paths) (nodes : List Inode) (whole : IsWhole (hierarchy_of pat
 
   pub none-read : (read : List Inode) (tree : Hierarchy) → read ≡ nodes → hierarchy_of paths nodes ≡ tree → is_empty (entries (names_in (slice_get read n))) ≡ is_empty (names tree n)
   none-read read tree is view = empty_names (entries (names_in (slice_get read n))) ∙ ap (λ (ts : List Text). is_empty ts) (names-read read tree is view)
+
+  -- each name with the number under it
+  pub rows-read : (read : List Inode) (tree : Hierarchy) → read ≡ nodes → hierarchy_of paths nodes ≡ tree → (rows : List (Text × ℕ)) → rows ≡ entries (names_in (slice_get read n)) → (map (λ (row : Text × ℕ). row.0) rows ≡ names tree n) × All (λ (row : Text × ℕ). Some row.1 ≡ child tree n row.0) rows
+  rows-read read tree is view rows are = (
+    ap (map (λ (row : Text × ℕ). row.0)) are ∙ names-read read tree is view,
+    λ k row_else within.
+        let row = slice_index_or rows k row_else in
+        sym (subst (λ (rs : List (Text × ℕ)). All (IsRowOf (names_in (slice_get read n))) rs) (sym are) (all_rows (names_in (slice_get read n))) k row_else within)
+        ∙ ap (λ (ns : List Inode). under ns n row.0) is ∙ child-under paths nodes whole step attached n row.0 d ∙ ap (λ (h : Hierarchy). child h n row.0) view,
+  )

@@ -12,7 +12,7 @@ use Rattle.std.specs.Bool.{IsTrue}
 use Rattle.std.specs.List.{All, AllByRecursion, list_all}
 use Rattle.std.specs.Map.{KeepsOthers, lookup}
 use Rattle.std.specs.FinMap.Entries.{below_all, by_order, find-put, put}
-use Rattle.std.specs.FinMap.{empty, entries, find, get, insert, keys, remove, get-empty, get-entries, get-insert, get-remove, is_sorted}
+use Rattle.std.specs.FinMap.{empty, entries, find, get, insert, remove, get-empty, get-entries, get-insert, get-remove, is_sorted}
 use Rattle.rk_base.specs.Text.{Text, text_cmp}
 use Rattle.rk_base.specs.Canonical.{is_empty, is_name}
 use Rattle.rk_base.specs.Faults.{Reads}
@@ -135,11 +135,7 @@ all_named rows (e ∷ more) h found =
     ap (λ (b : Bool). b && list_all is_name (texts more)) (h e.0.items e.1 (get_named rows e.0.items ∙ found 0 e (omega arith)))
     ∙ all_named rows more h (λ k d lt. found (suc k) d (omega arith))
 
--- The names, one by one.
-
-keys_named : (rows : List (Key × ℕ)) → map (λ (row : Text × ℕ). row.0) (named rows) ≡ texts rows
-keys_named [] = refl
-keys_named (row ∷ rows) = ap (λ (ts : List Text). row.0.items ∷ ts) (keys_named rows)
+-- The rows, one by one.
 
 below_named : (key : Key) (rows : List (Key × ℕ)) → AllByRecursion (λ k. by_items key k ≡ Less) (map (λ (row : Key × ℕ). row.0) rows) → T (below_all text_cmp key.items (named rows))
 below_named key [] h = tt
@@ -150,19 +146,30 @@ unfolding IsStrictlySortedBy
 sorted_named [] h = tt
 sorted_named (row ∷ rows) h = and_both _ _ (below_named row.0 rows h.0) (sorted_named rows h.1)
 
-pub keys_are : (rows : List (Key × ℕ)) (m : Paths) → map_of (named rows) ≡ m → IsStrictlySortedBy by_items (map (λ (row : Key × ℕ). row.0) rows) → texts rows ≡ keys m
-keys_are rows m view h = sym (keys_named rows) ∙ ap (map (λ (row : Text × ℕ). row.0)) (sym (entries-sorted_map (named rows) (sorted_named rows h))) ∙ ap (λ (p : Paths). keys p) view
+pub rows_are : (rows : List (Key × ℕ)) (m : Paths) → map_of (named rows) ≡ m → IsStrictlySortedBy by_items (map (λ (row : Key × ℕ). row.0) rows) → named rows ≡ entries m
+rows_are rows m view h = sym (entries-sorted_map (named rows) (sorted_named rows h)) ∙ ap (λ (p : Paths). entries p) view
 
--- a name goes from what is left to what is done
-pub one_more : (done more all : List Text) (left rest : List (Key × ℕ)) (row : Key × ℕ) (name : Text) → done ++ texts left ≡ all → left ≡ row ∷ rest → more ≡ done ++ name ∷ [] → name ≡ row.0.items → more ++ texts rest ≡ all
+-- a row goes from what is left to what is done
+pub one_more : (done more all : List (Text × ℕ)) (left rest : List (Key × ℕ)) (row : Key × ℕ) (name : Text) → done ++ named left ≡ all → left ≡ row ∷ rest → more ≡ done ++ (name, row.1) ∷ [] → name ≡ row.0.items → more ++ named rest ≡ all
 one_more done more all left rest row name before steps is text =
-    ap (λ (ts : List Text). ts ++ texts rest) is ∙ append_assoc done (name ∷ []) (texts rest) ∙ ap (λ (t : Text). done ++ t ∷ texts rest) text ∙ ap (λ (rows : List (Key × ℕ)). done ++ texts rows) (sym steps) ∙ before
+    ap (λ (rows : List (Text × ℕ)). rows ++ named rest) is ∙ append_assoc done ((name, row.1) ∷ []) (named rest) ∙ ap (λ (t : Text). done ++ (t, row.1) ∷ named rest) text ∙ ap (λ (rows : List (Key × ℕ)). done ++ named rows) (sym steps) ∙ before
 
 pub is_named : (left rest : List (Key × ℕ)) (row : Key × ℕ) → list_all is_name (texts left) ≡ true → left ≡ row ∷ rest → (is_name row.0.items ≡ true) × (list_all is_name (texts rest) ≡ true)
 is_named left rest row named steps = both _ _ (ap (λ (rows : List (Key × ℕ)). list_all is_name (texts rows)) (sym steps) ∙ named)
 
-pub all_done : (done all : List Text) (left : List (Key × ℕ)) → done ++ texts left ≡ all → left ≡ [] → done ≡ all
-all_done done all left before none = sym (append-nil done) ∙ ap (λ (rows : List (Key × ℕ)). done ++ texts rows) (sym none) ∙ before
+pub all_done : (done all : List (Text × ℕ)) (left : List (Key × ℕ)) → done ++ named left ≡ all → left ≡ [] → done ≡ all
+all_done done all left before none = sym (append-nil done) ∙ ap (λ (rows : List (Key × ℕ)). done ++ named rows) (sym none) ∙ before
+
+-- the names of rows
+abbrev pub first_of : List (Text × ℕ) → List Text
+first_of rows = map (λ (row : Text × ℕ). row.0) rows
+
+pub one_name : (done more all : List Text) (left rest : List (Text × ℕ)) (row : Text × ℕ) → done ++ first_of left ≡ all → left ≡ row ∷ rest → more ≡ done ++ row.0 ∷ [] → more ++ first_of rest ≡ all
+one_name done more all left rest row before steps is =
+    ap (λ (names : List Text). names ++ first_of rest) is ∙ append_assoc done (row.0 ∷ []) (first_of rest) ∙ ap (λ (rows : List (Text × ℕ)). done ++ first_of rows) (sym steps) ∙ before
+
+pub all_names : (done all : List Text) (left : List (Text × ℕ)) → done ++ first_of left ≡ all → left ≡ [] → done ≡ all
+all_names done all left before none = sym (append-nil done) ∙ ap (λ (rows : List (Text × ℕ)). done ++ first_of rows) (sym none) ∙ before
 
 -- a name is read as one
 pub no_fault : (text name : Text) (fault : PathFault) → text ≡ name → is_name name ≡ true → Reads (is_name text) text (Err fault) → fault ≡ Invalid → ⊥

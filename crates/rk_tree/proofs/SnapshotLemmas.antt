@@ -16,7 +16,7 @@ use Rattle.rk_tree.specs.Hierarchy.{Hierarchy, top, node, number_at, path_of, ch
 use Rattle.rk_tree.specs.Copies.{put_found, snapshot_of}
 use Rattle.rk_tree.specs.Copying.{put_dir, put_name, put_names}
 use Rattle.rk_tree.specs.Whole.{IsWhole}
-use Rattle.rk_tree.proofs.BelowLemmas.{child_at, names-at, row_of}
+use Rattle.rk_tree.proofs.BelowLemmas.{child_at, child_named, names-at, row_of}
 use Rattle.rk_tree.proofs.CopiesLemmas.{get-snapshot_of}
 use Rattle.rk_tree.proofs.HierarchyLemmas.{dir_path}
 use Rattle.rk_tree.proofs.RowsLemmas.{insert_cases, same_maps}
@@ -40,12 +40,12 @@ module _ {A B : Type 0} (f : B → A → B) (first : B) (items : List A) where
 abbrev pub entry_of : Hierarchy → Text → Option Node
 entry_of tree q = option_and_then (node tree) (number_at tree q)
 
--- the code's look-up of a name in a directory
-pub found_child : (tree : Hierarchy) (dir n : ℕ) (path name : Text) → is_name name ≡ true → path_of tree dir ≡ Some path → Some n ≡ child tree dir name → entry_of tree (join path name) ≡ node tree n
-found_child tree dir n path name named at is = ap (option_and_then (node tree)) (sym (child_at tree dir path name named at) ∙ sym is)
+-- what stands under a name of a directory is put by its number
+abbrev pub put_child : Hierarchy → Text → Entries → Text × ℕ → Entries
+put_child tree path snapshot row = put_name tree path snapshot row.0
 
-pub found_none : (tree : Hierarchy) (dir : ℕ) (path name : Text) → is_name name ≡ true → path_of tree dir ≡ Some path → None ≡ child tree dir name → entry_of tree (join path name) ≡ None
-found_none tree dir path name named at is = ap (option_and_then (node tree)) (sym (child_at tree dir path name named at) ∙ sym is)
+pub found_child : (tree : Hierarchy) (dir : ℕ) (path : Text) (row : Text × ℕ) → path_of tree dir ≡ Some path → Some row.1 ≡ child tree dir row.0 → entry_of tree (join path row.0) ≡ node tree row.1
+found_child tree dir path row at is = ap (option_and_then (node tree)) (sym (child_at tree dir path row.0 (child_named tree dir row.0 row.1 (sym is)) at) ∙ sym is)
 
 -- The directories below a number, one after another.
 

@@ -118,6 +118,20 @@ pub(crate) fn names_of(alloc: Global, nodes: &[Inode], n: NodeId) -> Result<Vec<
     }
 }
 
+/// The names of a node, ascending, each with its number.
+pub(crate) fn rows_of(
+    alloc: Global,
+    nodes: &[Inode],
+    n: NodeId,
+) -> Result<Vec<(Name, NodeId)>, NoMemory>
+    ensures { IfOk result (λ rows. rows.items ≡ entries (names_in (slice_get nodes.now n))) }
+{
+    match nodes.get(n.number()) {
+        None => Ok(Vec::new(alloc)),
+        Some(inode) => inode.names.rows(alloc),
+    }
+}
+
 /// A name of a node stands for a number, in the place of what it stood for.
 pub(crate) fn put_name(
     alloc: Global,

@@ -36,6 +36,18 @@ impl Model for Names {
     ghost invariant = { λ n. (name : Text) (k : ℕ) → map.get (map_of (named n.rows.entries)) name ≡ Some k → is_name name ≡ true };
 }
 
+// The name of these bytes.
+fn name_of(alloc: Global, text: &[u8]) -> Result<Name, NoMemory>
+    requires { is_name text.now ≡ true }
+    ensures { IfOk result (λ name. name ≡ text.now) }
+{
+    match Name::new(alloc, text) {
+        Ok(name) => Ok(name),
+        Err(PathFault::Invalid) => unreachable!(),
+        Err(PathFault::NoMemory) => Err(NoMemory),
+    }
+}
+
 impl Names {
     /// No names.
     pub(crate) fn new(alloc: Global) -> Names
@@ -79,18 +91,23 @@ impl Names {
         let _ = self.rows.remove(name.as_slice());
     }
 
+    /// The names, ascending, each with its number.
+    pub(crate) fn rows(&self, alloc: Global) -> Result<Vec<(Name, NodeId)>, NoMemory>
+        ensures { IfOk result (λ rows. rows.items ≡ entries self.now) }
+    {
+        let mut rows = Vec::new(alloc);
+        for (name, n) in &self.rows {
+            rows.push((name_of(alloc, name.as_slice())?, *n))?;
+        }
+        Ok(rows)
+    }
+
     /// The names, ascending.
     pub(crate) fn list(&self, alloc: Global) -> Result<Vec<Name>, NoMemory>
         ensures { IfOk result (λ names. names.items ≡ keys self.now) }
     {
-        let mut names = Vec::new(alloc);
-        for (name, _) in &self.rows {
-            match Name::new(alloc, name.as_slice()) {
-                Ok(name) => names.push(name)?,
-                Err(PathFault::Invalid) => unreachable!(),
-                Err(PathFault::NoMemory) => return Err(NoMemory),
-            }
-        }
+        let rows = self.rows(alloc)?;
+        let names = rows.into_iter().map(|(name, _)| name).collect(alloc)?;
         Ok(names)
     }
 }

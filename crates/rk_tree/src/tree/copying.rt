@@ -1,5 +1,5 @@
 // Snapshots of trees, and trees of snapshots.
-ghost use Rattle.std.specs.Prelude.{◌≡◌, IfOk, MatchBool, OnOk, option_copied, true, Some};
+ghost use Rattle.std.specs.Prelude.{◌≡◌, All, IfOk, map, MatchBool, OnOk, option_copied, true, Some};
 ghost use Rattle.std.specs.FinMap.{get, insert};
 ghost use Rattle.rk_base.specs.Text.{root};
 ghost use Rattle.rk_tree.specs.Copies.{put_found, snapshot_of, tree_of};
@@ -10,6 +10,7 @@ ghost use Rattle.rk_tree.specs.Node.{Dir};
 ghost use Rattle.rk_tree.specs.Rows.{map_of};
 ghost use Rattle.rk_tree.specs.Whole.{IsWhole};
 
+use crate::inode::rows_of;
 use crate::{Entry, Node, NodeId, Snapshot, Tree};
 use rk_base::{Name, NoMemory, Path};
 use std::alloc::Global;
@@ -45,6 +46,15 @@ fn put_number(
 }
 
 impl Tree {
+    // The names in a directory, ascending, each with the node under it.
+    fn children(&self, dir: NodeId) -> Result<Vec<(Name, NodeId)>, NoMemory>
+        requires { is_dir (hierarchy.node self.now dir) ≡ true }
+        ensures names { IfOk result (λ rows. map (λ row. row.0) rows.items ≡ hierarchy.names self.now dir) }
+        ensures numbers { IfOk result (λ rows. All (λ row. Some row.1 ≡ hierarchy.child self.now dir row.0) rows.items) }
+    {
+        rows_of(*self.nodes.allocator(), self.nodes.as_slice(), dir)
+    }
+
     // What stands under the names of a directory.
     fn put_names(
         &self,
@@ -57,13 +67,10 @@ impl Tree {
         ensures { OnOk result (made_of rows.new.items ≡ put_names self.now dir (made_of rows.old.items) (Some path.now)) }
     {
         let alloc = *self.nodes.allocator();
-        let names = self.names(dir)?;
-        for name in &names {
+        let children = self.children(dir)?;
+        for (name, n) in &children {
             let path = path.join(alloc, name)?;
-            match self.child(dir, name.as_slice()) {
-                None => {}
-                Some(n) => put_found(rows, path, self.look(n))?,
-            }
+            put_found(rows, path, self.look(*n))?;
         }
         Ok(())
     }
