@@ -1,3 +1,4 @@
+pub mod AscendingLemmas
 pub mod BelowLemmas
 pub mod ChangedLemmas
 pub mod ClimbingLemmas

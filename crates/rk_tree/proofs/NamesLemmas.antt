@@ -1,6 +1,7 @@
 -- The names in a directory, by the words of a `BTreeMap`.
-use Rattle.std.proofs.Common.{◌≡◌, inl, inr, ℕ, List, [], ◌∷◌, Bool, true, false, cond, length, Some, None, Err, refl, sym, ap, subst, ◌∙◌, append-nil, append_assoc, map, Vec, Global, ◌&&◌, ◌++◌, suc, arith}
+use Rattle.std.proofs.Common.{◌≡◌, inl, inr, ℕ, List, [], ◌∷◌, Bool, true, false, cond, length, Option, Some, None, Result, Ok, Err, refl, sym, ap, subst, ◌∙◌, append-nil, append_assoc, map, Vec, Global, ◌&&◌, ◌++◌, suc, arith}
 use lib.Dec.{T}
+use Rattle.std.specs.Prelude.{MatchOption, OnOk, OnErr}
 use Rattle.std.specs.Ordering.{eq_by_cmp, is_eq, is_lt, match_ordering}
 use Rattle.std.specs.declared.cmp.Ordering.{Ordering}
 use Rattle.std.specs.declared.cmp.Ordering.TheVariants.{Less, Equal, Greater}
@@ -50,8 +51,21 @@ names-insert m name n h named q k at = elim (insert_cases m name n q) [
 pub names-remove : (m : Paths) (name : Text) → AreNames m → AreNames (remove m name)
 names-remove m name h q k at = h q k (stood_there m name q k at).1
 
+-- after a put, done or refused
+pub names-put : {A E : Type 0} (r : Result A E) (old new : Paths) (name : Text) (n : ℕ) → OnOk r (new ≡ insert old name n) → OnErr r (new ≡ old) → AreNames old → is_name name ≡ true → AreNames new
+names-put (Ok x) old new name n done refused h named = subst AreNames (sym done) (names-insert old name n h named)
+names-put (Err e) old new name n done refused h named = subst AreNames (sym refused) h
+
 abbrev pub Key : Type 0
 Key = Vec ℕ Global
+
+-- a name that is handed back, or none
+pub none_back : (o : Option Key) (P : Type 0) (Q : Key → Type 0) → ((key : Key) → o ≡ Some key → ⊥) → MatchOption o P Q → P
+none_back None P Q not h = h
+none_back (Some key) P Q not h = absurd (not key refl)
+
+pub handed_back : (o : Option Key) (key : Key) (P : Type 0) (Q : Key → Type 0) → o ≡ Some key → MatchOption o P Q → Q key
+handed_back o key P Q is h = subst (λ (o : Option Key). MatchOption o P Q) is h
 
 -- the bytes of each key
 abbrev pub texts : List (Key × ℕ) → List Text
@@ -159,17 +173,6 @@ is_named left rest row named steps = both _ _ (ap (λ (rows : List (Key × ℕ))
 
 pub all_done : (done all : List (Text × ℕ)) (left : List (Key × ℕ)) → done ++ named left ≡ all → left ≡ [] → done ≡ all
 all_done done all left before none = sym (append-nil done) ∙ ap (λ (rows : List (Key × ℕ)). done ++ named rows) (sym none) ∙ before
-
--- the names of rows
-abbrev pub first_of : List (Text × ℕ) → List Text
-first_of rows = map (λ (row : Text × ℕ). row.0) rows
-
-pub one_name : (done more all : List Text) (left rest : List (Text × ℕ)) (row : Text × ℕ) → done ++ first_of left ≡ all → left ≡ row ∷ rest → more ≡ done ++ row.0 ∷ [] → more ++ first_of rest ≡ all
-one_name done more all left rest row before steps is =
-    ap (λ (names : List Text). names ++ first_of rest) is ∙ append_assoc done (row.0 ∷ []) (first_of rest) ∙ ap (λ (rows : List (Text × ℕ)). done ++ first_of rows) (sym steps) ∙ before
-
-pub all_names : (done all : List Text) (left : List (Text × ℕ)) → done ++ first_of left ≡ all → left ≡ [] → done ≡ all
-all_names done all left before none = sym (append-nil done) ∙ ap (λ (rows : List (Text × ℕ)). done ++ first_of rows) (sym none) ∙ before
 
 -- a name is read as one
 pub no_fault : (text name : Text) (fault : PathFault) → text ≡ name → is_name name ≡ true → Reads (is_name text) text (Err fault) → fault ≡ Invalid → ⊥

@@ -1,3 +1,4 @@
+pub mod Ascending
 pub mod Content
 pub mod Copies
 pub mod Copying

@@ -1,6 +1,7 @@
 //! The tree of a world, which node stands at each path, and snapshots of it.
 #![tactic(auto)]
 
+mod ascending;
 mod beside;
 mod content;
 mod entry;
