@@ -1,6 +1,7 @@
 // What reading leaves, mark by mark.
 ghost use Rattle.std.specs.Prelude.{◌≡◌, ◌∷◌, ◌++◌, [], OnOk, MatchOption};
-ghost use Rattle.sh_grammar.specs.Marks.{mark_named};
+ghost use Rattle.sh_grammar.specs.Named.{rule_named};
+ghost use Rattle.sh_grammar.specs.Marks.{node, leaf, mark_named};
 
 use crate::rule::Rule;
 use rk_base::{Bytes, NoMemory};
@@ -42,22 +43,23 @@ impl Marks {
         }
     }
 
-    /// One mark more, at the end.
-    #[tactic(auto, using(crate::proofs::Gathering::with_node, crate::proofs::Gathering::with_leaf))]
-    pub fn push(&mut self, mark: Mark) -> Result<(), NoMemory>
-        ensures { OnOk result (self.new ≡ self.old ++ (mark_named mark ∷ [])) }
+    /// A rule's mark more, at the end.
+    #[tactic(auto, using(crate::proofs::Gathering::with_node))]
+    pub fn push_node(&mut self, rule: Rule) -> Result<(), NoMemory>
+        ensures { OnOk result (self.new ≡ self.old ++ (node (rule_named rule) ∷ [])) }
     {
-        match mark {
-            Mark::Node(rule) => {
-                self.rules.push(Some(rule))?;
-                Ok(())
-            }
-            Mark::Leaf(text) => {
-                self.texts.push(text)?;
-                self.rules.push(None)?;
-                Ok(())
-            }
-        }
+        self.rules.push(Some(rule))?;
+        Ok(())
+    }
+
+    /// A token's mark more, at the end: its text.
+    #[tactic(auto, using(crate::proofs::Gathering::with_leaf))]
+    pub fn push_leaf(&mut self, text: Bytes) -> Result<(), NoMemory>
+        ensures { OnOk result (self.new ≡ self.old ++ (leaf text ∷ [])) }
+    {
+        self.texts.push(text)?;
+        self.rules.push(None)?;
+        Ok(())
     }
 
     /// Takes the last mark; `None` exactly where there are none.

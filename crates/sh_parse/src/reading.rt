@@ -16,7 +16,7 @@ use crate::ahead::{Found, length_ahead, look_for};
 use crate::source::{ParseErr, Source};
 use crate::todo::{Todo, push_all};
 use rk_base::Bytes;
-use sh_grammar::{Mark, Marks, Part, Rule, Symbol, choose, same_kind, spelling};
+use sh_grammar::{Marks, Part, Rule, Symbol, choose, same_kind, spelling};
 use sh_lex::mode_of;
 use sh_rules::TokenKind;
 use std::alloc::Global;
@@ -53,7 +53,7 @@ fn length_of<S: Source>(s: &S, kind: TokenKind, ahead: Option<Found>) -> Option<
 fn put_leaf(marks: &mut Marks, text: Bytes) -> Result<(), ParseErr>
     ensures { MatchResult result (λ _. marks.new ≡ marks.old ++ (leaf_mark text ∷ [])) (λ e. e ≡ ParseErr.Memory) }
 {
-    match marks.push(Mark::Leaf(text)) {
+    match marks.push_leaf(text) {
         Err(_) => Err(ParseErr::Memory),
         Ok(()) => Ok(()),
     }
@@ -84,7 +84,7 @@ fn leaf<S: Source>(
 fn expand(rule: Rule, todo: &mut Todo, marks: &mut Marks) -> Result<(), ParseErr>
     ensures { MatchResult result (λ _. (marks.new ≡ marks.old ++ (node_mark (rule_named rule) ∷ [])) × (todo.new ≡ spelling_lem (rule_named rule) ++ todo.old)) (λ e. e ≡ ParseErr.Memory) }
 {
-    match marks.push(Mark::Node(rule)) {
+    match marks.push_node(rule) {
         Err(_) => Err(ParseErr::Memory),
         Ok(()) => match push_all(todo, spelling(rule)) {
             Err(_) => Err(ParseErr::Memory),
