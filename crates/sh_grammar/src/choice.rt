@@ -122,11 +122,11 @@ fn choices(part: Part) -> &'static [(Begins, Rule)]
             (Begins::Anything, Rule::Unpiped),
         ],
         Part::Command => &[
-            (Begins::Compound, Rule::Compound),
+            (Begins::Token(TokenKind::CommandText), Rule::Named),
             (Begins::Token(TokenKind::FunctionName), Rule::Function),
             (Begins::Token(TokenKind::Assignment), Rule::Assigned),
+            (Begins::Compound, Rule::Compound),
             (Begins::Redirect, Rule::Redirected),
-            (Begins::Token(TokenKind::CommandText), Rule::Named),
             (Begins::Quoted, Rule::QuotedName),
         ],
         Part::Compound => &[
