@@ -9,7 +9,6 @@ use Rattle.sh_rules.specs.Rules.{Rule, spelling}
 use Rattle.sh_rules.specs.Modes.{mode_of, mode}
 use Rattle.sh_rules.specs.Choosing.{choose}
 use Rattle.sh_grammar.specs.declared.spelled.Symbol as ds
-use Rattle.sh_grammar.specs.declared.spelled.Symbol.TheVariants as dv
 use Rattle.sh_grammar.specs.Named.{symbol_named}
 use Rattle.sh_grammar.specs.Marks.{Mark, node, leaf}
 use Rattle.sh_token.specs.Places.{Place, size}
@@ -23,7 +22,7 @@ use Rattle.sh_rules.proofs.Alternatives.{chosen_part}
 use Rattle.sh_script.proofs.Fewer.{chosen_fewer}
 use Rattle.sh_script.proofs.Turning.{keeps_taken, fewer_taken, halts_deep, halts_want, keeps_chosen, halts_none, halts_unwanted, whole_stuck}
 use Rattle.sh_parse.specs.Tokens.{Took}
-use Rattle.sh_parse.specs.Turns.{Halted, reached, Turns, StopsBy}
+use Rattle.sh_parse.specs.Turns.{Halted, Reached, reached, Turns, StopsBy}
 use Rattle.sh_parse.specs.declared.source.ParseErr.{ParseErr}
 use Rattle.sh_parse.specs.declared.source.ParseErr.TheVariants as stop
 
@@ -43,14 +42,18 @@ turn_taken kind n ss marks marks' p q text (Ok x) h k s m =
     )
 turn_taken kind n ss marks marks' p q text (Err e) h k s m = not_expanded (Want kind) p q e m
 
-pub turn_chosen : (n : Part) (kind : TokenKind) (length : ℕ) (r : Rule) (ss todo : List (Symbol TokenKind Part)) (marks marks' : List Mark) (p : Place) → Some (kind, length) ≡ look (mode n) p → Some r ≡ choose n kind → marks' ≡ marks ++ (node r ∷ []) → todo ≡ spelling r ++ ss → Keeps (Do n ∷ ss) marks p todo marks' p × Fewer (Do n ∷ ss) p todo p
-turn_chosen n kind length r ss todo marks marks' p h c m t =
+goes_on : (n : Part) (kind : TokenKind) (length : ℕ) (r : Rule) (ss todo : List (Symbol TokenKind Part)) (marks marks' : List Mark) (p : Place) → Some (kind, length) ≡ look (mode n) p → Some r ≡ choose n kind → marks' ≡ marks ++ (node r ∷ []) → todo ≡ spelling r ++ ss → Keeps (Do n ∷ ss) marks p todo marks' p × Fewer (Do n ∷ ss) p todo p
+goes_on n kind length r ss todo marks marks' p h c m t =
     let e = chosen_part n kind r c in
     let k : Keeps (Do n ∷ ss) marks p (spelling r ++ ss) (marks ++ (node r ∷ [])) p = keeps_chosen r kind length ss marks p n e (sym h) (sym c) in
     let f : Fewer (Do n ∷ ss) p (spelling r ++ ss) p = subst (λ n. Fewer (Do n ∷ ss) p (spelling r ++ ss) p) e (chosen_fewer r ss (size p)) in (
       subst (λ ms. Keeps (Do n ∷ ss) marks p todo ms p) (sym m) (subst (λ td. Keeps (Do n ∷ ss) marks p td (marks ++ (node r ∷ [])) p) (sym t) k),
       subst (λ td. Fewer (Do n ∷ ss) p td p) (sym t) f,
     )
+
+pub turn_chosen : {X : Type 0} (n : Part) (kind : TokenKind) (length : ℕ) (r : Rule) (ss todo : List (Symbol TokenKind Part)) (marks marks' : List Mark) (p : Place) (done : Result X ParseErr) → Some (kind, length) ≡ look (mode n) p → Some r ≡ choose n kind → MatchResult done (λ _. (marks' ≡ marks ++ (node r ∷ [])) × (todo ≡ spelling r ++ ss)) (λ e. e ≡ stop.Memory) → Turns (Do n) (reached ss marks p) (reached todo marks' p) done
+turn_chosen n kind length r ss todo marks marks' p (Ok x) h c k = goes_on n kind length r ss todo marks marks' p h c k.0 k.1
+turn_chosen n kind length r ss todo marks marks' p (Err e) h c k = not_expanded (Do n) p p e k
 
 -- the whole goes on by a turn
 pub owes_on : (start : Place) (s : Symbol TokenKind Part) (ss todo : List (Symbol TokenKind Part)) (before : List (Symbol TokenKind Part)) (marks marks' : List Mark) (p q : Place) → before ≡ s ∷ ss → Owes text_reader start before marks p → Keeps (s ∷ ss) marks p todo marks' q → Owes text_reader start todo marks' q
@@ -72,5 +75,6 @@ none_halts n p h = (refl, halts_none n p h)
 pub unwanted_halts : (n : Part) (kind : TokenKind) (length : ℕ) (p : Place) → Some (kind, length) ≡ look (mode n) p → None ≡ choose n kind → (p ≡ p) × HaltsAt (Do n) p Blocked
 unwanted_halts n kind length p h c = (refl, halts_unwanted n kind length p h c)
 
-pub turn_failed : (symbol : ds.Symbol) (kind : TokenKind) (p q : Place) (e : ParseErr) → symbol ≡ dv.Want kind → Halted (Want kind) p q e → Halted (symbol_named symbol) p q e
-turn_failed symbol kind p q e is h = subst (λ s. Halted (symbol_named s) p q e) (sym is) h
+-- a turn at a symbol is one at what the symbol is
+pub turn_named : {X : Type 0} (symbol it : ds.Symbol) (old new : Reached) (r : Result X ParseErr) → symbol ≡ it → Turns (symbol_named it) old new r → Turns (symbol_named symbol) old new r
+turn_named symbol it old new r is h = subst (λ s. Turns (symbol_named s) old new r) (sym is) h

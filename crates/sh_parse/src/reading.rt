@@ -1,6 +1,6 @@
 // Reading, turn by turn: a part of the syntax gives way to the symbols of the rule that the token there chooses, a token is
 // taken. Nothing calls itself, so no text overflows the stack.
-ghost use Rattle.std.specs.Prelude.{◌≡◌, ◌∷◌, ◌++◌, [], List, MatchOption, MatchResult, IfOk, Some};
+ghost use Rattle.std.specs.Prelude.{◌≡◌, ◌∷◌, ◌++◌, [], List, MatchOption, MatchResult, OnOk, Some};
 ghost use Rattle.sh_rules.specs.Grammar.{Symbol as Symbol', Want, Do, Blocked};
 ghost use Rattle.sh_rules.specs.declared.token_kind.TokenKind as kinds;
 ghost use Rattle.sh_rules.specs.Parts as parts;
@@ -14,7 +14,7 @@ ghost use Rattle.sh_parse.specs.Turns.{reached, Turns, StopsBy};
 
 use crate::ahead::{Found, length_ahead, look_for};
 use crate::source::{ParseErr, Source};
-use crate::todo::{Todo, push_all};
+use crate::todo::Todo;
 use rk_base::Bytes;
 use sh_grammar::{Marks, Part, Rule, Symbol, choose, same_kind, spelling};
 use sh_lex::mode_of;
@@ -86,60 +86,55 @@ fn expand(rule: Rule, todo: &mut Todo, marks: &mut Marks) -> Result<(), ParseErr
 {
     match marks.push_node(rule) {
         Err(_) => Err(ParseErr::Memory),
-        Ok(()) => match push_all(todo, spelling(rule)) {
+        Ok(()) => match todo.push_all(spelling(rule)) {
             Err(_) => Err(ParseErr::Memory),
             Ok(()) => Ok(()),
         },
     }
 }
 
-// A part of the syntax is wanted: the token that chose its rule.
-#[tactic(auto, using(crate::proofs::Turning::none_halts, crate::proofs::Turning::unwanted_halts, crate::proofs::Turning::turn_chosen, crate::proofs::Turning::not_expanded))]
+// A part of the syntax is wanted; the token that chose its rule stays ahead.
+#[tactic(auto, using(crate::proofs::Turning::none_halts, crate::proofs::Turning::unwanted_halts, crate::proofs::Turning::turn_chosen))]
 fn node<S: Source>(
     s: &S,
     part: Part,
-    ahead: Option<Found>,
+    ahead: &mut Option<Found>,
     todo: &mut Todo,
     marks: &mut Marks,
-) -> Result<Found, ParseErr>
-    requires { Ahead ahead (S.place s.now) }
+) -> Result<(), ParseErr>
+    requires { Ahead ahead.old (S.place s.now) }
     ensures turns { Turns (Do (part_named part)) (reached todo.old marks.old (S.place s.now)) (reached todo.new marks.new (S.place s.now)) result }
-    ensures found { IfOk result (λ x. Ahead (Some x) (S.place s.now)) }
+    ensures found { OnOk result (Ahead ahead.new (S.place s.now)) }
 {
-    match look_for(s, part, ahead) {
+    match look_for(s, part, *ahead) {
         None => Err(ParseErr::Blocked),
-        Some(found) => match choose(part, found.kind) {
-            None => Err(ParseErr::Blocked),
-            Some(rule) => match expand(rule, todo, marks) {
-                Err(stop) => Err(stop),
-                Ok(()) => Ok(found),
-            },
-        },
+        Some(found) => {
+            *ahead = Some(found);
+            match choose(part, found.kind) {
+                None => Err(ParseErr::Blocked),
+                Some(rule) => expand(rule, todo, marks),
+            }
+        }
     }
 }
 
-// One turn: what was found ahead of the next one.
+// One turn. `ahead` is what was found where the source stands, before it and after it.
+#[tactic(auto, using(crate::proofs::Turning::turn_named))]
 fn turn<S: Source>(
     alloc: Global,
     s: &mut S,
     symbol: Symbol,
-    ahead: Option<Found>,
+    ahead: &mut Option<Found>,
     todo: &mut Todo,
     marks: &mut Marks,
-) -> Result<Option<Found>, ParseErr>
-    requires { Ahead ahead (S.place s.old) }
+) -> Result<(), ParseErr>
+    requires { Ahead ahead.old (S.place s.old) }
     ensures turns { Turns (symbol_named symbol) (reached todo.old marks.old (S.place s.old)) (reached todo.new marks.new (S.place s.new)) result }
-    ensures found { IfOk result (λ x. Ahead x (S.place s.new)) }
+    ensures found { OnOk result (Ahead ahead.new (S.place s.new)) }
 {
     match symbol {
-        Symbol::Want(kind) => match leaf(alloc, s, kind, ahead, marks) {
-            Err(stop) => Err(stop),
-            Ok(()) => Ok(None),
-        },
-        Symbol::Do(part) => match node(s, part, ahead, todo, marks) {
-            Err(stop) => Err(stop),
-            Ok(found) => Ok(Some(found)),
-        },
+        Symbol::Want(kind) => leaf(alloc, s, kind, ahead.take(), marks),
+        Symbol::Do(part) => node(s, part, ahead, todo, marks),
     }
 }
 
@@ -155,9 +150,8 @@ pub fn read_marks<S: Source>(alloc: Global, s: &mut S) -> Result<Marks, ParseErr
     let mut marks = Marks::new(alloc);
     let mut ahead = None;
     'turns: while let Some(symbol) = todo.pop() {
-        match turn(alloc, s, symbol, ahead, &mut todo, &mut marks) {
-            Err(stop) => return Err(stop),
-            Ok(found) => ahead = found,
+        if let Err(stop) = turn(alloc, s, symbol, &mut ahead, &mut todo, &mut marks) {
+            return Err(stop);
         }
     }
     Ok(marks)

@@ -8,5 +8,5 @@ returns-in-None-clause-turns g c = none_halts (part_named c.args.part) (g.S.Sour
 pub returns-in-None-choose-clause-turns : goal.returns-in-None-choose-clause-turns
 returns-in-None-choose-clause-turns g c = unwanted_halts (part_named c.args.part) c.in-Some.found.kind c.in-Some.found.length (g.S.Source.place c.args.s.now) c.in-Some.ensures.0 c.in-None-choose.ensures
 
-pub returns-in-Ok-clause-turns : goal.returns-in-Ok-clause-turns
-returns-in-Ok-clause-turns g c = turn_chosen (part_named c.args.part) c.in-Some.found.kind c.in-Some.found.length (rule_named c.in-Some-choose.rule) c.args.todo.now c.expand.new.todo c.args.marks.now c.expand.new.marks (g.S.Source.place c.args.s.now) c.in-Some.ensures.0 c.in-Some-choose.ensures c.in-Ok.ensures.0 c.in-Ok.ensures.1
+pub returns-in-Some-choose-clause-turns : goal.returns-in-Some-choose-clause-turns
+returns-in-Some-choose-clause-turns g c = turn_chosen (part_named c.args.part) c.in-Some.found.kind c.in-Some.found.length (rule_named c.in-Some-choose.rule) c.args.todo.now c.expand.new.todo c.args.marks.now c.expand.new.marks (g.S.Source.place c.args.s.now) c.expand.result c.in-Some.ensures.0 c.in-Some-choose.ensures c.expand.ensures
