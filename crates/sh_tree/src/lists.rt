@@ -1,5 +1,5 @@
 // Lists, AND-OR lists and pipelines (XCU 2.9.2, 2.9.3).
-ghost use Rattle.std.specs.Prelude.{◌≡◌, OnOk, map};
+ghost use Rattle.std.specs.Prelude.{◌≡◌, ◌++◌, OnOk, false, map};
 ghost use Rattle.sh_ast.specs.Commands as c;
 ghost use Rattle.sh_script.specs.States as st;
 ghost use Rattle.sh_script.specs.States.{less};
@@ -66,7 +66,20 @@ pub fn negated(b: &mut Builder, alloc: Global) -> Result<(), NoMemory>
     pipeline(b, alloc, true, commands)
 }
 
-// Commands in front of commands, as a pipeline; where none stand behind them, themselves.
+// Commands in front of commands, as a pipeline.
+fn several(
+    b: &mut Builder,
+    alloc: Global,
+    front: Row<Command>,
+    commands: Row<Command>,
+) -> Result<(), NoMemory>
+    ensures { OnOk result (state b.new ≡ st.with (act.pipeline false (map c.command front ++ map c.command commands)) (state b.old)) }
+{
+    let commands = all_in_front(front, commands)?;
+    pipeline(b, alloc, false, commands)
+}
+
+// The same; where none stand behind them, themselves.
 #[tactic(auto, unfolding(crate::specs::Seen::seen), using(crate::proofs::MadeLemmas::piped_some))]
 fn piped_in_front(
     b: &mut Builder,
@@ -80,9 +93,7 @@ fn piped_in_front(
         drop(commands);
         return b.put(Value::Commands(front));
     }
-    let commands = all_in_front(front, commands)?;
-    pipeline(b, alloc, false, commands)?;
-    Ok(())
+    several(b, alloc, front, commands)
 }
 
 /// A pipeline; a command alone is itself.
