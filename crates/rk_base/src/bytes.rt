@@ -86,7 +86,7 @@ impl Bytes {
         Ok(())
     }
 
-    /// The same bytes, shared.
+    /// A copy of the bytes, which shares them.
     pub fn copy(&self) -> Result<Bytes, NoMemory>
         ensures { IfOk result (λ b. b ≡ self.now) }
     {

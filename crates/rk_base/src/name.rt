@@ -57,7 +57,7 @@ impl Name {
         self.bytes.as_slice()
     }
 
-    /// The same name.
+    /// A copy of the name.
     pub fn copy(&self) -> Result<Name, NoMemory>
         ensures { IfOk result (λ n. n ≡ self.now) }
     {

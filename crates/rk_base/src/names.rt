@@ -99,7 +99,7 @@ impl NameList {
         self.names.as_slice() == other.names.as_slice()
     }
 
-    /// The same names.
+    /// A copy of the names.
     pub fn copy(&self) -> Result<NameList, NoMemory>
         ensures { IfOk result (λ n. n ≡ self.now) }
     {

@@ -190,7 +190,7 @@ impl Path {
         self.text.same(&other.text)
     }
 
-    /// The same path again.
+    /// A copy of the path.
     pub fn copy(&self) -> Result<Path, NoMemory>
         ensures copy { IfOk result (λ p. p ≡ self.now) }
         ensures canonical { is_canonical self.now ≡ true }

@@ -62,7 +62,7 @@ impl VarList {
         self.vars.as_slice()
     }
 
-    /// The same list without its variables, at no memory.
+    /// No variables, in the memory of these.
     pub fn cleared(self) -> VarList
         ensures { result ≡ [] }
     {
@@ -85,7 +85,7 @@ impl VarList {
         self.vars.as_slice() == other.vars.as_slice()
     }
 
-    /// The same variables.
+    /// A copy of the variables, which shares their bytes.
     pub fn copy(&self) -> Result<VarList, NoMemory>
         ensures { IfOk result (λ v. v ≡ self.now) }
     {

@@ -61,7 +61,7 @@ impl WordList {
         self.words.as_slice() == other.words.as_slice()
     }
 
-    /// The same words.
+    /// A copy of the words, which shares their bytes.
     pub fn copy(&self) -> Result<WordList, NoMemory>
         ensures { IfOk result (λ w. w ≡ self.now) }
     {

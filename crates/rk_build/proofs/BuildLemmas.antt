@@ -15,8 +15,8 @@ use Rattle.rk_install.specs.declared.calling.InstallErr.TheVariants as install
 use Rattle.rk_seal.specs.declared.plan.Plan.{Plan}
 use Rattle.rk_kernel.specs.World.{World}
 use Rattle.rk_replay.specs.declared.ran.Ran.{Ran}
-use Rattle.rk_runs.specs.Run.{Outcome as Run}
-use Rattle.rk_runs.specs.Spoken.{AreSpoken}
+use Rattle.rk_traces.specs.Run.{Outcome as Run}
+use Rattle.rk_traces.specs.Spoken.{AreSpoken}
 use Rattle.rk_request.specs.Asked.{turns, is_fresh}
 use Rattle.rk_request.specs.declared.requests.Request.{Request}
 use Rattle.rk_build.specs.Outcomes.{Checked, outcome_of_stop, IfSpecial, IfDamaged, IfForged, EndsSo, EndsWith, HasStatus, Tallies, IsLeft, RanSo, StartsBoth, Leaves, FolderCounts, PartlyInstalled, StoppedAt, Tried, Halts, GainsAll, Gains, GainsErrors, InOrder, Counts, Counted, ErrorsCounted, Ticked}

@@ -3,8 +3,8 @@ use Rattle.std.proofs.Common.{◌≡◌, ◌∙◌, ◌+◌, ◌≤◌, ℕ, Boo
 use Rattle.std.specs.Prelude.{if◌then◌else◌}
 use Rattle.rk_calls.specs.Keys.{KeyValue}
 use Rattle.rk_calls.specs.Talk.{Says}
-use Rattle.rk_runs.specs.CheckLaws.{started-adds}
-use Rattle.rk_runs.specs.Started.{started, StartsSome}
+use Rattle.rk_traces.specs.CheckLaws.{started-adds}
+use Rattle.rk_traces.specs.Started.{started, StartsSome}
 use Rattle.rk_folder.specs.Told.{Held}
 use Rattle.tr_record.specs.declared.records.Record.{Record}
 use Rattle.rk_request.specs.Asked.{checks, turns}

@@ -21,7 +21,7 @@ use Rattle.rk_changes.specs.Imported.{holding_of, listed_holding}
 use Rattle.rk_changes.specs.Planned.{IsPlan}
 use Rattle.rk_changes.specs.declared.holding.Holding.{Holding}
 use Rattle.rk_changes.proofs.ImportedLemmas.{has_places-imported, may_become-imported}
-use Rattle.rk_runs.specs.Following.{never-wrong}
+use Rattle.rk_traces.specs.Following.{never-wrong}
 use Rattle.tr_record.specs.Rec.{rec_at}
 use Rattle.tr_record.specs.declared.records.Record.{Record}
 use Rattle.rk_request.specs.Asked.{checks, is_fresh, turns}

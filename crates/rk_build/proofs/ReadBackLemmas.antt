@@ -11,8 +11,8 @@ use Rattle.rk_calls.specs.Keys.{KeyValue}
 use Rattle.tr_record.specs.declared.records.Record.{Record}
 use Rattle.tr_record.specs.declared.steps.Step.{Step}
 use Rattle.tr_record.specs.Rec.{rec_at}
-use Rattle.rk_runs.specs.Own.{own, total}
-use Rattle.rk_runs.specs.Spoken.{AreSpoken, Follows}
+use Rattle.rk_traces.specs.Own.{own, total}
+use Rattle.rk_traces.specs.Spoken.{AreSpoken, Follows}
 use Rattle.tr_codec.specs.Sound.{IsSoundStep, IsSound}
 
 -- a call that is met was asked

@@ -8,17 +8,17 @@ use Rattle.rk_calls.specs.Refs.{top_refs}
 use Rattle.rk_calls.specs.Talk.{Says}
 use Rattle.rk_tree.specs.Entries.{Entries}
 use Rattle.rk_tree.specs.Full.{Told, full_entries}
-use Rattle.rk_kernel.specs.Asking.{Failed}
+use Rattle.rk_kernel.specs.Fetching.{Failed}
 use Rattle.rk_kernel.specs.Full.{full_world}
 use Rattle.rk_kernel.specs.World.{World, fresh_world}
 use Rattle.rk_kernel.specs.declared.answer_err.AnswerErr.{AnswerErr}
 use Rattle.rk_kernel.specs.declared.answer_err.AnswerErr.TheVariants.{ReadFault, NoMemory}
 use Rattle.rk_kernel.specs.Do.{answered}
-use Rattle.rk_runs.specs.Purse.{left}
-use Rattle.rk_runs.specs.Run.{Outcome, Done, Spent, game, fresh}
-use Rattle.rk_runs.specs.Spoken.{AreSpoken}
+use Rattle.rk_traces.specs.Purse.{left}
+use Rattle.rk_traces.specs.Run.{Outcome, Done, Spent, environment, fresh}
+use Rattle.rk_traces.specs.Spoken.{AreSpoken}
 use Rattle.tr_record.specs.declared.records.Record.{Record}
-use Rattle.rk_runs.specs.Own.{total}
+use Rattle.rk_traces.specs.Own.{total}
 use Rattle.rk_replay.proofs.Starting.{ran_count-most}
 use Rattle.rk_replay.proofs.Totalling.{ran_count-length}
 use Rattle.rk_replay.specs.Ran.{ran_of}
@@ -38,13 +38,13 @@ use Rattle.rk_build.specs.Texts.{IsNoFault}
 use Rattle.rk_build.specs.declared.stop.BuildErr.TheVariants as build
 use Rattle.rk_build.proofs.FullLemmas.{fresh-full}
 
-pub fresh_run-is : (first : KeyValue → Says) (request : Request) (entries : Entries) (key : KeyValue) (budget : Paid) (world : World) (o : Outcome World) → budget.limit ≡ turns request → budget.used ≡ 0 → key ≡ script_key → world ≡ fresh_world entries → fresh (game first answered) (left budget) key top_refs world ≡ o → fresh_run first request entries ≡ o
+pub fresh_run-is : (first : KeyValue → Says) (request : Request) (entries : Entries) (key : KeyValue) (budget : Paid) (world : World) (o : Outcome World) → budget.limit ≡ turns request → budget.used ≡ 0 → key ≡ script_key → world ≡ fresh_world entries → fresh (environment first answered) (left budget) key top_refs world ≡ o → fresh_run first request entries ≡ o
 unfolding fresh_run
 fresh_run-is first request entries key budget world o limit used is_key is_world run =
     let turned : left budget ≡ turns request = omega arith in
-    sym (ap (λ (n : ℕ). fresh (game first answered) n script_key top_refs (fresh_world entries)) turned)
-    ∙ sym (ap (λ (w : World). fresh (game first answered) (left budget) script_key top_refs w) is_world)
-    ∙ sym (ap (λ (k : KeyValue). fresh (game first answered) (left budget) k top_refs world) is_key)
+    sym (ap (λ (n : ℕ). fresh (environment first answered) n script_key top_refs (fresh_world entries)) turned)
+    ∙ sym (ap (λ (w : World). fresh (environment first answered) (left budget) script_key top_refs w) is_world)
+    ∙ sym (ap (λ (k : KeyValue). fresh (environment first answered) (left budget) k top_refs world) is_key)
     ∙ run
 
 -- where the build's budget was spent
@@ -57,11 +57,11 @@ meant o world = option_map (λ told. full_world told world) o
 
 -- where it ended
 pub run-in-full : (first : KeyValue → Says) (request : Request) (o now : Option Told) (entries : Entries) (old : List Record) (began left_world : World) (key : KeyValue) (budget later : Paid) (b : Built) → now ≡ o → budget.limit ≡ turns request → budget.used ≡ 0 → key ≡ script_key → began ≡ fresh_world entries
-    → IfSome (meant o began) (λ before. IsSomeAnd (meant now left_world) (λ it. AreSpoken first old → fresh (game first answered) (left budget) key top_refs before ≡ Done it b.status (left later) b.table))
+    → IfSome (meant o began) (λ before. IsSomeAnd (meant now left_world) (λ it. AreSpoken first old → fresh (environment first answered) (left budget) key top_refs before ≡ Done it b.status (left later) b.table))
     → IfSome (meant o began) (λ _. AreSpoken first old → AreSpoken first b.table) → (AreSpoken first b.table → AllByRecursion IsSound b.table) → IsRunInFull first request o entries old left_world b
 run-in-full first request None now entries old began left_world key budget later b same limit used is_key is_world done spoken sounds = tt
 run-in-full first request (Some told) now entries old began left_world key budget later b same limit used is_key is_world done spoken sounds =
-    let ends = subst (λ (o : Option Told). IsSomeAnd (meant o left_world) (λ it. AreSpoken first old → fresh (game first answered) (left budget) key top_refs (full_world told began) ≡ Done it b.status (left later) b.table)) same done in
+    let ends = subst (λ (o : Option Told). IsSomeAnd (meant o left_world) (λ it. AreSpoken first old → fresh (environment first answered) (left budget) key top_refs (full_world told began) ≡ Done it b.status (left later) b.table)) same done in
     record {
       ends = λ s. (left later, fresh_run-is first request (full_entries told entries) key budget (full_world told began) _ limit used is_key (ap (full_world told) is_world ∙ fresh-full told entries) (ends s));
       spoken = spoken;
@@ -70,9 +70,9 @@ run-in-full first request (Some told) now entries old began left_world key budge
 
 -- where its budget was spent
 pub spent-in-full : {S : Type 0} (first : KeyValue → Says) (request : Request) (o : Option Told) (entries : Entries) (old : List Record) (began : World) (key : KeyValue) (budget : Paid) (stopped : S → Type 0) (e : ReplayErr S) → budget.limit ≡ turns request → budget.used ≡ 0 → key ≡ script_key → began ≡ fresh_world entries → e ≡ stop.Spent
-    → Stops first old (IfSome (meant o began) (λ before. fresh (game first answered) (left budget) key top_refs before ≡ Spent)) stopped e → StopsRun first request o entries old build.Spent
+    → Stops first old (IfSome (meant o began) (λ before. fresh (environment first answered) (left budget) key top_refs before ≡ Spent)) stopped e → StopsRun first request o entries old build.Spent
 spent-in-full first request o entries old began key budget stopped e limit used is_key is_world is stops = run_spent o (spent-is first old _ stopped e is stops) where
-  run_spent : (o : Option Told) → AreSpoken first old × IfSome (meant o began) (λ before. fresh (game first answered) (left budget) key top_refs before ≡ Spent) → StopsRun first request o entries old build.Spent
+  run_spent : (o : Option Told) → AreSpoken first old × IfSome (meant o began) (λ before. fresh (environment first answered) (left budget) key top_refs before ≡ Spent) → StopsRun first request o entries old build.Spent
   run_spent None it = (it.0, tt)
   run_spent (Some told) it = (it.0, fresh_run-is first request (full_entries told entries) key budget (full_world told began) Spent limit used is_key (ap (full_world told) is_world ∙ fresh-full told entries) it.1)
 

@@ -13,10 +13,10 @@ use Rattle.rk_changes.proofs.HiddenLemmas.{attrs_hidden, db_hidden}
 use Rattle.rk_kernel.specs.World.{World, fresh_world}
 use Rattle.rk_kernel.specs.Do.{answered}
 use Rattle.rk_kernel.specs.Fitting.{answered-fits}
-use Rattle.rk_runs.specs.Lasting.{AllLast}
-use Rattle.rk_runs.specs.Run.{Outcome as Run, Done, Spent, game}
-use Rattle.rk_runs.specs.Speaking.{fresh-spoken}
-use Rattle.rk_runs.specs.Spoken.{AreSpoken}
+use Rattle.rk_traces.specs.Lasting.{AllLast}
+use Rattle.rk_traces.specs.Run.{Outcome as Run, Done, Spent, environment}
+use Rattle.rk_traces.specs.Speaking.{fresh-spoken}
+use Rattle.rk_traces.specs.Spoken.{AreSpoken}
 use Rattle.rk_replay.specs.Script.{script_key}
 use Rattle.rk_tree.specs.Entries.{Entries}
 use Rattle.rk_request.specs.Asked.{turns}
@@ -29,7 +29,7 @@ use Rattle.rk_build.proofs.KeptLemmas.{finds-next}
 pub fresh-records : (first : KeyValue → Says) (request : Request) (entries : Entries) (world : World) (status left : ℕ) (table : List Record) → AllLast first → fresh_run first request entries ≡ Done world status left table → AreSpoken first table
 unfolding fresh_run
 fresh-records first request entries world status left table lasts e =
-    fresh-spoken (game first answered) lasts answered-fits (turns request) script_key top_refs (fresh_world entries) world status left table e
+    fresh-spoken (environment first answered) lasts answered-fits (turns request) script_key top_refs (fresh_world entries) world status left table e
 
 edited : (first : KeyValue → Says) (held to : Held) → Edits held to → IsWell first held → IsWell first to
 edited first held to e k = record {

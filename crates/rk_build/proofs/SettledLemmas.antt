@@ -8,15 +8,15 @@ use Rattle.tr_parts.specs.declared.fault.Damage.{Damage}
 use Rattle.tr_parts.specs.declared.fault.Damage.TheVariants as damage
 use Rattle.rk_calls.specs.Keys.{KeyValue}
 use Rattle.rk_calls.specs.Talk.{Says}
-use Rattle.rk_runs.proofs.Checks.{never-first_wrong}
+use Rattle.rk_traces.proofs.Checks.{never-first_wrong}
 use Rattle.rk_kernel.specs.World.{World}
-use Rattle.rk_runs.specs.Run.{Outcome as Run, Done, Spent}
+use Rattle.rk_traces.specs.Run.{Outcome as Run, Done, Spent}
 use Rattle.rk_folder.specs.Told.{Held}
 use Rattle.rk_folder.specs.declared.hidden_files.State.{State}
 use Rattle.rk_folder.specs.Counts.{Rose, Still}
 use Rattle.rk_folder.specs.Attributes.{with_rows}
 use Rattle.rk_folder.specs.Import.{snapshot_of}
-use Rattle.rk_runs.specs.Spoken.{AreSpoken}
+use Rattle.rk_traces.specs.Spoken.{AreSpoken}
 use Rattle.rk_tree.specs.Entries.{Entries}
 use Rattle.rk_request.specs.Asked.{is_fresh}
 use Rattle.rk_request.specs.declared.requests.Request.{Request}

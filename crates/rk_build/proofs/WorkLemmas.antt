@@ -15,7 +15,7 @@ use Rattle.rk_changes.specs.Planned.{IsPlan}
 use Rattle.rk_changes.specs.declared.holding.Holding.{Holding}
 use Rattle.rk_seal.specs.declared.plan.Plan.{Plan}
 use Rattle.rk_replay.specs.Starts.{StartsUpTo}
-use Rattle.rk_runs.specs.Started.{started}
+use Rattle.rk_traces.specs.Started.{started}
 use Rattle.tr_record.specs.declared.records.Record.{Record}
 use Rattle.rk_request.specs.Asked.{turns}
 use Rattle.rk_request.specs.declared.requests.Request.{Request}

@@ -8,7 +8,7 @@ use Rattle.rk_folder.specs.Schedule.{Schedule, MakesCalls}
 use Rattle.rk_folder.specs.Told.{Held}
 use Rattle.rk_folder.specs.declared.folder.FolderCall.{FolderCall}
 use Rattle.rk_kernel.specs.World.{World}
-use Rattle.rk_runs.specs.Spoken.{AreSpoken}
+use Rattle.rk_traces.specs.Spoken.{AreSpoken}
 use Rattle.rk_tree.specs.Entries.{Entries}
 use Rattle.tr_record.specs.declared.records.Record.{Record}
 use Rattle.rk_request.specs.Asked.{is_fresh}

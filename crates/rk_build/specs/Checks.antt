@@ -2,8 +2,8 @@
 use Rattle.std.specs.Prelude.{◌≡◌, ◌+◌, ◌<◌, ℕ, Bool, true, List, length, if◌then◌else◌, Result, Ok, Err}
 use Rattle.rk_calls.specs.Keys.{KeyValue}
 use Rattle.rk_calls.specs.Talk.{Says}
-use Rattle.rk_runs.specs.Started.{started, StartsSome}
-use Rattle.rk_runs.specs.Spoken.{AreSpoken, IsSpoken, IsWrongStep}
+use Rattle.rk_traces.specs.Started.{started, StartsSome}
+use Rattle.rk_traces.specs.Spoken.{AreSpoken, IsSpoken, IsWrongStep}
 use Rattle.tr_record.specs.Rec.{rec_at}
 use Rattle.tr_record.specs.declared.records.Record.{Record}
 use Rattle.rk_request.specs.Asked.{checks}

@@ -7,7 +7,7 @@ use Rattle.tr_codec.specs.Spelling.{db_spelling}
 use Rattle.rk_attrs.specs.declared.rows.AttrRow.{AttrRow}
 use Rattle.rk_tree.specs.Copies.{snapshot_of as entries_of}
 use Rattle.rk_kernel.specs.World.{World}
-use Rattle.rk_runs.specs.Run.{Outcome, Done, Spent}
+use Rattle.rk_traces.specs.Run.{Outcome, Done, Spent}
 use Rattle.rk_request.specs.declared.requests.Request.{Request}
 use Rattle.rk_replay.specs.Ran.{ran_of}
 use Rattle.rk_build.specs.Explained.{explanation}

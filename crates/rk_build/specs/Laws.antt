@@ -8,9 +8,9 @@ use Rattle.rk_tree.specs.Copies.{snapshot_of as entries_of}
 use Rattle.rk_tree.specs.Entries.{Entries, IsWholeSnapshot}
 use Rattle.rk_tree.specs.Full.{own}
 use Rattle.rk_kernel.specs.World.{World}
-use Rattle.rk_runs.specs.Lasting.{AllLast}
-use Rattle.rk_runs.specs.Run.{Outcome as Run, Done, Spent}
-use Rattle.rk_runs.specs.Spoken.{AreSpoken}
+use Rattle.rk_traces.specs.Lasting.{AllLast}
+use Rattle.rk_traces.specs.Run.{Outcome as Run, Done, Spent}
+use Rattle.rk_traces.specs.Spoken.{AreSpoken}
 use Rattle.rk_folder.specs.Told.{Held}
 use Rattle.rk_folder.specs.Whole.{IsWhole}
 use Rattle.rk_folder.specs.Specials.{first_special}

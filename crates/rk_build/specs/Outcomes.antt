@@ -3,7 +3,7 @@ use Rattle.std.specs.Prelude.{◌≡◌, true, false, ◌⊎◌, ◌≤◌, ◌+
 use Rattle.rk_base.specs.Text.{Text}
 use Rattle.rk_calls.specs.Keys.{KeyValue}
 use Rattle.rk_calls.specs.Talk.{Says}
-use Rattle.rk_runs.specs.Started.{started}
+use Rattle.rk_traces.specs.Started.{started}
 use Rattle.rk_folder.specs.Told.{Held}
 use Rattle.rk_folder.specs.Counts.{Rose}
 use Rattle.rk_install.specs.Install.{IsMomentOf, StopsPlan}
@@ -19,8 +19,8 @@ use Rattle.tr_record.specs.declared.records.Record.{Record}
 use Rattle.rk_tree.specs.Copies.{snapshot_of as entries_of}
 use Rattle.rk_tree.specs.Entries.{Entries}
 use Rattle.rk_kernel.specs.World.{World}
-use Rattle.rk_runs.specs.Run.{Outcome as Run, Done, Spent}
-use Rattle.rk_runs.specs.Spoken.{AreSpoken}
+use Rattle.rk_traces.specs.Run.{Outcome as Run, Done, Spent}
+use Rattle.rk_traces.specs.Spoken.{AreSpoken}
 use Rattle.rk_replay.specs.Ran.{ran_total}
 use Rattle.rk_replay.specs.Starts.{StartsRan, StartsUpTo}
 use Rattle.rk_request.specs.Asked.{checks, is_fresh, turns}

@@ -9,8 +9,8 @@ use Rattle.rk_tree.specs.Full.{Told, full_entries}
 use Rattle.rk_kernel.specs.Full.{full_world}
 use Rattle.rk_kernel.specs.World.{World, fresh_world}
 use Rattle.rk_kernel.specs.Do.{answered}
-use Rattle.rk_runs.specs.Run.{Outcome, Done, Spent, game, fresh}
-use Rattle.rk_runs.specs.Spoken.{AreSpoken}
+use Rattle.rk_traces.specs.Run.{Outcome, Done, Spent, environment, fresh}
+use Rattle.rk_traces.specs.Spoken.{AreSpoken}
 use Rattle.tr_codec.specs.Sound.{IsSound}
 use Rattle.std.specs.List.{AllByRecursion}
 use Rattle.rk_request.specs.Asked.{turns}
@@ -19,7 +19,7 @@ use Rattle.rk_replay.specs.Ran.{ran_of, ran_total}
 use Rattle.rk_replay.specs.Script.{script_key}
 use Rattle.rk_replay.specs.Starts.{StartsRan, StartsUpTo}
 use Rattle.rk_replay.specs.declared.build.Built.{Built}
-use Rattle.rk_runs.specs.Started.{started}
+use Rattle.rk_traces.specs.Started.{started}
 use Rattle.rk_build.specs.Checks.{IsForged}
 use Rattle.rk_build.specs.declared.stop.BuildErr.{BuildErr}
 use Rattle.rk_build.specs.declared.stop.BuildErr.TheVariants as stop
@@ -27,7 +27,7 @@ use Rattle.rk_build.specs.declared.stop.BuildErr.TheVariants as stop
 -- the run of the script, by what the command of each key says, on a tree of these entries, in which nothing is recorded
 -- yet, within the turns that are asked for
 unfoldable pub fresh_run : (KeyValue → Says) → Request → Entries → Outcome World
-fresh_run first request entries = fresh (game first answered) (turns request) script_key top_refs (fresh_world entries)
+fresh_run first request entries = fresh (environment first answered) (turns request) script_key top_refs (fresh_world entries)
 
 -- how many commands of a table ran, over the records of an old one: those whose steps aren't recorded there
 -- under their key and ordinal

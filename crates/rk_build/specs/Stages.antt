@@ -29,8 +29,8 @@ use Rattle.rk_tree.specs.declared.fetch.FetchErr.TheVariants as fetch
 use Rattle.rk_attrs.specs.declared.rows.AttrRow.{AttrRow}
 use Rattle.tr_record.specs.declared.records.Record.{Record}
 use Rattle.rk_base.specs.Text.{Text}
-use Rattle.rk_runs.specs.Run.{Spent}
-use Rattle.rk_runs.specs.Spoken.{AreSpoken}
+use Rattle.rk_traces.specs.Run.{Spent}
+use Rattle.rk_traces.specs.Spoken.{AreSpoken}
 use Rattle.rk_request.specs.Asked.{checks, is_fresh, turns}
 use Rattle.rk_request.specs.declared.requests.Request.{Request}
 use Rattle.rk_build.specs.Checks.{ChecksWhole, TellsForged}

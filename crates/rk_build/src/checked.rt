@@ -7,7 +7,7 @@ use crate::options::checks;
 use crate::stop::BuildErr;
 use rk_calls::Maker;
 use rk_request::Request;
-use rk_runs::{CheckErr, check_with};
+use rk_traces::{CheckErr, check_with};
 use tr_record::Table;
 
 /// Checks every record of the old table, where that is asked for.

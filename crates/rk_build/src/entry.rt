@@ -3,8 +3,8 @@ ghost use Rattle.std.specs.Prelude.{◌≡◌, ◌≢◌, ◌<◌, ◌≤◌, If
 ghost use Rattle.rk_folder.specs.Counts.{Still};
 ghost use Rattle.rk_folder.specs.Told.{Held};
 ghost use Rattle.rk_folder.specs.Specials.{first_special};
-ghost use Rattle.rk_runs.specs.Run.{Spent};
-ghost use Rattle.rk_runs.specs.Spoken.{AreSpoken};
+ghost use Rattle.rk_traces.specs.Run.{Spent};
+ghost use Rattle.rk_traces.specs.Spoken.{AreSpoken};
 ghost use Rattle.rk_build.specs.Calls.{AsksSo};
 ghost use Rattle.rk_build.specs.Outcomes.{Checked, outcome_of, outcome_of_stop, outcome_of_refusal, Leaves, HasStatus, Tallies, Gains, GainsErrors, InOrder, ErrorsCounted, Counted, Ticked, Started, IfEnded, IfSpecial, IfDamaged, IfForged, IsNoFault, Settles};
 ghost use Rattle.rk_build.specs.Kept.{decoded, state_in, IsDamaged, Keeping};
@@ -91,9 +91,9 @@ pub fn build_in<M: Maker, F: Folder, O: Sink, E: Sink, L: Ledger>(
     ensures live { Ticked request.now live.old live.new result }
     ensures rises { live.old ≤ live.new }
 
-    // What a folder that keeps its calls was asked: a listing of each directory and a read of each file, then the state files,
-    // and then the planned calls, each once at most, in this order, and nothing else; where nothing is installed, it is looked
-    // at alone.
+    // What a folder that keeps its calls was asked: a listing of each directory and the state files, then reads of listed files
+    // outside `.rkr`, and then the planned calls, each once at most, in this order, and nothing else; where nothing is
+    // installed, it is looked at alone.
     ensures calls { AsksSo M.first request.now (F.reach folder.old) (F.told folder.old) (F.schedule folder.old) (F.schedule folder.new) result }
 
     // What was put: the run's output, and then its error text.

@@ -43,7 +43,7 @@ fn add_explained(text: &mut Vec<u8>, ran: &RanList, launched: u64) -> Result<(),
     add_launched(text, launched, ran.len() as u64)
 }
 
-// The same where it is asked for.
+// The lines of what ran, and why, after a text, where they are asked for.
 fn add_explanation(
     text: &mut Vec<u8>,
     request: &Request,

@@ -1,6 +1,6 @@
 // The run of the script.
 ghost use Rattle.std.specs.Prelude.{◌≡◌, ◌+◌, ◌<◌, ◌≤◌, ◌^◌, IfOk, OnOk, length, true};
-ghost use Rattle.rk_kernel.specs.Asking.{Kept};
+ghost use Rattle.rk_kernel.specs.Fetching.{Kept};
 ghost use Rattle.rk_kernel.specs.World.{fresh_world};
 ghost use Rattle.rk_request.specs.Asked.{turns};
 ghost use Rattle.rk_tree.specs.Full.{AreFrom};
@@ -15,7 +15,7 @@ use crate::options::turns;
 use crate::stop::BuildErr;
 use rk_base::{Budget, Steps};
 use rk_calls::Maker;
-use rk_kernel::{Asking, NumberedWorld};
+use rk_kernel::{FetchingWorld, NumberedWorld};
 use rk_replay::{Built, ReplayErr, build_with, script_key};
 use rk_request::Request;
 use rk_tree::Fetch;
@@ -34,37 +34,37 @@ fn budget(request: &Request) -> Budget
 
 // The run over a world and what fetches the bytes of its files, told of each of the two.
 #[tactic(auto, unfolding(crate::specs::Run::fresh_run))]
-fn run_asking<'a, M: Maker, G: Fetch, L: Ledger>(
+fn run_fetching<'a, M: Maker, G: Fetch, L: Ledger>(
     alloc: Global,
     maker: &mut M,
     request: &Request,
-    asking: &mut Asking<'a, G>,
+    fetching: &mut FetchingWorld<'a, G>,
     found: &Found,
     live: &mut Steps<L>,
 ) -> Result<Built, BuildErr>
     requires some { 0 < turns request.now }
     requires contents { AreContents found.now.contents found.now.old }
-    requires fresh { asking.old.world.now.world ≡ fresh_world (found_entries found.now) }
-    requires from { AreFrom (G.told asking.old.fetch.now) asking.old.world.now.world.tree }
-    ensures runs { Runs M.first request.now (G.told asking.old.fetch.now) (found_entries found.now) found.now.old live.old live.new asking.new.world.now.world result }
+    requires fresh { fetching.old.world.now.world ≡ fresh_world (found_entries found.now) }
+    requires from { AreFrom (G.told fetching.old.fetch.now) fetching.old.world.now.world.tree }
+    ensures runs { Runs M.first request.now (G.told fetching.old.fetch.now) (found_entries found.now) found.now.old live.old live.new fetching.new.world.now.world result }
     ensures kept { IfOk result (λ b. AreKept found.now.old b.table) }
     ensures at_least { live.old ≤ live.new }
     ensures at_most { live.new ≤ live.old + turns request.now }
     ensures starts { StartsRun (λ b. length b.ran) request.now found.now.old (M.starts maker.old) (M.starts maker.new) result }
-    ensures same_world { asking.new.world.ghost_name ≡ asking.old.world.ghost_name }
-    ensures same_fetch { asking.new.fetch.ghost_name ≡ asking.old.fetch.ghost_name }
-    ensures keeps { Kept (G.told asking.old.fetch.now) (G.told asking.new.fetch.now) (G.steady asking.old.fetch.now) (G.steady asking.new.fetch.now) (G.Keeps asking.old.fetch.now asking.new.fetch.now) }
-    ensures stays { OnOk result (G.Stays asking.old.fetch.now asking.new.fetch.now) }
-    ensures from { OnOk result (AreFrom (G.told asking.new.fetch.now) asking.new.world.now.world.tree) }
-    ensures reads { ReadsCounted (G.faults asking.old.fetch.now) (G.faults asking.new.fetch.now) result }
-    ensures steady { G.steady asking.old.fetch.now ≡ true → IsNoFault result }
+    ensures same_world { fetching.new.world.ghost_name ≡ fetching.old.world.ghost_name }
+    ensures same_fetch { fetching.new.fetch.ghost_name ≡ fetching.old.fetch.ghost_name }
+    ensures keeps { Kept (G.told fetching.old.fetch.now) (G.told fetching.new.fetch.now) (G.steady fetching.old.fetch.now) (G.steady fetching.new.fetch.now) (G.Keeps fetching.old.fetch.now fetching.new.fetch.now) }
+    ensures stays { OnOk result (G.Stays fetching.old.fetch.now fetching.new.fetch.now) }
+    ensures from { OnOk result (AreFrom (G.told fetching.new.fetch.now) fetching.new.world.now.world.tree) }
+    ensures reads { ReadsCounted (G.faults fetching.old.fetch.now) (G.faults fetching.new.fetch.now) result }
+    ensures steady { G.steady fetching.old.fetch.now ≡ true → IsNoFault result }
 {
     let key = script_key(alloc)?;
     let mut budget = budget(request);
     match build_with(
         alloc,
         maker,
-        asking,
+        fetching,
         &key,
         &found.old,
         &found.contents,
@@ -104,6 +104,6 @@ pub(crate) fn run<M: Maker, G: Fetch, L: Ledger>(
     ensures reads { ReadsCounted (G.faults fetch.old) (G.faults fetch.new) result }
     ensures steady { G.steady fetch.old ≡ true → IsNoFault result }
 {
-    let mut asking = Asking::new(world, fetch);
-    run_asking(alloc, maker, request, &mut asking, found, live)
+    let mut fetching = FetchingWorld::new(world, fetch);
+    run_fetching(alloc, maker, request, &mut fetching, found, live)
 }

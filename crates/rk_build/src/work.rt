@@ -3,7 +3,7 @@ ghost use Rattle.std.specs.Prelude.{◌≡◌, ◌+◌, ◌<◌, ◌≤◌, IfOk
 ghost use Rattle.rk_changes.specs.Fetched.{WhereTold};
 ghost use Rattle.rk_changes.specs.Holdings.{full_holding};
 ghost use Rattle.rk_changes.specs.Planned.{IsPlan};
-ghost use Rattle.rk_kernel.specs.Asking.{Kept};
+ghost use Rattle.rk_kernel.specs.Fetching.{Kept};
 ghost use Rattle.rk_kernel.specs.World.{fresh_world};
 ghost use Rattle.rk_request.specs.Asked.{turns};
 ghost use Rattle.rk_tree.specs.Entries.{IsWholeSnapshot};
@@ -76,8 +76,8 @@ fn planned<G: Fetch>(
     }
 }
 
-// Runs the script on what was found.
-fn finish<M: Maker, G: Fetch, L: Ledger>(
+// Runs the script, the command of the build, on what was found.
+fn run_script<M: Maker, G: Fetch, L: Ledger>(
     alloc: Global,
     maker: &mut M,
     request: &Request,
@@ -164,7 +164,7 @@ pub(crate) fn work<M: Maker, G: Fetch, L: Ledger>(
     ensures reads { ReadsCounted (G.faults fetch.old) (G.faults fetch.new) result }
     ensures steady { Steadily (G.steady fetch.old) (G.steady fetch.new) result }
 {
-    let finished = finish(alloc, maker, request, fetch, found, live)?;
+    let finished = run_script(alloc, maker, request, fetch, found, live)?;
     let prepared = plan_left(alloc, request, fetch, found, finished)?;
     Ok(prepared)
 }

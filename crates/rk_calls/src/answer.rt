@@ -32,7 +32,7 @@ pub enum Answer {
 }
 
 impl Answer {
-    /// The same answer.
+    /// A copy of the answer, which shares its bytes.
     pub fn copy(&self) -> Result<Answer, NoMemory>
         ensures { IfOk result (λ a. a ≡ self.now) }
     {

@@ -49,7 +49,7 @@ pub enum Call {
 }
 
 impl Call {
-    /// The same call.
+    /// A copy of the call, which shares its bytes.
     pub fn copy(&self) -> Result<Call, NoMemory>
         ensures { IfOk result (λ c. c ≡ self.now) }
     {

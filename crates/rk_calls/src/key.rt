@@ -105,7 +105,7 @@ impl Key {
         self.argv.same(&other.argv) && self.wd.same(&other.wd) && self.vars.same(&other.vars)
     }
 
-    /// The same key.
+    /// A copy of the key, which shares its bytes.
     pub fn copy(&self) -> Result<Key, NoMemory>
         ensures { IfOk result (λ k. k ≡ self.now) }
     {

@@ -85,7 +85,7 @@ impl RefMap {
         self.pairs.as_slice() == other.pairs.as_slice()
     }
 
-    /// The same pairs.
+    /// A copy of the pairs.
     pub fn copy(&self) -> Result<RefMap, NoMemory>
         ensures { IfOk result (λ m. m ≡ self.now) }
     {

@@ -16,7 +16,7 @@ use crate::writing::writings;
 use rk_base::{Bytes, NoMemory, Path};
 use rk_folder::{attrs_file, db_file, hidden_dir};
 use rk_seal::{Op, Plan};
-use rk_tree::{Beside, Entry, Fetch, FetchErr, Node, Snapshot};
+use rk_tree::{Entry, Fetch, FetchErr, Node, Snapshot, SnapshotCursor};
 use std::alloc::Global;
 
 fn is_file(it: Option<&Node>) -> bool
@@ -87,9 +87,9 @@ fn removals(alloc: Global, before: &Snapshot, after: &Snapshot) -> Result<Vec<Op
     ensures { IfOk result (λ ops. ops.items ≡ reverse (filter_map (removal_of after.now) (entries before.now))) }
 {
     let mut ops = Vec::new(alloc);
-    let mut beside = Beside::new(after);
+    let mut cursor = SnapshotCursor::new(after);
     for (path, it) in before.rows() {
-        if let Some(op) = removal(path, it, beside.get(path))? {
+        if let Some(op) = removal(path, it, cursor.get(path))? {
             ops.push(op)?;
         }
     }

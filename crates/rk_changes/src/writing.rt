@@ -13,7 +13,7 @@ ghost use Rattle.rk_changes.specs.Planned.{is_file_of, writing, written};
 
 use rk_base::{Bytes, NoMemory, Path};
 use rk_seal::Op;
-use rk_tree::{Beside, Content, Entry, Fetch, FetchErr, Node, Snapshot};
+use rk_tree::{Content, Entry, Fetch, FetchErr, Node, Snapshot, SnapshotCursor};
 use std::alloc::Global;
 
 // What a file holds, fetched where it isn't known.
@@ -170,9 +170,9 @@ pub(crate) fn writings<G: Fetch>(
     ensures counted { Counted (G.faults fetch.old) (G.faults fetch.new) result }
 {
     let mut ops = Vec::new(alloc);
-    let mut beside = Beside::new(before);
+    let mut cursor = SnapshotCursor::new(before);
     'files: for (path, it) in after.rows() {
-        let op = writing(alloc, fetch, path, it, beside.get(path))?;
+        let op = writing(alloc, fetch, path, it, cursor.get(path))?;
         add(&mut ops, op)?;
     }
     Ok(ops)

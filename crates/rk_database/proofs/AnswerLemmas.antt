@@ -3,7 +3,7 @@ use Rattle.std.proofs.Common.{◌≡◌, ℕ, List, [], length, Bool, true, fals
 use Rattle.rk_base.specs.Text.{Text}
 use Rattle.rk_folder.specs.Sinks.{with_bytes}
 use Rattle.rk_folder.specs.Told.{Held}
-use Rattle.rk_runs.specs.Started.{started}
+use Rattle.rk_traces.specs.Started.{started}
 use Rattle.tr_record.specs.declared.records.Record.{Record}
 use Rattle.rk_database.specs.Texts.{Spells, StartsRecords, TextOf, no_trace}
 use Rattle.rk_database.specs.Answers.{Calls, Checks, FindsDb, FindsWhether, Forgets, Front, Halts, Holds, IsSomeOf, PutsNone, PutSo, SaysNone, Shows, db_in}

@@ -1,7 +1,7 @@
 -- What each answer says of the folder, the output and the counts.
 use Rattle.std.specs.Prelude.{◌≡◌, ◌⊎◌, ◌≤◌, ◌+◌, ℕ, take, length, List, Bool, Option, Some, None, IfSome, IsSome, is_some, option_map, Result, Ok, Err}
 use Rattle.rk_base.specs.Text.{Text}
-use Rattle.rk_runs.specs.Started.{started}
+use Rattle.rk_traces.specs.Started.{started}
 use Rattle.rk_folder.specs.Counts.{Rose}
 use Rattle.rk_folder.specs.Hidden.{db_file}
 use Rattle.rk_folder.specs.Import.{state_of}

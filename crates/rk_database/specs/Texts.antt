@@ -3,9 +3,9 @@ use Rattle.std.specs.Prelude.{◌≡◌, ◌≢◌, ◌+◌, ℕ, List, length, 
 use Rattle.rk_base.specs.Text.{Text}
 use Rattle.rk_calls.specs.Keys.{KeyValue}
 use Rattle.rk_calls.specs.Talk.{Says}
-use Rattle.rk_runs.specs.Checked.{IsFirstWrong}
-use Rattle.rk_runs.specs.Started.{started}
-use Rattle.rk_runs.specs.Spoken.{AreSpoken}
+use Rattle.rk_traces.specs.Checked.{IsFirstWrong}
+use Rattle.rk_traces.specs.Started.{started}
+use Rattle.rk_traces.specs.Spoken.{AreSpoken}
 use Rattle.rk_show.specs.Json.{json_text}
 use Rattle.rk_show.specs.Traces.{records_line, trace_text}
 use Rattle.tr_codec.specs.Fits.{Fits}

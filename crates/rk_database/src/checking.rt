@@ -11,8 +11,8 @@ use crate::stop::{QueryErr, Said};
 use rk_base::Bytes;
 use rk_calls::Maker;
 use rk_folder::{Folder, Sink};
-use rk_runs::{CheckErr, check_with};
 use rk_show::records_text;
+use rk_traces::{CheckErr, check_with};
 use std::alloc::Global;
 
 // How many records a database's bytes spell, where each of them is spoken.

@@ -108,7 +108,7 @@ fn put_rows(snapshot: &mut Snapshot, rows: &[(Path, AttrRow)]) -> Result<(), NoM
     Ok(())
 }
 
-// The same entries; bytes are shared.
+// A copy of the entries, which shares their bytes.
 fn copy_of(alloc: Global, entries: &Snapshot) -> Result<Snapshot, NoMemory>
     ensures { IfOk result (λ copy. copy ≡ entries.now) }
 {

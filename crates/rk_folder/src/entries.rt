@@ -19,15 +19,15 @@ use crate::importing::{has_odd, take_item};
 use crate::{Folder, ImportErr, Item};
 use rk_attrs::DIR_MODE;
 use rk_base::{NoMemory, Path};
-use rk_tree::{Entry, Growing, Snapshot};
+use rk_tree::{Entry, Snapshot, SnapshotBuilder};
 use std::alloc::Global;
 
-fn root_entry(alloc: Global) -> Result<Growing, NoMemory>
+fn root_entry(alloc: Global) -> Result<SnapshotBuilder, NoMemory>
     ensures entry { IfOk result (λ s. s ≡ steps.root_entry) }
     ensures whole { IfOk result IsWholeSnapshot }
     ensures placed { IfOk result (λ s. tree.is_dir (get s text.root) ≡ true) }
 {
-    let mut snapshot = Growing::new(alloc);
+    let mut snapshot = SnapshotBuilder::new(alloc);
     snapshot.put(alloc, Path::root(alloc)?, Entry::Dir(DIR_MODE))?;
     Ok(snapshot)
 }
@@ -60,7 +60,7 @@ fn take_top<F: Folder>(
     folder: &mut F,
     root: &Path,
     item: &Item,
-    snapshot: &mut Growing,
+    snapshot: &mut SnapshotBuilder,
 ) -> Result<Option<Listed>, ImportErr>
     requires root { root.now ≡ text.root }
     requires agrees { MayCall (F.told folder.old) (λ held. steps.agrees held root.now item.now) }
@@ -97,7 +97,7 @@ fn take_root<F: Folder>(
     folder: &mut F,
     root: &Path,
     items: &[Item],
-    snapshot: &mut Growing,
+    snapshot: &mut SnapshotBuilder,
 ) -> Result<Option<Listed>, ImportErr>
     requires root { root.now ≡ text.root }
     requires agrees { MayCall (F.told folder.old) (λ held. list_all (steps.agrees held root.now) items.now) }

@@ -23,7 +23,7 @@ use crate::hidden_listing::look_at_state;
 use crate::{Folder, FolderErr, Got, Item};
 use rk_attrs::{DIR_MODE, FILE_MODE};
 use rk_base::{Bytes, Name, NoMemory, Path};
-use rk_tree::{Content, Entry, Growing};
+use rk_tree::{Content, Entry, SnapshotBuilder};
 use std::alloc::Global;
 
 /// Why a folder wasn't imported.
@@ -140,7 +140,7 @@ fn is_hidden(path: &Path) -> bool
 // Puts an entry where no directory stands. A folder lists no name twice, but only one that tells what
 // it holds is held to that.
 #[tactic(auto, unfolding(crate::specs::Steps::with_entry))]
-fn lay(alloc: Global, snapshot: &mut Growing, path: Path, it: Entry) -> Result<(), NoMemory>
+fn lay(alloc: Global, snapshot: &mut SnapshotBuilder, path: Path, it: Entry) -> Result<(), NoMemory>
     ensures { OnOk result (snapshot.new ≡ steps.with_entry path (tree.node_of it) snapshot.old) }
 {
     if snapshot.is_dir(alloc, &path)? {
@@ -156,7 +156,7 @@ fn take_file<F: Folder>(
     folder: &mut F,
     dir: &Path,
     name: &Name,
-    snapshot: &mut Growing,
+    snapshot: &mut SnapshotBuilder,
 ) -> Result<(), ImportErr>
     requires agrees { MayCall (F.told folder.old) (λ held. steps.agrees held dir.now (item.File name.now)) }
     requires seen { is_within hidden_dir dir.now ≡ false }
@@ -195,7 +195,7 @@ fn take_dir<F: Folder>(
     folder: &mut F,
     dir: &Path,
     name: &Name,
-    snapshot: &mut Growing,
+    snapshot: &mut SnapshotBuilder,
 ) -> Result<(), ImportErr>
     requires agrees { MayCall (F.told folder.old) (λ held. steps.agrees held dir.now (item.Dir name.now)) }
     requires seen { is_within hidden_dir dir.now ≡ false }
@@ -228,7 +228,7 @@ pub(crate) fn take_item<F: Folder>(
     folder: &mut F,
     dir: &Path,
     item: &Item,
-    snapshot: &mut Growing,
+    snapshot: &mut SnapshotBuilder,
 ) -> Result<(), ImportErr>
     requires agrees { MayCall (F.told folder.old) (λ held. steps.agrees held dir.now item.now) }
     requires seen { is_within hidden_dir dir.now ≡ false }
@@ -261,7 +261,7 @@ fn take_items<F: Folder>(
     folder: &mut F,
     dir: &Path,
     items: &[Item],
-    snapshot: &mut Growing,
+    snapshot: &mut SnapshotBuilder,
 ) -> Result<(), ImportErr>
     requires agrees { MayCall (F.told folder.old) (λ held. list_all (steps.agrees held dir.now) items.now) }
     requires seen { is_within hidden_dir dir.now ≡ false }
@@ -291,7 +291,7 @@ fn take_all<F: Folder>(
     alloc: Global,
     folder: &mut F,
     dir: &Path,
-    snapshot: &mut Growing,
+    snapshot: &mut SnapshotBuilder,
 ) -> Result<(), ImportErr>
     requires lists { MayCall (F.told folder.old) (told.can_list dir.now) }
     requires canonical { is_canonical dir.now ≡ true }

@@ -197,7 +197,7 @@ fn each_change<S: Spelt>(alloc: Global, it: &S) -> Result<String, NoMemory> {
     tally.shown(alloc)
 }
 
-// The same of all but the digest, each under a digest of its own.
+// The bytes with one bit of each byte but those of the digest changed, each under a digest of its own, read.
 fn each_change_sealed<S: Spelt>(alloc: Global, it: &S) -> Result<String, NoMemory> {
     let mut tally = Tally::new();
     let body = body_of(it.bytes());

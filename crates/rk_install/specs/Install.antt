@@ -17,7 +17,7 @@ use Rattle.rk_install.specs.Halfway.{IsFront, IsStopped}
 use Rattle.rk_install.specs.Recovery.{IsSealed, sealed_in, unsealed}
 use Rattle.rk_install.specs.declared.calling.InstallErr.{InstallErr}
 use Rattle.rk_install.specs.declared.calling.InstallErr.TheVariants.{WriteFault, NoMemory}
-use Rattle.rk_install.specs.declared.installation.Around.{Around}
+use Rattle.rk_install.specs.declared.installation.SealOps.{SealOps}
 
 -- the making of the hidden directory comes first, since the list is written there
 abbrev pub makes_hidden : Op → Bool
@@ -76,7 +76,7 @@ abbrev pub IsMoment : List Op → Held → Option Held → Type 0
 IsMoment ops held new = (new ≡ Some held) ⊎ ((new ≡ Some (rooted ops held)) ⊎ ((new ≡ Some (drafted ops held)) ⊎ IsFront (others ops) (Some (sealed ops held)) new))
 
 -- these are the calls around those of the list
-pub record IsAround (ops : List Op) (around : Around) : Type 0 where
+pub record IsSealOps (ops : List Op) (around : SealOps) : Type 0 where
   pub making : around.making ≡ MakeDir hidden_dir
   pub draft : around.draft ≡ Write fresh_list_file (install_spelling ops)
   pub fresh : around.fresh ≡ fresh_list_file

@@ -7,7 +7,7 @@ ghost use Rattle.rk_folder.specs.declared.folder.FolderCall.TheVariants as asks;
 ghost use Rattle.rk_install.specs.Asked.{CallsInOrder, CallsOrNone, IsAsked, calls_by, calls_of, clearing_calls, hidden_calls, install_calls, other_calls, plan_calls};
 ghost use Rattle.rk_install.specs.Calls.{AllowsAll, Caused, DamagedBy, MemoryCaused, OnNoMemory, Steadily, after_all, allowed};
 ghost use Rattle.rk_install.specs.Halfway.{IsFront, IsStopped};
-ghost use Rattle.rk_install.specs.Install.{AllowsCalls, AllowsInstall, AllowsPlan, IsAround, IsMoment, IsMomentOf, IsReadable, MomentOf, OwnOrCaused, ReadableOrNone, StopsCalls, StopsPlan, StopsSo, carried, carried_out, cleared, installed, makes_hidden, others, rooted, step_other};
+ghost use Rattle.rk_install.specs.Install.{AllowsCalls, AllowsInstall, AllowsPlan, IsSealOps, IsMoment, IsMomentOf, IsReadable, MomentOf, OwnOrCaused, ReadableOrNone, StopsCalls, StopsPlan, StopsSo, carried, carried_out, cleared, installed, makes_hidden, others, rooted, step_other};
 
 use crate::calling::{InstallErr, call};
 use rk_base::{NoMemory, Path};
@@ -15,9 +15,9 @@ use rk_folder::{Folder, FolderErr, LONGEST_FILE, fresh_list_file, hidden_dir, in
 use rk_seal::{InstallList, Op, Plan, encode};
 use std::alloc::Global;
 
-// All memory of an install's own: the calls around those of the list, and the name that is sealed.
+// The calls that seal a list and unseal it, around those of the list, with all memory of an install's own.
 #[derive(Drop)]
-struct Around {
+struct SealOps {
     making: Op,
     draft: Op,
     fresh: Path,
@@ -25,15 +25,15 @@ struct Around {
     unsealing: Op,
 }
 
-fn all_around(alloc: Global, list: &InstallList) -> Result<Around, NoMemory>
-    ensures around { IfOk result (IsAround list.now) }
+fn seal_ops(alloc: Global, list: &InstallList) -> Result<SealOps, NoMemory>
+    ensures around { IfOk result (IsSealOps list.now) }
     ensures readable { IfOk result (λ _. IsReadable (Some list.now)) }
 {
     let bytes = encode(alloc, list)?;
     if bytes.len() as u64 > LONGEST_FILE {
         return Err(NoMemory);
     }
-    Ok(Around {
+    Ok(SealOps {
         making: Op::MakeDir(hidden_dir(alloc)?),
         draft: Op::Write(fresh_list_file(alloc)?, bytes),
         fresh: fresh_list_file(alloc)?,
@@ -67,9 +67,9 @@ fn make_hidden<F: Folder>(
     alloc: Global,
     folder: &mut F,
     ops: &[Op],
-    around: &Around,
+    around: &SealOps,
 ) -> Result<(), InstallErr>
-    requires around { IsAround ops.now around.now }
+    requires around { IsSealOps ops.now around.now }
     requires may { IfSome (F.told folder.old) (λ held. list_any makes_hidden ops.now ≡ true → can_make_dir hidden.hidden_dir held ≡ true) }
     ensures held { OnOk result (F.told folder.new ≡ option_map (rooted ops.now) (F.told folder.old)) }
     ensures left { OnErr result (F.told folder.new ≡ F.told folder.old) }
@@ -86,7 +86,7 @@ fn make_hidden<F: Folder>(
 }
 
 // Seals the list that was written, by a rename.
-fn seal<F: Folder>(alloc: Global, folder: &mut F, around: &Around) -> Result<(), InstallErr>
+fn seal<F: Folder>(alloc: Global, folder: &mut F, around: &SealOps) -> Result<(), InstallErr>
     requires { IfSome (F.told folder.old) (λ held. can_rename around.now.fresh around.now.seal held ≡ true) }
     ensures held { OnOk result (F.told folder.new ≡ option_map (renamed around.now.fresh around.now.seal) (F.told folder.old)) }
     ensures left { OnErr result (F.told folder.new ≡ F.told folder.old) }
@@ -145,9 +145,9 @@ fn install_around<F: Folder>(
     alloc: Global,
     folder: &mut F,
     ops: &[Op],
-    around: &Around,
+    around: &SealOps,
 ) -> Result<(), InstallErr>
-    requires around { IsAround ops.now around.now }
+    requires around { IsSealOps ops.now around.now }
     requires may { IfSome (F.told folder.old) (AllowsInstall ops.now) }
     ensures held { OnOk result (F.told folder.new ≡ option_map (installed ops.now) (F.told folder.old)) }
     ensures stops { OnErr result (IfSome (F.told folder.old) (λ held. StopsSo ops.now held (F.told folder.new))) }
@@ -183,7 +183,7 @@ fn install_list<F: Folder>(
     ensures readable { ReadableOrNone (Some list.now) (F.memory_failures folder.old) (F.memory_failures folder.new) result }
     ensures reads { F.read_faults folder.new ≡ F.read_faults folder.old }
 {
-    let around = all_around(alloc, list)?;
+    let around = seal_ops(alloc, list)?;
     install_around(alloc, folder, list.as_slice(), &around)
 }
 

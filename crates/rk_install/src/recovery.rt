@@ -126,7 +126,7 @@ fn recover_from<F: Folder>(alloc: Global, folder: &mut F, bytes: &[u8]) -> Resul
     }
 }
 
-// The same, where one stands.
+// Finishes the list that is sealed, where one stands.
 fn recover_seal<F: Folder>(
     alloc: Global,
     folder: &mut F,

@@ -1,4 +1,4 @@
-pub mod Asking
+pub mod Fetching
 pub mod Causes
 pub mod Changes
 pub mod Do

@@ -3,15 +3,15 @@
 #![tactic(auto)]
 
 mod answer_err;
-mod asking;
 mod description;
+mod fetching_world;
 mod numbered;
 mod pipe;
 mod spot;
 mod world;
 
 pub use answer_err::AnswerErr;
-pub use asking::Asking;
 pub use description::{Description, Source};
+pub use fetching_world::FetchingWorld;
 pub use numbered::NumberedWorld;
 pub use world::World;

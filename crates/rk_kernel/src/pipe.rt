@@ -35,7 +35,7 @@ fn bytes_of(held: &Option<Bytes>) -> &[u8]
     }
 }
 
-// The same bytes, shared.
+// A copy of the bytes, which shares them.
 fn shared(alloc: Global, held: &Option<Bytes>) -> Result<Bytes, NoMemory>
     ensures { IfOk result (λ b. b ≡ text_of held.now) }
 {

@@ -73,7 +73,7 @@ fn without_slash(spot: Spot) -> Spot
     }
 }
 
-// The same, where an absent name with a slash after it is no entry.
+// Where a path leads to, where an absent name with a slash after it is no entry.
 pub(crate) fn strict_spot_at(
     alloc: Global,
     tree: &Tree,

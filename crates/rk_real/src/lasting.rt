@@ -109,7 +109,7 @@ impl Unsynced {
         Ok(())
     }
 
-    /// The same once a change was made: want of memory is a fault then.
+    /// Syncs each of them once a change was made: want of memory is a fault then.
     pub(crate) fn settle_made(&mut self, rt: &impl Files) -> io::Result<()> {
         match self.settle(rt) {
             Ok(()) => Ok(()),

@@ -9,8 +9,8 @@ use Rattle.rk_base.specs.declared.file_type.FileType.TheVariants.{File, Dir, Lin
 use Rattle.rk_calls.specs.declared.answer.Answer.{Answer}
 use Rattle.rk_calls.specs.declared.answer.Answer.TheVariants.{Go, Done, Opened, Piped, Content, Stat, Names, Text, Place, Same, Joined, No}
 use Rattle.tr_record.specs.declared.steps.Step.{Step}
-use Rattle.rk_runs.specs.Spoken.{step_at}
-use Rattle.rk_runs.specs.Differences.{IsFirstDifference, AnswerAlike}
+use Rattle.rk_traces.specs.Spoken.{step_at}
+use Rattle.rk_traces.specs.Differences.{IsFirstDifference, AnswerAlike}
 use Rattle.rk_replay.specs.declared.ran.Cause.{Cause}
 use Rattle.rk_replay.specs.declared.ran.Cause.TheVariants.{Differs}
 use Rattle.rk_replay.specs.Answers.{number_of, same_flag, same_kind, same_answer}

@@ -7,9 +7,9 @@ use Rattle.rk_calls.specs.Keys.{KeyValue}
 use Rattle.tr_record.specs.declared.records.Record.{Record}
 use Rattle.tr_record.specs.declared.steps.Step.{Step}
 use Rattle.tr_record.specs.Rec.{rec_at, begun, stepped, ended, with_exit}
-use Rattle.rk_runs.specs.declared.active.Active.{Active}
-use Rattle.rk_runs.specs.declared.active.Frame.{Frame}
-use Rattle.rk_runs.specs.Places.{length-begun, length-stepped, length-ended, rec-begun, rec-stepped, rec-ended, rec-ended_same}
+use Rattle.rk_traces.specs.declared.active.Active.{Active}
+use Rattle.rk_traces.specs.declared.active.Frame.{Frame}
+use Rattle.rk_traces.specs.Places.{length-begun, length-stepped, length-ended, rec-begun, rec-stepped, rec-ended, rec-ended_same}
 use Rattle.rk_replay.specs.declared.activity.Activity.{Activity}
 use Rattle.rk_replay.specs.Activities.{Speaks_on}
 use Rattle.rk_replay.specs.Ran.{cause_of, IsRecorded, AreKept}

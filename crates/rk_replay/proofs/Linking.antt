@@ -9,11 +9,11 @@ use Rattle.rk_calls.specs.Keys.{KeyValue}
 use Rattle.tr_record.specs.declared.records.Record.{Record}
 use Rattle.tr_record.specs.declared.steps.Step.{Step}
 use Rattle.tr_record.specs.Rec.{rec_at, fresh_rec, with_step, with_exit, found}
-use Rattle.rk_runs.specs.Own.{steps_cost}
-use Rattle.rk_runs.specs.Run.{step}
-use Rattle.rk_runs.specs.Spoken.{step_at}
-use Rattle.rk_runs.specs.Following.{next-take}
-use Rattle.rk_runs.specs.Totals.{own-step, own-exit}
+use Rattle.rk_traces.specs.Own.{steps_cost}
+use Rattle.rk_traces.specs.Run.{step}
+use Rattle.rk_traces.specs.Spoken.{step_at}
+use Rattle.rk_traces.specs.Following.{next-take}
+use Rattle.rk_traces.specs.Totals.{own-step, own-exit}
 use Rattle.rk_replay.specs.declared.activity.Activity.{Activity}
 use Rattle.rk_replay.specs.declared.activity.Activity.TheVariants.{Runs, Replays}
 use Rattle.rk_replay.specs.declared.ran.Cause.{Cause}

@@ -10,9 +10,9 @@ use Rattle.rk_calls.specs.declared.answer.Answer.{Answer}
 use Rattle.rk_calls.specs.Keys.{KeyValue}
 use Rattle.tr_record.specs.declared.records.Record.{Record}
 use Rattle.tr_record.specs.Rec.{rec_at, begun, stepped, ended, fresh_rec, with_step, with_exit, no_key, count_of}
-use Rattle.rk_runs.specs.Places.{length-begun, rec-begun, rec-begun_last}
-use Rattle.rk_runs.specs.Run.{step}
-use Rattle.rk_runs.specs.Spoken.{step_at}
+use Rattle.rk_traces.specs.Places.{length-begun, rec-begun, rec-begun_last}
+use Rattle.rk_traces.specs.Run.{step}
+use Rattle.rk_traces.specs.Spoken.{step_at}
 use Rattle.rk_replay.specs.declared.activity.Activity.{Activity}
 use Rattle.rk_replay.specs.declared.activity.Activity.TheVariants.{Runs, Replays}
 use Rattle.rk_replay.specs.declared.ran.Cause.{Cause}

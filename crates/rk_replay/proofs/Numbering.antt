@@ -10,7 +10,7 @@ use Rattle.tr_record.specs.Contents.{AreContents, Recorded, content_number, numb
 use Rattle.tr_record.specs.Rec.{rec_at, fresh_rec, no_key}
 use Rattle.tr_record.specs.declared.records.Record.{Record}
 use Rattle.tr_record.specs.declared.steps.Step.{Step}
-use Rattle.rk_runs.specs.Spoken.{no_step, step_at}
+use Rattle.rk_traces.specs.Spoken.{no_step, step_at}
 
 by_row : (texts : List Text) (row : Option (List (Option ℕ))) (rec : Record) (at n : ℕ) (step : Step) → number_by row at ≡ Some n → ((list : List (Option ℕ)) → row ≡ Some list → number_in list at ≡ Some n → IsContent texts n step.answer) → IsContent texts n step.answer
 by_row texts None rec at n step is f = cc

@@ -4,8 +4,8 @@ use Rattle.std.specs.Prelude.{sum_by, IfSome, IfNone}
 use Rattle.std.proofs.lemmas.List.Sums.{sum_by-append}
 use Rattle.tr_record.specs.declared.records.Record.{Record}
 use Rattle.tr_record.specs.Rec.{found}
-use Rattle.rk_runs.specs.Differences.{IsFirstDifference, AnswerAlike}
-use Rattle.rk_runs.specs.Own.{own}
+use Rattle.rk_traces.specs.Differences.{IsFirstDifference, AnswerAlike}
+use Rattle.rk_traces.specs.Own.{own}
 use Rattle.rk_replay.specs.declared.ran.Cause.{Cause}
 use Rattle.rk_replay.specs.Ran.{cause_of, own_for}
 use Rattle.rk_replay.proofs.Causing.{cause-found, cause-missing}

@@ -12,16 +12,16 @@ use Rattle.rk_calls.specs.declared.drive.Spoke.TheVariants.{Call as Calls, Exit 
 use Rattle.rk_calls.specs.Keys.{KeyValue}
 use Rattle.tr_record.specs.declared.records.Record.{Record}
 use Rattle.tr_record.specs.Rec.{rec_at, begun, stepped, ended, with_step, count_of}
-use Rattle.rk_runs.specs.declared.active.Active.{Active}
-use Rattle.rk_runs.specs.declared.active.Frame.{Frame}
+use Rattle.rk_traces.specs.declared.active.Active.{Active}
+use Rattle.rk_traces.specs.declared.active.Frame.{Frame}
 use Rattle.rk_base.specs.Paid.{Paid}
-use Rattle.rk_runs.specs.Started.{started}
-use Rattle.rk_runs.specs.CheckLaws.{started-adds}
-use Rattle.rk_runs.specs.Own.{total}
-use Rattle.rk_runs.specs.Purse.{left}
-use Rattle.rk_runs.specs.Run.{step}
-use Rattle.rk_runs.specs.Places.{length-begun, length-stepped, length-ended, rec-begun, rec-begun_last, rec-stepped, rec-stepped_same, rec-ended}
-use Rattle.rk_runs.specs.Totals.{total-begun, total-stepped, total-ended}
+use Rattle.rk_traces.specs.Started.{started}
+use Rattle.rk_traces.specs.CheckLaws.{started-adds}
+use Rattle.rk_traces.specs.Own.{total}
+use Rattle.rk_traces.specs.Purse.{left}
+use Rattle.rk_traces.specs.Run.{step}
+use Rattle.rk_traces.specs.Places.{length-begun, length-stepped, length-ended, rec-begun, rec-begun_last, rec-stepped, rec-stepped_same, rec-ended}
+use Rattle.rk_traces.specs.Totals.{total-begun, total-stepped, total-ended}
 use Rattle.rk_replay.specs.declared.activity.Activity.{Activity}
 use Rattle.rk_replay.specs.Activities.{IsReady, IsWaiting, IsLaunched, Speaks_on, Takes, made, given_up, counted, exit_counted}
 use Rattle.rk_replay.specs.declared.ran.Cause.{Cause}

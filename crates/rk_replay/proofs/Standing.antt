@@ -13,11 +13,11 @@ use Rattle.rk_calls.specs.Keys.{KeyValue}
 use Rattle.tr_record.specs.declared.records.Record.{Record}
 use Rattle.tr_record.specs.declared.steps.Step.{Step}
 use Rattle.tr_record.specs.Rec.{rec_at}
-use Rattle.rk_runs.specs.Following.{Follows-at, Follows-last, Follows-take, follow-next, next-take}
-use Rattle.rk_runs.specs.Lasting.{AllLast, asks-enough, asks-short, ends-enough, ends-short, Lasts-follow}
-use Rattle.rk_runs.specs.Running.{paid}
-use Rattle.rk_runs.specs.Spoken.{follow, Follows, step_at, no_step, AreSpoken}
-use Rattle.rk_runs.specs.Fed.{waits_at}
+use Rattle.rk_traces.specs.Following.{Follows-at, Follows-last, Follows-take, follow-next, next-take}
+use Rattle.rk_traces.specs.Lasting.{AllLast, asks-enough, asks-short, ends-enough, ends-short, Lasts-follow}
+use Rattle.rk_traces.specs.Running.{paid}
+use Rattle.rk_traces.specs.Spoken.{follow, Follows, step_at, no_step, AreSpoken}
+use Rattle.rk_traces.specs.Fed.{waits_at}
 use Rattle.rk_replay.specs.Activities.{IsNext}
 
 -- the step that the code reads

@@ -9,11 +9,11 @@ use Rattle.rk_calls.specs.declared.call.Call.{Call}
 use Rattle.rk_calls.specs.declared.drive.Spoke.{Spoke}
 use Rattle.rk_calls.specs.declared.drive.Spoke.TheVariants.{Call as Calls}
 use Rattle.tr_record.specs.declared.records.Record.{Record}
-use Rattle.rk_runs.specs.CheckLaws.{started-adds}
-use Rattle.rk_runs.specs.Own.{total}
-use Rattle.rk_runs.specs.Started.{started, StartsSome, StartsEach}
-use Rattle.rk_runs.specs.declared.check.CheckErr.{CheckErr}
-use Rattle.rk_runs.specs.declared.check.CheckErr.TheVariants as check
+use Rattle.rk_traces.specs.CheckLaws.{started-adds}
+use Rattle.rk_traces.specs.Own.{total}
+use Rattle.rk_traces.specs.Started.{started, StartsSome, StartsEach}
+use Rattle.rk_traces.specs.declared.check.CheckErr.{CheckErr}
+use Rattle.rk_traces.specs.declared.check.CheckErr.TheVariants as check
 use Rattle.rk_replay.specs.declared.ran.Cause.{Cause}
 use Rattle.rk_replay.specs.declared.stop.ReplayErr.{ReplayErr}
 use Rattle.rk_replay.specs.declared.stop.ReplayErr.TheVariants.{Spent, Forged, Stopped}

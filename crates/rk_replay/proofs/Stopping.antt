@@ -4,9 +4,9 @@ use Rattle.rk_base.specs.declared.memory.NoMemory.{NoMemory}
 use Rattle.rk_calls.specs.Talk.{Says}
 use Rattle.rk_calls.specs.Keys.{KeyValue}
 use Rattle.tr_record.specs.declared.records.Record.{Record}
-use Rattle.rk_runs.specs.Checked.{IsTold}
-use Rattle.rk_runs.specs.declared.check.CheckErr.{CheckErr}
-use Rattle.rk_runs.specs.declared.check.CheckErr.TheVariants as check
+use Rattle.rk_traces.specs.Checked.{IsTold}
+use Rattle.rk_traces.specs.declared.check.CheckErr.{CheckErr}
+use Rattle.rk_traces.specs.declared.check.CheckErr.TheVariants as check
 use Rattle.rk_replay.specs.declared.stop.ReplayErr.{ReplayErr}
 use Rattle.rk_replay.specs.declared.stop.ReplayErr.TheVariants.{Spent, Forged, Stopped}
 use Rattle.rk_replay.specs.Stops.{Stops, StaysAt, IsForged, IsWant, IsHandedOn}

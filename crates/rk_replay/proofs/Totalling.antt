@@ -7,7 +7,7 @@ use Rattle.rk_calls.specs.Keys.{KeyValue}
 use Rattle.tr_record.specs.declared.records.Record.{Record}
 use Rattle.tr_record.specs.declared.steps.Step.{Step}
 use Rattle.tr_record.specs.Rec.{rec_at, begun, stepped, ended, fresh_rec, with_step, with_exit, no_key, count_of}
-use Rattle.rk_runs.specs.Own.{own, total}
+use Rattle.rk_traces.specs.Own.{own, total}
 use Rattle.rk_replay.specs.declared.ran.Cause.{Cause}
 use Rattle.rk_replay.specs.Ran.{cause_of, own_for, ran_for, ran_of, ran_total}
 use Rattle.rk_replay.proofs.Linking.{ran_one, Changes}

@@ -8,8 +8,8 @@ use Rattle.rk_calls.specs.Saying.{goes_on}
 use Rattle.rk_calls.specs.Keys.{KeyValue}
 use Rattle.tr_record.specs.declared.records.Record.{Record}
 use Rattle.tr_record.specs.Rec.{rec_at, found}
-use Rattle.rk_runs.specs.Own.{steps_cost}
-use Rattle.rk_runs.specs.Spoken.{follow, step_at}
+use Rattle.rk_traces.specs.Own.{steps_cost}
+use Rattle.rk_traces.specs.Spoken.{follow, step_at}
 use Rattle.rk_replay.specs.declared.activity.Activity.{Activity}
 use Rattle.rk_replay.specs.declared.activity.Activity.TheVariants.{Runs, Replays}
 

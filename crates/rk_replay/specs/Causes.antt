@@ -3,7 +3,7 @@ use Rattle.std.specs.Prelude.{◌≡◌, ℕ, ◌+◌, ◌<◌, List, length, sl
 use Rattle.rk_calls.specs.declared.answer.Answer.{Answer}
 use Rattle.tr_record.specs.declared.records.Record.{Record}
 use Rattle.tr_record.specs.Rec.{rec_at}
-use Rattle.rk_runs.specs.Spoken.{step_at}
+use Rattle.rk_traces.specs.Spoken.{step_at}
 use Rattle.rk_replay.specs.declared.activity.Activity.{Activity}
 use Rattle.rk_replay.specs.declared.activity.Activity.TheVariants.{Runs, Replays}
 use Rattle.rk_replay.specs.declared.ran.Cause.{Cause}

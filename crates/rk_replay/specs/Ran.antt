@@ -3,7 +3,7 @@ use Rattle.std.specs.Prelude.{◌≡◌, ℕ, suc, ◌<◌, if◌then◌else◌,
 use Rattle.tr_record.specs.declared.records.Record.{Record}
 use Rattle.tr_record.specs.declared.steps.Step.{Step}
 use Rattle.tr_record.specs.Rec.{rec_at, found}
-use Rattle.rk_runs.specs.Own.{own}
+use Rattle.rk_traces.specs.Own.{own}
 use Rattle.rk_replay.specs.declared.ran.Cause.{Cause}
 use Rattle.rk_replay.specs.declared.ran.Cause.TheVariants.{NoRecord, Differs}
 use Rattle.rk_replay.specs.declared.ran.Ran.{Ran}

@@ -5,9 +5,9 @@ use Rattle.rk_calls.specs.Talk.{Says}
 use Rattle.rk_calls.specs.Keys.{KeyValue}
 use Rattle.tr_record.specs.declared.records.Record.{Record}
 use Rattle.tr_record.specs.Rec.{rec_at}
-use Rattle.rk_runs.specs.Spoken.{AreSpoken, IsWrongStep}
-use Rattle.rk_runs.specs.declared.check.CheckErr.{CheckErr}
-use Rattle.rk_runs.specs.declared.check.CheckErr.TheVariants as check
+use Rattle.rk_traces.specs.Spoken.{AreSpoken, IsWrongStep}
+use Rattle.rk_traces.specs.declared.check.CheckErr.{CheckErr}
+use Rattle.rk_traces.specs.declared.check.CheckErr.TheVariants as check
 use Rattle.rk_replay.specs.declared.stop.ReplayErr.{ReplayErr}
 use Rattle.rk_replay.specs.declared.stop.ReplayErr.TheVariants.{Spent, Forged, Stopped}
 

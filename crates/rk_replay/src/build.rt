@@ -3,11 +3,11 @@ ghost use Rattle.std.specs.Prelude.{◌≡◌, ◌+◌, ◌-◌, ◌≤◌, leng
 ghost use Rattle.std.specs.Option.{IsSomeAnd};
 ghost use Rattle.rk_calls.specs.Refs.{top_refs};
 ghost use Rattle.tr_record.specs.Contents.{AreContents};
-ghost use Rattle.rk_runs.specs.Started.{started};
-ghost use Rattle.rk_runs.specs.Own.{total};
-ghost use Rattle.rk_runs.specs.Purse.{left};
-ghost use Rattle.rk_runs.specs.Run.{game, fresh, Done, Spent};
-ghost use Rattle.rk_runs.specs.Spoken.{AreSpoken};
+ghost use Rattle.rk_traces.specs.Started.{started};
+ghost use Rattle.rk_traces.specs.Own.{total};
+ghost use Rattle.rk_traces.specs.Purse.{left};
+ghost use Rattle.rk_traces.specs.Run.{environment, fresh, Done, Spent};
+ghost use Rattle.rk_traces.specs.Spoken.{AreSpoken};
 ghost use Rattle.rk_replay.specs.Ran.{AreKept, ran_of, ran_total};
 ghost use Rattle.rk_replay.specs.Starts.{StartsStopped};
 ghost use Rattle.rk_replay.specs.Stops.{Stops, StaysSo};
@@ -21,7 +21,7 @@ use crate::turns::{answer_call, launch_below, resume};
 use rk_base::{Budget, NoMemory, Steps};
 use rk_calls::{Answer, Call, Key, Machine, Maker, Refs, Spoke};
 use rk_content::{ContentId, Numbering};
-use rk_runs::{Frame, check_with, pay};
+use rk_traces::{Frame, check_with, pay};
 use std::alloc::Global;
 use std::sync::ledger::Ledger;
 use tr_record::{RecordedContents, Table};
@@ -54,9 +54,9 @@ pub fn build_with<K: Maker, W: Numbering, L: Ledger>(
 
     // Where the world tells what it means, it ends as the run in which nothing is recorded yet, and leaves the same
     // records.
-    ensures done { IfOk result (λ b. IfSome (W.told world.old) (λ before. IsSomeAnd (W.told world.new) (λ now. AreSpoken K.first old.now → fresh (game K.first W.given) (left budget.old) key.now top_refs before ≡ Done now b.status (left budget.new) b.table))) }
+    ensures done { IfOk result (λ b. IfSome (W.told world.old) (λ before. IsSomeAnd (W.told world.new) (λ now. AreSpoken K.first old.now → fresh (environment K.first W.given) (left budget.old) key.now top_refs before ≡ Done now b.status (left budget.new) b.table))) }
     ensures spoken { IfOk result (λ b. IfSome (W.told world.old) (λ _. AreSpoken K.first old.now → AreSpoken K.first b.table)) }
-    ensures stops { IfErr result (Stops K.first old.now (IfSome (W.told world.old) (λ before. fresh (game K.first W.given) (left budget.old) key.now top_refs before ≡ Spent)) (W.Fails world.old world.new)) }
+    ensures stops { IfErr result (Stops K.first old.now (IfSome (W.told world.old) (λ before. fresh (environment K.first W.given) (left budget.old) key.now top_refs before ≡ Spent)) (W.Fails world.old world.new)) }
 
     // What no call of the world changes; and, unless it stops for a reason of the world's, what its answers leave as it was.
     ensures keeps { W.Keeps world.old world.new }

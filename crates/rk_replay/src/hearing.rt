@@ -3,14 +3,14 @@ ghost use Rattle.std.specs.Prelude.{◌≡◌, ◌≤◌, ◌<◌, length, take,
 ghost use Rattle.rk_calls.specs.Saying.{speaks};
 ghost use Rattle.rk_calls.specs.Heard.{IsPaid, Goes};
 ghost use Rattle.tr_record.specs.Rec.{rec_at};
-ghost use Rattle.rk_runs.specs.Spoken.{follow, AreSpoken};
+ghost use Rattle.rk_traces.specs.Spoken.{follow, AreSpoken};
 ghost use Rattle.rk_replay.specs.Activities.{stands, waits, IsReady, IsNext, Speaks_on};
 ghost use Rattle.rk_replay.specs.Starts.{StartsFor};
 ghost use Rattle.rk_replay.specs.Stops.{IsForged};
 
 use crate::activity::{Activity, machine_of};
 use rk_calls::{Answer, Machine, Maker, Spoke, advance};
-use rk_runs::CheckErr;
+use rk_traces::CheckErr;
 use tr_record::Table;
 
 /// The next call of a record, or its exit, where the purse meets it.

@@ -5,7 +5,7 @@ ghost use Rattle.rk_content.specs.Contents.{AreKnown, IsContent, Keeps};
 ghost use Rattle.tr_record.specs.Contents.{AreContents};
 ghost use Rattle.tr_record.specs.Rec.{rec_at};
 ghost use Rattle.tr_record.specs.declared.records.Record.{Record};
-ghost use Rattle.rk_runs.specs.Spoken.{step_at};
+ghost use Rattle.rk_traces.specs.Spoken.{step_at};
 ghost use Rattle.rk_replay.specs.Activities.{IsAlike, IsWaiting};
 
 use crate::activity::Activity;

@@ -2,7 +2,7 @@
 ghost use Rattle.std.specs.Prelude.{◌≡◌, ◌<◌, ◌^◌, is_some};
 ghost use Rattle.rk_replay.specs.Ran.{cause_of, own_for, ran_total};
 
-use rk_runs::{first_difference, own};
+use rk_traces::{first_difference, own};
 use tr_record::{Record, Table};
 
 // Whether the command of a record ran.

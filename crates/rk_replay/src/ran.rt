@@ -34,7 +34,7 @@ impl Cause {
         })
     }
 
-    /// The same cause.
+    /// A copy of the cause.
     pub(crate) fn copy(&self) -> Result<Cause, NoMemory>
         ensures { IfOk result (λ c. c ≡ self.now) }
     {

@@ -2,7 +2,7 @@
 ghost use Rattle.rk_replay.specs.Stops.{IsWant, IsHandedOn};
 
 use rk_base::NoMemory;
-use rk_runs::CheckErr;
+use rk_traces::CheckErr;
 
 /// Why a build over an old table doesn't end.
 #[derive(Debug, Drop)]

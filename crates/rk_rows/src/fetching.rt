@@ -3,7 +3,7 @@ use crate::tree::Grown;
 use crate::world::snapshot_shown;
 use rk_base::NoMemory;
 use rk_calls::{Answerer, Refs};
-use rk_kernel::{AnswerErr, Asking, NumberedWorld};
+use rk_kernel::{AnswerErr, FetchingWorld, NumberedWorld};
 use rk_steps::{Fetches, Subject, answer_shown, behind, call_of, plain, text};
 use rk_tree::Tree;
 use std::alloc::Global;
@@ -87,7 +87,7 @@ impl Fetching {
 
     // Calls, `then` between them: each is asked of the world as the one before left it, and what fetches is the same.
     fn calls(&mut self, words: &[Vec<u8>]) -> Result<String, NoMemory> {
-        let mut asking = Asking::new(&mut self.world, &mut self.fetches);
+        let mut asking = FetchingWorld::new(&mut self.world, &mut self.fetches);
         ask_all(self.alloc, &mut asking, &mut self.refs, words)
     }
 }

@@ -23,7 +23,7 @@ pub enum StepKind {
     Build,
     /// What words behind the program's name ask for: its status, its output and its error text.
     Asked,
-    /// The same, where the words begin with the program's name, or there are none.
+    /// What words ask for that begin with the program's name, or that are none: its status, its output and its error text.
     Called,
     /// Words that are no request.
     Refused,
@@ -59,7 +59,7 @@ pub enum StepKind {
     Odd,
     /// The call of the folder of this number fails, in what is asked next.
     Fails,
-    /// The same, and where it is a write it leaves the text.
+    /// The call of the folder of this number fails, in what is asked next, and where it is a write it leaves the text.
     Leaves,
     /// A put of output fails, in what is asked next.
     OutputCut,

@@ -6,7 +6,7 @@ use Rattle.serde_json.specs.Written.{compact_text}
 use Rattle.rk_base.specs.Text.{Text}
 use Rattle.tr_record.specs.declared.records.Record.{Record}
 use Rattle.rk_show.specs.Shown.{shown}
-use Rattle.rk_runs.specs.Own.{own}
+use Rattle.rk_traces.specs.Own.{own}
 
 -- a word or a path, as lines show it
 abbrev pub text_data : Text → Data

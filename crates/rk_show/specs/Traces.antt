@@ -5,7 +5,7 @@ use Rattle.hex.specs.Hex.{encode_lower}
 use Rattle.rk_base.specs.Text.{Text}
 use Rattle.tr_record.specs.declared.records.Record.{Record}
 use Rattle.rk_show.specs.Commands.{command_name}
-use Rattle.rk_runs.specs.Own.{own}
+use Rattle.rk_traces.specs.Own.{own}
 
 -- what it paid is a number of 64 bits, as that of each record that is read from a database
 abbrev pub IsCounted : Record → Type 0

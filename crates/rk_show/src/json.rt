@@ -9,7 +9,7 @@ ghost use Rattle.rk_show.specs.Traces.{IsCounted};
 
 use crate::showing::shown;
 use rk_base::{Bytes, NoMemory};
-use rk_runs::own;
+use rk_traces::own;
 use serde_json::{Map, Value, put};
 use std::alloc::Global;
 use tr_record::Record;

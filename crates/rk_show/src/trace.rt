@@ -6,7 +6,7 @@ ghost use Rattle.rk_show.specs.Traces.{IsCounted, digest_line, digest_of, record
 
 use crate::command::{add_command, add_number};
 use rk_base::{Bytes, NoMemory};
-use rk_runs::own;
+use rk_traces::own;
 use std::alloc::Global;
 use tr_record::Record;
 

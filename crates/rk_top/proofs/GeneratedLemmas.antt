@@ -21,8 +21,8 @@ use Rattle.rk_changes.specs.Holdings.{IsAfter}
 use Rattle.rk_changes.proofs.HiddenLemmas.{attrs_hidden, db_hidden}
 use Rattle.rk_kernel.specs.World.{World}
 use Rattle.rk_replay.specs.Ran.{ran_total}
-use Rattle.rk_runs.specs.Run.{Outcome as Run, Done, Spent}
-use Rattle.rk_runs.specs.Spoken.{AreSpoken}
+use Rattle.rk_traces.specs.Run.{Outcome as Run, Done, Spent}
+use Rattle.rk_traces.specs.Spoken.{AreSpoken}
 use Rattle.rk_tree.specs.Entries.{Entries}
 use Rattle.rk_build.specs.Fresh.{held_after}
 use Rattle.rk_top.specs.Generated.{ComesTo, Generates, IsBuilt, IsLine, KeepsTable, Reaches, Stage, edit_after, edited_stage, line_of_stage, plain_build, workload_after}

@@ -13,7 +13,7 @@ use Rattle.rk_build.specs.Run.{fresh_run}
 use Rattle.rk_changes.proofs.HiddenLemmas.{install_hidden}
 use Rattle.rk_changes.proofs.HoldingLemmas.{after-one, none-after}
 use Rattle.rk_kernel.specs.World.{World}
-use Rattle.rk_runs.specs.Run.{Outcome as Run, Done, Spent}
+use Rattle.rk_traces.specs.Run.{Outcome as Run, Done, Spent}
 use Rattle.rk_top.specs.Generated.{ComesTo, HaveOneLine, IsBuilt, Reaches, Stage, edit_after, edited_stage, line_of_stage, plain_build, start_of, workload_after}
 use Rattle.rk_top.proofs.GeneratedLemmas.{one-kept, same-stage}
 

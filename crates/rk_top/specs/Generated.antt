@@ -15,7 +15,7 @@ use Rattle.rk_gen.specs.Changed.{changed, with_files}
 use Rattle.rk_changes.specs.Holdings.{IsAfter}
 use Rattle.rk_kernel.specs.World.{World}
 use Rattle.rk_replay.specs.Ran.{ran_total}
-use Rattle.rk_runs.specs.Run.{Outcome as Run, Done, Spent}
+use Rattle.rk_traces.specs.Run.{Outcome as Run, Done, Spent}
 use Rattle.rk_request.specs.declared.requests.Request.{Request}
 use Rattle.rk_request.specs.declared.requests.Request.TheVariants.{Build}
 use Rattle.rk_build.specs.Fresh.{held_after}

@@ -7,8 +7,8 @@ use Rattle.rk_folder.specs.Looks.{all_state_looks, removes, state_listings}
 use Rattle.rk_folder.specs.Schedule.{MakesCalls}
 use Rattle.rk_folder.specs.Specials.{first_special}
 use Rattle.rk_folder.specs.Told.{Held}
-use Rattle.rk_runs.specs.Run.{Spent}
-use Rattle.rk_runs.specs.Spoken.{AreSpoken}
+use Rattle.rk_traces.specs.Run.{Spent}
+use Rattle.rk_traces.specs.Spoken.{AreSpoken}
 use Rattle.rk_request.specs.Asked.{IfBuild, IfGen, IfQuery, is_fresh, request_of}
 use Rattle.rk_folder.specs.declared.folder.FolderCall.{FolderCall}
 use Rattle.rk_request.specs.declared.requests.Request.{Request}
@@ -38,8 +38,9 @@ pub record Builds (request : Request) (before now : Outside) (outcome : Outcome)
   pub tally : IfEnded outcome (λ status launched ran. Tallies first_talk request before.held now.held before.live now.live launched ran)
   pub checked : IfEnded outcome (λ status launched ran. Checked first_talk request before.held)
   pub live : Ticked request before.live now.live outcome
-  -- What a folder that keeps its calls was asked: a listing of each directory and a read of each file, then the state files, and
-  -- then the planned calls, each once at most, in this order, and nothing else; where nothing is installed, it is looked at alone.
+  -- What a folder that keeps its calls was asked: a listing of each directory and the state files, then reads of listed files
+  -- outside `.rkr`, and then the planned calls, each once at most, in this order, and nothing else; where nothing is installed,
+  -- it is looked at alone.
   pub calls : AsksSo first_talk request before.reach before.held before.schedule now.schedule outcome
   -- What the output gained.
   pub output : Gains first_talk request before.held before.out now.out outcome

@@ -7,8 +7,8 @@ use Rattle.rk_base.specs.Text.{Text, text_cmp, is_slash}
 use Rattle.rk_tree.specs.Copying.{made_of}
 use Rattle.rk_tree.specs.Entries.{Entries}
 use Rattle.rk_tree.specs.Node.{Node}
-use Rattle.rk_tree.specs.declared.growing.Rows.{Rows}
-use Rattle.rk_tree.specs.declared.growing.Rows.TheVariants.{Walked, Settled}
+use Rattle.rk_tree.specs.declared.snapshot_builder.BuilderRows.{Rows}
+use Rattle.rk_tree.specs.declared.snapshot_builder.BuilderRows.TheVariants.{Walked, Settled}
 
 -- a slash comes before each byte of a name
 abbrev pub walk_byte : ℕ → ℕ

@@ -157,7 +157,7 @@ impl Ascending {
         Ok(rows)
     }
 
-    /// The same names in a B-tree.
+    /// These names in a B-tree.
     pub(crate) fn searched(&self, alloc: Global) -> Result<BTreeMap<Vec<u8>, NodeId>, NoMemory>
         ensures { IfOk result (λ map. map_of (named map.entries) ≡ self.now) }
     {

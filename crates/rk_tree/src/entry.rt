@@ -29,7 +29,7 @@ impl Entry {
         }
     }
 
-    /// The same entry.
+    /// A copy of the entry, which shares its bytes.
     pub fn copy(&self) -> Result<Entry, NoMemory>
         ensures { IfOk result (λ it. node_of it ≡ node_of self.now) }
     {

@@ -111,7 +111,7 @@ impl Node {
         self.entry.same(&other.entry)
     }
 
-    /// The same node.
+    /// A copy of the node, which shares its bytes.
     pub fn copy(&self) -> Result<Node, NoMemory>
         ensures { IfOk result (λ it. it ≡ self.now) }
     {

@@ -39,7 +39,7 @@ impl<'a> Label<'a> {
         self.bytes
     }
 
-    /// The same name, owned.
+    /// A copy of the name, owned.
     pub fn to_name(&self, alloc: Global) -> Result<Name, NoMemory>
         ensures { IfOk result (λ n. n ≡ self.now) }
     {

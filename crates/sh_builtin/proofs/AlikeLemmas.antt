@@ -11,7 +11,7 @@ use Rattle.rk_calls.specs.Talk.{Says}
 use Rattle.rk_calls.specs.Turns.{turns}
 use Rattle.rk_calls.specs.Views.{View, Alike, alike-ask, alike-pay}
 use Rattle.sh_vars.specs.declared.env.Env.{Env}
-use Rattle.sh_builtin.specs.Doing.{Ended, Doing, heard, at_slot, ends, pays, asks}
+use Rattle.sh_builtin.specs.Action.{Ended, Action, heard, at_slot, ends, pays, asks}
 use Rattle.sh_builtin.specs.Telling.{tells}
 use Rattle.sh_builtin.specs.Laws.{EndsAlike, BothAlike, IsAlike}
 
@@ -21,11 +21,11 @@ lower v p q k k' le h status env r le' = h status env r (omega arith)
 pub alike-ends : (status : ℕ) → IsAlike (ends status)
 alike-ends status v p slots k k' env h = h status env p (omega arith)
 
-pub alike-pays : (c : ℕ) (x : Doing) → IsAlike x → IsAlike (pays c x)
+pub alike-pays : (c : ℕ) (x : Action) → IsAlike x → IsAlike (pays c x)
 alike-pays c x h v p slots k k' env hk =
     alike-pay v p c (x slots k env) (x slots k' env) (λ le. h v (p - c) slots k k' env (lower v p (p - c) k k' (omega arith) hk))
 
-pub alike-choice : (b : Bool) (x y : Doing) → IsAlike x → IsAlike y → IsAlike (if b then x else y)
+pub alike-choice : (b : Bool) (x y : Action) → IsAlike x → IsAlike y → IsAlike (if b then x else y)
 alike-choice true x y h k = h
 alike-choice false x y h k = k
 
@@ -34,7 +34,7 @@ pub alike-at_slot : (v : View) (p : ℕ) (o : Option ℕ) (call : ℕ → Call) 
 alike-at_slot v p None call c n n' env proper none some = none
 alike-at_slot v p (Some m) call c n n' env proper none some = alike-ask v p (call m) c (λ a. n a (heard a env)) (λ a. n' a (heard a env)) (proper m) (λ le a. some a le)
 
-pub alike-write : (v : View) (p d : ℕ) (bytes : Text) (c : ℕ) (x y : Answer → Doing) → ((a : Answer) (q : ℕ) → q ≤ p → BothAlike v q (x a) (y a)) → BothAlike v p (asks (Write d bytes) c x) (asks (Write d bytes) c y)
+pub alike-write : (v : View) (p d : ℕ) (bytes : Text) (c : ℕ) (x y : Answer → Action) → ((a : Answer) (q : ℕ) → q ≤ p → BothAlike v q (x a) (y a)) → BothAlike v p (asks (Write d bytes) c x) (asks (Write d bytes) c y)
 alike-write v p d bytes c x y h slots k k' env hk =
     alike-at_slot v p (slots d) (λ m. Write m bytes) c (λ a. x a slots k) (λ a. y a slots k') env (λ m. tt) (h (answer.No BadRef) p (omega arith) slots k k' env hk)
     (λ a le. h a (p - c) (omega arith) slots k k' (heard a env) (lower v p (p - c) k k' (omega arith) hk))

@@ -10,7 +10,7 @@ use Rattle.rk_calls.specs.declared.turn.Turn.TheVariants.{Ask, More, Exit}
 use Rattle.rk_calls.specs.Talk.{Says, pay, ask, exits, after as said}
 use Rattle.sh_vars.specs.declared.env.Env.{Env}
 use Rattle.sh_builtin.specs.Commands.{alone}
-use Rattle.sh_builtin.specs.Doing.{Doing, heard, through, after}
+use Rattle.sh_builtin.specs.Action.{Action, heard, through, after}
 
 -- each call is asked of the descriptor that it names
 through_own : (c : Call) (cost : ℕ) (next : Answer → Env → Says) (env : Env) (p : ℕ) → through (λ d. Some d) c cost next env p ≡ ask c cost (λ a. next a (heard a env)) p
@@ -40,7 +40,7 @@ exits_paid status c p =
       | inr e ↦ rw e.0 refl
     ]
 
-pub alone_after : (t : Turn) (next : Answer → Doing) (env : Env) (p : ℕ) → after (λ d. Some d) t (λ a. next a (λ d. Some d) (λ status env. exits status 0)) (λ status env. exits status 0) env p ≡ said t (λ a. alone (next a) (heard a env)) p
+pub alone_after : (t : Turn) (next : Answer → Action) (env : Env) (p : ℕ) → after (λ d. Some d) t (λ a. next a (λ d. Some d) (λ status env. exits status 0)) (λ status env. exits status 0) env p ≡ said t (λ a. alone (next a) (heard a env)) p
 alone_after (Ask c cost) next env p = through_own c cost (λ a. next a (λ d. Some d) (λ status env. exits status 0)) env p
 alone_after (More c) next env p = refl
 alone_after (Exit status c) next env p = exits_paid status c p

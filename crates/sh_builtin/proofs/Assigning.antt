@@ -6,7 +6,7 @@ use Rattle.rk_base.specs.Text.{Text}
 use Rattle.sh_vars.specs.declared.env.Env.{Env}
 use Rattle.sh_vars.specs.Held.{is_readonly}
 use Rattle.sh_builtin.specs.Cds.{with_value}
-use Rattle.sh_builtin.specs.Doing.{Slots, Ended}
+use Rattle.sh_builtin.specs.Action.{Slots, Ended}
 use Rattle.sh_builtin.specs.Reads.{first_value, assigns}
 
 one : (front rest values more : List Text) (x : Text) (status : ℕ) (env : Env) (slots : Slots) (k : Ended) (p : ℕ) → front ≡ x ∷ rest → drop 1 values ≡ more → is_readonly env.vars x ≡ false → assigns front values status slots k env p ≡ assigns rest more status slots k (with_value x (first_value values) env) p

@@ -25,7 +25,7 @@ use Rattle.sh_builtin.proofs.AlikeLemmas.{lower, alike-ends, alike-pays, alike-c
 use Rattle.sh_builtin.specs.Builtins.{named_does, does}
 use Rattle.sh_builtin.specs.Cds.{unless_readonly, with_value, pwd_name, moves, walked, walks, cds}
 use Rattle.sh_builtin.specs.Commands.{says, own_env, builtin_command}
-use Rattle.sh_builtin.specs.Doing.{Ended, Doing, heard, ends, pays, asks}
+use Rattle.sh_builtin.specs.Action.{Ended, Action, heard, ends, pays, asks}
 use Rattle.sh_builtin.specs.Echoes.{echoed, pwds}
 use Rattle.sh_operands.specs.Formats.{pieces}
 use Rattle.sh_builtin.specs.Names.{name_of, is_builtin, text_of}
@@ -57,26 +57,26 @@ alike-pwds (x ∷ xs) v p slots k k' env hk = alike-tells (usage_line (codes "pw
 
 -- `cd`.
 
-alike-unless_readonly : (n : Name) (x : Text) (go : Doing) → IsAlike go → IsAlike (unless_readonly n x go)
+alike-unless_readonly : (n : Name) (x : Text) (go : Action) → IsAlike go → IsAlike (unless_readonly n x go)
 alike-unless_readonly n x go h v p slots k k' env hk =
     alike-if v p (is_readonly env.vars x) (complains n x (codes "readonly") 1 slots k env) (complains n x (codes "readonly") 1 slots k' env) (go slots k env) (go slots k' env)
     (alike-complains n x (codes "readonly") 1 v p slots k k' env hk)
     (h v p slots k k' env hk)
 
 -- a call that names no descriptor
-alike-walk : (path : Text) (next : Answer → Doing) → ((a : Answer) → IsAlike (next a)) → IsAlike (asks (Walk path) 1 next)
+alike-walk : (path : Text) (next : Answer → Action) → ((a : Answer) → IsAlike (next a)) → IsAlike (asks (Walk path) 1 next)
 alike-walk path next h v p slots k k' env hk =
     alike-ask v p (Walk path) 1 (λ a. next a slots k (heard a env)) (λ a. next a slots k' (heard a env)) tt
     (λ le a. h a v (p - 1) slots k k' (heard a env) (lower v p (p - 1) k k' (omega arith) hk))
 
-alike-stat : (path : Text) (follow : Bool) (next : Answer → Doing) → ((a : Answer) → IsAlike (next a)) → IsAlike (asks (Stat path follow) 1 next)
+alike-stat : (path : Text) (follow : Bool) (next : Answer → Action) → ((a : Answer) → IsAlike (next a)) → IsAlike (asks (Stat path follow) 1 next)
 alike-stat path follow next h v p slots k k' env hk =
     alike-ask v p (Stat path follow) 1 (λ a. next a slots k (heard a env)) (λ a. next a slots k' (heard a env)) tt
     (λ le a. h a v (p - 1) slots k k' (heard a env) (lower v p (p - 1) k k' (omega arith) hk))
 
 alike-moves : (place : Text) → IsAlike (moves place)
 alike-moves place =
-    let moved : Doing = λ slots k env. ends 0 slots k (record (with_value pwd_name place env) { wd = place }) in
+    let moved : Action = λ slots k env. ends 0 slots k (record (with_value pwd_name place env) { wd = place }) in
     alike-unless_readonly Cd pwd_name moved (λ v p slots k k' env hk. hk 0 (record (with_value pwd_name place env) { wd = place }) p (omega arith))
 
 alike-walked : (operand : Text) (a : Answer) → IsAlike (walked operand a)
@@ -95,7 +95,7 @@ alike-walked operand (answer.No errno) = alike-complains Cd operand (word errno)
 
 alike-walks : (operand : Text) → IsAlike (walks operand)
 alike-walks operand =
-    let looks : Doing = λ slots k env. asks (Walk (absolute env.wd operand)) 1 (λ a. walked operand a) slots k env in
+    let looks : Action = λ slots k env. asks (Walk (absolute env.wd operand)) 1 (λ a. walked operand a) slots k env in
     alike-unless_readonly Cd pwd_name looks (λ v p slots k k' env hk. alike-walk (absolute env.wd operand) (λ a. walked operand a) (λ a. alike-walked operand a) v p slots k k' env hk)
 
 alike-cds : (operands : List Text) → IsAlike (cds operands)

@@ -3,7 +3,7 @@ use Rattle.std.proofs.Common.{◌≡◌, ℕ, [], ◌∷◌, length, sym, ap}
 use Rattle.std.specs.Int.{div_ceil}
 use Rattle.rk_base.specs.Text.{Text}
 use Rattle.rk_calls.specs.Turns.{turns}
-use Rattle.sh_builtin.specs.Doing.{pays}
+use Rattle.sh_builtin.specs.Action.{pays}
 use Rattle.sh_builtin.specs.Prints.{writes_made, puts_made}
 
 pub made_paid : (output : Text) (status n : ℕ) → n ≡ length output → (n ≡ 0 → ⊥) → puts_made output status ≡ pays (div_ceil n 64) (writes_made output status)

@@ -20,7 +20,7 @@ use Rattle.sh_builtin.specs.declared.name.Name.TheVariants as name
 use Rattle.sh_builtin.specs.Laws.{EndsAlike, BothAlike, IsAlike}
 use Rattle.sh_builtin.proofs.AlikeLemmas.{lower, alike-ends, alike-choice, alike-at_slot, alike-tells}
 use Rattle.sh_builtin.specs.Cds.{sets, with_value}
-use Rattle.sh_builtin.specs.Doing.{Slots, Ended, Doing, heard}
+use Rattle.sh_builtin.specs.Action.{Slots, Ended, Action, heard}
 use Rattle.sh_builtin.specs.Fields.{values}
 use Rattle.sh_builtin.specs.Lines.{line_of}
 use Rattle.sh_builtin.specs.Names.{text_of}
@@ -31,7 +31,7 @@ use Rattle.sh_builtin.specs.Telling.{complains, usage_line}
 alike-complains : (n : Name) (operand what : Text) (status : ℕ) → IsAlike (complains n operand what status)
 alike-complains n operand what status = alike-tells (error_line (text_of n) operand what) status
 
-pub alike-sets : (n : Name) (x value : Text) (go : Doing) → IsAlike go → IsAlike (sets n x value go)
+pub alike-sets : (n : Name) (x value : Text) (go : Action) → IsAlike go → IsAlike (sets n x value go)
 alike-sets n x value go h v p slots k k' env hk =
     alike-if v p (is_readonly env.vars x) (complains n x (codes "readonly") 1 slots k env) (complains n x (codes "readonly") 1 slots k' env) (go slots k (with_value x value env)) (go slots k' (with_value x value env))
     (alike-complains n x (codes "readonly") 1 v p slots k k' env hk)
@@ -83,11 +83,11 @@ alike-reads_lines raw xs marks v p slots k k' env hk =
     let at : At = record { raw = raw; names = xs; marks = marks; slots = slots; env = env } in
     fix-alike Related reads_line pays v (suc p) (record { at = at; next = k }) (record { at = at; next = k' }) p (omega arith) (refl, hk)
 
-alike-unless_readonly : (o : Option Text) (go : Doing) → IsAlike go → IsAlike (unless_readonly o go)
+alike-unless_readonly : (o : Option Text) (go : Action) → IsAlike go → IsAlike (unless_readonly o go)
 alike-unless_readonly None go h = h
 alike-unless_readonly (Some x) go h = alike-complains name.Read x (codes "readonly") 1
 
-alike-unless_misnamed : (o : Option Text) (go : Doing) → IsAlike go → IsAlike (unless_misnamed o go)
+alike-unless_misnamed : (o : Option Text) (go : Action) → IsAlike go → IsAlike (unless_misnamed o go)
 alike-unless_misnamed None go h = h
 alike-unless_misnamed (Some x) go h = alike-complains name.Read x (codes "usage") 1
 

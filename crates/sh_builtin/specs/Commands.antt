@@ -5,11 +5,11 @@ use Rattle.rk_calls.specs.Talk.{Says, exits}
 use Rattle.sh_vars.specs.declared.env.Env.{Env}
 use Rattle.sh_vars.specs.Held.{nothing}
 use Rattle.sh_builtin.specs.Builtins.{does}
-use Rattle.sh_builtin.specs.Doing.{Doing}
+use Rattle.sh_builtin.specs.Action.{Action}
 use Rattle.sh_builtin.specs.Names.{is_builtin}
 
 -- each descriptor is the command's own, and then it exits
-abbrev pub alone : Doing → Env → Says
+abbrev pub alone : Action → Env → Says
 alone x = x (λ d. Some d) (λ status env. exits status 0)
 
 -- with these words, its name first, in this environment

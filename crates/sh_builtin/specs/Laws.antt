@@ -5,17 +5,17 @@ use Rattle.rk_calls.specs.Views.{View, Alike, IsCommandTalk}
 use Rattle.sh_vars.specs.declared.env.Env.{Env}
 use Rattle.sh_builtin.specs.Builtins.{does}
 use Rattle.sh_builtin.specs.Commands.{says, builtin_command}
-use Rattle.sh_builtin.specs.Doing.{Slots, Ended, Doing}
+use Rattle.sh_builtin.specs.Action.{Slots, Ended, Action}
 
 -- what comes after, wherever at most p turns are left
 abbrev pub EndsAlike : View → ℕ → Ended → Ended → Type 0
 EndsAlike v p k k' = (status : ℕ) (env : Env) (q : ℕ) → q ≤ p → Alike v q (k status env) (k' status env)
 
 -- two doings, where p turns are left
-abbrev pub BothAlike : View → ℕ → Doing → Doing → Type 0
+abbrev pub BothAlike : View → ℕ → Action → Action → Type 0
 BothAlike v p x y = (slots : Slots) (k k' : Ended) (env : Env) → EndsAlike v p k k' → Alike v p (x slots k env) (y slots k' env)
 
-abbrev pub IsAlike : Doing → Type 0
+abbrev pub IsAlike : Action → Type 0
 IsAlike x = (v : View) (p : ℕ) → BothAlike v p x x
 
 -- Whatever comes after a builtin: where that is alike, it is. For one thing, fewer turns only cut what is said, if they

@@ -1,7 +1,7 @@
 pub mod Builtins
 pub mod Cds
 pub mod Commands
-pub mod Doing
+pub mod Action
 pub mod Echoes
 pub mod Fields
 pub mod Laws

@@ -11,22 +11,22 @@ use Rattle.sh_operands.specs.Formats.{pieces}
 use Rattle.sh_operands.specs.Made.{MadeValue}
 use Rattle.sh_operands.specs.Passes.{prints_of}
 use Rattle.sh_builtin.specs.declared.name.Name.TheVariants.{Printf}
-use Rattle.sh_builtin.specs.Doing.{Doing, ends, pays, asks}
+use Rattle.sh_builtin.specs.Action.{Action, ends, pays, asks}
 use Rattle.sh_builtin.specs.Telling.{complains, tells, usage_line, written}
 
 abbrev pub bad_line : Text → Text
 bad_line word = error_line (codes "printf") word (codes "not valid")
 
 -- the output, where there is any, on 1, once it is paid for
-abbrev pub writes_made : Text → ℕ → Doing
+abbrev pub writes_made : Text → ℕ → Action
 writes_made output status = asks (Write 1 output) 1 (λ a. written Printf status (brought a))
 
 -- a turn for each 64 bytes is paid before the output is made
-abbrev pub puts_made : Text → ℕ → Doing
+abbrev pub puts_made : Text → ℕ → Action
 puts_made output status = if is_empty output then ends status else pays (turns output) (writes_made output status)
 
 -- a line for each bad number, and then the output
-abbrev pub tells_bad : List Text → Text → ℕ → Doing
+abbrev pub tells_bad : List Text → Text → ℕ → Action
 tells_bad [] output status = puts_made output status
 tells_bad (word ∷ words) output status = asks (Write 2 (bad_line word)) (1 + turns (bad_line word)) (λ a. tells_bad words output status)
 
@@ -34,14 +34,14 @@ abbrev pub status_of : List Text → ℕ
 status_of [] = 0
 status_of (word ∷ words) = 1
 
-abbrev pub prints_made : MadeValue → Doing
+abbrev pub prints_made : MadeValue → Action
 prints_made made = tells_bad made.bad made.output (status_of made.bad)
 
 -- a format with a fault is told, and nothing is written
-abbrev pub prints_pieces : Text → Option (List Piece) → List Text → Doing
+abbrev pub prints_pieces : Text → Option (List Piece) → List Text → Action
 prints_pieces format None operands = complains Printf format (codes "not valid") 1
 prints_pieces format (Some ps) operands = prints_made (prints_of ps operands)
 
-abbrev pub prints : List Text → Doing
+abbrev pub prints : List Text → Action
 prints [] = tells (usage_line (codes "printf")) 1
 prints (format ∷ operands) = prints_pieces format (pieces format) operands

@@ -14,7 +14,7 @@ use Rattle.sh_builtin.specs.declared.command.BuiltinCommand.{BuiltinCommand}
 use Rattle.sh_builtin.specs.Builtins.{does}
 use Rattle.sh_builtin.specs.Cds.{walked}
 use Rattle.sh_builtin.specs.Commands.{alone}
-use Rattle.sh_builtin.specs.Doing.{Slots, Ended, Doing, ends, after, heard}
+use Rattle.sh_builtin.specs.Action.{Slots, Ended, Action, ends, after, heard}
 use Rattle.sh_operands.specs.Passes.{prints_of}
 use Rattle.sh_builtin.specs.Prints.{tells_bad, writes_made}
 use Rattle.sh_builtin.specs.Reads.{line_read, reads_on}
@@ -22,7 +22,7 @@ use Rattle.sh_builtin.specs.Telling.{written}
 use Rattle.sh_builtin.specs.Tests.{holds, status_of, inverted_if}
 
 -- by the answer
-abbrev pub stage_does : Stage → Answer → Doing
+abbrev pub stage_does : Stage → Answer → Action
 stage_does (Writing name status) a = written name status (brought a)
 stage_does (Walking operand) a = walked operand a
 stage_does (Reading raw names marks) a = line_read reads_on raw names marks (brought a)
@@ -32,15 +32,15 @@ stage_does (Judging p negated) a = ends (status_of (inverted_if negated (holds p
 stage_does (Over status) a = ends status
 
 -- this is done by a turn and by what comes after it
-abbrev pub IsDoneBy : Doing → Env → Move → Env → Type 0
+abbrev pub IsDoneBy : Action → Env → Move → Env → Type 0
 IsDoneBy x env move env' =
     (slots : Slots) (k : Ended) (p : ℕ) → x slots k env p ≡ after slots move.turn (λ a. stage_does move.stage a slots k) k env' p
 
-abbrev pub progress_does : Progress → Answer → Doing
+abbrev pub progress_does : Progress → Answer → Action
 progress_does (Begins words) a = does words
 progress_does (Stands stage) a = stage_does stage a
 
-abbrev pub builtin_does : Builtin → Answer → Doing
+abbrev pub builtin_does : Builtin → Answer → Action
 builtin_does b a = progress_does b.progress a
 
 -- what the machine says as a command by itself: it hears the answer first

@@ -10,7 +10,7 @@ use Rattle.sh_operands.specs.declared.primary.Primary.{Primary}
 use Rattle.sh_operands.specs.declared.verdict.Verdict.{Verdict}
 use Rattle.sh_operands.specs.declared.primary.Primary.{Primary}
 use Rattle.sh_operands.specs.declared.verdict.Verdict.TheVariants.{Holds, Asks, Misused}
-use Rattle.sh_builtin.specs.Doing.{Doing, ends, asks}
+use Rattle.sh_builtin.specs.Action.{Action, ends, asks}
 use Rattle.sh_operands.specs.Primaries.{follows, holds_of}
 use Rattle.sh_builtin.specs.Telling.{complains}
 use Rattle.sh_operands.specs.Verdicts.{decides}
@@ -30,12 +30,12 @@ inverted_if true b = not b
 inverted_if false b = b
 
 -- what stands at a path decides; a path is looked up from the working directory
-abbrev pub judges : Verdict → Doing
+abbrev pub judges : Verdict → Action
 judges (Holds b) = ends (status_of b)
 judges (Asks p operand negated) = λ slots k env. asks (Stat (absolute env.wd operand) (follows p)) 1 (λ a. ends (status_of (inverted_if negated (holds p a)))) slots k env
 judges (Misused word) = complains name.Test word (codes "usage") 2
 
-abbrev pub tests : List Text → Doing
+abbrev pub tests : List Text → Action
 tests operands = judges (decides operands)
 
 abbrev pub is_closing : Option Text → Bool
@@ -43,6 +43,6 @@ is_closing None = false
 is_closing (Some word) = same_text word (codes "]")
 
 -- `[` is `test` with a last operand `]`
-abbrev pub brackets : List Text → Doing
+abbrev pub brackets : List Text → Action
 brackets operands =
     if is_closing (slice_get operands (length operands - 1)) then tests (take (length operands - 1) operands) else complains name.Test (codes "]") (codes "usage") 2

@@ -3,7 +3,7 @@ ghost use Rattle.std.specs.Prelude.{◌≡◌, ◌∷◌, ℕ, IfOk};
 ghost use Rattle.rk_calls.specs.Costly.{IsCostly};
 ghost use Rattle.sh_vars.specs.declared.env.Env.{Env};
 ghost use Rattle.sh_builtin.specs.Builtins.{is_unknown, named_does, does};
-ghost use Rattle.sh_builtin.specs.Doing.{Slots, Ended, after};
+ghost use Rattle.sh_builtin.specs.Action.{Slots, Ended, after};
 ghost use Rattle.rk_calls.specs.declared.answer.Answer.TheVariants as answers;
 ghost use Rattle.rk_base.specs.declared.errno.Errno.TheVariants.{BadRef};
 ghost use Rattle.sh_builtin.specs.Refused.{HasBegun, HasBegunAt, IsFewer, refusals, refusals_at, refusals_of};

@@ -2,7 +2,7 @@
 ghost use Rattle.std.specs.Prelude.{◌≡◌, IfOk, option_map};
 ghost use Rattle.sh_builtin.specs.Commands.{says, own_env, named_command, builtin_command};
 ghost use Rattle.sh_builtin.specs.Stages.{command_talk};
-ghost use Rattle.sh_builtin.specs.Doing.{numbered};
+ghost use Rattle.sh_builtin.specs.Action.{numbered};
 
 use crate::Builtin;
 use crate::name::is_builtin;

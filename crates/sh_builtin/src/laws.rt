@@ -8,12 +8,12 @@ pub fn builtins_keep_what_is_alike()
     ensures { EachIsAlike }
 {}
 
-/// The same of a builtin that runs as a command by itself.
+/// A builtin that runs as a command by itself says what commands may say.
 pub fn builtins_say_what_commands_may()
     ensures { EachIsCommandTalk }
 {}
 
-/// The same of a builtin that is launched by its name.
+/// A builtin that is launched by its name says what commands may say.
 pub fn builtins_by_name_say_what_commands_may()
     ensures { EachByNameIsCommandTalk }
 {}

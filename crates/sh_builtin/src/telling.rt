@@ -3,7 +3,7 @@ ghost use Rattle.std.specs.Prelude.{◌≡◌, ℕ, IfOk};
 ghost use Rattle.rk_calls.specs.Brought.{brought};
 ghost use Rattle.rk_calls.specs.Costly.{IsCostly};
 ghost use Rattle.sh_vars.specs.declared.env.Env.{Env};
-ghost use Rattle.sh_builtin.specs.Doing.{ends};
+ghost use Rattle.sh_builtin.specs.Action.{ends};
 ghost use Rattle.sh_builtin.specs.Refused.{IsFewer, IsLast};
 ghost use Rattle.sh_builtin.specs.Stages.{IsDoneBy};
 ghost use Rattle.sh_builtin.specs.Telling.{usage_line, tells, complains, written, puts};

@@ -20,7 +20,7 @@ use Rattle.sh_means.specs.declared.control.Control.TheVariants as control
 use Rattle.sh_means.specs.declared.control.CompoundStep.TheVariants as compound_step
 use Rattle.sh_means.specs.declared.control.Made.TheVariants as made
 use Rattle.sh_means.specs.declared.control.Then.TheVariants as then
-use Rattle.sh_means.specs.declared.control.SimpleStep.TheVariants as simple_step
+use Rattle.sh_means.specs.declared.control.WordStep.TheVariants as word_step
 use Rattle.sh_means.specs.declared.flow.Flow.TheVariants.{Normal}
 use Rattle.sh_means.specs.declared.flow.Place.{Place}
 use Rattle.sh_redirect.specs.declared.descriptors.DescriptorTable.{DescriptorTable}
@@ -36,14 +36,14 @@ use Rattle.sh_means.specs.Words.{expand_words, named, redirect_all}
 use Rattle.sh_means.proofs.Folding.{simple_is}
 use Rattle.sh_means.proofs.Places.{commands_some, commands_none}
 
-pub simple_entered : (c : SimpleCommand) (r : Rc SimpleCommand Global) (ws : Rc Words Global) (fields : List Text) (pl : Place) (k : Next) (e : Shell) (p : ℕ) → r.value ≡ c → ws.value ≡ (out-SimpleCommand c).words.value → fields ≡ [] → simple_in run (tree.simple_command c) pl e k p ≡ pay 1 (resumed (control.SimpleStep (simple_step.Words pl (record { words = ws; at = 0; fields = fields; then = then.Simple r }))) k Go (unsubstituted e)) p
+pub simple_entered : (c : SimpleCommand) (r : Rc SimpleCommand Global) (ws : Rc Words Global) (fields : List Text) (pl : Place) (k : Next) (e : Shell) (p : ℕ) → r.value ≡ c → ws.value ≡ (out-SimpleCommand c).words.value → fields ≡ [] → simple_in run (tree.simple_command c) pl e k p ≡ pay 1 (resumed (control.WordStep (word_step.Words pl (record { words = ws; at = 0; fields = fields; then = then.Simple r }))) k Go (unsubstituted e)) p
 simple_entered c r ws fields pl k e p hr hw hf =
     ap (λ (s : tree.SimpleTree). simple_in run s pl e k p) (simple_is c)
     ∙ ap (λ (c : SimpleCommand). pay 1 (expand_words (words_from (out-SimpleCommand c).words.value 0) [] pl (redirects_and_works run (simple_of c) pl k) k (unsubstituted e)) p) (sym hr)
     ∙ ap (λ (w : Words). pay 1 (expand_words (words_from w 0) [] pl (then_means (then.Simple r) pl k) k (unsubstituted e)) p) (ap (λ (c : SimpleCommand). (out-SimpleCommand c).words.value) hr ∙ sym hw)
     ∙ ap (λ (fs : List Text). pay 1 (expand_words (words_from ws.value 0) fs pl (then_means (then.Simple r) pl k) k (unsubstituted e)) p) (sym hf)
 
-pub compound_entered : (rs0 : Redirects) (b0 : a_compound.Compound) (rs : Rc Redirects Global) (b : Rc a_compound.Compound Global) (before : Rc DescriptorTable Global) (pl : Place) (k : Next) (e : Shell) (p : ℕ) → rs.value ≡ rs0 → b.value ≡ b0 → before.value ≡ e.descriptors → compound_means (redirects_in run (tree.redirects rs0)) (compound_in run (tree.compound b0)) pl e k p ≡ pay 1 (resumed (control.SimpleStep (simple_step.Make pl (record { redirects = rs; at = 0; before = before; made = made.Compound b }))) k Go e) p
+pub compound_entered : (rs0 : Redirects) (b0 : a_compound.Compound) (rs : Rc Redirects Global) (b : Rc a_compound.Compound Global) (before : Rc DescriptorTable Global) (pl : Place) (k : Next) (e : Shell) (p : ℕ) → rs.value ≡ rs0 → b.value ≡ b0 → before.value ≡ e.descriptors → compound_means (redirects_in run (tree.redirects rs0)) (compound_in run (tree.compound b0)) pl e k p ≡ pay 1 (resumed (control.WordStep (word_step.Make pl (record { redirects = rs; at = 0; before = before; made = made.Compound b }))) k Go e) p
 compound_entered rs0 b0 rs b before pl k e p hr hb hd =
     ap (λ (R : Redirects). compound_means (redirects_from R 0) (compound_in run (tree.compound b0)) pl e k p) (sym hr)
     ∙ ap (λ (B : a_compound.Compound). compound_means (redirects_from rs.value 0) (compound_in run (tree.compound B)) pl e k p) (sym hb)

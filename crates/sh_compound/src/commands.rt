@@ -17,7 +17,7 @@ use rk_base::{Bytes, NoMemory, WordList};
 use sh_ast::{Command, CommandList, Compound, Connectors, Redirects, SimpleCommand};
 use sh_means::control::{
     Acted, CompoundStep, Continuation, Control, Frame, Made, PendingFields, PendingLinks,
-    PendingRedirects, SimpleStep, Then,
+    PendingRedirects, Then, WordStep,
 };
 use sh_means::flow::{Flow, Place};
 use sh_means::interpreter::Interpreter;
@@ -41,7 +41,7 @@ fn act_simple(
     let words = command.words.clone()?;
     let fields = WordList::new(Vec::new(alloc));
     state.env.substituted = false;
-    Ok(paid(Control::SimpleStep(SimpleStep::Words(
+    Ok(paid(Control::WordStep(WordStep::Words(
         place,
         PendingFields {
             words,
@@ -65,7 +65,7 @@ pub fn act_redirected(
     let redirects = redirects.clone()?;
     let body = body.clone()?;
     let before = state.descriptors.clone()?;
-    Ok(paid(Control::SimpleStep(SimpleStep::Make(
+    Ok(paid(Control::WordStep(WordStep::Make(
         place,
         PendingRedirects {
             redirects,

@@ -21,7 +21,7 @@ use sh_ast::{CaseItems, CommandList, Compound, LoopKind, Word, Words};
 use sh_expand::Mode;
 use sh_means::control::{
     Acted, Aim, CompoundStep, Continuation, Control, Each, Frame, Loop, PendingCase, PendingFields,
-    PendingIf, PendingStage, SimpleStep, Then, Undo, Wait,
+    PendingIf, PendingStage, Then, Undo, Wait, WordStep,
 };
 use sh_means::expansion::{begin, over_fields};
 use sh_means::flow::{Flow, Place};
@@ -72,7 +72,7 @@ fn act_for(
         Some(words) => {
             let words = words.clone()?;
             let fields = WordList::new(Vec::new(alloc));
-            Ok(Control::SimpleStep(SimpleStep::Words(
+            Ok(Control::WordStep(WordStep::Words(
                 place,
                 PendingFields {
                     words,

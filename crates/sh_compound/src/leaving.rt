@@ -18,7 +18,7 @@ use crate::undoing::{put_back, put_back_variables};
 use rk_base::NoMemory;
 use sh_ast::{CommandList, Connector, LoopKind};
 use sh_means::control::{
-    CompoundStep, Continuation, Control, Each, Loop, PendingIf, PendingLinks, SimpleStep, Undo,
+    CompoundStep, Continuation, Control, Each, Loop, PendingIf, PendingLinks, Undo, WordStep,
 };
 use sh_means::flow::{Flow, Place};
 use sh_means::interpreter::Interpreter;
@@ -378,7 +378,7 @@ pub fn leave_undo(frame: Undo, flow: Flow, state: &mut State) -> Result<Control,
         }
         Undo::Substitution(wording, saved) => {
             state.come_back(saved);
-            Ok(Control::SimpleStep(SimpleStep::Expand(wording)))
+            Ok(Control::WordStep(WordStep::Expand(wording)))
         }
     }
 }

@@ -12,7 +12,7 @@ ghost use Rattle.sh_means.specs.Weights.{Sinks};
 
 use rk_base::{Bytes, FileType, NoMemory};
 use rk_calls::{Answer, Call, How, Turn, absolute, brought};
-use sh_means::control::{Acted, Begin, Control, SimpleStep};
+use sh_means::control::{Acted, Begin, Control, WordStep};
 use sh_means::flow::{Flow, Place};
 use sh_means::state::State;
 use sh_means::steps::{free, refuse, tell};
@@ -153,7 +153,7 @@ fn script_read(
 {
     let it = brought(alloc, answer)?;
     match it {
-        Ok(text) => Ok(free(Control::SimpleStep(SimpleStep::Text(outermost(), file, text)))),
+        Ok(text) => Ok(free(Control::WordStep(WordStep::Text(outermost(), file, text)))),
         Err(errno) => fail(alloc, &file, errno.word().as_bytes(), 127, state),
     }
 }

@@ -19,7 +19,7 @@ use sh_compound::compounds::{
     act_case_at, act_compound, act_each, act_gives, act_if, act_round, act_stage, act_stages,
 };
 use sh_compound::leaving::{leave_continuation, leave_undo};
-use sh_means::control::{Acted, CompoundStep, Control, Frame, SimpleStep, Wait};
+use sh_means::control::{Acted, CompoundStep, Control, Frame, Wait, WordStep};
 use sh_means::expanding::act_expand;
 use sh_means::flow::Flow;
 use sh_means::interpreter::Interpreter;
@@ -71,7 +71,7 @@ fn act_compound_step(step: CompoundStep, shell: &mut Interpreter) -> Result<Acte
 }
 
 fn act_simple_step(
-    step: SimpleStep,
+    step: WordStep,
     answer: Answer,
     shell: &mut Interpreter,
 ) -> Result<Acted, NoMemory>
@@ -79,12 +79,12 @@ fn act_simple_step(
     ensures costly { IfOk result (Lowers (weigh_simple_step step) shell.old.stack.items shell.new.stack.items) }
 {
     match step {
-        SimpleStep::Words(place, left) => next_word(place, left, shell),
-        SimpleStep::Expand(wording) => act_expand(wording, answer, shell),
-        SimpleStep::Deliver(wording, expanded) => deliver(wording, expanded, shell),
-        SimpleStep::Make(place, left) => next_redirect(place, left, shell),
-        SimpleStep::Assign(place, left) => next_assign(place, left, shell),
-        SimpleStep::Text(place, name, text) => act_text(
+        WordStep::Words(place, left) => next_word(place, left, shell),
+        WordStep::Expand(wording) => act_expand(wording, answer, shell),
+        WordStep::Deliver(wording, expanded) => deliver(wording, expanded, shell),
+        WordStep::Make(place, left) => next_redirect(place, left, shell),
+        WordStep::Assign(place, left) => next_assign(place, left, shell),
+        WordStep::Text(place, name, text) => act_text(
             shell.alloc,
             place,
             &name,
@@ -165,7 +165,7 @@ fn act(control: Control, answer: Answer, shell: &mut Interpreter) -> Result<Acte
         Control::Whole(place, list) => act_whole(place, list, shell),
         Control::One(place, list, at) => act_one(place, &list, at, shell),
         Control::CompoundStep(step) => act_compound_step(step, shell),
-        Control::SimpleStep(step) => act_simple_step(step, answer, shell),
+        Control::WordStep(step) => act_simple_step(step, answer, shell),
         Control::Waits(wait) => act_wait(wait, answer, shell),
         Control::Leave(flow) => act_leave(flow, shell),
     }

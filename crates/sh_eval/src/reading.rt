@@ -10,7 +10,7 @@ ghost use Rattle.sh_means.specs.Weights.{Lowers, Sinks};
 
 use rk_base::{Bytes, NoMemory};
 use rk_calls::{Answer, Call, Turn, brought};
-use sh_means::control::{Acted, Control, SimpleStep, Undo, Wait};
+use sh_means::control::{Acted, Control, Undo, Wait, WordStep};
 use sh_means::flow::{Flow, Place};
 use sh_means::interpreter::Interpreter;
 use sh_means::stack::put_undo;
@@ -88,7 +88,7 @@ pub(crate) fn dot_read(
                 returns: true,
                 ..place
             };
-            Ok(free(Control::SimpleStep(SimpleStep::Text(inside, file, text))))
+            Ok(free(Control::WordStep(WordStep::Text(inside, file, text))))
         }
         Err(errno) => refuse(
             shell.alloc,

@@ -15,7 +15,7 @@ use crate::begins::outermost;
 use crate::machine::Evaluator;
 use rk_base::{Bytes, NoMemory, Path, Var, WordList};
 use rk_calls::{Answer, Key, Machine, Turn};
-use sh_means::control::{Begin, Control, SimpleStep};
+use sh_means::control::{Begin, Control, WordStep};
 use sh_means::functions::Functions;
 use sh_means::state::State;
 use sh_redirect::DescriptorTable;
@@ -121,8 +121,8 @@ fn begun(alloc: Global, start: Start, vars: &[Var], wd: &Path) -> Result<Evaluat
         Start::Given(zero, text, words) => {
             let name = Bytes::from_slice(alloc, b"-c")?;
             let state = first_state(alloc, zero, words, vars, wd)?;
-            let step = SimpleStep::Text(outermost(), name, text);
-            Ok(Evaluator::start(alloc, state, Control::SimpleStep(step)))
+            let step = WordStep::Text(outermost(), name, text);
+            Ok(Evaluator::start(alloc, state, Control::WordStep(step)))
         }
         Start::Script(file, words) => {
             let zero = file.copy()?;

@@ -9,7 +9,7 @@ pub enum Mode {
     /// One value, neither split nor expanded to pathnames. So for assignments, redirection operands, the word of `case` and
     /// here-documents.
     Value,
-    /// The same as a pattern: each quoted byte stands behind a backslash. So for the patterns of `case`.
+    /// One value as a pattern: each quoted byte stands behind a backslash. So for the patterns of `case`.
     Pattern,
 }
 

@@ -56,7 +56,7 @@ fn fault(alloc: Global, parameter: &Parameter, message: &[u8]) -> Result<Acted, 
     Ok(Acted::Fault(parameter, message))
 }
 
-/// The same parts once more.
+/// The parts, shared once more.
 pub(crate) fn share(parts: &Rc<Parts>) -> Result<Rc<Parts>, NoMemory>
     ensures { IfOk result (λ copy. copy.value ≡ parts.now.value) }
 {

@@ -45,7 +45,7 @@ fn removed(alloc: Global, removal: Removal, pattern: &[u8], text: &[u8]) -> Resu
     Bytes::from_slice(alloc, kept(removal, pattern, text))
 }
 
-/// The same of each word.
+/// Each word without the prefix or suffix that a pattern matches (XCU 2.6.2).
 pub(crate) fn all_removed(
     alloc: Global,
     removal: Removal,

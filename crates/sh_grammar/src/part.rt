@@ -33,7 +33,7 @@ pub enum Part {
     IfRest,
     /// What a `for` goes over.
     ForIn,
-    /// The same behind a newline.
+    /// What a `for` goes over, behind a newline.
     ForInLater,
     /// The words behind `in`.
     ForWords,
@@ -67,9 +67,9 @@ pub enum Part {
     QuotedParts,
     /// The word of a parameter, and the closing brace.
     BraceStart,
-    /// The rest of it.
+    /// The rest of the word of a parameter, and the closing brace.
     BraceParts,
-    /// The same in double quotes.
+    /// The rest of the word of a parameter in double quotes, and the closing brace.
     QuotedBraceParts,
     /// What stands in an arithmetic expansion, and the closing parentheses (XCU 2.6.4).
     Arithmetic,

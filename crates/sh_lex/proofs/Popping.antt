@@ -2,14 +2,14 @@
 use Rattle.std.proofs.Common.{◌≡◌, ℕ, suc, ◌-◌, List, [], ◌∷◌, ◌++◌, Bool, Option, Some, None, refl, sym, ap, ◌∙◌, length, arith}
 use Rattle.std.specs.Prelude.{option_to_list, MatchOption, ◌+◌, slice_get}
 use Rattle.sh_token.specs.Steps.{popped, last_around, or_false}
-use Rattle.sh_token.specs.Places.{Around, last_paren}
+use Rattle.sh_token.specs.Places.{OuterText, last_paren}
 
 popped_one : {A : Type 0} (xs : List A) (x : A) → popped (xs ++ x ∷ []) ≡ xs
 popped_one [] x = refl
 popped_one (y ∷ []) x = refl
 popped_one (y ∷ (z ∷ xs)) x = ap (λ xs. y ∷ xs) (popped_one (z ∷ xs) x)
 
-last_one : (xs : List Around) (x : Around) → last_around (xs ++ x ∷ []) ≡ Some x
+last_one : (xs : List OuterText) (x : OuterText) → last_around (xs ++ x ∷ []) ≡ Some x
 last_one [] x = refl
 last_one (y ∷ []) x = refl
 last_one (y ∷ (z ∷ xs)) x = last_one (z ∷ xs) x
@@ -27,7 +27,7 @@ pub pops : {A : Type 0} (xs ys : List A) (m n : ℕ) (o : Option A) → n ≡ le
 pops xs ys m n None i j e c = nil ys (sym j ∙ c.1) ∙ ap popped (sym (nil xs (sym i ∙ c.0)))
 pops xs ys m n (Some x) i j e c = sym (popped_one ys x) ∙ ap popped (sym e)
 
-pub lasts : (xs ys : List Around) (m n : ℕ) (o : Option Around) → n ≡ length xs → m ≡ length ys → xs ≡ ys ++ option_to_list o → MatchOption o ((n ≡ 0) × (m ≡ 0)) (λ _. m + 1 ≡ n) → o ≡ last_around xs
+pub lasts : (xs ys : List OuterText) (m n : ℕ) (o : Option OuterText) → n ≡ length xs → m ≡ length ys → xs ≡ ys ++ option_to_list o → MatchOption o ((n ≡ 0) × (m ≡ 0)) (λ _. m + 1 ≡ n) → o ≡ last_around xs
 lasts xs ys m n None i j e c = ap last_around (sym (nil xs (sym i ∙ c.0)))
 lasts xs ys m n (Some x) i j e c = sym (last_one ys x) ∙ ap last_around (sym e)
 

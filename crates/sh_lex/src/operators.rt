@@ -42,7 +42,7 @@ fn behind_digit(c: u8, d: u8, e: u8) -> Option<(TokenKind, usize)>
     }
 }
 
-/// The same behind one digit, the number of its descriptor; in front of `<>` that number by itself.
+/// A redirection operator behind one digit, the number of its descriptor; in front of `<>` that number by itself.
 pub fn numbered(c: u8, d: u8, e: u8) -> Option<(TokenKind, usize)>
     ensures { result ≡ numbered_lem c d e }
 {

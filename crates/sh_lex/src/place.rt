@@ -22,9 +22,9 @@ pub struct Outer<'a> {
 
 impl<'a> Model for Outer<'a> {
     ghost use Rattle.std.specs.Prelude.{◌+◌, ◌<◌, ◌^◌, length};
-    ghost use Rattle.sh_token.specs.Places.{Around};
+    ghost use Rattle.sh_token.specs.Places.{OuterText};
 
-    ghost Value = { Around };
+    ghost Value = { OuterText };
 
     ghost view = { λ a. record { text = a.text.now; at = a.at; levels = a.levels; opened = a.opened.items; parens = a.parens.items; awaited = a.awaited; tabs = a.tabs } };
 

@@ -22,7 +22,7 @@ use Rattle.sh_means.specs.declared.control.Aim.TheVariants as aim
 use Rattle.sh_means.specs.declared.control.Continuation.TheVariants as continuation
 use Rattle.sh_means.specs.declared.control.PendingAssignments.{PendingAssignments}
 use Rattle.sh_means.specs.declared.control.Control.{Control}
-use Rattle.sh_means.specs.declared.doing.Doing.{Doing}
+use Rattle.sh_means.specs.declared.resolved_command.ResolvedCommand.{ResolvedCommand}
 use Rattle.sh_means.specs.declared.control.PendingFields.{PendingFields}
 use Rattle.sh_means.specs.declared.control.Made.TheVariants as made
 use Rattle.sh_means.specs.declared.control.PendingRedirects.{PendingRedirects}
@@ -53,16 +53,16 @@ words_over f pl k e ws p hs is =
 pub assign_next : (a : PendingAssignments) (pl : Place) (k : Next) (e : Shell) (as' : Assignments) (x : Assignment) (name : Text) (w : Rc Word Global) (p : ℕ) → as' ≡ a.assignments.value → w.value ≡ (out-Assignment x).value.value → name ≡ (out-Assignment x).name → Some (tree.assignment x) ≡ assignment_at (tree.assignments as') a.at → assigning a pl k e p ≡ expand_word mode.Value (word_in run (tree.word w.value)) pl (aimed (aim.Value (record { left = record a { at = a.at + 1 }; name = name })) pl k) k e p
 assign_next a pl k e as' x name w p hs hw hn is =
     let is' = subst (λ (as' : Assignments). Some (tree.assignment x) ≡ assignment_at (tree.assignments as') a.at) hs is in
-    let W : Go_on = works run (kind_of_code a.doing.value.kind) a.doing.value.fields pl k in
+    let W : Go_on = works run (kind_of_code a.resolved.value.kind) a.resolved.value.fields pl k in
     let rest = assigns_from a.assignments.value (a.at + 1) in
     ap (λ (ms : List AssignMeant). assign_all ms a.exported pl W k e p) (assigns_some (tree.assignments a.assignments.value) a.at (tree.assignment x) is')
     ∙ ap (λ (s : tree.AssignmentTree). assign_all (assign_meant s ∷ rest) a.exported pl W k e p) (assignment_is x)
     ∙ ap (λ (n : Text). assign_all (record { name = n; value = word_in run (tree.word (out-Assignment x).value.value) } ∷ rest) a.exported pl W k e p) (sym hn)
     ∙ ap (λ (v : Word). assign_all (record { name = name; value = word_in run (tree.word v) } ∷ rest) a.exported pl W k e p) (sym hw)
 
-pub assigns_over : (a : PendingAssignments) (pl : Place) (k : Next) (e : Shell) (as' : Assignments) (p : ℕ) → as' ≡ a.assignments.value → None ≡ assignment_at (tree.assignments as') a.at → assigning a pl k e p ≡ works run (kind_of_code a.doing.value.kind) a.doing.value.fields pl k e p
+pub assigns_over : (a : PendingAssignments) (pl : Place) (k : Next) (e : Shell) (as' : Assignments) (p : ℕ) → as' ≡ a.assignments.value → None ≡ assignment_at (tree.assignments as') a.at → assigning a pl k e p ≡ works run (kind_of_code a.resolved.value.kind) a.resolved.value.fields pl k e p
 assigns_over a pl k e as' p hs is =
-    ap (λ (ms : List AssignMeant). assign_all ms a.exported pl (works run (kind_of_code a.doing.value.kind) a.doing.value.fields pl k) k e p) (assigns_none (tree.assignments a.assignments.value) a.at (subst (λ (as' : Assignments). None ≡ assignment_at (tree.assignments as') a.at) hs is))
+    ap (λ (ms : List AssignMeant). assign_all ms a.exported pl (works run (kind_of_code a.resolved.value.kind) a.resolved.value.fields pl k) k e p) (assigns_none (tree.assignments a.assignments.value) a.at (subst (λ (as' : Assignments). None ≡ assignment_at (tree.assignments as') a.at) hs is))
 
 pub redirect_next : (m : PendingRedirects) (pl : Place) (k : Next) (e : Shell) (rs : Redirects) (x : Redirect) (r : kind.Redirect) (p : ℕ) → rs ≡ m.redirects.value → r ≡ redirect_kind (out-Redirect x).operator → Some (tree.redirect x) ≡ redirect_at (tree.redirects rs) m.at → making m pl k e p ≡ expand_word mode.Value (word_in run (tree.word (out-Redirect x).operand.value)) pl (aimed (aim.Operand (record { left = record m { at = m.at + 1 }; descriptor = (out-Redirect x).descriptor; kind = r })) pl k) k e p
 redirect_next m pl k e rs x r p hs hr is =
@@ -76,10 +76,10 @@ pub redirects_over : (m : PendingRedirects) (pl : Place) (k : Next) (e : Shell) 
 redirects_over m pl k e rs p hs is =
     ap (λ (ms : List RedirectMeant). redirect_all ms pl (when_made m pl k) (when_refused m pl k) k e p) (redirects_none (tree.redirects m.redirects.value) m.at (subst (λ (rs : Redirects). None ≡ redirect_at (tree.redirects rs) m.at) hs is))
 
-pub made_done : (as' : Rc Assignments Global) (doing : Box Doing) (ds : List ℕ) (before : DescriptorTable) (pl : Place) (k0 k1 k2 k3 : Next) (e : Shell) (plain exported : Bool) (p : ℕ) → plain ≡ is_plain (kind_of_code doing.value.kind) → exported ≡ exports (kind_of_code doing.value.kind) → k1 ≡ continued (continuation.Watch pl) k0 → k2 ≡ unless_kept (keeps (kind_of_code doing.value.kind)) ds before k1 → k3 ≡ for_its_time plain (names (assigns_from as'.value 0)) e.env.vars k2 → made_go (made.Simple as' doing) ds before pl k0 e p ≡ assigning (record { assignments = as'; at = 0; exported = exported; doing = doing }) pl k3 e p
-made_done as' doing ds before pl k0 k1 k2 k3 e plain exported p hp hx h1 h2 h3 =
-    let kd = kind_of_code doing.value.kind in
-    let done : Bool → Next → Says = λ x k. assign_all (assigns_from as'.value 0) x pl (works run kd doing.value.fields pl k) k e in
+pub made_done : (as' : Rc Assignments Global) (resolved : Box ResolvedCommand) (ds : List ℕ) (before : DescriptorTable) (pl : Place) (k0 k1 k2 k3 : Next) (e : Shell) (plain exported : Bool) (p : ℕ) → plain ≡ is_plain (kind_of_code resolved.value.kind) → exported ≡ exports (kind_of_code resolved.value.kind) → k1 ≡ continued (continuation.Watch pl) k0 → k2 ≡ unless_kept (keeps (kind_of_code resolved.value.kind)) ds before k1 → k3 ≡ for_its_time plain (names (assigns_from as'.value 0)) e.env.vars k2 → made_go (made.Simple as' resolved) ds before pl k0 e p ≡ assigning (record { assignments = as'; at = 0; exported = exported; resolved = resolved }) pl k3 e p
+made_done as' resolved ds before pl k0 k1 k2 k3 e plain exported p hp hx h1 h2 h3 =
+    let kd = kind_of_code resolved.value.kind in
+    let done : Bool → Next → Says = λ x k. assign_all (assigns_from as'.value 0) x pl (works run kd resolved.value.fields pl k) k e in
     let k' : Bool → Next → Next = λ x k. for_its_time x (names (assigns_from as'.value 0)) e.env.vars k in
     ap (λ (x : Bool). done x (k' (is_plain kd) (unless_kept (keeps kd) ds before (continued (continuation.Watch pl) k0))) p) (sym hx)
     ∙ ap (λ (x : Bool). done exported (k' x (unless_kept (keeps kd) ds before (continued (continuation.Watch pl) k0))) p) (sym hp)

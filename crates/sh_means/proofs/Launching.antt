@@ -16,7 +16,7 @@ use Rattle.sh_special.specs.Orders.{by_number, unless_found, from_one, status_in
 use Rattle.sh_special.specs.Settings.{kind_of as kind_of_word, behind_sign, with_letters, behind_letters, by_kind, settings, none_named}
 use Rattle.sh_means.specs.declared.control.CommandKind as code
 use Rattle.sh_means.specs.declared.control.CommandKind.TheVariants as kinds
-use Rattle.sh_means.specs.declared.doing.Doing.{Doing}
+use Rattle.sh_means.specs.declared.resolved_command.ResolvedCommand.{ResolvedCommand}
 use Rattle.sh_means.specs.Launchable.{has_name, names_command, is_launchable}
 use Rattle.sh_means.specs.Simple.{Special, Builtin, Launches, called_kind, special_kind, kind_of}
 use Rattle.sh_means.specs.Stack.{kind_of_code}
@@ -96,12 +96,12 @@ launchable kinds.Builtin fields functions h = refl
 launchable kinds.Launches [] functions h = absurd (cc)
 launchable kinds.Launches (name ∷ ws) functions h = refl
 
-pub named : (d : Doing) (o : Order) → d.kind ≡ kinds.Special o → names_command o ≡ true
+pub named : (d : ResolvedCommand) (o : Order) → d.kind ≡ kinds.Special o → names_command o ≡ true
 named d o h = ap (λ (kd : code.CommandKind). is_launchable kd d.fields) (sym h) ∙ d.launchable
 
 pub some_name : (fields : List Text) → has_name fields ≡ true → 0 < length fields
 some_name [] h = absurd (cc)
 some_name (name ∷ ws) h = omega arith
 
-pub launches_named : (d : Doing) → d.kind ≡ kinds.Launches → 0 < length d.fields
+pub launches_named : (d : ResolvedCommand) → d.kind ≡ kinds.Launches → 0 < length d.fields
 launches_named d h = some_name d.fields (ap (λ (kd : code.CommandKind). is_launchable kd d.fields) (sym h) ∙ d.launchable)

@@ -37,7 +37,7 @@ use Rattle.sh_means.specs.declared.control.PendingCase.{PendingCase}
 use Rattle.sh_means.specs.declared.control.Control.{Control}
 use Rattle.sh_means.specs.declared.control.Control.TheVariants as control
 use Rattle.sh_means.specs.declared.control.Each.{Each}
-use Rattle.sh_means.specs.declared.doing.Doing.{Doing}
+use Rattle.sh_means.specs.declared.resolved_command.ResolvedCommand.{ResolvedCommand}
 use Rattle.sh_means.specs.declared.control.PendingFields.{PendingFields}
 use Rattle.sh_means.specs.declared.control.Frame.{Frame}
 use Rattle.sh_means.specs.declared.control.Frame.TheVariants as frame
@@ -56,8 +56,8 @@ use Rattle.sh_means.specs.declared.control.Undo.TheVariants as undo
 use Rattle.sh_means.specs.declared.control.Wait.{Wait}
 use Rattle.sh_means.specs.declared.control.Wait.TheVariants as wait
 use Rattle.sh_means.specs.declared.control.PendingWord.{PendingWord}
-use Rattle.sh_means.specs.declared.control.SimpleStep.{SimpleStep}
-use Rattle.sh_means.specs.declared.control.SimpleStep.TheVariants as simple_step
+use Rattle.sh_means.specs.declared.control.WordStep.{WordStep}
+use Rattle.sh_means.specs.declared.control.WordStep.TheVariants as word_step
 use Rattle.sh_means.specs.State.{Shell, with_env, with_status, with_positional, with_slot, past_stage}
 use Rattle.sh_means.specs.Flows.{Next, Go_on, Means, asks, ends, and_then, by_status, in_loop, returned, watched, inverted, deeper}
 use Rattle.sh_means.specs.Words.{WordMeant, RedirectMeant, AssignMeant, bodies_at, faults, expand_words, fields_of, value_of, named, moved, redirect_to, redirect_all, unredirected, names, assigns, assign_all, unassigned}
@@ -103,8 +103,8 @@ kind_of_code (kinds.Calls callee) = Calls (function_of callee)
 kind_of_code kinds.Builtin = Builds
 kind_of_code kinds.Launches = Launches
 
-abbrev pub work_by : Doing → Assignments → Work
-work_by doing as' = work_of (kind_of_code doing.kind) doing.fields (assigns_from as' 0)
+abbrev pub work_by : ResolvedCommand → Assignments → Work
+work_by resolved as' = work_of (kind_of_code resolved.kind) resolved.fields (assigns_from as' 0)
 
 abbrev pub then_means : Then → Place → Next → List Text → Go_on
 then_means (then.Simple c) pl k = redirects_and_works run (simple_of c.value) pl k
@@ -114,11 +114,11 @@ abbrev pub fielding : PendingFields → Place → Next → Go_on
 fielding f pl k = expand_words (words_from f.words.value f.at) f.fields pl (then_means f.then pl k) k
 
 abbrev pub made_go : Made → List ℕ → DescriptorTable → Place → Next → Go_on
-made_go (made.Simple as' doing) ds before pl k = assigns_and_works run (work_by doing.value as'.value) pl (past_simple (kind_of_code doing.value.kind) ds before pl k)
+made_go (made.Simple as' resolved) ds before pl k = assigns_and_works run (work_by resolved.value as'.value) pl (past_simple (kind_of_code resolved.value.kind) ds before pl k)
 made_go (made.Compound b) ds before pl k = made_compound (compound_in run (tree.compound b.value)) ds before pl k
 
 abbrev pub refused_go : Made → List ℕ → DescriptorTable → Place → Next → Go_on
-refused_go (made.Simple as' doing) ds before pl k = refused_simple (kind_of_code doing.value.kind) ds before pl k
+refused_go (made.Simple as' resolved) ds before pl k = refused_simple (kind_of_code resolved.value.kind) ds before pl k
 refused_go (made.Compound b) ds before pl k = refused_compound ds before pl k
 
 abbrev pub when_made : PendingRedirects → Place → Next → Go_on
@@ -131,7 +131,7 @@ abbrev pub making : PendingRedirects → Place → Next → Go_on
 making m pl k = redirect_all (redirects_from m.redirects.value m.at) pl (when_made m pl k) (when_refused m pl k) k
 
 abbrev pub assigning : PendingAssignments → Place → Next → Go_on
-assigning a pl k = assign_all (assigns_from a.assignments.value a.at) a.exported pl (works run (kind_of_code a.doing.value.kind) a.doing.value.fields pl k) k
+assigning a pl k = assign_all (assigns_from a.assignments.value a.at) a.exported pl (works run (kind_of_code a.resolved.value.kind) a.resolved.value.fields pl k) k
 
 abbrev pub case_from : List CaseMeant → ℕ → Text → Place → Next → Go_on
 case_from [] i value pl k = ends Normal 0 k
@@ -207,13 +207,13 @@ resumed_compound (compound_step.Gives pl each) k e = giving each pl k e
 resumed_compound (compound_step.Case pl c) k e = casing c c.pattern pl k e
 resumed_compound (compound_step.Stages pl l i input) k e = stages_mean input (commands_from l.value i) pl k e
 
-abbrev pub resumed_simple : SimpleStep → Next → Answer → Go_on
-resumed_simple (simple_step.Words pl f) k a e = fielding f pl k e
-resumed_simple (simple_step.Expand w) k a e = wording w.value k a e
-resumed_simple (simple_step.Deliver w x) k a e = aimed w.value.aim w.value.place k x e
-resumed_simple (simple_step.Make pl m) k a e = making m pl k e
-resumed_simple (simple_step.Assign pl as') k a e = assigning as' pl k e
-resumed_simple (simple_step.Text pl name text) k a e = run (Reads name text) pl e k
+abbrev pub resumed_simple : WordStep → Next → Answer → Go_on
+resumed_simple (word_step.Words pl f) k a e = fielding f pl k e
+resumed_simple (word_step.Expand w) k a e = wording w.value k a e
+resumed_simple (word_step.Deliver w x) k a e = aimed w.value.aim w.value.place k x e
+resumed_simple (word_step.Make pl m) k a e = making m pl k e
+resumed_simple (word_step.Assign pl as') k a e = assigning as' pl k e
+resumed_simple (word_step.Text pl name text) k a e = run (Reads name text) pl e k
 
 -- what the machine goes on to do with an answer that was heard
 abbrev pub resumed : Control → Next → Answer → Go_on
@@ -222,7 +222,7 @@ resumed (control.Run pl l i) k a e = seq_all (commands_from l.value i) pl e k
 resumed (control.Whole pl l) k a e = whole l.value pl e k
 resumed (control.One pl l i) k a e = first_of (commands_from l.value i) pl e k
 resumed (control.CompoundStep x) k a e = resumed_compound x k e
-resumed (control.SimpleStep x) k a e = resumed_simple x k a e
+resumed (control.WordStep x) k a e = resumed_simple x k a e
 resumed (control.Waits w) k a e = waiting w k a e
 resumed (control.Leave f) k a e = k f e
 

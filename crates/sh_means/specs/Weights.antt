@@ -31,8 +31,8 @@ use Rattle.sh_means.specs.declared.control.PendingCase.{PendingCase}
 use Rattle.sh_means.specs.declared.control.PendingFields.{PendingFields}
 use Rattle.sh_means.specs.declared.control.PendingRedirects.{PendingRedirects}
 use Rattle.sh_means.specs.declared.control.PendingWord.{PendingWord}
-use Rattle.sh_means.specs.declared.control.SimpleStep.{SimpleStep}
-use Rattle.sh_means.specs.declared.control.SimpleStep.TheVariants as simple_step
+use Rattle.sh_means.specs.declared.control.WordStep.{WordStep}
+use Rattle.sh_means.specs.declared.control.WordStep.TheVariants as word_step
 use Rattle.sh_means.specs.declared.control.Then.{Then}
 use Rattle.sh_means.specs.declared.control.Then.TheVariants as then
 use Rattle.sh_means.specs.declared.control.Undo.{Undo}
@@ -118,7 +118,7 @@ abbrev pub weigh_fields : PendingFields → ℕ
 weigh_fields f = 10 * words_left f.words.value f.at + weigh_then f.then
 
 abbrev pub weigh_made : Made → ℕ
-weigh_made (made.Simple as' doing) = 10 * assignments_left as'.value 0 + 7
+weigh_made (made.Simple as' resolved) = 10 * assignments_left as'.value 0 + 7
 weigh_made (made.Compound b) = weigh_compound b.value + 2
 
 abbrev pub weigh_redirects : PendingRedirects → ℕ
@@ -159,13 +159,13 @@ weigh_compound_step (compound_step.Gives pl each) = 4
 weigh_compound_step (compound_step.Case pl c) = weigh_case c
 weigh_compound_step (compound_step.Stages pl l i input) = 3
 
-abbrev pub weigh_simple_step : SimpleStep → ℕ
-weigh_simple_step (simple_step.Words pl f) = weigh_fields f
-weigh_simple_step (simple_step.Expand w) = weigh_word w.value
-weigh_simple_step (simple_step.Deliver w x) = weigh_aim w.value.aim
-weigh_simple_step (simple_step.Make pl m) = weigh_redirects m
-weigh_simple_step (simple_step.Assign pl as') = weigh_assignments as'
-weigh_simple_step (simple_step.Text pl name text) = 2
+abbrev pub weigh_simple_step : WordStep → ℕ
+weigh_simple_step (word_step.Words pl f) = weigh_fields f
+weigh_simple_step (word_step.Expand w) = weigh_word w.value
+weigh_simple_step (word_step.Deliver w x) = weigh_aim w.value.aim
+weigh_simple_step (word_step.Make pl m) = weigh_redirects m
+weigh_simple_step (word_step.Assign pl as') = weigh_assignments as'
+weigh_simple_step (word_step.Text pl name text) = 2
 
 abbrev pub weigh : Control → ℕ
 weigh (control.Begins b) = 3
@@ -173,7 +173,7 @@ weigh (control.Run pl l i) = 1
 weigh (control.Whole pl l) = 1
 weigh (control.One pl l i) = 1
 weigh (control.CompoundStep x) = weigh_compound_step x
-weigh (control.SimpleStep x) = weigh_simple_step x
+weigh (control.WordStep x) = weigh_simple_step x
 weigh (control.Waits w) = weigh_wait w
 weigh (control.Leave f) = 0
 

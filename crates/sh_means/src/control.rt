@@ -3,8 +3,8 @@ ghost use Rattle.std.specs.Prelude.{◌≡◌};
 ghost use Rattle.sh_means.specs.Simple.{refusal_flow, is_plain, exports, keeps};
 ghost use Rattle.sh_means.specs.Stack.{kind_of_code};
 
-use crate::doing::Doing;
 use crate::flow::{Flow, Place};
+use crate::resolved_command::ResolvedCommand;
 use crate::state::{Callee, SavedState};
 use rk_base::{Bytes, WordList};
 use rk_calls::Turn;
@@ -102,7 +102,7 @@ pub struct PendingFields {
 /// What redirections are made for.
 #[derive(Drop)]
 pub enum Made {
-    Simple(Rc<Assignments>, Box<Doing>),
+    Simple(Rc<Assignments>, Box<ResolvedCommand>),
     Compound(Rc<Compound>),
 }
 
@@ -121,7 +121,7 @@ pub struct PendingAssignments {
     pub assignments: Rc<Assignments>,
     pub at: usize,
     pub exported: bool,
-    pub doing: Box<Doing>,
+    pub resolved: Box<ResolvedCommand>,
 }
 
 /// A `case` at a pattern of an item.
@@ -248,9 +248,9 @@ pub enum CompoundStep {
     Stages(Place, Rc<CommandList>, usize, Option<u64>),
 }
 
-/// A part of a simple command, or words, that come next.
+/// What comes next of words, of a simple or a compound command: their expansion, then redirections, then assignments.
 #[derive(Drop)]
-pub enum SimpleStep {
+pub enum WordStep {
     Words(Place, PendingFields),
     Expand(Box<PendingWord>),
     /// What a word gave.
@@ -289,7 +289,7 @@ pub enum Control {
     /// One of the commands.
     One(Place, Rc<CommandList>, usize),
     CompoundStep(CompoundStep),
-    SimpleStep(SimpleStep),
+    WordStep(WordStep),
     Waits(Wait),
     Leave(Flow),
 }

@@ -12,7 +12,7 @@ ghost use Rattle.sh_means.specs.Weights.{Lowers, weigh, weigh_all, weigh_word};
 ghost use Rattle.sh_means.specs.Words.{body_at, in_subshell};
 ghost use Rattle.rk_calls.specs.declared.answer.Answer.TheVariants as answers;
 
-use crate::control::{Acted, Control, PendingWord, SimpleStep, Undo, Wait};
+use crate::control::{Acted, Control, PendingWord, Undo, Wait, WordStep};
 use crate::interpreter::Interpreter;
 use crate::stack::put_undo;
 use crate::steps::free;
@@ -74,11 +74,11 @@ pub fn act_expand(
     match wants {
         Expanding::Ask(call, cost) => Ok(Acted {
             turn: Turn::Ask(call, cost),
-            control: Control::SimpleStep(SimpleStep::Expand(w)),
+            control: Control::WordStep(WordStep::Expand(w)),
         }),
         Expanding::More(cost) => Ok(Acted {
             turn: Turn::More(cost),
-            control: Control::SimpleStep(SimpleStep::Expand(w)),
+            control: Control::WordStep(WordStep::Expand(w)),
         }),
         Expanding::Body(number) => {
             let control = enter_body(w, number, shell)?;
@@ -86,7 +86,7 @@ pub fn act_expand(
         }
         Expanding::Done(expanded, cost) => Ok(Acted {
             turn: Turn::More(cost),
-            control: Control::SimpleStep(SimpleStep::Deliver(w, expanded)),
+            control: Control::WordStep(WordStep::Deliver(w, expanded)),
         }),
         Expanding::Fault(fault, cost) => {
             let ExpandFault { parameter, message } = fault;

@@ -11,7 +11,7 @@ ghost use Rattle.sh_means.specs.Views.{shell_of};
 ghost use Rattle.sh_means.specs.Weights.{weigh, weigh_aim, weigh_word};
 ghost use Rattle.sh_means.specs.Words.{expand_word};
 
-use crate::control::{Aim, CompoundStep, Control, Each, PendingWord, SimpleStep};
+use crate::control::{Aim, CompoundStep, Control, Each, PendingWord, WordStep};
 use crate::flow::{Flow, Place};
 use crate::state::State;
 use rk_base::{Bytes, NoMemory, WordList};
@@ -56,7 +56,7 @@ pub fn begin(
     ensures weight { IfOk result (λ c. weigh c ≤ weigh_aim aim + 5) }
 {
     let wording = pending(alloc, word, mode, place, aim)?;
-    Ok(Control::SimpleStep(SimpleStep::Expand(wording)))
+    Ok(Control::WordStep(WordStep::Expand(wording)))
 }
 
 /// A `for` over these fields; without one the status is 0.

@@ -14,7 +14,7 @@ pub fn what_is_evaluated_again_means_its_job()
     ensures { EachMeansItsJob }
 {}
 
-/// The same of the shell of a key: the script that it is given, or that its words name.
+/// What the shell of a key says is what a command may say, of the script that it is given and of the one that its words name.
 pub fn shells_say_what_commands_may()
     ensures { EachShellIsACommand }
 {}

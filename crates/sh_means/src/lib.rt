@@ -3,7 +3,6 @@
 #![tactic(auto)]
 
 pub mod control;
-pub mod doing;
 pub mod expanding;
 pub mod expansion;
 pub mod flow;
@@ -11,6 +10,7 @@ pub mod functions;
 pub mod interpreter;
 pub mod items;
 mod laws;
+pub mod resolved_command;
 pub mod stack;
 pub mod state;
 pub mod steps;

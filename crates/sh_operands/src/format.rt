@@ -51,7 +51,7 @@ pub enum Reading {
     Octal(u8, u8),
     /// Behind a `%`, with `-` and `0` or not.
     Flags(bool, bool),
-    /// The same, with a width of at most 2^31 - 1.
+    /// Behind a `%`, with `-` and `0` or not, and a width of at most 2^31 - 1.
     Width(bool, bool, u64),
 }
 

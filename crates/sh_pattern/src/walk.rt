@@ -103,7 +103,7 @@ impl<'p, 't> Place<'p, 't> {
         }
     }
 
-    // The same, from the first place where they go by.
+    // All parts up to the next star, or to the end, from the first place of the text where they go by.
     fn earliest(&mut self) -> SegmentEnd
         ensures { FindsTo (parts self.old.pattern) self.old.text.now result (parts self.new.pattern) self.new.text.now }
     {

@@ -21,18 +21,18 @@ use Rattle.sh_redirect.specs.declared.kind.Redirect.{Redirect}
 use Rattle.sh_redirect.specs.declared.kind.Redirect.TheVariants as kind
 use Rattle.sh_redirect.specs.Answers.{refusal, heard}
 use Rattle.sh_redirect.specs.DescriptorTable.{slot, set_slot, digit}
-use Rattle.sh_redirect.specs.Redirects.{Goes, After, Doing, asks, makes, is_refused, told, tells, opened, opens, copied, copies_digit, copies, filled, here, redirects}
+use Rattle.sh_redirect.specs.Redirects.{Goes, After, Action, asks, makes, is_refused, told, tells, opened, opens, copied, copies_digit, copies, filled, here, redirects}
 use Rattle.sh_redirect.specs.Laws.{GoesAlike, AfterAlike, IsAlike}
 
 lower : (v : View) (p q : ℕ) (k k' : After) → q ≤ p → AfterAlike v p k k' → AfterAlike v q k k'
 lower v p q k k' le h = (λ ds env r le'. h.0 ds env r (omega arith), λ ds env r le'. h.1 ds env r (omega arith))
 
-alike-asks : (call : Call) (c : ℕ) (next : Answer → Doing) → IsProper call → ((a : Answer) → IsAlike (next a)) → IsAlike (asks call c next)
+alike-asks : (call : Call) (c : ℕ) (next : Answer → Action) → IsProper call → ((a : Answer) → IsAlike (next a)) → IsAlike (asks call c next)
 alike-asks call c next proper h v p k k' ds env hk =
     alike-ask v p call c (λ a. next a k ds (heard a env)) (λ a. next a k' ds (heard a env)) proper
     (λ le a. h a v (p - c) k k' ds (heard a env) (lower v p (p - c) k k' (omega arith) hk))
 
-alike-choice : (b : Bool) (x y : Doing) → IsAlike x → IsAlike y → IsAlike (if b then x else y)
+alike-choice : (b : Bool) (x y : Action) → IsAlike x → IsAlike y → IsAlike (if b then x else y)
 alike-choice true x y h g = h
 alike-choice false x y h g = g
 

@@ -5,7 +5,7 @@ use Rattle.rk_calls.specs.Views.{View, Alike}
 use Rattle.sh_vars.specs.declared.env.Env.{Env}
 use Rattle.sh_redirect.specs.declared.descriptors.DescriptorTable.{DescriptorTable}
 use Rattle.sh_redirect.specs.declared.kind.Redirect.{Redirect}
-use Rattle.sh_redirect.specs.Redirects.{Goes, After, Doing, redirects}
+use Rattle.sh_redirect.specs.Redirects.{Goes, After, Action, redirects}
 
 -- how it goes on, wherever at most p turns are left
 abbrev pub GoesAlike : View → ℕ → Goes → Goes → Type 0
@@ -14,7 +14,7 @@ GoesAlike v p g g' = (ds : DescriptorTable) (env : Env) (q : ℕ) → q ≤ p �
 abbrev pub AfterAlike : View → ℕ → After → After → Type 0
 AfterAlike v p k k' = GoesAlike v p k.made k'.made × GoesAlike v p k.refused k'.refused
 
-abbrev pub IsAlike : Doing → Type 0
+abbrev pub IsAlike : Action → Type 0
 IsAlike x = (v : View) (p : ℕ) (k k' : After) (ds : DescriptorTable) (env : Env) → AfterAlike v p k k' → Alike v p (x k ds env) (x k' ds env)
 
 -- Whatever comes after a redirection: where that is alike in a view, it is. For one thing, fewer turns only cut what is

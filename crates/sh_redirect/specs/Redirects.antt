@@ -31,59 +31,59 @@ pub record After : Type 0 where
   pub refused : Goes
 
 -- with what comes after it
-abbrev pub Doing : Type 0
-Doing = After → Goes
+abbrev pub Action : Type 0
+Action = After → Goes
 
 -- asks, and goes on by the answer once that was heard
-abbrev pub asks : Call → ℕ → (Answer → Doing) → Doing
+abbrev pub asks : Call → ℕ → (Answer → Action) → Action
 asks call cost next k ds env = ask call cost (λ a. next a k ds (heard a env))
 
 -- a descriptor stands for a number, or for none, and the redirection is made
-abbrev pub makes : ℕ → Option ℕ → Doing
+abbrev pub makes : ℕ → Option ℕ → Action
 makes d n k ds env = k.made (set_slot d n ds) env
 
-abbrev pub is_refused : Doing
+abbrev pub is_refused : Action
 is_refused k ds env = k.refused ds env
 
 -- A line of error text goes to 2 as the map is now, and where the map lacks 2 nothing is asked. Its refusal is passed over.
-abbrev pub told : Option ℕ → Text → Doing
+abbrev pub told : Option ℕ → Text → Action
 told None line = is_refused
 told (Some n) line = asks (Write n line) (1 + turns line) (λ a. is_refused)
 
 -- `sh: OPERAND: WORD`
-abbrev pub tells : Text → Text → Doing
+abbrev pub tells : Text → Text → Action
 tells operand what k ds env = told (slot ds 2) (error_line (codes "sh") operand what) k ds env
 
 -- once a file was opened, whose number is n, or refused
-abbrev pub opened : ℕ → Text → ℕ → Option Errno → Doing
+abbrev pub opened : ℕ → Text → ℕ → Option Errno → Action
 opened d operand n None = makes d (Some n)
 opened d operand n (Some errno) = tells operand (word errno)
 
-abbrev pub opens : How → ℕ → Text → Doing
+abbrev pub opens : How → ℕ → Text → Action
 opens h d operand k ds env = asks (Open (absolute env.wd operand) h) 1 (λ a. opened d operand env.next (refusal a)) k ds env
 
 -- a copy of what a descriptor stands for
-abbrev pub copied : ℕ → Text → Option ℕ → Doing
+abbrev pub copied : ℕ → Text → Option ℕ → Action
 copied d operand None = tells operand (codes "bad descriptor")
 copied d operand (Some n) = makes d (Some n)
 
-abbrev pub copies_digit : ℕ → Text → Option ℕ → Doing
+abbrev pub copies_digit : ℕ → Text → Option ℕ → Action
 copies_digit d operand None k ds env = tells operand (codes "not valid") k ds env
 copies_digit d operand (Some from) k ds env = copied d operand (slot ds from) k ds env
 
 -- of one digit; `-` closes
-abbrev pub copies : ℕ → Text → Doing
+abbrev pub copies : ℕ → Text → Action
 copies d operand = if same_text operand (codes "-") then makes d None else copies_digit d operand (digit operand)
 
 -- A here-document's body goes into its pipe, whose read end is n and whose write end is the number after that; a refusal of the
 -- Write is passed over.
-abbrev pub filled : ℕ → Text → ℕ → Doing
+abbrev pub filled : ℕ → Text → ℕ → Action
 filled d body n = if is_empty body then makes d (Some n) else asks (Write (number_after n) body) (1 + turns body) (λ a. makes d (Some n))
 
-abbrev pub here : ℕ → Text → Doing
+abbrev pub here : ℕ → Text → Action
 here d body k ds env = asks Pipe 1 (λ a. filled d body env.next) k ds env
 
-abbrev pub redirects : Redirect → ℕ → Text → Doing
+abbrev pub redirects : Redirect → ℕ → Text → Action
 redirects kind.Reads d operand = opens how.Read d operand
 redirects kind.Makes d operand = opens how.Make d operand
 redirects kind.Appends d operand = opens how.Append d operand

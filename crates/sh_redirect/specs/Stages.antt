@@ -12,10 +12,10 @@ use Rattle.sh_redirect.specs.declared.redirecting.Turn.TheVariants.{Ask, Made, R
 use Rattle.sh_redirect.specs.declared.redirecting.Move.{Move}
 use Rattle.sh_redirect.specs.declared.redirecting.Redirecting.{Redirecting}
 use Rattle.sh_redirect.specs.Answers.{refusal, heard}
-use Rattle.sh_redirect.specs.Redirects.{Goes, After, Doing, makes, is_refused, opened, filled, redirects}
+use Rattle.sh_redirect.specs.Redirects.{Goes, After, Action, makes, is_refused, opened, filled, redirects}
 
 -- by the answer
-abbrev pub stage_does : Stage → Answer → Doing
+abbrev pub stage_does : Stage → Answer → Action
 stage_does (Begins kind d operand) a = redirects kind d operand
 stage_does (Opening d operand n) a = opened d operand n (refusal a)
 stage_does (Piping d body n) a = filled d body n
@@ -23,7 +23,7 @@ stage_does (Filling d n) a = makes d (Some n)
 stage_does Telling a = is_refused
 
 -- a turn, and what it does afterwards
-abbrev pub after : Turn → (Answer → Doing) → Doing
+abbrev pub after : Turn → (Answer → Action) → Action
 after (Ask call cost) next k ds env = ask call cost (λ a. next a k ds (heard a env))
 after Made next k ds env = k.made ds env
 after Refused next k ds env = k.refused ds env
@@ -35,8 +35,8 @@ IsAsking Made = Unit {0}
 IsAsking Refused = Unit {0}
 
 -- this is done by a turn and by what comes after it
-abbrev pub IsDoneBy : Doing → DescriptorTable → Env → Move → DescriptorTable → Type 0
+abbrev pub IsDoneBy : Action → DescriptorTable → Env → Move → DescriptorTable → Type 0
 IsDoneBy x ds env move ds' = (k : After) (p : ℕ) → x k ds env p ≡ after move.turn (stage_does move.stage) k ds' env p
 
-abbrev pub redirecting_does : Redirecting → Answer → Doing
+abbrev pub redirecting_does : Redirecting → Answer → Action
 redirecting_does r a = stage_does r.stage a

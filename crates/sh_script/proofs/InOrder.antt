@@ -13,7 +13,7 @@ use Rattle.sh_rules.specs.Rules as r
 use Rattle.sh_rules.specs.Rules.{Rule, shell, part_of, spelling, script}
 use Rattle.sh_rules.proofs.Complete.{spelled_apart}
 use Rattle.sh_token.specs.HereDocuments.{Awaited}
-use Rattle.sh_token.specs.Places.{Place, Around, begin}
+use Rattle.sh_token.specs.Places.{Place, OuterText, begin}
 use Rattle.sh_script.specs.Texts.{descriptor_of}
 use Rattle.sh_script.specs.Words.{Pieces, word}
 use Rattle.sh_script.specs.Documents.{last, but_last, literal_body, document}
@@ -68,7 +68,7 @@ Pair A m o free n =
 
 -- and as many are free in front of it as are awaited there
 abbrev Paired : (n : Part) → (List WordTree → Comes (Made n)) → Ordered (Made n) → Place → Place → Type 0
-Paired p.body_parts m o a b = (rest : List Around) (x : Around) → a.around ≡ rest ++ x ∷ [] → (b.around ≡ rest) × (b.awaited ≡ x.awaited) × Pair Pieces m o [] (awaits a)
+Paired p.body_parts m o a b = (rest : List OuterText) (x : OuterText) → a.around ≡ rest ++ x ∷ [] → (b.around ≡ rest) × (b.awaited ≡ x.awaited) × Pair Pieces m o [] (awaits a)
 Paired n m o a b = (b.around ≡ a.around) × ((free : List WordTree) → length free ≡ awaits b → Pair (Made n) m o free (awaits a))
 
 abbrev AllPaired : (ss : List (Symbol TokenKind Part)) → Meanings ss → Orders ss → Place → Place → Type 0

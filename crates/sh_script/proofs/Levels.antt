@@ -18,7 +18,7 @@ use Rattle.sh_token.specs.HereDocuments.{Awaited, delimiter_of, is_quoted}
 use Rattle.sh_token.specs.Recognizers.{recognizer}
 use Rattle.sh_token.specs.Lexemes.{recognized, token_if, bodies_look, is_raw, extent, look}
 use Rattle.sh_token.specs.Effects.{effect_of}
-use Rattle.sh_token.specs.Places.{Place, Around, is_none, is_closed, is_whole, last_paren, moved}
+use Rattle.sh_token.specs.Places.{Place, OuterText, is_none, is_closed, is_whole, last_paren, moved}
 use Rattle.sh_token.specs.Steps.{after, popped, last_around, paren_closed, delimited, body_passed, body_taken, past_tabs_if, aside, put_aside, body_opened, body_closed, next}
 use Rattle.sh_token.proofs.ByRules.{lex_looks}
 use Rattle.sh_token.proofs.Found.{kinds_by}
@@ -33,8 +33,8 @@ awaits p = length p.awaited
 abbrev pub Level : TokenKind → Place → Place → Type 0
 Level k.Delimiter a b = (awaits b ≡ suc (awaits a)) × (b.around ≡ a.around)
 Level k.LiteralBody a b = (awaits a ≡ suc (awaits b)) × (b.around ≡ a.around)
-Level k.BodyOpen a b = (x : Around) × (awaits a ≡ suc (length x.awaited)) × (b.around ≡ a.around ++ x ∷ []) × (b.awaited ≡ [])
-Level k.BodyClose a b = (a.awaited ≡ []) × ((rest : List Around) (x : Around) → a.around ≡ rest ++ x ∷ [] → (b.around ≡ rest) × (b.awaited ≡ x.awaited))
+Level k.BodyOpen a b = (x : OuterText) × (awaits a ≡ suc (length x.awaited)) × (b.around ≡ a.around ++ x ∷ []) × (b.awaited ≡ [])
+Level k.BodyClose a b = (a.awaited ≡ []) × ((rest : List OuterText) (x : OuterText) → a.around ≡ rest ++ x ∷ [] → (b.around ≡ rest) × (b.awaited ≡ x.awaited))
 Level k.End a b = (b.awaited ≡ a.awaited) × (b.around ≡ a.around) × (a.awaited ≡ [])
 Level kind a b = (b.awaited ≡ a.awaited) × (b.around ≡ a.around)
 
@@ -71,7 +71,7 @@ literal : (awaited : List Awaited) (i n : ℕ) (p : Place) → p.awaited ≡ awa
 literal [] i n p a e = absurd (not_literal i e)
 literal (d ∷ ds) i n p a e = (one_less p.awaited ds d a, refl)
 
-opened : (awaited : List Awaited) (i n : ℕ) (p : Place) → p.awaited ≡ awaited → bodies_look awaited p.text ≡ Some (k.BodyOpen, i) → (x : Around) × (awaits p ≡ suc (length x.awaited)) × ((body_opened (next awaited) n p).around ≡ p.around ++ x ∷ []) × ((body_opened (next awaited) n p).awaited ≡ [])
+opened : (awaited : List Awaited) (i n : ℕ) (p : Place) → p.awaited ≡ awaited → bodies_look awaited p.text ≡ Some (k.BodyOpen, i) → (x : OuterText) × (awaits p ≡ suc (length x.awaited)) × ((body_opened (next awaited) n p).around ≡ p.around ++ x ∷ []) × ((body_opened (next awaited) n p).awaited ≡ [])
 opened [] i n p a e = absurd (not_opened i e)
 opened (d ∷ ds) i n p a e =
     let q = body_passed d.quoted n p in
@@ -79,19 +79,19 @@ opened (d ∷ ds) i n p a e =
     (aside q, one_less p.awaited ds d a, t.1, t.0)
 
 -- the end of a body, and of the text
-last_there : (xs : List Around) (x : Around) → last_around (xs ++ x ∷ []) ≡ Some x
+last_there : (xs : List OuterText) (x : OuterText) → last_around (xs ++ x ∷ []) ≡ Some x
 last_there [] x = refl
 last_there (y ∷ []) x = refl
 last_there (y ∷ (z ∷ zs)) x = last_there (z ∷ zs) x
 
-popped_there : (xs : List Around) (x : Around) → popped (xs ++ x ∷ []) ≡ xs
+popped_there : (xs : List OuterText) (x : OuterText) → popped (xs ++ x ∷ []) ≡ xs
 popped_there [] x = refl
 popped_there (y ∷ []) x = refl
 popped_there (y ∷ (z ∷ zs)) x = ap (λ l. y ∷ l) (popped_there (z ∷ zs) x)
 
-gone : (o : Option Around) (p : Place) (rest : List Around) (x : Around) → o ≡ Some x → popped p.around ≡ rest → ((body_closed o (record p { around = popped p.around })).around ≡ rest) × ((body_closed o (record p { around = popped p.around })).awaited ≡ x.awaited)
+gone : (o : Option OuterText) (p : Place) (rest : List OuterText) (x : OuterText) → o ≡ Some x → popped p.around ≡ rest → ((body_closed o (record p { around = popped p.around })).around ≡ rest) × ((body_closed o (record p { around = popped p.around })).awaited ≡ x.awaited)
 gone None p rest x e h = cc
-gone (Some a) p rest x e h = let s : a ≡ x = cc in (h, ap (λ (y : Around). y.awaited) s)
+gone (Some a) p rest x e h = let s : a ≡ x = cc in (h, ap (λ (y : OuterText). y.awaited) s)
 
 tested : (b : Bool) (j : TokenKind) (i : ℕ) → token_if b j 0 ≡ Some (j, i) → b ≡ true
 tested true j i e = refl
@@ -141,7 +141,7 @@ level_kind k.Delimiter n p e = (delimited_more (take n p.text) (moved n p), refl
 level_kind k.LiteralBody n p e = let u = at_bodies p k.LiteralBody n e in literal p.awaited u.0 n p refl u.1
 level_kind k.BodyOpen n p e = let u = at_bodies p k.BodyOpen n e in opened p.awaited u.0 n p refl u.1
 level_kind k.BodyClose n p e =
-    (closes n p e, λ rest x h. gone (last_around p.around) p rest x (ap last_around h ∙ last_there rest x) (ap (λ (xs : List Around). popped xs) h ∙ popped_there rest x))
+    (closes n p e, λ rest x h. gone (last_around p.around) p rest x (ap last_around h ∙ last_there rest x) (ap (λ (xs : List OuterText). popped xs) h ∙ popped_there rest x))
 level_kind k.End n p e = (refl, refl, ends n p e)
 level_kind k.RightParen n p e = paren_level (last_paren p.parens) (moved n (record p { parens = popped p.parens }))
 level_kind j n p e = (refl, refl)

@@ -19,7 +19,7 @@ use Rattle.sh_token.specs.Folded.{folded, run}
 use Rattle.sh_token.specs.HereDocuments.{Awaited, delimiter_of, is_quoted, line}
 use Rattle.sh_token.specs.Lexemes.{extent, look}
 use Rattle.sh_token.specs.Effects.{effect_of}
-use Rattle.sh_token.specs.Places.{Place, Around, begin, last_paren, moved}
+use Rattle.sh_token.specs.Places.{Place, OuterText, begin, last_paren, moved}
 use Rattle.sh_token.specs.Steps.{after, popped, last_around, paren_closed, body_passed, body_taken, past_tabs_if, aside, put_aside, body_opened, body_closed, next}
 use Rattle.sh_token.specs.Faults.{least, or_operator, or_first, or_opened, open_at, at_symbol, told, is_over}
 use Rattle.sh_token.proofs.ByRules.{lex_looks}
@@ -38,15 +38,15 @@ InOrder opened awaited at operator =
     Rising opened × AllTo opened at × Rising (operators_at awaited) × AllTo (operators_at awaited) at × AllTo (operators_at awaited) operator
 
 -- what stands around a body goes on behind it
-abbrev Inside : List Around → ℕ → Type 0
+abbrev Inside : List OuterText → ℕ → Type 0
 Inside [] n = Unit {0}
 Inside (a ∷ more) n = (a.at + length a.text ≤ n) × Inside more n
 
-abbrev AroundOk : List Around → ℕ → ℕ → Type 0
+abbrev AroundOk : List OuterText → ℕ → ℕ → Type 0
 AroundOk [] operator end = Unit {0}
 AroundOk (a ∷ more) operator end = InOrder a.opened a.awaited a.at operator × (operator ≤ a.at) × (end ≤ a.at) × Inside more a.at × AroundOk more operator end
 
-abbrev Ok : List ℕ → List Awaited → ℕ → ℕ → List Around → ℕ → Type 0
+abbrev Ok : List ℕ → List Awaited → ℕ → ℕ → List OuterText → ℕ → Type 0
 Ok opened awaited at operator around end = InOrder opened awaited at operator × (operator ≤ at) × AroundOk around operator end
 
 abbrev IsOk : Place → Type 0
@@ -59,37 +59,37 @@ not_less a b c h k = omega (arith, h, k)
 in_order_later : (opened : List ℕ) (awaited : List Awaited) (at later operator : ℕ) → at ≤ later → InOrder opened awaited at operator → InOrder opened awaited later operator
 in_order_later opened awaited at later operator e h = (h.0, to_more opened at later e h.1, h.2, to_more (operators_at awaited) at later e h.3, h.4)
 
-ok_later : (opened : List ℕ) (awaited : List Awaited) (at later operator : ℕ) (around : List Around) (end : ℕ) → at ≤ later → Ok opened awaited at operator around end → Ok opened awaited later operator around end
+ok_later : (opened : List ℕ) (awaited : List Awaited) (at later operator : ℕ) (around : List OuterText) (end : ℕ) → at ≤ later → Ok opened awaited at operator around end → Ok opened awaited later operator around end
 ok_later opened awaited at later operator around end e h = (in_order_later opened awaited at later operator e h.0, not_less operator at later h.1 e, h.2)
 
-ok_opened : (opened : List ℕ) (awaited : List Awaited) (at operator : ℕ) (around : List Around) (end : ℕ) → Ok opened awaited at operator around end → Ok (opened ++ at ∷ []) awaited at operator around end
+ok_opened : (opened : List ℕ) (awaited : List Awaited) (at operator : ℕ) (around : List OuterText) (end : ℕ) → Ok opened awaited at operator around end → Ok (opened ++ at ∷ []) awaited at operator around end
 ok_opened opened awaited at operator around end h =
     ((rising_last opened at h.0.0 h.0.1, to_last opened at at (same at) h.0.1, h.0.2, h.0.3, h.0.4), h.1, h.2)
   where
     same : (n : ℕ) → n ≤ n
     same n = omega arith
 
-ok_popped : (opened : List ℕ) (awaited : List Awaited) (at operator : ℕ) (around : List Around) (end : ℕ) → Ok opened awaited at operator around end → Ok (popped opened) awaited at operator around end
+ok_popped : (opened : List ℕ) (awaited : List Awaited) (at operator : ℕ) (around : List OuterText) (end : ℕ) → Ok opened awaited at operator around end → Ok (popped opened) awaited at operator around end
 ok_popped opened awaited at operator around end h = ((rising_popped opened h.0.0, to_popped opened at h.0.1, h.0.2, h.0.3, h.0.4), h.1, h.2)
 
-ok_taken : (opened : List ℕ) (awaited : List Awaited) (at operator : ℕ) (around : List Around) (end : ℕ) → Ok opened awaited at operator around end → Ok opened (drop 1 awaited) at operator around end
+ok_taken : (opened : List ℕ) (awaited : List Awaited) (at operator : ℕ) (around : List OuterText) (end : ℕ) → Ok opened awaited at operator around end → Ok opened (drop 1 awaited) at operator around end
 ok_taken opened awaited at operator around end h =
     ((h.0.0, h.0.1, rising_rest awaited h.0.2, to_rest awaited at h.0.3, to_rest awaited operator h.0.4), h.1, h.2)
 
 -- an operator's place is the last
-around_to : (xs : List Around) (old new end near : ℕ) → old ≤ new → new ≤ end → near ≤ end → AroundOk xs old end → AroundOk xs new near
+around_to : (xs : List OuterText) (old new end near : ℕ) → old ≤ new → new ≤ end → near ≤ end → AroundOk xs old end → AroundOk xs new near
 around_to [] old new end near a b c h = tt
 around_to (x ∷ xs) old new end near a b c h =
     ((h.0.0, h.0.1, h.0.2, h.0.3, to_more (operators_at x.awaited) old new a h.0.4), not_less new end x.at b h.2, not_less near end x.at c h.2, h.3, around_to xs old new end near a b c h.4)
 
-ok_awaits : (opened : List ℕ) (awaited : List Awaited) (at operator : ℕ) (around : List Around) (end : ℕ) → at ≤ end → Ok opened awaited at operator around end → Ok opened awaited at at around end
+ok_awaits : (opened : List ℕ) (awaited : List Awaited) (at operator : ℕ) (around : List OuterText) (end : ℕ) → at ≤ end → Ok opened awaited at operator around end → Ok opened awaited at at around end
 ok_awaits opened awaited at operator around end e h =
     ((h.0.0, h.0.1, h.0.2, h.0.3, h.0.3), same at, around_to around operator at end end h.1 e (same end) h.2)
   where
     same : (n : ℕ) → n ≤ n
     same n = omega arith
 
-ok_delimited : (opened : List ℕ) (awaited : List Awaited) (d : Awaited) (at operator : ℕ) (around : List Around) (end : ℕ) → d.at ≡ operator → Ok opened awaited at operator around end → Ok opened (awaited ++ d ∷ []) at operator around end
+ok_delimited : (opened : List ℕ) (awaited : List Awaited) (d : Awaited) (at operator : ℕ) (around : List OuterText) (end : ℕ) → d.at ≡ operator → Ok opened awaited at operator around end → Ok opened (awaited ++ d ∷ []) at operator around end
 ok_delimited opened awaited d at operator around end s h =
     let xs = operators_at awaited in
     let is : xs ++ operator ∷ [] ≡ operators_at (awaited ++ d ∷ []) = ap (λ n. xs ++ n ∷ []) (sym s) ∙ operators_last awaited d in (
@@ -108,21 +108,21 @@ ok_delimited opened awaited d at operator around end s h =
     same n = omega arith
 
 -- BODIES
-inside_last : (xs : List Around) (x : Around) (n : ℕ) → x.at + length x.text ≤ n → Inside xs n → Inside (xs ++ x ∷ []) n
+inside_last : (xs : List OuterText) (x : OuterText) (n : ℕ) → x.at + length x.text ≤ n → Inside xs n → Inside (xs ++ x ∷ []) n
 inside_last [] x n e h = (e, tt)
 inside_last (y ∷ ys) x n e h = (h.0, inside_last ys x n e h.1)
 
-inside_popped : (xs : List Around) (n : ℕ) → Inside xs n → Inside (popped xs) n
+inside_popped : (xs : List OuterText) (n : ℕ) → Inside xs n → Inside (popped xs) n
 inside_popped [] n h = tt
 inside_popped (x ∷ []) n h = tt
 inside_popped (x ∷ (y ∷ ys)) n h = (h.0, inside_popped (y ∷ ys) n h.1)
 
-inside_there : (xs : List Around) (x : Around) (n : ℕ) → last_around xs ≡ Some x → Inside xs n → x.at + length x.text ≤ n
+inside_there : (xs : List OuterText) (x : OuterText) (n : ℕ) → last_around xs ≡ Some x → Inside xs n → x.at + length x.text ≤ n
 inside_there [] x n e h = cc
-inside_there (y ∷ []) x n e h = let s : y ≡ x = cc in subst (λ (z : Around). z.at + length z.text ≤ n) s h.0
+inside_there (y ∷ []) x n e h = let s : y ≡ x = cc in subst (λ (z : OuterText). z.at + length z.text ≤ n) s h.0
 inside_there (y ∷ (z ∷ zs)) x n e h = inside_there (z ∷ zs) x n e h.1
 
-around_last : (xs : List Around) (x : Around) (operator near : ℕ) → near ≤ x.at → InOrder x.opened x.awaited x.at operator → operator ≤ x.at → AroundOk xs operator (x.at + length x.text) → AroundOk (xs ++ x ∷ []) operator near
+around_last : (xs : List OuterText) (x : OuterText) (operator near : ℕ) → near ≤ x.at → InOrder x.opened x.awaited x.at operator → operator ≤ x.at → AroundOk xs operator (x.at + length x.text) → AroundOk (xs ++ x ∷ []) operator near
 around_last [] x operator near e l o h = (l, o, e, tt, tt)
 around_last (y ∷ ys) x operator near e l o h =
     (h.0, h.1, before near x.at (length x.text) y.at e h.2, inside_last ys x y.at h.2 h.3, around_last ys x operator near e l o h.4)
@@ -130,16 +130,16 @@ around_last (y ∷ ys) x operator near e l o h =
     before : (a b c d : ℕ) → a ≤ b → b + c ≤ d → a ≤ d
     before a b c d h k = omega (arith, h, k)
 
-around_gone : (xs : List Around) (x : Around) (operator end : ℕ) → last_around xs ≡ Some x → AroundOk xs operator end → InOrder x.opened x.awaited x.at operator × (operator ≤ x.at) × AroundOk (popped xs) operator (x.at + length x.text)
+around_gone : (xs : List OuterText) (x : OuterText) (operator end : ℕ) → last_around xs ≡ Some x → AroundOk xs operator end → InOrder x.opened x.awaited x.at operator × (operator ≤ x.at) × AroundOk (popped xs) operator (x.at + length x.text)
 around_gone [] x operator end e h = cc
 around_gone (y ∷ []) x operator end e h =
     let s : y ≡ x = cc in
-    subst (λ (z : Around). InOrder z.opened z.awaited z.at operator × (operator ≤ z.at) × Unit {0}) s (h.0, h.1, tt)
+    subst (λ (z : OuterText). InOrder z.opened z.awaited z.at operator × (operator ≤ z.at) × Unit {0}) s (h.0, h.1, tt)
 around_gone (y ∷ (z ∷ zs)) x operator end e h =
     let i = around_gone (z ∷ zs) x operator end e h.4 in
     (i.0, i.1, (h.0, h.1, inside_there (z ∷ zs) x y.at e h.3, inside_popped (z ∷ zs) y.at h.3, i.2))
 
-around_popped : (xs : List Around) (operator end : ℕ) → AroundOk xs operator end → AroundOk (popped xs) operator end
+around_popped : (xs : List OuterText) (operator end : ℕ) → AroundOk xs operator end → AroundOk (popped xs) operator end
 around_popped [] operator end h = tt
 around_popped (x ∷ []) operator end h = tt
 around_popped (x ∷ (y ∷ ys)) operator end h = (h.0, h.1, h.2, inside_popped (y ∷ ys) x.at h.3, around_popped (y ∷ ys) operator end h.4)
@@ -152,11 +152,11 @@ more_twice : (n m l : ℕ) → n ≤ n + m + l
 more_twice n m l = omega arith
 
 -- one part further, and two
-ok_once : (opened : List ℕ) (awaited : List Awaited) (at operator : ℕ) (around : List Around) (n : ℕ) (text : List ℕ) → n ≤ length text → Ok opened awaited at operator around (at + length text) → Ok opened awaited (at + n) operator around (at + n + length (drop n text))
+ok_once : (opened : List ℕ) (awaited : List Awaited) (at operator : ℕ) (around : List OuterText) (n : ℕ) (text : List ℕ) → n ≤ length text → Ok opened awaited at operator around (at + length text) → Ok opened awaited (at + n) operator around (at + n + length (drop n text))
 ok_once opened awaited at operator around n text e h =
     subst (λ end. Ok opened awaited (at + n) operator around end) (ended at n text e) (ok_later opened awaited at (at + n) operator around (at + length text) (more at n) h)
 
-ok_twice : (opened : List ℕ) (awaited : List Awaited) (at operator : ℕ) (around : List Around) (n m : ℕ) (text : List ℕ) → n ≤ length text → m ≤ length (drop n text) → Ok opened awaited at operator around (at + length text) → Ok opened awaited (at + n + m) operator around (at + n + m + length (drop m (drop n text)))
+ok_twice : (opened : List ℕ) (awaited : List Awaited) (at operator : ℕ) (around : List OuterText) (n m : ℕ) (text : List ℕ) → n ≤ length text → m ≤ length (drop n text) → Ok opened awaited at operator around (at + length text) → Ok opened awaited (at + n + m) operator around (at + n + m + length (drop m (drop n text)))
 ok_twice opened awaited at operator around n m text e k h =
     subst (λ end. Ok opened awaited (at + n + m) operator around end) (ended_twice at n m text e k) (ok_later opened awaited at (at + n + m) operator around (at + length text) (more_twice at n m) h)
 
@@ -197,7 +197,7 @@ after_opened (Some d) n p e h =
     within : length (take n p.text) ≡ n → p.at + length (take n p.text) ≤ p.at + n + line d.0 (drop n p.text)
     within s = omega (arith, s)
 
-after_closed : (o : Option Around) (p : Place) → last_around p.around ≡ o → IsOk p → IsOk (body_closed o (record p { around = popped p.around }))
+after_closed : (o : Option OuterText) (p : Place) → last_around p.around ≡ o → IsOk p → IsOk (body_closed o (record p { around = popped p.around }))
 after_closed None p e h = (h.0, h.1, around_popped p.around p.operator (p.at + length p.text) h.2)
 after_closed (Some a) p e h = around_gone p.around a p.operator (p.at + length p.text) e h.2
 

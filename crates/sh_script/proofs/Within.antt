@@ -11,7 +11,7 @@ use Rattle.sh_token.specs.Folded.{folded, run}
 use Rattle.sh_token.specs.HereDocuments.{line}
 use Rattle.sh_token.specs.Lexemes.{extent, look}
 use Rattle.sh_token.specs.Effects.{effect_of}
-use Rattle.sh_token.specs.Places.{Place, Around, begin, last_paren}
+use Rattle.sh_token.specs.Places.{Place, OuterText, begin, last_paren}
 use Rattle.sh_token.specs.Steps.{after, popped, last_around, paren_closed, body_passed, body_taken, past_tabs_if, aside, body_opened, body_closed, next}
 use Rattle.sh_token.proofs.ByRules.{lex_looks}
 use Rattle.sh_token.proofs.Modes.{unlexed, place_or}
@@ -21,11 +21,11 @@ use Rattle.sh_script.specs.TextReader.{text_reader}
 abbrev pub GoesOn : List ℕ → ℕ → List ℕ → Type 0
 GoesOn text at left = (rest : List ℕ) × (left ++ rest ≡ drop at text)
 
-abbrev pub AllGoOn : List ℕ → List Around → Type 0
+abbrev pub AllGoOn : List ℕ → List OuterText → Type 0
 AllGoOn text [] = Unit {0}
 AllGoOn text (a ∷ more) = GoesOn text a.at a.text × AllGoOn text more
 
-abbrev pub IsWithin : List ℕ → ℕ → List ℕ → List Around → Type 0
+abbrev pub IsWithin : List ℕ → ℕ → List ℕ → List OuterText → Type 0
 IsWithin text at left around = GoesOn text at left × AllGoOn text around
 
 dropped : (n : ℕ) (xs ys : List ℕ) → (zs : List ℕ) × (drop n xs ++ zs ≡ drop n (xs ++ ys))
@@ -45,17 +45,17 @@ front : (text : List ℕ) (at n : ℕ) (left : List ℕ) → GoesOn text at left
 front text at n left h = (drop n left ++ h.0, sym (append_assoc (take n left) (drop n left) h.0) ∙ ap (λ l. l ++ h.0) (taken n left) ∙ h.1)
 
 -- so many bytes further, and as many
-once : (text : List ℕ) (at n : ℕ) (left : List ℕ) (around : List Around) → IsWithin text at left around → IsWithin text (at + n) (drop n left) around
+once : (text : List ℕ) (at n : ℕ) (left : List ℕ) (around : List OuterText) → IsWithin text at left around → IsWithin text (at + n) (drop n left) around
 once text at n left around h = (further text at n left h.0, h.1)
 
-twice : (text : List ℕ) (at n m : ℕ) (left : List ℕ) (around : List Around) → IsWithin text at left around → IsWithin text ((at + n) + m) (drop m (drop n left)) around
+twice : (text : List ℕ) (at n m : ℕ) (left : List ℕ) (around : List OuterText) → IsWithin text at left around → IsWithin text ((at + n) + m) (drop m (drop n left)) around
 twice text at n m left around h = once text (at + n) m (drop n left) around (once text at n left around h)
 
-all_more : (text : List ℕ) (xs : List Around) (x : Around) → AllGoOn text xs → GoesOn text x.at x.text → AllGoOn text (xs ++ x ∷ [])
+all_more : (text : List ℕ) (xs : List OuterText) (x : OuterText) → AllGoOn text xs → GoesOn text x.at x.text → AllGoOn text (xs ++ x ∷ [])
 all_more text [] x h k = (k, tt)
 all_more text (y ∷ ys) x h k = (h.0, all_more text ys x h.1 k)
 
-all_popped : (text : List ℕ) (xs : List Around) → AllGoOn text xs → AllGoOn text (popped xs)
+all_popped : (text : List ℕ) (xs : List OuterText) → AllGoOn text xs → AllGoOn text (popped xs)
 all_popped text [] h = tt
 all_popped text (x ∷ []) h = tt
 all_popped text (x ∷ (y ∷ ys)) h = (h.0, all_popped text (y ∷ ys) h.1)
@@ -89,12 +89,12 @@ after_opened (Some d) n text p h =
         twice text p.at m (joins (drop m (take n p.text))) (take n p.text) (p.around ++ aside (body_passed d.0 n p) ∷ []) i
     begun false i = once text p.at (joins (take n p.text)) (take n p.text) (p.around ++ aside (body_passed d.0 n p) ∷ []) i
 
-last_goes_on : (text : List ℕ) (xs : List Around) (x : Around) → last_around xs ≡ Some x → AllGoOn text xs → GoesOn text x.at x.text
+last_goes_on : (text : List ℕ) (xs : List OuterText) (x : OuterText) → last_around xs ≡ Some x → AllGoOn text xs → GoesOn text x.at x.text
 last_goes_on text [] x e h = cc
-last_goes_on text (y ∷ []) x e h = let s : y ≡ x = cc in subst (λ (z : Around). GoesOn text z.at z.text) s h.0
+last_goes_on text (y ∷ []) x e h = let s : y ≡ x = cc in subst (λ (z : OuterText). GoesOn text z.at z.text) s h.0
 last_goes_on text (y ∷ (z ∷ zs)) x e h = last_goes_on text (z ∷ zs) x e h.1
 
-after_closed : (o : Option Around) (text : List ℕ) (p : Place) → last_around p.around ≡ o → IsWithin text p.at p.text p.around → IsWithin text (body_closed o (record p { around = popped p.around })).at (body_closed o (record p { around = popped p.around })).text (body_closed o (record p { around = popped p.around })).around
+after_closed : (o : Option OuterText) (text : List ℕ) (p : Place) → last_around p.around ≡ o → IsWithin text p.at p.text p.around → IsWithin text (body_closed o (record p { around = popped p.around })).at (body_closed o (record p { around = popped p.around })).text (body_closed o (record p { around = popped p.around })).around
 after_closed None text p e h = (h.0, all_popped text p.around h.1)
 after_closed (Some a) text p e h = (last_goes_on text p.around a e h.1, all_popped text p.around h.1)
 

@@ -10,7 +10,7 @@ use Rattle.rk_calls.specs.declared.turn.Turn.TheVariants as calling
 use Rattle.sh_vars.specs.declared.env.Env.{Env}
 use Rattle.sh_redirect.specs.DescriptorTable.{slot}
 use Rattle.sh_builtin.specs.declared.builtin.Builtin.{Builtin}
-use Rattle.sh_builtin.specs.Doing as doing
+use Rattle.sh_builtin.specs.Action as action
 use Rattle.sh_builtin.specs.Stages.{builtin_does}
 use Rattle.sh_means.specs.declared.flow.Flow.TheVariants.{Normal}
 use Rattle.sh_means.specs.Flows.{Next, asks, ends}
@@ -20,17 +20,17 @@ use Rattle.sh_means.specs.State.{Shell, with_env}
 use Rattle.sh_simple.proofs.Hearing.{by_call, through_is}
 
 -- what comes after a builtin, from a state
-abbrev pub end_of : Next → Shell → doing.Ended
+abbrev pub end_of : Next → Shell → action.Ended
 end_of k e = λ status env. ends Normal status k (with_env env e)
 
-module _ (k : Next) (b b0 b' : Builtin) (a : Answer) (e : Shell) (env : Env) (t : calls.Turn) (hb : b0 ≡ b) (h : (slots : doing.Slots) (x : doing.Ended) (p : ℕ) → builtin_does b0 a slots x e.env p ≡ doing.after slots t (λ a. builtin_does b' a slots x) x env p) where
-  so : (p : ℕ) → building b k a e p ≡ doing.after (slot e.descriptors) t (λ a. builtin_does b' a (slot e.descriptors) (end_of k e)) (end_of k e) env p
+module _ (k : Next) (b b0 b' : Builtin) (a : Answer) (e : Shell) (env : Env) (t : calls.Turn) (hb : b0 ≡ b) (h : (slots : action.Slots) (x : action.Ended) (p : ℕ) → builtin_does b0 a slots x e.env p ≡ action.after slots t (λ a. builtin_does b' a slots x) x env p) where
+  so : (p : ℕ) → building b k a e p ≡ action.after (slot e.descriptors) t (λ a. builtin_does b' a (slot e.descriptors) (end_of k e)) (end_of k e) env p
   so p = ap (λ (b : Builtin). building b k a e p) (sym hb) ∙ h (slot e.descriptors) (end_of k e) p
 
   asked : (c : Call) (cost : ℕ) (o : Option Call) (p : ℕ) → t ≡ calling.Ask c cost → o ≡ through c e.descriptors → building b k a e p ≡ by_call o cost (λ a. builtin_does b' a (slot e.descriptors) (end_of k e)) env p
   asked c cost o p is ho =
       so p
-      ∙ ap (λ (t : calls.Turn). doing.after (slot e.descriptors) t (λ a. builtin_does b' a (slot e.descriptors) (end_of k e)) (end_of k e) env p) is
+      ∙ ap (λ (t : calls.Turn). action.after (slot e.descriptors) t (λ a. builtin_does b' a (slot e.descriptors) (end_of k e)) (end_of k e) env p) is
       ∙ through_is c e.descriptors cost (λ a. builtin_does b' a (slot e.descriptors) (end_of k e)) env p
       ∙ ap (λ (o : Option Call). by_call o cost (λ a. builtin_does b' a (slot e.descriptors) (end_of k e)) env p) (sym ho)
 
@@ -41,7 +41,7 @@ module _ (k : Next) (b b0 b' : Builtin) (a : Answer) (e : Shell) (env : Env) (t 
   builtin_lacks c cost o p is ho hn = asked c cost o p is ho ∙ ap (λ (o : Option Call). by_call o cost (λ a. builtin_does b' a (slot e.descriptors) (end_of k e)) env p) hn
 
   pub builtin_pays : (cost : ℕ) (p : ℕ) → t ≡ calling.More cost → building b k a e p ≡ pay cost (building b' k answer.Go (with_env env e)) p
-  builtin_pays cost p is = so p ∙ ap (λ (t : calls.Turn). doing.after (slot e.descriptors) t (λ a. builtin_does b' a (slot e.descriptors) (end_of k e)) (end_of k e) env p) is
+  builtin_pays cost p is = so p ∙ ap (λ (t : calls.Turn). action.after (slot e.descriptors) t (λ a. builtin_does b' a (slot e.descriptors) (end_of k e)) (end_of k e) env p) is
 
   pub builtin_ends : (status cost : ℕ) (p : ℕ) → t ≡ calling.Exit status cost → building b k a e p ≡ pay cost (ends Normal status k (with_env env e)) p
-  builtin_ends status cost p is = so p ∙ ap (λ (t : calls.Turn). doing.after (slot e.descriptors) t (λ a. builtin_does b' a (slot e.descriptors) (end_of k e)) (end_of k e) env p) is
+  builtin_ends status cost p is = so p ∙ ap (λ (t : calls.Turn). action.after (slot e.descriptors) t (λ a. builtin_does b' a (slot e.descriptors) (end_of k e)) (end_of k e) env p) is

@@ -11,7 +11,7 @@ use Rattle.sh_expand.specs.Told.{numbered}
 use Rattle.sh_expand.specs.Expands.{counted}
 use Rattle.sh_redirect.specs.declared.descriptors.DescriptorTable.{DescriptorTable}
 use Rattle.sh_redirect.specs.DescriptorTable.{slot}
-use Rattle.sh_builtin.specs.Doing as builtin
+use Rattle.sh_builtin.specs.Action as builtin
 use Rattle.sh_simple.specs.Launching.{through}
 
 numbered_builtin : (a : Answer) (n : ℕ) → numbered a n ≡ builtin.numbered a n

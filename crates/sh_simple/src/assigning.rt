@@ -39,9 +39,9 @@ pub fn next_assign(
                 assignments: _,
                 at: _,
                 exported: _,
-                doing,
+                resolved,
             } = left;
-            let acted = work(doing, place, shell)?;
+            let acted = work(resolved, place, shell)?;
             Ok(acted)
         }
     }

@@ -17,9 +17,9 @@ use rk_base::{Bytes, Errno, NoMemory, WordList};
 use rk_calls::{Answer, Call, Key, Turn};
 use sh_builtin::Builtin;
 use sh_means::control::{Acted, CommandKind, CompoundStep, Control, Undo, Wait};
-use sh_means::doing::Doing;
 use sh_means::flow::{Flow, Place};
 use sh_means::interpreter::Interpreter;
+use sh_means::resolved_command::ResolvedCommand;
 use sh_means::stack::put_undo;
 use sh_means::state::{Callee, State};
 use sh_means::steps::{end, free, paid};
@@ -95,14 +95,14 @@ fn status_if(substituted: bool, status: u8) -> u8
 
 /// What a simple command does, once its assignments were made.
 pub(crate) fn work(
-    doing: Box<Doing>,
+    resolved: Box<ResolvedCommand>,
     place: Place,
     shell: &mut Interpreter,
 ) -> Result<Acted, NoMemory>
-    ensures talk { IfOk result (Steps (works run (kind_of_code doing.value.kind) doing.value.fields place (context shell.old.stack.items) (shell_of shell.old.state)) (context shell.new.stack.items) (shell_of shell.new.state)) }
+    ensures talk { IfOk result (Steps (works run (kind_of_code resolved.value.kind) resolved.value.fields place (context shell.old.stack.items) (shell_of shell.old.state)) (context shell.new.stack.items) (shell_of shell.new.state)) }
     ensures costly { IfOk result (Lowers 3 shell.old.stack.items shell.new.stack.items) }
 {
-    let Doing { kind, fields } = Box::into_inner(doing);
+    let ResolvedCommand { kind, fields } = Box::into_inner(resolved);
     match kind {
         CommandKind::Bare => {
             let env = &shell.state.env;

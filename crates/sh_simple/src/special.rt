@@ -11,7 +11,7 @@ ghost use Rattle.sh_means.specs.Weights.{Pays, Sinks};
 use crate::launching::launch;
 use rk_base::{Bytes, NoMemory, WordList};
 use rk_calls::{Call, How, Turn, absolute};
-use sh_means::control::{Acted, Control, SimpleStep, Wait};
+use sh_means::control::{Acted, Control, Wait, WordStep};
 use sh_means::flow::{Flow, Place};
 use sh_means::state::State;
 use sh_means::steps::{end, free, refuse, tell};
@@ -138,7 +138,7 @@ pub(crate) fn obey(
         }
         Order::Eval(text) => {
             let name = Bytes::from_slice(alloc, b"eval")?;
-            Ok(free(Control::SimpleStep(SimpleStep::Text(place, name, text))))
+            Ok(free(Control::WordStep(WordStep::Text(place, name, text))))
         }
         Order::Dot(file) => dot(alloc, place, file, state),
         Order::Exec(words) => launch(alloc, words, Flow::Exits, state),

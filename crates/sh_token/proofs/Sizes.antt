@@ -25,7 +25,7 @@ use Rattle.sh_token.specs.Fronts.{front_of}
 use Rattle.sh_token.specs.Recognizers.{recognizer}
 use Rattle.sh_token.specs.Lexemes.{Surroundings, surroundings, recognized, token_if, body_found, bodies_look, is_raw, extent, look}
 use Rattle.sh_token.specs.Effects.{effect_of}
-use Rattle.sh_token.specs.Places.{Place, Around, last_paren, moved, size, left_around}
+use Rattle.sh_token.specs.Places.{Place, OuterText, last_paren, moved, size, left_around}
 use Rattle.sh_token.specs.Steps.{lex, after, popped, last_around, paren_closed, body_passed, body_taken, past_tabs_if, aside, put_aside, body_begun, body_opened, body_closed, next}
 use Rattle.sh_token.proofs.Found.{Of, Wide, may_have_none, kinds_by, of_recognized}
 use Rattle.sh_token.proofs.ByRules.{lex_looks}
@@ -270,7 +270,7 @@ tabs_size true p =
     omega (arith, length-drop (joins t) t, length-drop (extent false (run is_tab (folded p.text)) p.text) p.text)
 tabs_size false p = omega (arith, length-drop (joins p.text) p.text)
 
-around_more : (xs : List Around) (a : Around) → left_around (xs ++ a ∷ []) ≡ left_around xs + length a.text
+around_more : (xs : List OuterText) (a : OuterText) → left_around (xs ++ a ∷ []) ≡ left_around xs + length a.text
 around_more [] a = omega arith
 around_more (x ∷ xs) a = omega (arith, around_more xs a)
 
@@ -288,17 +288,17 @@ opened_size (d ∷ ds) i n p e h =
     let s : n ≡ i = h ∙ exactly i p.text w in
     begun_size d.quoted d.levels d.tabs n p (omega (arith, s, w))
 
-but_last : (xs : List Around) (a : Around) → last_around xs ≡ Some a → left_around (popped xs) + length a.text ≡ left_around xs
+but_last : (xs : List OuterText) (a : OuterText) → last_around xs ≡ Some a → left_around (popped xs) + length a.text ≡ left_around xs
 but_last [] a e = cc
 but_last (x ∷ []) a e = let s : x ≡ a = cc in omega (arith, ap (λ a. length a.text) s)
 but_last (x ∷ (y ∷ xs)) a e = omega (arith, but_last (y ∷ xs) a e)
 
-popped_less : (xs : List Around) → left_around (popped xs) ≤ left_around xs
+popped_less : (xs : List OuterText) → left_around (popped xs) ≤ left_around xs
 popped_less [] = omega arith
 popped_less (x ∷ []) = omega arith
 popped_less (x ∷ (y ∷ xs)) = omega (arith, popped_less (y ∷ xs))
 
-closed_size : (o : Option Around) (p : Place) → last_around p.around ≡ o → size (body_closed o (record p { around = popped p.around })) ≤ size p
+closed_size : (o : Option OuterText) (p : Place) → last_around p.around ≡ o → size (body_closed o (record p { around = popped p.around })) ≤ size p
 unfolding size
 closed_size None p h = omega (arith, popped_less p.around)
 closed_size (Some a) p h = omega (arith, but_last p.around a h)

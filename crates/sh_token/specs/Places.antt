@@ -6,8 +6,8 @@ use Rattle.sh_token.specs.Bytes.{◌also◌, not_so}
 use Rattle.sh_token.specs.Blanks.{joins, blanks}
 use Rattle.sh_token.specs.HereDocuments.{Awaited}
 
--- What stands around a here-document's body, while the body is read as a text by itself: what is left behind it, and what is open there.
-pub record Around : Type 0 where
+-- The text around a here-document's body, while the body is read as a text by itself: what is left behind it, and what is open there.
+pub record OuterText : Type 0 where
   pub text : List ℕ
   pub at : ℕ
   pub levels : ℕ
@@ -37,7 +37,7 @@ pub record Place : Type 0 where
   pub operator : ℕ
   pub dashed : Bool
   pub tabs : Bool
-  pub around : List Around
+  pub around : List OuterText
 
 abbrev pub is_none : {A : Type 0} → List A → Bool
 is_none [] = true
@@ -96,7 +96,7 @@ abbrev pub begin : List ℕ → Place
 begin text = begin_at 0 text
 
 -- how much is left, of the body that is read and of what stands around it
-abbrev pub left_around : List Around → ℕ
+abbrev pub left_around : List OuterText → ℕ
 left_around [] = 0
 left_around (a ∷ more) = length a.text + left_around more
 

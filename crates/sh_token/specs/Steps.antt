@@ -13,7 +13,7 @@ use Rattle.sh_token.specs.Folded.{folded, run}
 use Rattle.sh_token.specs.HereDocuments.{Awaited, delimiter_of, is_quoted, lines, line}
 use Rattle.sh_token.specs.Tokens.{Look, is_raw, extent}
 use Rattle.sh_token.specs.Recognition.{token_at}
-use Rattle.sh_token.specs.Places.{Place, Around, last_paren, moved, past_joins, past_blanks}
+use Rattle.sh_token.specs.Places.{Place, OuterText, last_paren, moved, past_joins, past_blanks}
 
 -- but the last; and the last, where there is one
 abbrev pub popped : {A : Type 0} → List A → List A
@@ -25,7 +25,7 @@ abbrev pub or_false : Option Bool → Bool
 or_false None = false
 or_false (Some b) = b
 
-abbrev pub last_around : List Around → Option Around
+abbrev pub last_around : List OuterText → Option OuterText
 last_around [] = None
 last_around (x ∷ []) = Some x
 last_around (x ∷ (y ∷ xs)) = last_around (y ∷ xs)
@@ -78,7 +78,7 @@ past_tabs_if true p = past_joins (moved (extent false (run is_tab (folded p.text
 past_tabs_if false p = past_joins p
 
 -- what stands around a body is put aside
-abbrev pub aside : Place → Around
+abbrev pub aside : Place → OuterText
 aside p = record { text = p.text; at = p.at; levels = p.levels; opened = p.opened; parens = p.parens; awaited = p.awaited; tabs = p.tabs }
 
 abbrev pub put_aside : Place → Place
@@ -101,7 +101,7 @@ body_opened None n p = moved n p
 body_opened (Some d) n p = body_begun d.0 d.1 d.2 n p
 
 -- back to what stands around it
-abbrev pub gone_back : Around → Place → Place
+abbrev pub gone_back : OuterText → Place → Place
 gone_back a p =
     record p {
       text = a.text;
@@ -114,7 +114,7 @@ gone_back a p =
       tabs = a.tabs;
     }
 
-abbrev pub body_closed : Option Around → Place → Place
+abbrev pub body_closed : Option OuterText → Place → Place
 body_closed None p = p
 body_closed (Some a) p = gone_back a p
 

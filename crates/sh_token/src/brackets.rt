@@ -145,7 +145,7 @@ pub fn bracket(class: Class, text: &[u8]) -> Option<usize>
     }
 }
 
-// The same behind a byte, of whose bracket so many are left.
+// How many bytes more the bracket has that goes on here, behind a byte, where so many are left of it.
 fn bracket_on(class: Class, n: usize, text: &[u8]) -> Option<usize>
     ensures { result ≡ lem.bracket_on (class_is class) n (folded text.now) }
 {

@@ -73,7 +73,7 @@ pub fn run(class: Class, text: &[u8]) -> usize
     text.len()
 }
 
-/// The same where the first byte is in any case.
+/// How many bytes in front of a text are of a class, joined lines not counted, where the first one is in any case.
 pub fn run_on(class: Class, text: &[u8]) -> usize
     ensures { result ≡ run_on_lem (class_is class) (folded text.now) }
 {

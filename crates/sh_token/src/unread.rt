@@ -65,7 +65,7 @@ impl<'a> Unread<'a> {
         }
     }
 
-    /// The same text, when it was looked for how far no bracket of unquoted bytes of a class is closed.
+    /// This text, when it was looked for how far no bracket of unquoted bytes of a class is closed.
     pub fn looked_through(&self, class: Class) -> Unread<'a>
         ensures { result ≡ self.now }
     {

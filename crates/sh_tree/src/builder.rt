@@ -1,4 +1,4 @@
-// What is built, from the end of a text to its beginning.
+// What is built of a text, from the last of its marks to the first.
 ghost use Rattle.std.specs.Prelude.{◌≡◌, ◌∷◌, IfOk, OnOk, map, length, option_map};
 ghost use Rattle.sh_ast.specs.Commands as c;
 ghost use Rattle.sh_nodes.specs.Nodes.{bodies_seen, word_told, words_seen};
@@ -16,7 +16,8 @@ use std::alloc::Global;
 use std::collections::VecDeque;
 use std::rc::Rc;
 
-/// The values of what was read, that of the first symbol on top; for what stands in no word, and each word that is being
+/// Goes over the marks of a text from the last one to the first, so that what stands behind a symbol is built before it. It has the
+/// values of what was read, that of the first symbol on top; for what stands in no word, and each word that is being
 /// read, the bodies of its substitutions; for the text, and each body of a here-document around what is read, the
 /// here-documents' bodies that no operator has yet; and what nodes share.
 #[derive(Drop)]

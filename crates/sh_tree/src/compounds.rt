@@ -202,7 +202,7 @@ pub fn item(b: &mut Builder, alloc: Global) -> Result<(), NoMemory>
     b.put(Value::Items(items))
 }
 
-/// One behind an opening parenthesis.
+/// An item in front of items, whose patterns stand behind an opening parenthesis.
 pub fn item_open(b: &mut Builder, alloc: Global) -> Result<(), NoMemory>
     ensures { OnOk result (state b.new ≡ act.item (less (state b.old))) }
 {
@@ -210,7 +210,7 @@ pub fn item_open(b: &mut Builder, alloc: Global) -> Result<(), NoMemory>
     item(b, alloc)
 }
 
-/// One whose first pattern begins with text.
+/// An item in front of items, whose first pattern begins with text.
 pub fn item_text(b: &mut Builder, alloc: Global) -> Result<(), NoMemory>
     ensures { OnOk result (state b.new ≡ act.item (act.word_begun (act.text_part Unquoted (state b.old)))) }
 {

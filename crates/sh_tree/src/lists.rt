@@ -34,7 +34,7 @@ pub fn more_commands(b: &mut Builder, alloc: Global) -> Result<(), NoMemory>
     b.put(Value::Commands(commands))
 }
 
-/// The same behind a pipe and line breaks.
+/// Commands in front of commands, behind a pipe and line breaks.
 pub fn piped(b: &mut Builder, alloc: Global) -> Result<(), NoMemory>
     ensures { OnOk result (state b.new ≡ act.more_commands (less (less (state b.old)))) }
 {
@@ -79,7 +79,7 @@ fn several(
     pipeline(b, alloc, false, commands)
 }
 
-// The same; where none stand behind them, themselves.
+// Commands in front of commands, as a pipeline; where none stand behind them, themselves.
 #[tactic(auto, unfolding(crate::specs::Seen::seen), using(crate::proofs::MadeLemmas::piped_some))]
 fn piped_in_front(
     b: &mut Builder,

@@ -93,7 +93,7 @@ impl Positional {
         copies(alloc, self.as_slice())
     }
 
-    /// The same parameters, for copies to share. Words that none shares yet are copied, once.
+    /// The parameters, for copies to share. Words that none shares yet are copied, once.
     pub(crate) fn shared(&self, alloc: Global) -> Result<Shared, NoMemory>
         ensures { IfOk result (λ shared. shared ≡ self.now) }
     {

@@ -73,7 +73,7 @@ impl Rows {
         Ok(())
     }
 
-    /// The same variables, shared.
+    /// The variables, shared.
     pub(crate) fn copy(&self) -> Result<Rows, NoMemory>
         ensures { IfOk result (λ rows. rows ≡ self.now) }
     {

@@ -76,7 +76,7 @@ impl Tree {
         }
     }
 
-    /// The same tree, shared.
+    /// The tree, shared.
     pub(crate) fn copy(&self) -> Result<Tree, NoMemory>
         ensures { IfOk result (λ t. t ≡ self.now) }
     {

@@ -14,7 +14,7 @@ use Rattle.sh_redirect.specs.declared.redirecting.Turn.{Turn}
 use Rattle.sh_redirect.specs.declared.redirecting.Turn.TheVariants as turn
 use Rattle.sh_redirect.specs.Answers as redirection
 use Rattle.sh_redirect.specs.declared.kind.Redirect as kinds
-use Rattle.sh_redirect.specs.Redirects.{After, Doing, redirects}
+use Rattle.sh_redirect.specs.Redirects.{After, Action, redirects}
 use Rattle.sh_redirect.specs.Stages.{redirecting_does, after}
 use Rattle.sh_means.specs.declared.control.Control.TheVariants as control
 use Rattle.sh_means.specs.declared.control.PendingRedirects.{PendingRedirects}
@@ -52,5 +52,5 @@ module _ (m : PendingRedirects) (pl : Place) (k : Next) (r r0 r' : Redirecting) 
 -- a redirection begins, once its operand was expanded
 pub redirect_begun : (m : PendingRedirects) (pl : Place) (kd : kinds.Redirect) (d : ℕ) (text : Text) (r0 : Redirecting) (r : Box Redirecting) (k : Next) (e : Shell) (p : ℕ) → ((a : Answer) → redirecting_does r0 a ≡ redirects kd d text) → r.value ≡ r0 → redirect_to kd d text (making m pl k) (when_refused m pl k) e p ≡ resumed (control.Waits (wait.Redirects pl m r)) k answer.Go e p
 redirect_begun m pl kd d text r0 r k e p h hr =
-    ap (λ (x : Doing). x (record { made = λ ds env. making m pl k (moved ds env e); refused = λ ds env. when_refused m pl k (moved ds env e) }) e.descriptors e.env p) (sym (h answer.Go))
+    ap (λ (x : Action). x (record { made = λ ds env. making m pl k (moved ds env e); refused = λ ds env. when_refused m pl k (moved ds env e) }) e.descriptors e.env p) (sym (h answer.Go))
     ∙ ap (λ (x : Redirecting). redirecting m pl k x answer.Go e p) (sym hr)

@@ -15,7 +15,7 @@ use Rattle.sh_means.specs.State.{Shell}
 use Rattle.sh_means.specs.Words.{named, unredirected}
 
 refused_is : (m : Made) (ds : List ℕ) (before : DescriptorTable) (pl : Place) (k : Next) (e : Shell) (p : ℕ) → refused_go m ds before pl k e p ≡ ends (made_flow m) 1 (unredirected ds before (watched pl k)) e p
-refused_is (Simple as' doing) ds before pl k e p = refl
+refused_is (Simple as' resolved) ds before pl k e p = refl
 refused_is (Compound b) ds before pl k e p = refl
 
 pub refusal_leads : (m : PendingRedirects) (pl : Place) (k k' k'' : Next) (flow : Flow) (e : Shell) (p : ℕ) → flow ≡ made_flow m.made → k' ≡ continued (continuation.Watch pl) k → k'' ≡ undone (undo.Redirected m.redirects m.before) k' → when_refused m pl k e p ≡ ends flow 1 k'' e p

@@ -7,5 +7,5 @@ use Rattle.sh_means.specs.Simple.{refusal_flow}
 use Rattle.sh_means.specs.Stack.{kind_of_code}
 
 abbrev pub made_flow : Made → Flow
-made_flow (Simple as' doing) = refusal_flow (kind_of_code doing.value.kind)
+made_flow (Simple as' resolved) = refusal_flow (kind_of_code resolved.value.kind)
 made_flow (Compound b) = Normal

@@ -23,13 +23,13 @@ use sh_ast::{Assignments, RedirectOperator, Redirects};
 use sh_expand::Mode;
 use sh_means::control::{
     Acted, Aim, CompoundStep, Continuation, Control, Frame, Made, PendingAssignments,
-    PendingOperand, PendingRedirects, SimpleStep, Undo, Wait,
+    PendingOperand, PendingRedirects, Undo, Wait, WordStep,
 };
-use sh_means::doing::Doing;
 use sh_means::expanding::act_expand;
 use sh_means::expansion::pending;
 use sh_means::flow::{Flow, Place};
 use sh_means::interpreter::Interpreter;
+use sh_means::resolved_command::ResolvedCommand;
 use sh_means::stack::{put_continuation, put_undo};
 use sh_means::steps::{end, free};
 use sh_redirect::{DescriptorTable, Redirect, Redirecting};
@@ -118,26 +118,26 @@ fn made_simple(
     place: Place,
     redirected: Redirected,
     assignments: Rc<Assignments>,
-    doing: Box<Doing>,
+    resolved: Box<ResolvedCommand>,
     shell: &mut Interpreter,
 ) -> Result<Control, NoMemory>
-    ensures talk { IfOk result (Goes (made_go (mades.Simple assignments doing) (named (redirects_from redirected.redirects.value 0)) redirected.before.value place (context shell.old.stack.items) (shell_of shell.old.state)) (context shell.new.stack.items) (shell_of shell.new.state)) }
-    ensures weight { IfOk result (λ c. weigh c + weigh_all shell.new.stack.items < weigh_made (mades.Simple assignments doing) + weigh_all shell.old.stack.items) }
+    ensures talk { IfOk result (Goes (made_go (mades.Simple assignments resolved) (named (redirects_from redirected.redirects.value 0)) redirected.before.value place (context shell.old.stack.items) (shell_of shell.old.state)) (context shell.new.stack.items) (shell_of shell.new.state)) }
+    ensures weight { IfOk result (λ c. weigh c + weigh_all shell.new.stack.items < weigh_made (mades.Simple assignments resolved) + weigh_all shell.old.stack.items) }
 {
     let Redirected { redirects, before } = redirected;
-    let plain = doing.kind.is_plain();
-    let exported = doing.kind.exports();
-    let keeps = doing.kind.keeps();
+    let plain = resolved.kind.is_plain();
+    let exported = resolved.kind.exports();
+    let keeps = resolved.kind.keeps();
     put_continuation(&mut shell.stack, Continuation::Watch(place))?;
     unless_kept(keeps, redirects, before, &mut shell.stack)?;
     for_its_time(plain, &assignments, &shell.state.env.vars, &mut shell.stack)?;
-    Ok(Control::SimpleStep(SimpleStep::Assign(
+    Ok(Control::WordStep(WordStep::Assign(
         place,
         PendingAssignments {
             assignments,
             at: 0,
             exported,
-            doing,
+            resolved,
         },
     )))
 }
@@ -158,9 +158,9 @@ fn all_made(
         made,
     } = left;
     match made {
-        Made::Simple(assignments, doing) => {
+        Made::Simple(assignments, resolved) => {
             let redirected = Redirected { redirects, before };
-            let control = made_simple(place, redirected, assignments, doing, shell)?;
+            let control = made_simple(place, redirected, assignments, resolved, shell)?;
             Ok(control)
         }
         Made::Compound(body) => {
@@ -261,7 +261,7 @@ fn refusal_flow(made: &Made) -> Flow
     ensures { result ≡ made_flow made.now }
 {
     match made {
-        Made::Simple(_, doing) => doing.kind.refusal_flow(),
+        Made::Simple(_, resolved) => resolved.kind.refusal_flow(),
         Made::Compound(_) => Flow::Normal,
     }
 }
@@ -321,7 +321,7 @@ pub fn resume_redirection(
             turn: Turn::Ask(call, cost),
             control: Control::Waits(Wait::Redirects(place, left, r)),
         }),
-        sh_redirect::Turn::Made => Ok(free(Control::SimpleStep(SimpleStep::Make(place, left)))),
+        sh_redirect::Turn::Made => Ok(free(Control::WordStep(WordStep::Make(place, left)))),
         sh_redirect::Turn::Refused => {
             let acted = refused(place, left, shell)?;
             Ok(acted)

@@ -24,13 +24,13 @@ use sh_ast::{CaseItems, SimpleCommand};
 use sh_expand::{Expanded, Mode};
 use sh_means::control::{
     Acted, Aim, CompoundStep, Control, Made, PendingCase, PendingFields, PendingRedirects,
-    PendingValue, PendingWord, SimpleStep, Then,
+    PendingValue, PendingWord, Then, WordStep,
 };
-use sh_means::doing::Doing;
 use sh_means::expanding::act_expand;
 use sh_means::expansion::{over_fields, pending};
 use sh_means::flow::{Flow, Place};
 use sh_means::interpreter::Interpreter;
+use sh_means::resolved_command::ResolvedCommand;
 use sh_means::state::State;
 use sh_means::steps::{free, refuse};
 use sh_pattern::matches;
@@ -51,8 +51,8 @@ fn made_first(
     let redirects = command.redirects.clone()?;
     let assignments = command.assignments.clone()?;
     let before = shell.state.descriptors.clone()?;
-    let doing = Doing { kind, fields };
-    let boxed = Box::new(shell.alloc, doing)?;
+    let resolved = ResolvedCommand { kind, fields };
+    let boxed = Box::new(shell.alloc, resolved)?;
     Ok(PendingRedirects {
         redirects,
         at: 0,
@@ -90,7 +90,7 @@ fn push_field(place: Place, left: PendingFields, text: &Bytes) -> Result<Acted, 
     left.fields.push(text.copy()?)?;
     Ok(Acted {
         turn: Turn::More(cost),
-        control: Control::SimpleStep(SimpleStep::Words(place, left)),
+        control: Control::WordStep(WordStep::Words(place, left)),
     })
 }
 
@@ -226,7 +226,7 @@ fn assign(
         let acted = refuse(alloc, name.as_slice(), b"readonly", Flow::Exits, 1, state)?;
         return Ok(acted);
     }
-    Ok(free(Control::SimpleStep(SimpleStep::Assign(place, left))))
+    Ok(free(Control::WordStep(WordStep::Assign(place, left))))
 }
 
 // The word of a `case` was expanded.

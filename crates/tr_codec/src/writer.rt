@@ -70,7 +70,7 @@ fn looked_up(blobs: &mut Contents, text: &Bytes) -> Result<ContentId, NoMemory>
     Ok(n)
 }
 
-// The same. A long text is hashed only where another one, or none, is known by its mark.
+// The number of a text, which is added where it is new. A long one is hashed only where another one, or none, is known by its mark.
 fn number_in(
     blobs: &mut Contents,
     recent: &mut IndexMap<u64, ContentId>,

@@ -16,7 +16,7 @@ pub struct Step {
 }
 
 impl Step {
-    /// The same step.
+    /// A copy of the step.
     pub fn copy(&self) -> Result<Step, NoMemory>
         ensures { IfOk result (λ s. s ≡ self.now) }
     {

@@ -93,7 +93,7 @@ fn step_turn_back<'a>(
     }
 }
 
-/// The same, and the marks before the byte b.
+/// Marks go back through the turns of an item, and over the byte b to the marks before it.
 #[cycle(step_back)]
 pub(crate) fn step_times_back<'a>(
     item: &Item,
@@ -136,7 +136,7 @@ pub(crate) fn step_times_back<'a>(
 }
 
 // Depth: 64 levels of groups.
-/// The same, and the marks before the byte b.
+/// Marks go back through items, and over the byte b to the marks before it.
 #[cycle(step_back)]
 pub(crate) fn step_back<'a>(
     items: &[Item],

@@ -67,7 +67,7 @@ fn find_ends(
     Ok(())
 }
 
-// The same for each place from a start on, where they are not yet told.
+// Where the turns end that begin at each place from a start on, where that is not yet told.
 fn extend_ends(
     body: &[Item],
     line: &[u8],

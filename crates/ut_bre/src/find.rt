@@ -27,7 +27,7 @@ impl Bre {
         self.span_in(line, from, &mut marks)
     }
 
-    /// The same match, with memory that was taken before.
+    /// The match that `span` tells, with memory that was taken before.
     pub fn span_in(
         &self,
         line: &[u8],
@@ -62,7 +62,7 @@ impl Bre {
         }
     }
 
-    /// The same match, with what its groups took: more work than `span`.
+    /// The match that `span` tells, with what its groups took: more work than `span`.
     pub fn find(&self, line: &[u8], from: usize) -> Result<Option<Found>, NoMemory>
         ensures finds { IfOk result (λ r. FindsGroups (expression self.now) line.now from r) }
         ensures value { IfOk result (λ r. r ≡ found (expression self.now) line.now from) }

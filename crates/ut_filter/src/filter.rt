@@ -200,7 +200,7 @@ impl<W: Work> Filter<W> {
         Filter::from_number(alloc, wd, work, inputs, 10)
     }
 
-    /// The same, where the command opened files before: the next one has this number.
+    /// The filter of this work and of these inputs, where the command opened files before: the next one has this number.
     #[tactic(auto, unfolding(crate::specs::Filters::filters_from))]
     pub fn from_number(
         alloc: Global,

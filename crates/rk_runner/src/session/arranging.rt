@@ -84,7 +84,7 @@ impl<P: Program> Session<P> {
         self.folder.fail_at(call)
     }
 
-    // The same, and a write leaves these bytes.
+    // The call of this number fails, from here on, and where it is a write it leaves these bytes.
     pub(crate) fn leave(&mut self, call: &str, text: &str) -> Result<(), NoMemory> {
         let call = self.folder.calls().saturating_add(number(call));
         let left = Bytes::from_slice(self.alloc, text.as_bytes())?;

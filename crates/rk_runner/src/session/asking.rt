@@ -71,7 +71,7 @@ impl<P: Program> Session<P> {
         self.ask(status, call.as_str(), output, error_text)
     }
 
-    // The same with the program's name in the line.
+    // What a line asks for, with the program's name in it.
     pub(crate) fn called(
         &mut self,
         line: &str,

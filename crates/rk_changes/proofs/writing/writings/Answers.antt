@@ -11,7 +11,7 @@ files-init g c =
     let gives : c.into_iter-path-iterator.result ≡ c.rows-path-items.result.now.entries = c.into_iter-path-iterator.ensures.into_iter_gives.0 in
     let same : c.into_iter-path-iterator.result ≡ entries c.args.after.now = gives ∙ c.rows-path-items.ensures in
     record {
-      beside = c.new-beside.ensures;
+      cursor = c.new-cursor.ensures;
       from = subst (RowsFrom told) (sym same) (rows-from told c.args.after.now c.requires.after);
       ops = fulls-first told c.args.before.now (entries c.args.after.now) c.into_iter-path-iterator.result c.new-ops.result.items c.new-ops.ensures.items same;
       at = lead-first (entries c.args.after.now) c.into_iter-path-iterator.result c.new-ops.result.items c.new-ops.ensures.items same;
@@ -31,10 +31,10 @@ files-preserved g c =
     let all = entries c.args.after.now in
     let row : Text × Entry = (c.in-Some.path.now, c.in-Some.it.now) in
     record {
-      beside = c.get.ensures.same ∙ c.files.invariant.beside;
+      cursor = c.get.ensures.same ∙ c.files.invariant.cursor;
       from = (rows-later told c.files.path-iterator c.next.new.self row c.in-Some.ensures.steps c.files.invariant.from).1;
       ops = fulls-more told c.args.before.now all c.files.path-iterator c.next.new.self row c.files.ops.items c.add.new.ops.items c.in_ok-op.op c.in-Some.ensures.steps c.in_ok-add.ensures
-          (op-full (g.G.Fetch.told c.files.fetch) told c.args.before.now row.0 row.1 c.in_ok-op.op _ c.files.invariant.told (c.get.ensures.found ∙ λ i. get (c.files.invariant.beside i) c.in-Some.path.now) c.in_ok-op.ensures.op) c.files.invariant.ops;
+          (op-full (g.G.Fetch.told c.files.fetch) told c.args.before.now row.0 row.1 c.in_ok-op.op _ c.files.invariant.told (c.get.ensures.found ∙ λ i. get (c.files.invariant.cursor i) c.in-Some.path.now) c.in_ok-op.ensures.op) c.files.invariant.ops;
       at = lead-more all c.files.path-iterator c.next.new.self row c.files.ops.items c.add.new.ops.items c.in_ok-op.op c.in-Some.ensures.steps c.in_ok-add.ensures c.in_ok-op.ensures.at c.files.invariant.at;
       told = c.in_ok-op.ensures.told ∙ c.files.invariant.told;
       keeps = g.met.G.Fetch.keeps_on _ _ _ c.files.invariant.keeps c.in_ok-op.ensures.keeps;

@@ -9,7 +9,7 @@ use Rattle.rk_changes.proofs.writing.writings.Given as goal
 abbrev pub invariant-files : goal.invariant-files
 invariant-files g l =
     record {
-      beside : l.beside ≡ l.before;
+      cursor : l.cursor ≡ l.before;
       from : RowsFrom (g.G.Fetch.told l.fn.fetch) l.path-iterator;
       ops : IfSome (g.G.Fetch.told l.fn.fetch) (λ told. l.ops.items ++ filter_map (full_writing told l.before) l.path-iterator ≡ filter_map (full_writing told l.before) (entries l.after));
       at : Lead (entries l.after) l.path-iterator l.ops.items;

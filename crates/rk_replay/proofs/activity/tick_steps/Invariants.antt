@@ -1,5 +1,5 @@
 use Rattle.std.proofs.Common.{◌≡◌, ◌+◌, take}
-use Rattle.rk_runs.specs.Own.{steps_cost}
+use Rattle.rk_traces.specs.Own.{steps_cost}
 use Rattle.rk_replay.proofs.activity.tick_steps.Given as goal
 
 abbrev pub invariant-steps : goal.invariant-steps

@@ -1,11 +1,11 @@
 use Rattle.std.proofs.Common.{◌≡◌, length, arith, refl, ap, ◌∙◌, ◌-◌}
 use Rattle.std.proofs.lemmas.Result.{err_from_is_err_and}
-use Rattle.rk_runs.specs.Lasting.{all-last}
-use Rattle.rk_runs.specs.Freshing.{Freshing-start, Freshing-ask, Freshing-launch, Freshing-short, Freshing-end, Freshing-join}
-use Rattle.rk_runs.specs.Places.{length-begun, length-ended, length-stepped}
-use Rattle.rk_runs.specs.Purse.{left}
-use Rattle.rk_runs.specs.Run.{game}
-use Rattle.rk_runs.specs.Speaking.{fresh-spoken}
+use Rattle.rk_traces.specs.Lasting.{all-last}
+use Rattle.rk_traces.specs.Freshing.{Freshing-start, Freshing-ask, Freshing-launch, Freshing-short, Freshing-end, Freshing-join}
+use Rattle.rk_traces.specs.Places.{length-begun, length-ended, length-stepped}
+use Rattle.rk_traces.specs.Purse.{left}
+use Rattle.rk_traces.specs.Run.{environment}
+use Rattle.rk_traces.specs.Speaking.{fresh-spoken}
 use Rattle.rk_replay.proofs.Replaying.{ready, Replaying-start, Pays-start, Waiting-ask, Replaying-ask, Pays-ask, Causes-ask, Replaying-launch, Pays-launch, Pays-end, Causes-end, join-place, join-noted, Waiting-join, Replaying-join, Causes-join, Pays-join, pend, pend-push, pend-none, pend-empty, starts-first, starts-next, few-counted}
 use Rattle.rk_replay.proofs.Keeping.{Keeps-start, Keeps-launch, Keeps-ask, Keeps-join, all-kept}
 use Rattle.rk_replay.proofs.Noting.{causes-none, begun-causes}
@@ -196,7 +196,7 @@ returns-in-None-clause-spoken g c =
     let z : length c.turns.stack.items ≡ 0 = omega (arith, c.in-None.ensures.cases.0, c.turns.stack.ok.0) in
     told-first (g.W.Answerer.told c.args.world.now) (g.W.Answerer.told c.turns.world) _ _ c.turns.invariant.goes
     (λ before now i q.
-    fresh-spoken (game g.K.Maker.first g.W.Answerer.given) (all-last g.K.Maker.first g.met.K.Maker.command) g.met.W.Answerer.fitting _ _ _ _ _ _ _ _
+    fresh-spoken (environment g.K.Maker.first g.W.Answerer.given) (all-last g.K.Maker.first g.met.K.Maker.command) g.met.W.Answerer.fitting _ _ _ _ _ _ _ _
     (Freshing-end _ _ _ _ _ _ _ _ _ _ _ i _ _ (λ q. rw c.left.ensures.left at (c.in_ok-call.ensures.spoke q)) c.in_ok-call.ensures.goes
     _ _ _ (left c.turns.budget - c.pay-cost-in-Exit.result) _ c.in-Exit.is c.pay-cost-in-Exit.ensures.cost refl c.end.ensures z q))
 

@@ -1,11 +1,11 @@
 use Rattle.std.proofs.Common.{◌≡◌, ◌+◌, ◌*◌, ◌≤◌, length}
 use Rattle.rk_calls.specs.Refs.{top_refs}
-use Rattle.rk_runs.specs.Started.{started}
-use Rattle.rk_runs.specs.Own.{total}
-use Rattle.rk_runs.specs.Purse.{left}
-use Rattle.rk_runs.specs.Run.{game, fresh}
-use Rattle.rk_runs.specs.Spoken.{AreSpoken}
-use Rattle.rk_runs.specs.Freshing.{Freshing}
+use Rattle.rk_traces.specs.Started.{started}
+use Rattle.rk_traces.specs.Own.{total}
+use Rattle.rk_traces.specs.Purse.{left}
+use Rattle.rk_traces.specs.Run.{environment, fresh}
+use Rattle.rk_traces.specs.Spoken.{AreSpoken}
+use Rattle.rk_traces.specs.Freshing.{Freshing}
 use Rattle.rk_replay.specs.Activities.{stands, waits}
 use Rattle.rk_replay.specs.Causes.{AreCauses}
 use Rattle.rk_content.specs.Contents.{AreKnown}
@@ -18,7 +18,7 @@ use Rattle.rk_replay.proofs.build.build_with.Given as goal
 
 abbrev pub invariant-turns : goal.invariant-turns
 invariant-turns g l =
-    let a = game g.K.Maker.first g.W.Answerer.given in
+    let a = environment g.K.Maker.first g.W.Answerer.given in
     record {
       goes : Told (g.W.Answerer.told l.fn.world) (g.W.Answerer.told l.world) (λ before now. Freshing (AreSpoken g.K.Maker.first l.fn.old) (stands g.K.Made.Machine.talk g.K.Maker.first l.fn.old) (waits g.K.Made.Machine.talk g.K.Maker.first l.fn.old) a (fresh a (left l.fn.budget) l.fn.key top_refs before) (left l.budget) l.top l.answer now l.table l.stack.items);
       kept : g.W.Numbering.Keeps l.fn.world l.world;

@@ -1,6 +1,6 @@
 use Rattle.std.proofs.Common.{◌<◌, length, arith, refl, ◌∙◌, ap}
 use Rattle.std.proofs.lemmas.Grind.{common_steps}
-use Rattle.rk_runs.specs.Lasting.{all-last}
+use Rattle.rk_traces.specs.Lasting.{all-last}
 use Rattle.rk_replay.proofs.Standing.{Heard-exit, Heard-exit_short, Heard-call, Heard-call_short, Follows-dear}
 use Rattle.rk_replay.proofs.hearing.hear_record.Goals as goal
 

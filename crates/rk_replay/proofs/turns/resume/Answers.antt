@@ -1,4 +1,4 @@
-use Rattle.rk_runs.specs.Places.{length-stepped}
+use Rattle.rk_traces.specs.Places.{length-stepped}
 use Rattle.rk_replay.proofs.turns.resume.Goals as goal
 
 pub settle-requires-clause-here : goal.settle-requires-clause-here

@@ -1,5 +1,5 @@
 use Rattle.std.proofs.Common.{◌≡◌, ℕ, drop}
-use Rattle.sh_builtin.specs.Doing.{Slots, Ended}
+use Rattle.sh_builtin.specs.Action.{Slots, Ended}
 use Rattle.sh_builtin.specs.Reads.{assigns}
 use Rattle.sh_builtin.proofs.read.assign_all.Given as goal
 

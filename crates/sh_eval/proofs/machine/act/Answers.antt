@@ -18,8 +18,8 @@ returns-in-One-clause-costly c = lowers_more c.act_one.result _ _ _ _ _ c.act_on
 pub returns-in-CompoundStep-clause-costly : goal.returns-in-CompoundStep-clause-costly
 returns-in-CompoundStep-clause-costly c = lowers_more c.act_compound_step.result _ _ _ _ _ c.act_compound_step.ensures.costly (omega (arith, ap weigh c.in-CompoundStep.is))
 
-pub returns-in-SimpleStep-clause-costly : goal.returns-in-SimpleStep-clause-costly
-returns-in-SimpleStep-clause-costly c = lowers_more c.act_simple_step.result _ _ _ _ _ c.act_simple_step.ensures.costly (omega (arith, ap weigh c.in-SimpleStep.is))
+pub returns-in-WordStep-clause-costly : goal.returns-in-WordStep-clause-costly
+returns-in-WordStep-clause-costly c = lowers_more c.act_simple_step.result _ _ _ _ _ c.act_simple_step.ensures.costly (omega (arith, ap weigh c.in-WordStep.is))
 
 pub returns-in-Waits-clause-costly : goal.returns-in-Waits-clause-costly
 returns-in-Waits-clause-costly c = lowers_more c.act_wait.result _ _ _ _ _ c.act_wait.ensures.costly (omega (arith, ap weigh c.in-Waits.is))

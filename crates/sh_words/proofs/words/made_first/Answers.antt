@@ -8,7 +8,7 @@ use Rattle.sh_ast.specs.declared.command.Assignments.{Assignments}
 use Rattle.sh_ast.specs.declared.command.Redirects.{Redirects}
 use Rattle.sh_ast.specs.declared.command.SimpleCommand.{SimpleCommand, out-SimpleCommand}
 use Rattle.sh_redirect.specs.declared.descriptors.DescriptorTable.{DescriptorTable}
-use Rattle.sh_means.specs.declared.doing.Doing.{Doing}
+use Rattle.sh_means.specs.declared.resolved_command.ResolvedCommand.{ResolvedCommand}
 use Rattle.sh_means.specs.declared.control.Made.TheVariants as made
 use Rattle.sh_means.specs.declared.flow.Place.{Place}
 use Rattle.sh_means.specs.declared.functions.Functions as code
@@ -29,21 +29,21 @@ with_kind fields pl k e R A kd =
     redirect_all (redirects_from R 0) pl (assigns_and_works run (work_of kd fields (assigns_from A 0)) pl (past_simple kd (named (redirects_from R 0)) e.descriptors pl k)) (refused_simple kd (named (redirects_from R 0)) e.descriptors pl k) k e
 
 -- the same with the map and what the command is, where they lie behind pointers
-with_doing : Rc Redirects Global → Rc Assignments Global → Place → Next → Shell → DescriptorTable → Doing → Says
+with_doing : Rc Redirects Global → Rc Assignments Global → Place → Next → Shell → DescriptorTable → ResolvedCommand → Says
 with_doing rs as' pl k e ds d =
     redirect_all (redirects_from rs.value 0) pl (assigns_and_works run (work_by d as'.value) pl (past_simple (kind_of_code d.kind) (named (redirects_from rs.value 0)) ds pl k)) (refused_simple (kind_of_code d.kind) (named (redirects_from rs.value 0)) ds pl k) k e
 
-simple_then : (x : SimpleCommand) (rs : Rc Redirects Global) (as' : Rc Assignments Global) (d : Doing) (before : Rc DescriptorTable Global) (doing : Box Doing) (pl : Place) (k : Next) (e : Shell) (p : ℕ) → rs.value ≡ (out-SimpleCommand x).redirects.value → as'.value ≡ (out-SimpleCommand x).assignments.value → kind_of_code d.kind ≡ kind_of d.fields e.functions → before.value ≡ e.descriptors → doing.value ≡ d → with_kind d.fields pl k e (out-SimpleCommand x).redirects.value (out-SimpleCommand x).assignments.value (kind_of d.fields e.functions) p ≡ making (record { redirects = rs; at = 0; before = before; made = made.Simple as' doing }) pl k e p
+simple_then : (x : SimpleCommand) (rs : Rc Redirects Global) (as' : Rc Assignments Global) (d : ResolvedCommand) (before : Rc DescriptorTable Global) (resolved : Box ResolvedCommand) (pl : Place) (k : Next) (e : Shell) (p : ℕ) → rs.value ≡ (out-SimpleCommand x).redirects.value → as'.value ≡ (out-SimpleCommand x).assignments.value → kind_of_code d.kind ≡ kind_of d.fields e.functions → before.value ≡ e.descriptors → resolved.value ≡ d → with_kind d.fields pl k e (out-SimpleCommand x).redirects.value (out-SimpleCommand x).assignments.value (kind_of d.fields e.functions) p ≡ making (record { redirects = rs; at = 0; before = before; made = made.Simple as' resolved }) pl k e p
 unfolding with_kind with_doing
-simple_then x rs as' d before doing pl k e p hr ha hk hb hd =
+simple_then x rs as' d before resolved pl k e p hr ha hk hb hd =
     ap (λ (R : Redirects). with_kind d.fields pl k e R (out-SimpleCommand x).assignments.value (kind_of d.fields e.functions) p) (sym hr)
     ∙ ap (λ (A : Assignments). with_kind d.fields pl k e rs.value A (kind_of d.fields e.functions) p) (sym ha)
     ∙ ap (λ (kd : CommandKind). with_kind d.fields pl k e rs.value as'.value kd p) (sym hk)
-    ∙ ap (λ (d : Doing). with_doing rs as' pl k e e.descriptors d p) (sym hd)
-    ∙ ap (λ (ds : DescriptorTable). with_doing rs as' pl k e ds doing.value p) (sym hb)
+    ∙ ap (λ (d : ResolvedCommand). with_doing rs as' pl k e e.descriptors d p) (sym hd)
+    ∙ ap (λ (ds : DescriptorTable). with_doing rs as' pl k e ds resolved.value p) (sym hb)
 
-pub invariant_of-doing : goal.invariant_of-doing
-invariant_of-doing c = record { launchable = launchable c.in_ok-kind.kind c.args.fields _ c.in_ok-kind.ensures }
+pub invariant_of-resolved : goal.invariant_of-resolved
+invariant_of-resolved c = record { launchable = launchable c.in_ok-kind.kind c.args.fields _ c.in_ok-kind.ensures }
 
 pub returns-clause-talk : goal.returns-clause-talk
 unfolding with_kind

@@ -1,7 +1,0 @@
-use Rattle.std.proofs.Common.{◌≡◌, ℕ, ◌<◌}
-use Rattle.rk_runs.specs.Spoken.{step_at}
-use Rattle.rk_runs.proofs.difference.first_difference.Given as goal
-
--- no answer has differed yet
-abbrev pub invariant-steps : goal.invariant-steps
-invariant-steps l = (k : ℕ) → k < l.i → (step_at k l.xs).answer ≡ (step_at k l.ys).answer

@@ -1,6 +1,0 @@
-use Rattle.rk_runs.proofs.Feeds.{Feeding}
-use Rattle.rk_runs.proofs.feeding.feed.Given as goal
-
-abbrev pub invariant-steps : goal.invariant-steps
-invariant-steps g l =
-    Feeding g.K.Made.Machine.talk (g.K.Maker.first l.rec.key) l.rec.steps l.i l.machine l.answer

@@ -1,0 +1,12 @@
+use Rattle.std.proofs.Common.{◌≡◌, ℕ, ◌<◌}
+use Rattle.tr_record.specs.Rec.{rec_at}
+use Rattle.rk_traces.specs.Spoken.{IsSpoken}
+use Rattle.rk_traces.specs.Started.{started}
+use Rattle.rk_traces.proofs.check.check_with.Given as goal
+
+abbrev pub invariant-records : goal.invariant-records
+invariant-records g l =
+    record {
+      spoken : (k : ℕ) → k < l.i → IsSpoken g.K.Maker.first (rec_at k l.table);
+      starts : g.K.Maker.starts l.maker ≡ started l.i (g.K.Maker.starts l.fn.maker);
+    }
