@@ -8,7 +8,7 @@ use rk_steps::{
     Subject, behind, flag, kind_shown, mode, name_of, names_shown, number, number_shown, path_of,
     plain, refusal_shown, shown, text, word,
 };
-use rk_tree::{Content, Entry, Growing, Node, NodeId, Refused, Snapshot, Tree};
+use rk_tree::{Content, Entry, Node, NodeId, Refused, Snapshot, SnapshotBuilder, Tree};
 use std::alloc::Global;
 
 /// A tree, a snapshot that is put together by itself, and one that grows.
@@ -17,7 +17,7 @@ pub(crate) struct Grown {
     alloc: Global,
     tree: Tree,
     snapshot: Snapshot,
-    growing: Growing,
+    growing: SnapshotBuilder,
 }
 
 // The path of a word, and the root where it is none.
@@ -233,7 +233,7 @@ impl Grown {
             alloc,
             tree: Tree::new(alloc)?,
             snapshot: Snapshot::new(alloc),
-            growing: Growing::new(alloc),
+            growing: SnapshotBuilder::new(alloc),
         })
     }
 
@@ -348,7 +348,7 @@ impl Grown {
     // The snapshot that grew, and another one begins.
     fn grown(&mut self) -> Result<String, NoMemory> {
         let alloc = self.alloc;
-        let growing = std::mem::replace(&mut self.growing, Growing::new(alloc));
+        let growing = std::mem::replace(&mut self.growing, SnapshotBuilder::new(alloc));
         snapshot_shown(alloc, &growing.finish(alloc)?)
     }
 

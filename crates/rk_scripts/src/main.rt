@@ -1,10 +1,12 @@
 //! Carries out sessions of edits and builds over folders in memory, and prints for each file of them how many builds there
-//! were, and what wasn't as it is wanted.
+//! were, and what wasn't as it is wanted. With `--shown FILE` it prints what a terminal shows where the lines of a file are typed.
 #![tactic(auto)]
 
 mod calls;
+mod terminal;
 
 use crate::calls::Rkr;
+use crate::terminal::screen_of;
 use rk_base::NoMemory;
 use rk_runner::{Session, carried_out, made};
 use std::process::ExitCode;
@@ -20,6 +22,15 @@ fn print(rt: &HostRuntime, name: &str, came: Result<Session<Rkr>, NoMemory>) -> 
                 session.otherwise()
             )
         }
+        Err(_) => println!(rt; "{name}: out of memory"),
+    }
+}
+
+// What a terminal shows where the lines of a file are typed.
+fn show(rt: &HostRuntime, name: &str) -> io::Result<()> {
+    let text = fs::read_to_string(rt, name)?;
+    match screen_of(rt.alloc(), text.as_str()) {
+        Ok(screen) => print!(rt; "{screen}"),
         Err(_) => println!(rt; "{name}: out of memory"),
     }
 }
@@ -41,6 +52,13 @@ fn run(rt: &HostRuntime, names: &[String]) -> io::Result<()> {
     Ok(())
 }
 
+fn status_of(done: io::Result<()>) -> ExitCode {
+    match done {
+        Ok(()) => ExitCode::SUCCESS,
+        Err(_) => ExitCode::from(1),
+    }
+}
+
 fn main(rt: HostRuntime) -> ExitCode {
     let words: Vec<String> = match env::args(&rt) {
         Ok(words) => match words.collect(rt.alloc()) {
@@ -50,10 +68,8 @@ fn main(rt: HostRuntime) -> ExitCode {
         Err(_) => return ExitCode::from(1),
     };
     match words.as_slice() {
-        [_, names @ ..] => match run(&rt, names) {
-            Ok(()) => ExitCode::SUCCESS,
-            Err(_) => ExitCode::from(1),
-        },
+        [_, flag, name] if flag.as_str() == "--shown" => status_of(show(&rt, name.as_str())),
+        [_, names @ ..] => status_of(run(&rt, names)),
         [] => ExitCode::SUCCESS,
     }
 }
