@@ -7,7 +7,7 @@ use Rattle.rk_base.specs.Text.{Text, text_cmp, is_slash}
 use Rattle.rk_tree.specs.Copying.{made_of}
 use Rattle.rk_tree.specs.Entries.{Entries}
 use Rattle.rk_tree.specs.Node.{Node}
-use Rattle.rk_tree.specs.declared.snapshot_builder.BuilderRows.{Rows}
+use Rattle.rk_tree.specs.declared.snapshot_builder.BuilderRows.{BuilderRows}
 use Rattle.rk_tree.specs.declared.snapshot_builder.BuilderRows.TheVariants.{Walked, Settled}
 
 -- a slash comes before each byte of a name
@@ -28,10 +28,10 @@ comes_next (row ∷ next ∷ rows) path = comes_next (next ∷ rows) path
 abbrev pub IsWalk : List (Text × Node) → Type 0
 IsWalk rows = (path : Text) → comes_next rows path ≡ true → get (made_of rows) path ≡ None
 
-abbrev pub grown : Rows → Entries
+abbrev pub grown : BuilderRows → Entries
 grown (Walked rows) = made_of rows.items
 grown (Settled snapshot) = snapshot
 
-abbrev pub IsGrowing : Rows → Type 0
+abbrev pub IsGrowing : BuilderRows → Type 0
 IsGrowing (Walked rows) = IsWalk rows.items
 IsGrowing (Settled snapshot) = Unit {0}
