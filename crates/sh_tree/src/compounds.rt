@@ -218,7 +218,7 @@ pub fn item_text(b: &mut Builder, alloc: Global) -> Result<(), NoMemory>
     item(b, alloc)
 }
 
-/// One whose first pattern begins with what quotes or expands.
+/// An item in front of items, whose first pattern begins with what quotes or expands.
 pub fn item_quoted(b: &mut Builder, alloc: Global) -> Result<(), NoMemory>
     ensures { OnOk result (state b.new ≡ act.item (act.word_begun (act.join_parts (state b.old)))) }
 {

@@ -154,7 +154,7 @@ pub fn name_text(b: &mut Builder, alloc: Global) -> Result<(), NoMemory>
     argument(b, alloc)
 }
 
-/// One that begins with what quotes or expands.
+/// An argument that is a word which begins with what quotes or expands.
 pub fn name_quoted(b: &mut Builder, alloc: Global) -> Result<(), NoMemory>
     ensures { OnOk result (state b.new ≡ act.argument (act.word_begun (act.join_parts (state b.old)))) }
 {
