@@ -95,54 +95,54 @@ pub struct SessionStep {
     pub errors: String,
 }
 
-fn kind_of(word: &str) -> StepKind {
-    match word {
-        "fresh" => StepKind::Fresh,
-        "script" => StepKind::Script,
-        "file" => StepKind::File,
-        "files" => StepKind::Files,
-        "dir" => StepKind::Dir,
-        "removed" => StepKind::Removed,
-        "costs" => StepKind::Costs,
-        "build" => StepKind::Build,
-        "asked" => StepKind::Asked,
-        "called" => StepKind::Called,
-        "refused" => StepKind::Refused,
-        "spent" => StepKind::Spent,
-        "ran" => StepKind::Ran,
-        "why" => StepKind::Why,
-        "holds" => StepKind::Holds,
-        "lacks" => StepKind::Lacks,
-        "directory" => StepKind::Directory,
-        "attrs" => StepKind::Attrs,
-        _ => kind_of_other(word),
-    }
-}
+// The kind of step of each word.
+const KINDS: [(&str, StepKind); 37] = [
+    ("fresh", StepKind::Fresh),
+    ("script", StepKind::Script),
+    ("file", StepKind::File),
+    ("files", StepKind::Files),
+    ("dir", StepKind::Dir),
+    ("removed", StepKind::Removed),
+    ("costs", StepKind::Costs),
+    ("build", StepKind::Build),
+    ("asked", StepKind::Asked),
+    ("called", StepKind::Called),
+    ("refused", StepKind::Refused),
+    ("spent", StepKind::Spent),
+    ("ran", StepKind::Ran),
+    ("why", StepKind::Why),
+    ("holds", StepKind::Holds),
+    ("lacks", StepKind::Lacks),
+    ("directory", StepKind::Directory),
+    ("attrs", StepKind::Attrs),
+    ("has", StepKind::Has),
+    ("has_not", StepKind::HasNot),
+    ("bytes", StepKind::Bytes),
+    ("cut", StepKind::Cut),
+    ("turned", StepKind::Turned),
+    ("record", StepKind::Record),
+    ("special", StepKind::Special),
+    ("odd", StepKind::Odd),
+    ("fails", StepKind::Fails),
+    ("leaves", StepKind::Leaves),
+    ("output_cut", StepKind::OutputCut),
+    ("errors_cut", StepKind::ErrorsCut),
+    ("changes", StepKind::Changes),
+    ("calls", StepKind::Calls),
+    ("order", StepKind::Order),
+    ("starts", StepKind::Starts),
+    ("traced", StepKind::Traced),
+    ("talk", StepKind::Talk),
+    ("stopped", StepKind::Stopped),
+];
 
-// Of what a folder, its state files and the sinks have to bear.
-fn kind_of_other(word: &str) -> StepKind {
-    match word {
-        "has" => StepKind::Has,
-        "has_not" => StepKind::HasNot,
-        "bytes" => StepKind::Bytes,
-        "cut" => StepKind::Cut,
-        "turned" => StepKind::Turned,
-        "record" => StepKind::Record,
-        "special" => StepKind::Special,
-        "odd" => StepKind::Odd,
-        "fails" => StepKind::Fails,
-        "leaves" => StepKind::Leaves,
-        "output_cut" => StepKind::OutputCut,
-        "errors_cut" => StepKind::ErrorsCut,
-        "changes" => StepKind::Changes,
-        "calls" => StepKind::Calls,
-        "order" => StepKind::Order,
-        "starts" => StepKind::Starts,
-        "traced" => StepKind::Traced,
-        "talk" => StepKind::Talk,
-        "stopped" => StepKind::Stopped,
-        _ => StepKind::Unknown,
+fn kind_of(word: &str) -> StepKind {
+    'kinds: for (it, kind) in KINDS.iter() {
+        if *it == word {
+            return *kind;
+        }
     }
+    StepKind::Unknown
 }
 
 fn push_end(text: &mut String, more: &str) -> Result<(), NoMemory> {
