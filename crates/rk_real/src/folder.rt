@@ -5,11 +5,11 @@ ghost use Rattle.rk_folder.specs.Calls.{Caused, MemoryCaused};
 
 use crate::lasting::{Unsynced, dir_of, is_seal, is_sealing};
 use crate::listing::Listings;
-use crate::reading::content;
+use crate::reading::{content, standing};
 use rk_base::Path;
 use rk_folder::{Folder, FolderErr, Got, Item};
 use std::alloc::Global;
-use std::fs::{File, Files, Permissions};
+use std::fs::{File, Files, OpenFile, Permissions};
 use std::io::{ErrorKind, Write};
 use std::os::unix::fs::MetadataExt;
 use std::{fs, io, str};
@@ -46,12 +46,18 @@ fn overwrite(rt: &impl Files, place: &str, bytes: &[u8]) -> io::Result<()> {
     file.write_all(bytes)
 }
 
+// A file of these bytes where nothing stands: what was put there meanwhile isn't opened.
+fn make(rt: &impl Files, place: &str, bytes: &[u8]) -> io::Result<()> {
+    let mut file = File::create_new(rt, place)?;
+    file.write_all(bytes)
+}
+
 // A file of these bytes with this mode, in place of the name that the file there has here.
 fn make_anew(rt: &impl Files, place: &str, mode: Permissions, bytes: &[u8]) -> io::Result<()> {
     fs::remove_file(rt, place)?;
     let mut file = File::create_new(rt, place)?;
     file.write_all(bytes)?;
-    fs::set_permissions(rt, place, mode)
+    file.set_permissions(mode)
 }
 
 fn list_in(
@@ -82,14 +88,13 @@ fn read_in(
     alloc: Global,
     top: &str,
     unsynced: &mut Unsynced,
-    listings: &Listings,
     file: &Path,
 ) -> io::Result<Got> {
     let place = place_of(alloc, top, file)?;
     if is_seal(file) {
         unsynced.set_finishes(true);
     }
-    content(rt, alloc, place.as_str(), listings.file_id(file))
+    content(rt, alloc, place.as_str())
 }
 
 // The answer of a call. Each error but want of memory is a fault.
@@ -119,7 +124,7 @@ impl<R: Files + AllocGlobal + Drop> RealFolder<R> {
     /// The folder whose root is this directory.
     pub fn new(rt: R, top: String) -> RealFolder<R> {
         let unsynced = Unsynced::new(rt.alloc());
-        let listings = Listings::new(rt.alloc());
+        let listings = Listings::new();
         RealFolder {
             rt,
             top,
@@ -150,18 +155,17 @@ fn write_in(
 ) -> io::Result<()> {
     let place = place_of(alloc, top, file)?;
     unsynced.add_file(alloc, place.as_str())?;
-    match fs::symlink_metadata(rt, place.as_str()) {
-        Ok(it) if !it.is_file() => Err(io::Error::from(ErrorKind::InvalidInput)),
-        Ok(it) if it.nlink() > 1 => {
+    match standing(rt, place.as_str())? {
+        None => {
+            unsynced.add_dir(alloc, dir_of(place.as_str()))?;
+            make(rt, place.as_str(), bytes)
+        }
+        Some(it) if !it.is_file() => Err(io::Error::from(ErrorKind::InvalidInput)),
+        Some(it) if it.nlink() > 1 => {
             unsynced.add_dir(alloc, dir_of(place.as_str()))?;
             make_anew(rt, place.as_str(), it.permissions(), bytes)
         }
-        Ok(_) => overwrite(rt, place.as_str(), bytes),
-        Err(e) if e.kind() == ErrorKind::NotFound => {
-            unsynced.add_dir(alloc, dir_of(place.as_str()))?;
-            overwrite(rt, place.as_str(), bytes)
-        }
-        Err(e) => Err(e),
+        Some(_) => overwrite(rt, place.as_str(), bytes),
     }
 }
 
@@ -255,14 +259,7 @@ impl<R: Files + AllocGlobal + Drop> Folder for RealFolder<R> {
 
     fn read(&mut self, alloc: Global, file: &Path) -> Result<Got, FolderErr> {
         self.listings.forget_root();
-        let got = read_in(
-            &self.rt,
-            alloc,
-            self.top.as_str(),
-            &mut self.unsynced,
-            &self.listings,
-            file,
-        );
+        let got = read_in(&self.rt, alloc, self.top.as_str(), &mut self.unsynced, file);
         answer(got, &mut self.read_faults, &mut self.memory_failures)
     }
 

@@ -2,6 +2,7 @@
 // its place, and the directories whose names changed before that call answers; and both before the seal is taken away. One
 // after another they cost little, since the system writes down together what changed. Where a sealed list is read, a call that was killed has made some of its changes and
 // synced none of these directories, so each that is listed from there on is synced too; each file is written anew.
+use crate::reading::{is_absent, standing};
 use rk_base::Path;
 use std::alloc::Global;
 use std::fs::{File, Files, OpenFile};
@@ -25,12 +26,21 @@ pub(crate) fn dir_of(place: &str) -> &str {
     }
 }
 
-// What is gone has nothing to be synced, be it that a file stands in place of a directory before it.
-fn sync(rt: &impl Files, place: &str) -> io::Result<()> {
+fn sync_opened(rt: &impl Files, place: &str) -> io::Result<()> {
     match File::open(rt, place) {
         Ok(it) => it.sync_all(),
-        Err(e) if matches!(e.kind(), ErrorKind::NotFound | ErrorKind::NotADirectory) => Ok(()),
+        Err(e) if is_absent(&e) => Ok(()),
         Err(e) => Err(e),
+    }
+}
+
+// What is gone has nothing to be synced, be it that a file stands in place of a directory before it. What stands there is looked
+// at right before it is opened, and nothing but a file or a directory is.
+fn sync(rt: &impl Files, place: &str) -> io::Result<()> {
+    match standing(rt, place)? {
+        None => Ok(()),
+        Some(it) if it.is_file() || it.is_dir() => sync_opened(rt, place),
+        Some(_) => Err(io::Error::from(ErrorKind::InvalidInput)),
     }
 }
 

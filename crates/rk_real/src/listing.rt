@@ -1,13 +1,11 @@
 // What real directories list. A request lists the root, and `.rkr`, to look for a sealed list, and then the root again to
-// import it; and a file that was listed is opened when it is read, so that no name has to be looked at twice.
+// import it, so that no name of it has to be looked at twice for that.
 use crate::reading::all_bytes;
 use rk_base::{Name, NoMemory, Path, PathFault};
 use rk_folder::Item;
 use std::alloc::Global;
-use std::collections::BTreeMap;
 use std::fs::{Files, Metadata};
 use std::io::ErrorKind;
-use std::os::unix::fs::MetadataExt;
 use std::{fs, io, str};
 
 /// A directory has at most so many names.
@@ -16,35 +14,10 @@ const MOST_NAMES: usize = 1 << 20;
 /// A listing is about so long.
 const LISTING: usize = 1 << 12;
 
-/// Which file it is, whatever its names are: its device and its serial number there, which identify it in the system (XBD
-/// `<sys/stat.h>`).
-#[derive(Clone, Copy, PartialEq, Eq)]
-pub(crate) struct FileId {
-    device: u64,
-    serial: u64,
-}
-
-impl FileId {
-    pub(crate) fn of(it: &Metadata) -> FileId {
-        FileId {
-            device: it.dev(),
-            serial: it.ino(),
-        }
-    }
-}
-
-// A file that was listed.
-#[derive(Drop)]
-struct ListedFile {
-    name: Name,
-    id: FileId,
-}
-
-// What a directory lists, ascending by names, and which files are among it.
+// What a directory lists, ascending by names.
 #[derive(Drop)]
 struct Listing {
     items: Vec<Item>,
-    files: Vec<ListedFile>,
     has_odd: bool,
 }
 
@@ -109,22 +82,16 @@ impl Listing {
             return Ok(());
         };
         let it = metadata_in(rt, alloc, place, text)?;
-        if it.is_file() {
-            let name = name_again(&name)?;
-            let id = FileId::of(&it);
-            self.files.push(ListedFile { name, id })?;
-        }
         self.items.push(item_of(name, &it))?;
         Ok(())
     }
 
     // What stands in the directory at a place. The place has no last slash, so that a link that was put there is not followed.
-    fn at(rt: &impl Files, alloc: Global, place: &str) -> io::Result<Listing> {
+    fn at(rt: &impl Files, alloc: Global, place: &str) -> io::Result<Vec<Item>> {
         let mut dir = rt.open_dir(place)?;
         let names = all_bytes(alloc, &mut dir, LISTING, None)?;
         let mut listing = Listing {
             items: Vec::new(alloc),
-            files: Vec::new(alloc),
             has_odd: false,
         };
         for name in &sorted_names(alloc, &names)? {
@@ -133,7 +100,7 @@ impl Listing {
         if listing.has_odd {
             listing.items.push(Item::Odd)?;
         }
-        Ok(listing)
+        Ok(listing.items)
     }
 }
 
@@ -154,21 +121,16 @@ fn copies(alloc: Global, items: &[Item]) -> io::Result<Vec<Item>> {
     Ok(copies)
 }
 
-/// What directories were listed as.
+/// What the root was listed as.
 #[derive(Drop)]
 pub(crate) struct Listings {
-    // The root is told the same once more where nothing but a listing of `.rkr` was asked since.
+    // It is told the same once more where nothing but a listing of `.rkr` was asked since.
     root: Option<Vec<Item>>,
-    // The files of each directory, by its path.
-    files: BTreeMap<Vec<u8>, Vec<ListedFile>>,
 }
 
 impl Listings {
-    pub(crate) fn new(alloc: Global) -> Listings {
-        Listings {
-            root: None,
-            files: BTreeMap::new(alloc),
-        }
+    pub(crate) fn new() -> Listings {
+        Listings { root: None }
     }
 
     /// What the directory at this path and place is listed as.
@@ -180,37 +142,14 @@ impl Listings {
         place: &str,
     ) -> io::Result<Vec<Item>> {
         if !dir.is_root() {
-            return self.items_anew(rt, alloc, dir, place);
+            return Listing::at(rt, alloc, place);
         }
         if let Some(items) = self.root.take() {
             return Ok(items);
         }
-        let items = self.items_anew(rt, alloc, dir, place)?;
+        let items = Listing::at(rt, alloc, place)?;
         self.root = Some(copies(alloc, &items)?);
         Ok(items)
-    }
-
-    fn items_anew(
-        &mut self,
-        rt: &impl Files,
-        alloc: Global,
-        dir: &Path,
-        place: &str,
-    ) -> io::Result<Vec<Item>> {
-        let Listing { items, files, .. } = Listing::at(rt, alloc, place)?;
-        let _ = self
-            .files
-            .insert(Vec::from_slice(alloc, dir.text())?, files)?;
-        Ok(items)
-    }
-
-    /// Which file was listed at this path, where one was.
-    pub(crate) fn file_id(&self, file: &Path) -> Option<FileId> {
-        let files = self.files.get(file.parent_text())?;
-        let i = files
-            .binary_search_by(|it| it.name.as_slice().cmp(file.name()))
-            .ok()?;
-        Some(files.get(i)?.id)
     }
 
     /// Something else was asked: the root is listed anew.

@@ -1,9 +1,8 @@
 // What a real file holds.
-use crate::listing::FileId;
 use rk_base::Bytes;
 use rk_folder::{Got, LONGEST_FILE};
 use std::alloc::Global;
-use std::fs::{File, Files, OpenFile};
+use std::fs::{File, Files, Metadata};
 use std::io::{ErrorKind, Read};
 use std::{fs, io};
 
@@ -52,48 +51,29 @@ fn content_of(alloc: Global, file: &mut impl Read, length: u64) -> io::Result<Go
     }
 }
 
-// Nothing stands at a path, be it that what is before it is a file.
-fn is_absent(e: &io::Error) -> bool {
+/// Nothing stands at a path, be it that what is before it is a file.
+pub(crate) fn is_absent(e: &io::Error) -> bool {
     matches!(e.kind(), ErrorKind::NotFound | ErrorKind::NotADirectory)
 }
 
-// What is read at a place. Only a file is opened.
-fn content_at(rt: &impl Files, alloc: Global, place: &str) -> io::Result<Got> {
+/// What stands at a place, where anything does. A link is told, and not followed.
+pub(crate) fn standing(rt: &impl Files, place: &str) -> io::Result<Option<Metadata>> {
     match fs::symlink_metadata(rt, place) {
-        Ok(it) if !it.is_file() => Err(io::Error::from(ErrorKind::InvalidInput)),
-        Ok(it) => {
-            let mut file = File::open(rt, place)?;
-            content_of(alloc, &mut file, it.len())
-        }
-        Err(e) if is_absent(&e) => Ok(Got::Absent),
+        Ok(it) => Ok(Some(it)),
+        Err(e) if is_absent(&e) => Ok(None),
         Err(e) => Err(e),
     }
 }
 
-// This file, and how many bytes it has, where it still stands at its place.
-fn opened<R: Files>(rt: &R, place: &str, id: FileId) -> Option<(R::File, u64)> {
-    let file = File::open(rt, place).ok()?;
-    let it = file.metadata().ok()?;
-    if it.is_file() && FileId::of(&it) == id {
-        Some((file, it.len()))
-    } else {
-        None
-    }
-}
-
-/// What is read at a place, where this file was listed, if one was. It is opened first, and then it is told whether it is that
-/// file; anything else is looked at before it is opened.
-pub(crate) fn content(
-    rt: &impl Files,
-    alloc: Global,
-    place: &str,
-    listed: Option<FileId>,
-) -> io::Result<Got> {
-    let Some(id) = listed else {
-        return content_at(rt, alloc, place);
-    };
-    match opened(rt, place, id) {
-        Some((mut file, length)) => content_of(alloc, &mut file, length),
-        None => content_at(rt, alloc, place),
+/// What is read at a place. It is looked at right before it is opened, whatever was listed there, and only a file is opened: of a
+/// FIFO the open waits until another program writes to it, and of a link it is that of another place.
+pub(crate) fn content(rt: &impl Files, alloc: Global, place: &str) -> io::Result<Got> {
+    match standing(rt, place)? {
+        None => Ok(Got::Absent),
+        Some(it) if it.is_file() => {
+            let mut file = File::open(rt, place)?;
+            content_of(alloc, &mut file, it.len())
+        }
+        Some(_) => Err(io::Error::from(ErrorKind::InvalidInput)),
     }
 }
