@@ -5,29 +5,17 @@ use Rattle.rk_base.specs.Text.{Text}
 use Rattle.rk_folder.specs.Calls.{Caused, IsNoFault as IsNoFolderFault, Steadily, allows}
 use Rattle.rk_folder.specs.Counts.{Rose}
 use Rattle.rk_folder.specs.Hidden.{db_file}
-use Rattle.rk_folder.specs.Import.{Tells, state_of}
-use Rattle.rk_folder.specs.Specials.{hidden_special}
 use Rattle.rk_folder.specs.Told.{Held, can_remove_file, standing, is_file, bytes_in, without}
 use Rattle.rk_folder.specs.declared.folder.FolderErr.{FolderErr}
 use Rattle.rk_folder.specs.declared.folder.FolderErr.TheVariants as folder
 use Rattle.rk_folder.specs.declared.folder.Standing.{Standing}
 use Rattle.rk_folder.specs.declared.folder.Standing.TheVariants.{File, Dir, Special}
-use Rattle.rk_folder.specs.declared.hidden_files.Hidden.{Hidden}
 use Rattle.rk_database.specs.Answers.{EitherCounted, FindsDb, Forgets, Holds, IsNoFault, PutSo, PutsNone, ReadsCounted, SaysNone, WritesCounted, db_in}
 use Rattle.rk_database.specs.declared.stop.Said.{Said}
 use Rattle.rk_database.specs.declared.stop.Said.TheVariants as said
 use Rattle.rk_database.specs.declared.stop.QueryErr.{QueryErr}
 use Rattle.rk_database.specs.declared.stop.QueryErr.TheVariants as stop
 use Rattle.rk_database.proofs.AnswerLemmas.{IsTextStop}
-
--- The state files.
-
-abbrev pub IsState : Held → Hidden → Type 0
-IsState held it = it ≡ state_of held
-
-pub found-db : (told : Option Held) (it : Hidden) → Tells told hidden_special IsState (Ok it) → FindsDb told (Ok it.state.db)
-found-db None it h = tt
-found-db (Some held) it h = (h.0, ap (λ (s : Hidden). s.state.db) h.1)
 
 -- The same of an answer of another type.
 

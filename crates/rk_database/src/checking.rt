@@ -1,8 +1,9 @@
 // The records, checked.
-ghost use Rattle.std.specs.Prelude.{◌≡◌, true, IfErr, IfOk};
+ghost use Rattle.std.specs.Prelude.{◌≡◌, ◌++◌, true, IfErr, IfOk};
 ghost use Rattle.rk_database.specs.Answers.{Checks, IsNoFault, ReadsCounted, Shows, WritesCounted};
 ghost use Rattle.rk_database.specs.Texts.{IsChecked, NoCheck, StartsRecords};
-ghost use Rattle.rk_folder.specs.Looks.{all_state_looks};
+ghost use Rattle.rk_folder.specs.Hidden.{db_file};
+ghost use Rattle.rk_folder.specs.Looks.{reads, state_listings};
 ghost use Rattle.rk_folder.specs.Schedule.{MakesCalls};
 
 use crate::database::{database, table_of};
@@ -32,7 +33,7 @@ fn text_of<M: Maker>(alloc: Global, maker: &mut M, db: &[u8]) -> Result<Bytes, Q
 /// Checks every record of the folder's database by the machines of a maker, and puts `records R` on the output where each is
 /// spoken; or `no trace` where there is no database.
 ///
-/// The folder stays as it is, and only `.rkr` and its state files are looked at.
+/// The folder stays as it is. `.rkr` and its state files are looked at by the listings, and the database alone is read.
 pub fn check<M: Maker, F: Folder, O: Sink>(
     alloc: Global,
     maker: &mut M,
@@ -47,8 +48,8 @@ pub fn check<M: Maker, F: Folder, O: Sink>(
     ensures puts { WritesCounted (O.faults out.old) (O.faults out.new) result }
     ensures steady { F.steady folder.old ≡ true → O.steady out.old ≡ true → IsNoFault result }
 
-    // The root and `.rkr` are listed, and then the state files read; nothing else is asked.
-    ensures calls { MakesCalls all_state_looks (F.schedule folder.old) (F.schedule folder.new) }
+    // The root and `.rkr` are listed, and then the database is read; nothing else is asked.
+    ensures calls { MakesCalls (state_listings ++ reads db_file) (F.schedule folder.old) (F.schedule folder.new) }
 {
     match database(alloc, folder)? {
         None => say_none(out),

@@ -1,18 +1,39 @@
 // The database of a folder.
-ghost use Rattle.std.specs.Prelude.{◌≡◌, IfErr, IfOk, true};
+ghost use Rattle.std.specs.Prelude.{◌≡◌, ◌++◌, IfErr, IfOk, true};
 ghost use Rattle.rk_database.specs.Answers.{FindsDb, FindsWhether, IsNoFault, ReadsCounted};
-ghost use Rattle.rk_folder.specs.Looks.{all_state_looks, state_listings};
+ghost use Rattle.rk_folder.specs.Hidden as hidden;
+ghost use Rattle.rk_folder.specs.Looks.{reads, state_listings};
 ghost use Rattle.rk_folder.specs.Schedule.{MakesCalls};
 ghost use Rattle.rk_database.specs.Texts.{NoTrace, Spells};
 
 use crate::stop::QueryErr;
 use rk_base::Bytes;
-use rk_folder::{Folder, Hidden, ImportErr, State, has_database, state};
+use rk_folder::{Folder, FolderErr, Got, ImportErr, db_file, has_database};
 use std::alloc::Global;
 use tr_codec::{CodecErr, read_db};
 use tr_record::Table;
 
-/// The bytes of the database; nothing where it doesn't stand. Only `.rkr` and its state files are looked at.
+// The bytes of the database, which is listed; nothing where it is gone since.
+fn read_listed<F: Folder>(alloc: Global, folder: &mut F) -> Result<Option<Bytes>, QueryErr>
+    requires { FindsWhether (F.told folder.old) (Ok true) }
+    ensures finds { FindsDb (F.told folder.old) result }
+    ensures held { F.told folder.new ≡ F.told folder.old }
+    ensures reads { ReadsCounted (F.read_faults folder.old) (F.read_faults folder.new) result }
+    ensures writes { F.write_faults folder.new ≡ F.write_faults folder.old }
+    ensures steady { F.steady folder.new ≡ F.steady folder.old }
+    ensures no_fault { F.steady folder.old ≡ true → IsNoFault result }
+    ensures calls { MakesCalls (reads hidden.db_file) (F.schedule folder.old) (F.schedule folder.new) }
+{
+    let file = db_file(alloc)?;
+    match folder.read(alloc, &file) {
+        Ok(Got::Content(bytes)) => Ok(Some(bytes)),
+        Ok(Got::Absent) => Ok(None),
+        Err(FolderErr::Failed) => Err(QueryErr::ReadFault),
+        Err(FolderErr::NoMemory) => Err(QueryErr::NoMemory),
+    }
+}
+
+/// The bytes of the database; nothing where it doesn't stand. The root and `.rkr` are listed, and no other file is read.
 pub(crate) fn database<F: Folder>(alloc: Global, folder: &mut F) -> Result<Option<Bytes>, QueryErr>
     ensures finds { FindsDb (F.told folder.old) result }
     ensures held { F.told folder.new ≡ F.told folder.old }
@@ -20,17 +41,14 @@ pub(crate) fn database<F: Folder>(alloc: Global, folder: &mut F) -> Result<Optio
     ensures writes { F.write_faults folder.new ≡ F.write_faults folder.old }
     ensures steady { F.steady folder.new ≡ F.steady folder.old }
     ensures no_fault { F.steady folder.old ≡ true → IsNoFault result }
-    ensures calls { MakesCalls all_state_looks (F.schedule folder.old) (F.schedule folder.new) }
+    ensures calls { MakesCalls (state_listings ++ reads hidden.db_file) (F.schedule folder.old) (F.schedule folder.new) }
 {
-    match state(alloc, folder) {
-        Ok(Hidden { state, .. }) => {
-            let State { db, .. } = state;
-            Ok(db)
-        }
-        Err(ImportErr::Special(path)) => Err(QueryErr::Special(path)),
-        Err(ImportErr::ReadFault) => Err(QueryErr::ReadFault),
-        Err(ImportErr::NoMemory) => Err(QueryErr::NoMemory),
+    let stands = database_stands(alloc, folder)?;
+    if !stands {
+        return Ok(None);
     }
+    let db = read_listed(alloc, folder)?;
+    Ok(db)
 }
 
 /// Whether the database stands, by the listings of the root and of `.rkr`: no file is read.

@@ -1,10 +1,11 @@
 // The records, shown.
-ghost use Rattle.std.specs.Prelude.{◌≡◌, true, IfErr, IfOk};
+ghost use Rattle.std.specs.Prelude.{◌≡◌, ◌++◌, true, IfErr, IfOk};
 ghost use Rattle.std.specs.List.{AllByRecursion};
 ghost use Rattle.rk_show.specs.Traces.{IsCounted};
 ghost use Rattle.rk_database.specs.Answers.{IsNoFault, ReadsCounted, Shows, WritesCounted};
 ghost use Rattle.rk_database.specs.Texts.{IsTrace, NoTrace, shown_text};
-ghost use Rattle.rk_folder.specs.Looks.{all_state_looks};
+ghost use Rattle.rk_folder.specs.Hidden.{db_file};
+ghost use Rattle.rk_folder.specs.Looks.{reads, state_listings};
 ghost use Rattle.rk_folder.specs.Schedule.{MakesCalls};
 
 use crate::database::{database, table_of};
@@ -40,7 +41,7 @@ fn text_of(alloc: Global, db: &[u8], json: bool) -> Result<Bytes, QueryErr>
 
 /// Puts the records of the folder's database on the output, as lines or as JSON; or `no trace` where there is no database.
 ///
-/// The folder stays as it is, and only `.rkr` and its state files are looked at.
+/// The folder stays as it is. `.rkr` and its state files are looked at by the listings, and the database alone is read.
 pub fn trace<F: Folder, O: Sink>(
     alloc: Global,
     folder: &mut F,
@@ -54,8 +55,8 @@ pub fn trace<F: Folder, O: Sink>(
     ensures puts { WritesCounted (O.faults out.old) (O.faults out.new) result }
     ensures steady { F.steady folder.old ≡ true → O.steady out.old ≡ true → IsNoFault result }
 
-    // The root and `.rkr` are listed, and then the state files read; nothing else is asked.
-    ensures calls { MakesCalls all_state_looks (F.schedule folder.old) (F.schedule folder.new) }
+    // The root and `.rkr` are listed, and then the database is read; nothing else is asked.
+    ensures calls { MakesCalls (state_listings ++ reads db_file) (F.schedule folder.old) (F.schedule folder.new) }
 {
     match database(alloc, folder)? {
         None => say_none(out),

@@ -3,7 +3,7 @@ use Rattle.std.specs.Prelude.{◌≡◌, ◌≢◌, ◌⊎◌, ◌++◌, [], Lis
 use Rattle.rk_base.specs.Text.{Text}
 use Rattle.rk_folder.specs.Counts.{Rose, Still}
 use Rattle.rk_folder.specs.Hidden.{db_file}
-use Rattle.rk_folder.specs.Looks.{all_state_looks, removes, state_listings}
+use Rattle.rk_folder.specs.Looks.{reads, removes, state_listings}
 use Rattle.rk_folder.specs.Schedule.{MakesCalls}
 use Rattle.rk_folder.specs.Specials.{first_special}
 use Rattle.rk_folder.specs.Told.{Held}
@@ -60,11 +60,11 @@ pub record BuildWorks (request : Request) (before now : Outside) (outcome : Outc
   pub errors : GainsErrors first_talk request before.held before.err now.err outcome
   pub order : InOrder first_talk request before.held (sinks before) (sinks now)
 
--- What is asked of the folder for what is asked of the database alone: the listings of the root and of `.rkr`, and then the two
--- files of it, or that the database is removed.
+-- What is asked of the folder for what is asked of the database alone: the listings of the root and of `.rkr`, and then that the
+-- database is read, or removed.
 abbrev pub query_calls : Request → List FolderCall
-query_calls asked.Check = all_state_looks
-query_calls (asked.Trace json) = all_state_looks
+query_calls asked.Check = state_listings ++ reads db_file
+query_calls (asked.Trace json) = state_listings ++ reads db_file
 query_calls asked.Forget = state_listings ++ removes db_file
 query_calls other = []
 

@@ -1,7 +1,7 @@
 // What is asked of the database alone.
 ghost use Rattle.std.specs.Prelude.{◌≡◌, ◌++◌, ℕ, true};
 ghost use Rattle.rk_folder.specs.Hidden.{db_file};
-ghost use Rattle.rk_folder.specs.Looks.{all_state_looks, removes, state_listings};
+ghost use Rattle.rk_folder.specs.Looks.{reads, removes, state_listings};
 ghost use Rattle.rk_folder.specs.Schedule.{MakesCalls};
 ghost use Rattle.rk_top.specs.First.{first_talk};
 ghost use Rattle.rk_request.specs.declared.requests.Request.TheVariants as request;
@@ -47,7 +47,7 @@ pub(crate) fn check_records<F: Folder, O: Sink>(
     ensures counts { (x : ℕ) → Counted (record { reads = F.read_faults folder.old; writes = F.write_faults folder.old; puts = O.faults out.old; error_puts = x })
         (record { reads = F.read_faults folder.new; writes = F.write_faults folder.new; puts = O.faults out.new; error_puts = x }) result }
     ensures steady { F.steady folder.old ≡ true → O.steady out.old ≡ true → IsNoFault result }
-    ensures calls { MakesCalls all_state_looks (F.schedule folder.old) (F.schedule folder.new) }
+    ensures calls { MakesCalls (state_listings ++ reads db_file) (F.schedule folder.old) (F.schedule folder.new) }
 {
     let mut maker = Commands::new(alloc);
     outcome_of_answer(check(alloc, &mut maker, folder, out))
@@ -64,7 +64,7 @@ pub(crate) fn show_records<F: Folder, O: Sink>(
     ensures counts { (x : ℕ) → Counted (record { reads = F.read_faults folder.old; writes = F.write_faults folder.old; puts = O.faults out.old; error_puts = x })
         (record { reads = F.read_faults folder.new; writes = F.write_faults folder.new; puts = O.faults out.new; error_puts = x }) result }
     ensures steady { F.steady folder.old ≡ true → O.steady out.old ≡ true → IsNoFault result }
-    ensures calls { MakesCalls all_state_looks (F.schedule folder.old) (F.schedule folder.new) }
+    ensures calls { MakesCalls (state_listings ++ reads db_file) (F.schedule folder.old) (F.schedule folder.new) }
 {
     outcome_of_answer(trace(alloc, folder, out, json))
 }
