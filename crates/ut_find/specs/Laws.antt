@@ -5,12 +5,15 @@ use Rattle.rk_calls.specs.Talk.{Says}
 use Rattle.rk_calls.specs.Views.{IsCommandTalk}
 use Rattle.ut_args.specs.Usage.{talk-complains}
 use Rattle.ut_find.specs.declared.test.Test.{Test}
+use Rattle.ut_find.specs.declared.tests.Fault.{Fault}
+use Rattle.ut_find.specs.declared.tests.Fault.TheVariants as fault
 use Rattle.ut_find.specs.Finds.{talk-finds_from}
 use Rattle.ut_find.specs.Starts.{by_tests, find_utility}
 use Rattle.ut_find.specs.Words.{paths_of, tests_in, tests_of}
 
-talk-by_tests : (wd : Text) (paths : List Text) (tests : Result (List Test) Text) → IsCommandTalk (by_tests wd paths tests)
-talk-by_tests wd paths (Err word) = talk-complains _ 1
+talk-by_tests : (wd : Text) (paths : List Text) (tests : Result (List Test) Fault) → IsCommandTalk (by_tests wd paths tests)
+talk-by_tests wd paths (Err (fault.OfTest word)) = talk-complains _ 1
+talk-by_tests wd paths (Err fault.Surplus) = talk-complains _ 1
 talk-by_tests wd [] (Ok tests) = talk-complains _ 1
 talk-by_tests wd (path ∷ paths) (Ok tests) = talk-finds_from _ _
 

@@ -1,5 +1,5 @@
 // How `find` begins.
-ghost use Rattle.std.specs.Prelude.{◌≡◌, IfOk, map, option_map};
+ghost use Rattle.std.specs.Prelude.{◌≡◌, IfOk, codes, map, option_map};
 ghost use Rattle.ut_args.specs.Usage.{misuses, misuses_option};
 ghost use Rattle.ut_find.specs.declared.find.Visit.TheVariants as visit;
 ghost use Rattle.ut_find.specs.Finds.{finds};
@@ -8,7 +8,7 @@ ghost use Rattle.ut_find.specs.Utilities.{find_talk};
 
 use crate::find::{Find, Visit};
 use crate::test::TestList;
-use crate::tests::{paths, tests_of};
+use crate::tests::{Fault, paths, tests_of};
 use crate::utility::FindUtility;
 use crate::walk::Walk;
 use rk_base::{Bytes, NoMemory, Path, WordList};
@@ -35,24 +35,29 @@ fn walk(alloc: Global, wd: &Path, paths: &[Bytes], tests: TestList) -> Result<Fi
     Ok(FindUtility::Walks(walk))
 }
 
+fn misused(alloc: Global) -> Result<FindUtility, NoMemory>
+    ensures { IfOk result (λ u. find_talk u Answer.Go ≡ misuses (codes "find") 1) }
+{
+    let complaint = Complaint::of_operands(alloc, b"find", 1)?;
+    Ok(FindUtility::Complains(complaint))
+}
+
 fn by_tests(
     alloc: Global,
     wd: &Path,
     paths: &[Bytes],
-    tests: Result<TestList, Bytes>,
+    tests: Result<TestList, Fault>,
 ) -> Result<FindUtility, NoMemory>
     ensures { IfOk result (λ u. find_talk u Answer.Go ≡ by_tests wd.now paths.now tests) }
 {
     match tests {
-        Err(word) => {
+        Err(Fault::OfTest(word)) => {
             let complaint = Complaint::of_option(alloc, b"find", word.as_slice(), 1)?;
             Ok(FindUtility::Complains(complaint))
         }
+        Err(Fault::Surplus) => misused(alloc),
         Ok(tests) => match paths {
-            [] => {
-                let complaint = Complaint::of_operands(alloc, b"find", 1)?;
-                Ok(FindUtility::Complains(complaint))
-            }
+            [] => misused(alloc),
             [_, ..] => walk(alloc, wd, paths, tests),
         },
     }

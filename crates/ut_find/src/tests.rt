@@ -22,10 +22,21 @@ pub(crate) enum Wants {
 #[derive(Clone, Copy, Debug, Drop)]
 pub(crate) enum Judged {
     Goes(Wants),
-    /// It is at fault itself.
+    /// It is a test that there isn't.
     BadTest,
     /// It is no letter of a type.
     BadType,
+    /// It is no test, and none before it wants it.
+    Surplus,
+}
+
+/// Why words ask for no tests.
+#[derive(Debug, Drop)]
+pub(crate) enum Fault {
+    /// This test isn't there, or what is to come after it isn't.
+    OfTest(Bytes),
+    /// A word among the tests is none.
+    Surplus,
 }
 
 fn is_dashed(word: &[u8]) -> bool
@@ -77,7 +88,10 @@ fn judge_test(word: &[u8]) -> Judged
     if word == b"-type".as_slice() {
         return Judged::Goes(Wants::Letter);
     }
-    Judged::BadTest
+    if is_dashed(word) {
+        return Judged::BadTest;
+    }
+    Judged::Surplus
 }
 
 // A word, by what the one before it wants.
@@ -101,15 +115,15 @@ fn judge(wants: Wants, word: &Bytes, tests: &mut TestList) -> Result<Judged, NoM
     }
 }
 
-fn fault(alloc: Global, word: &[u8]) -> Result<Result<TestList, Bytes>, NoMemory>
-    ensures { IfOk result (λ r. r ≡ Err word.now) }
+fn at_fault(alloc: Global, word: &[u8]) -> Result<Result<TestList, Fault>, NoMemory>
+    ensures { IfOk result (λ r. r ≡ Err (Fault.OfTest word.now)) }
 {
     let word = Bytes::from_slice(alloc, word)?;
-    Ok(Err(word))
+    Ok(Err(Fault::OfTest(word)))
 }
 
-/// The tests that words ask for, or the test at fault.
-pub(crate) fn tests_of(alloc: Global, words: &[Bytes]) -> Result<Result<TestList, Bytes>, NoMemory>
+/// The tests that words ask for, or the first fault.
+pub(crate) fn tests_of(alloc: Global, words: &[Bytes]) -> Result<Result<TestList, Fault>, NoMemory>
     ensures { IfOk result (λ r. r ≡ tests_of words.now) }
 {
     let mut tests = TestList::new(alloc);
@@ -117,13 +131,14 @@ pub(crate) fn tests_of(alloc: Global, words: &[Bytes]) -> Result<Result<TestList
     'words: for word in words {
         match judge(wants, word, &mut tests)? {
             Judged::Goes(next) => wants = next,
-            Judged::BadTest => return fault(alloc, word.as_slice()),
-            Judged::BadType => return fault(alloc, b"-type"),
+            Judged::BadTest => return at_fault(alloc, word.as_slice()),
+            Judged::BadType => return at_fault(alloc, b"-type"),
+            Judged::Surplus => return Ok(Err(Fault::Surplus)),
         }
     }
     match wants {
         Wants::Another => Ok(Ok(tests)),
-        Wants::Pattern => fault(alloc, b"-name"),
-        Wants::Letter => fault(alloc, b"-type"),
+        Wants::Pattern => at_fault(alloc, b"-name"),
+        Wants::Letter => at_fault(alloc, b"-type"),
     }
 }
