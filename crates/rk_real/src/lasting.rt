@@ -1,7 +1,8 @@
 // What makes the changes of a real directory last: files that were written are synced before the seal of an install is put in
 // its place, and the directories whose names changed before that call answers; and both before the seal is taken away. One
-// after another they cost little, since the system writes down together what changed. Where a sealed list is read, a call that was killed has made some of its changes and
-// synced none of these directories, so each that is listed from there on is synced too; each file is written anew.
+// after another they cost little, since the system writes down together what changed. Where a sealed list is read, a call that was
+// killed has made some of its changes and synced none of these directories, so each that is listed from there on is synced too;
+// each file is written anew.
 use crate::reading::{is_absent, standing};
 use rk_base::Path;
 use std::alloc::Global;
