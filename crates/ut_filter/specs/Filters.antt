@@ -63,6 +63,10 @@ puts job place number made =
     then tells made.errors made.status
     else ask (Write number made.output) (1 + turns made.output) (λ a. told job place made.errors made.status (brought a))
 
+-- the output to a place that a number stands for, which is paid for, and then the error text
+abbrev pub puts_paid : Job → Text → ℕ → Made → Says
+puts_paid job place number made = ask (Write number made.output) 1 (λ a. told job place made.errors made.status (brought a))
+
 -- once the output's file was opened, or not
 abbrev pub emptied : Job → Text → ℕ → Made → Result Text Errno → Says
 emptied job file number made (Ok bytes) = puts job file number made

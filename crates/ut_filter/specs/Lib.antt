@@ -2,6 +2,8 @@ pub mod Filters
 pub mod Laws
 pub mod Lines
 pub mod Machine
+pub mod Measures
+pub mod Outputs
 pub mod Parts
 pub mod Refusals
 pub mod Stages

@@ -1,14 +1,14 @@
 // The machine of all filters.
-ghost use Rattle.std.specs.Prelude.{◌≡◌, List, IfOk};
+ghost use Rattle.std.specs.Prelude.{◌≡◌, List, IfOk, codes};
 ghost use Rattle.rk_base.specs.Text.{Text};
 ghost use Rattle.rk_calls.specs.Costly.{IsCostly};
 ghost use Rattle.rk_calls.specs.Brought.{brought};
-ghost use Rattle.ut_filter.specs.Filters.{Job, Seen, refused, told, emptied, writes, opened, reads, reads_all, added, filters, filters_from};
+ghost use Rattle.ut_filter.specs.Filters.{Job, Seen, refused, told, emptied, puts, puts_paid, writes, opened, reads, reads_all, added, filters, filters_from};
 ghost use Rattle.ut_filter.specs.Machine.{filter_talk};
 ghost use Rattle.ut_filter.specs.Stages.{IsSaidBy, stage_talk};
 
 use crate::inputs::queue_of;
-use crate::made::Made;
+use crate::made::{Made, Measured};
 use crate::reader::Reader;
 use crate::stage::{Move, Stage};
 use crate::telling::{put, tell, with_refusal};
@@ -88,23 +88,50 @@ fn write_into<W: Work>(
     }
 }
 
-// What was made goes to the standard output, or to a file.
-fn write<W: Work>(
-    work: &W,
-    alloc: Global,
-    wd: &Path,
-    number: u64,
-    made: Made,
-) -> Result<Move, NoMemory>
-    ensures talk { IfOk result (λ move. (operands : List Text) (seen : Seen) → IsSaidBy (W.job work.now) wd.now (writes (W.job work.now) wd.now number made (W.job work.now).out) operands seen move) }
+// What is made goes to the standard output: a long output is paid for by its length before it is made.
+fn pay_or_put<W: Work>(work: &W, alloc: Global, reader: &Reader) -> Result<Move, NoMemory>
+    ensures talk { IfOk result (λ move. (wd : Text) (operands : List Text) → IsSaidBy (W.job work.now) wd (puts (W.job work.now) (codes "output") 1 ((W.job work.now).makes reader.now.inputs)) operands reader.now move) }
     ensures costly { IfOk result (λ move. IsCostly move.turn) }
 {
-    match work.out() {
-        None => {
+    match work.measure(alloc, reader.inputs())? {
+        Measured::Short(made) => {
             let place = Bytes::from_slice(alloc, b"output")?;
             Ok(put(place, 1, made))
         }
+        Measured::Long(length) => Ok(Move {
+            turn: Turn::More((length as u64).div_ceil(64)),
+            stage: Stage::Paid,
+        }),
+    }
+}
+
+// The output, which is paid for.
+fn put_paid<W: Work>(work: &W, alloc: Global, reader: &Reader) -> Result<Move, NoMemory>
+    ensures talk { IfOk result (λ move. (wd : Text) (operands : List Text) (seen : Seen) → IsSaidBy (W.job work.now) wd (puts_paid (W.job work.now) (codes "output") 1 ((W.job work.now).makes reader.now.inputs)) operands seen move) }
+    ensures costly { IfOk result (λ move. IsCostly move.turn) }
+{
+    let Made {
+        output,
+        errors,
+        status,
+    } = work.make(alloc, reader.inputs())?;
+    let place = Bytes::from_slice(alloc, b"output")?;
+    Ok(Move {
+        turn: Turn::Ask(Call::Write(1, output), 1),
+        stage: Stage::Writing(place, errors, status),
+    })
+}
+
+// What is made goes to the standard output, or to a file, which is opened once it is made.
+fn write<W: Work>(work: &W, alloc: Global, wd: &Path, reader: &Reader) -> Result<Move, NoMemory>
+    ensures talk { IfOk result (λ move. (operands : List Text) → IsSaidBy (W.job work.now) wd.now (writes (W.job work.now) wd.now reader.now.next ((W.job work.now).makes reader.now.inputs) (W.job work.now).out) operands reader.now move) }
+    ensures costly { IfOk result (λ move. IsCostly move.turn) }
+{
+    match work.out() {
+        None => pay_or_put(work, alloc, reader),
         Some(file) => {
+            let made = work.make(alloc, reader.inputs())?;
+            let number = reader.next();
             let path = absolute(alloc, wd, file.as_slice())?;
             let file = file.copy()?;
             Ok(Move {
@@ -127,11 +154,7 @@ fn read_next<W: Work>(
     ensures costly { IfOk result (λ move. IsCostly move.turn) }
 {
     match operands.pop_front() {
-        None => {
-            let made = work.make(alloc, reader.inputs())?;
-            let number = reader.next();
-            write(work, alloc, wd, number, made)
-        }
+        None => write(work, alloc, wd, reader),
         Some(operand) => read_input(alloc, wd, operand),
     }
 }
@@ -252,6 +275,7 @@ impl<W: Work> Filter<W> {
                 operand,
                 answer,
             ),
+            Stage::Paid => put_paid(&self.work, alloc, &self.reader),
             Stage::Emptying(file, number, made) => {
                 write_into(&self.work, alloc, file, number, made, answer)
             }

@@ -20,6 +20,13 @@ pub struct Made {
     pub status: u8,
 }
 
+/// What a filter makes, or, where its output is long, its length in bytes alone.
+#[derive(Debug, Drop)]
+pub enum Measured {
+    Short(Made),
+    Long(usize),
+}
+
 /// Inputs, in the order of the operands.
 #[derive(Debug, Drop)]
 pub struct InputList {

@@ -18,8 +18,8 @@ impl Input {
     }
 }
 
-// How many bytes the inputs gave.
-fn length(inputs: &[Input]) -> Result<usize, NoMemory>
+/// How many bytes the inputs gave.
+pub fn joined_length(inputs: &[Input]) -> Result<usize, NoMemory>
     ensures { IfOk result (λ n. n ≡ length (joined inputs.now)) }
 {
     let mut count = 0usize;
@@ -33,7 +33,7 @@ fn length(inputs: &[Input]) -> Result<usize, NoMemory>
 fn copied(alloc: Global, inputs: &[Input]) -> Result<Bytes, NoMemory>
     ensures { IfOk result (λ text. text ≡ joined inputs.now) }
 {
-    let mut text = Vec::with_capacity(alloc, length(inputs)?)?;
+    let mut text = Vec::with_capacity(alloc, joined_length(inputs)?)?;
     'inputs: for input in inputs {
         text.extend_from_slice(input.part())?;
     }

@@ -12,6 +12,8 @@ pub enum Stage {
     Opening(Bytes),
     /// This operand is being read.
     Reading(Bytes),
+    /// The output to the standard output is paid for, and is made next.
+    Paid,
     /// The file of the output is being opened, and has this number then.
     Emptying(Bytes, u64, Made),
     /// The output is being written to this place; the error text and the status come after it.

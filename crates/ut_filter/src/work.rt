@@ -1,7 +1,8 @@
 // The work of a filter.
 ghost use Rattle.std.specs.Prelude.{◌≡◌, IfOk, option_copied};
+ghost use Rattle.ut_filter.specs.Measures.{Measures};
 
-use crate::made::{Input, Made};
+use crate::made::{Input, Made, Measured};
 use rk_base::{Bytes, NoMemory};
 use std::alloc::Global;
 
@@ -21,6 +22,14 @@ pub trait Work: Drop {
     /// The file that its output goes to, where that isn't the standard output.
     fn out(&self) -> Option<&Bytes>
         ensures { option_copied result ≡ (job self.now).out };
+
+    /// What it makes of its inputs, or of a long output its length, so that it is paid for before it is made.
+    fn measure(&self, alloc: Global, inputs: &[Input]) -> Result<Measured, NoMemory>
+        ensures { IfOk result (Measures ((job self.now).makes inputs.now)) }
+    {
+        let made = self.make(alloc, inputs)?;
+        Ok(Measured::Short(made))
+    }
 
     /// What it makes of its inputs.
     fn make(&self, alloc: Global, inputs: &[Input]) -> Result<Made, NoMemory>
