@@ -1,5 +1,5 @@
 -- What `head` makes.
-use Rattle.std.specs.Prelude.{ℕ, None, zero, suc, List, [], ◌∷◌, ◌++◌, codes, Result, Ok, Err, ◌==◌, if◌then◌else◌}
+use Rattle.std.specs.Prelude.{ℕ, ◌+◌, length, None, zero, suc, List, [], ◌∷◌, ◌++◌, codes, Result, Ok, Err, ◌==◌, if◌then◌else◌}
 use Rattle.rk_base.specs.Text.{Text}
 use Rattle.rk_base.specs.Canonical.{is_empty}
 use Rattle.rk_base.specs.declared.errno.Errno.{Errno}
@@ -31,6 +31,19 @@ part_of h before input = part_brought h before input.operand input.brought
 abbrev pub parts : Head → Text → List Input → Text
 parts h before [] = before
 parts h before (input ∷ inputs) = parts h (part_of h before input) inputs
+
+-- How long they are: a header behind so many bytes.
+abbrev pub header_length : Text → ℕ → ℕ
+header_length name before = (if before == 0 then 0 else 1) + length name + 9
+
+abbrev pub length_brought : Head → ℕ → Text → Result Text Errno → ℕ
+length_brought h before operand (Err errno) = before
+length_brought h before operand (Ok bytes) = (if h.headed then before + header_length operand before else before) + length (first_lines h.number bytes)
+
+-- the inputs, behind so many bytes
+abbrev pub lengths : Head → ℕ → List Input → ℕ
+lengths h before [] = before
+lengths h before (input ∷ inputs) = lengths h (length_brought h before input.operand input.brought) inputs
 
 abbrev pub head_makes : Head → List Input → Made
 head_makes h inputs =

@@ -1,7 +1,7 @@
 // `cat`.
 use rk_base::{Bytes, NoMemory};
 use std::alloc::Global;
-use ut_filter::{Input, Made, Work, joined, refusal_lines, status_of};
+use ut_filter::{Input, Made, Measured, Work, joined, joined_length, refusal_lines, status_of};
 
 /// `cat`, which joins its inputs.
 #[derive(Clone, Copy, Debug, Drop)]
@@ -22,6 +22,15 @@ impl Work for Cat {
 
     fn out(&self) -> Option<&Bytes> {
         None
+    }
+
+    fn measure(&self, alloc: Global, inputs: &[Input]) -> Result<Measured, NoMemory> {
+        let length = joined_length(inputs)?;
+        if length > 0 {
+            return Ok(Measured::Long(length));
+        }
+        let made = self.make(alloc, inputs)?;
+        Ok(Measured::Short(made))
     }
 
     fn make(&self, alloc: Global, inputs: &[Input]) -> Result<Made, NoMemory> {

@@ -1,10 +1,10 @@
 // `head`.
-ghost use Rattle.std.specs.Prelude.{◌≡◌, ◌≤◌, ◌++◌, [], IfOk, OnOk, codes, length};
-ghost use Rattle.ut_text.specs.Heads.{first_lines, header, part_of, parts};
+ghost use Rattle.std.specs.Prelude.{◌≡◌, ◌+◌, ◌≤◌, ◌++◌, [], IfOk, OnOk, codes, length};
+ghost use Rattle.ut_text.specs.Heads.{first_lines, header, header_length, part_of, parts, length_brought, lengths};
 
 use rk_base::{Bytes, NoMemory};
 use std::alloc::Global;
-use ut_filter::{Input, Made, Work, refusal_lines, status_of};
+use ut_filter::{HELD, Input, Made, Measured, Work, refusal_lines, status_of};
 
 /// How many lines `head` shows of each input, and whether headers stand before them.
 #[derive(Clone, Copy, Debug, Drop)]
@@ -41,7 +41,45 @@ fn put_header(name: &[u8], output: &mut Vec<u8>) -> Result<(), NoMemory>
     Ok(())
 }
 
+// How long the output is behind a header, where it is so long before it.
+fn behind_header(name: &[u8], before: usize) -> Result<usize, NoMemory>
+    ensures { IfOk result (λ n. n ≡ before + header_length name.now before) }
+{
+    let header = if before == 0 { 9 } else { 10 };
+    let named = before.checked_add(name.len()).ok_or(NoMemory)?;
+    named.checked_add(header).ok_or(NoMemory)
+}
+
 impl Head {
+    // How long the output is behind an input, where it is so long before it.
+    fn behind(&self, input: &Input, before: usize) -> Result<usize, NoMemory>
+        ensures { IfOk result (λ n. n ≡ length_brought self.now before input.now.operand input.now.brought) }
+    {
+        match &input.brought {
+            Err(_) => Ok(before),
+            Ok(bytes) => {
+                let lines = first_lines(self.number, bytes.as_slice()).len();
+                let start = if self.headed {
+                    behind_header(input.operand.as_slice(), before)?
+                } else {
+                    before
+                };
+                start.checked_add(lines).ok_or(NoMemory)
+            }
+        }
+    }
+
+    // How long the output is.
+    fn length(&self, inputs: &[Input]) -> Result<usize, NoMemory>
+        ensures { IfOk result (λ n. n ≡ lengths self.now 0 inputs.now) }
+    {
+        let mut length = 0;
+        'inputs: for input in inputs {
+            length = self.behind(input, length)?;
+        }
+        Ok(length)
+    }
+
     fn add(&self, input: &Input, output: &mut Vec<u8>) -> Result<(), NoMemory>
         ensures { OnOk result (output.new.items ≡ part_of self.now output.old.items input.now) }
     {
@@ -83,6 +121,15 @@ impl Work for Head {
 
     fn out(&self) -> Option<&Bytes> {
         None
+    }
+
+    fn measure(&self, alloc: Global, inputs: &[Input]) -> Result<Measured, NoMemory> {
+        let length = self.length(inputs)?;
+        if length > HELD {
+            return Ok(Measured::Long(length));
+        }
+        let made = self.make(alloc, inputs)?;
+        Ok(Measured::Short(made))
     }
 
     fn make(&self, alloc: Global, inputs: &[Input]) -> Result<Made, NoMemory> {

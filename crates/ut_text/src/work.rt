@@ -9,7 +9,7 @@ use crate::uniq::Uniq;
 use crate::wc::Wc;
 use rk_base::{Bytes, NoMemory};
 use std::alloc::Global;
-use ut_filter::{Input, Made, Work};
+use ut_filter::{Input, Made, Measured, Work};
 
 /// A text utility that is a filter.
 #[derive(Drop)]
@@ -57,6 +57,17 @@ impl Work for TextWork {
             TextWork::Uniqs(work) => work.out(),
             TextWork::Cmps(work) => work.out(),
             TextWork::Tails(work) => work.out(),
+        }
+    }
+
+    fn measure(&self, alloc: Global, inputs: &[Input]) -> Result<Measured, NoMemory> {
+        match self {
+            TextWork::Cats(work) => work.measure(alloc, inputs),
+            TextWork::Heads(work) => work.measure(alloc, inputs),
+            TextWork::Wcs(work) => work.measure(alloc, inputs),
+            TextWork::Uniqs(work) => work.measure(alloc, inputs),
+            TextWork::Cmps(work) => work.measure(alloc, inputs),
+            TextWork::Tails(work) => work.measure(alloc, inputs),
         }
     }
 
