@@ -22,3 +22,7 @@ pub mod BitLemmas
 pub mod Rowed
 pub mod Reached
 pub mod RowLemmas
+pub mod Counted
+pub mod Cut
+pub mod Joined
+pub mod Alike

@@ -107,11 +107,11 @@ mirrored-repeated end R R' times A =
 
 -- items: the last one comes first
 
-last-to : (line : Text) (ys : ItemsTree) (y : ItemTree) (i j : ℕ) → After (MatchesItems line ys) (MatchesItem line y) i j → MatchesItems line (put_last ys y) i j
+pub last-to : (line : Text) (ys : ItemsTree) (y : ItemTree) (i j : ℕ) → After (MatchesItems line ys) (MatchesItem line y) i j → MatchesItems line (put_last ys y) i j
 last-to line no_items y i j (k, e, m) = (j, subst (λ x. MatchesItem line y x j) (sym e) m, refl)
 last-to line (item_and x xs) y i j (k, (d, a, b), m) = (d, a, last-to line xs y d j (k, b, m))
 
-last-from : (line : Text) (ys : ItemsTree) (y : ItemTree) (i j : ℕ) → MatchesItems line (put_last ys y) i j → After (MatchesItems line ys) (MatchesItem line y) i j
+pub last-from : (line : Text) (ys : ItemsTree) (y : ItemTree) (i j : ℕ) → MatchesItems line (put_last ys y) i j → After (MatchesItems line ys) (MatchesItem line y) i j
 last-from line no_items y i j (k, m, e) = (i, refl, subst (λ x. MatchesItem line y i x) e m)
 last-from line (item_and x xs) y i j (d, a, b) = let f = last-from line xs y d j b in (f.0, (d, a, f.1), f.2)
 

@@ -19,7 +19,7 @@ use Rattle.ut_bre.proofs.Standing.{Rel}
 wider : (line : Text) (b i k l j : ℕ) → i ≤ k → l ≤ j → StandsIn line b k l → StandsIn line b i j
 wider line b i k l j h g (m, low, high, at) = (m, (let a : i ≤ m = omega arith in a), (let a : m < j = omega arith in a), at)
 
-turns-ordered : (R : Rel) → ((i j : ℕ) → R i j → i ≤ j) → (n i j : ℕ) → Turns R n i j → i ≤ j
+pub turns-ordered : (R : Rel) → ((i j : ℕ) → R i j → i ≤ j) → (n i j : ℕ) → Turns R n i j → i ≤ j
 turns-ordered R ordered zero i j e = omega arith
 turns-ordered R ordered (suc n) i j (k, t, r) =
     let a : i ≤ k = turns-ordered R ordered n i k t in

@@ -37,7 +37,7 @@ impl Bre {
         ensures finds { IfOk result (λ r. Finds (expression self.now) line.now from r) }
         ensures value { IfOk result (λ r. r ≡ span_found (expression self.now) line.now from) }
     {
-        let span = self.scan(line, from, marks)?;
+        let span = self.search(line, from, marks)?;
         Ok(span)
     }
 
@@ -49,7 +49,7 @@ impl Bre {
     ) -> Result<Option<Found>, NoMemory>
         ensures { IfOk result (λ r. FindsGroups (expression self.now) line.now from r) }
     {
-        match self.scan(line, from, marks)? {
+        match self.search(line, from, marks)? {
             None => Ok(None),
             Some(span) => {
                 let groups = self.picked(line, span, marks)?;
