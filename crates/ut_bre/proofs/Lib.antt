@@ -26,3 +26,4 @@ pub mod Counted
 pub mod Cut
 pub mod Joined
 pub mod Alike
+pub mod PartLemmas

@@ -17,7 +17,7 @@ use Rattle.ut_bre.proofs.Laws.{sound_items}
 use Rattle.ut_bre.proofs.Latest.{HoldsTurn, sound_front, advanced, FirstIn, first-seeded}
 use Rattle.ut_bre.proofs.Turning.{next-turn, some-turn, next-place, some-place}
 
-latest-as : (P Q : ℕ → Type 0) (o : Option ℕ) → ((p : ℕ) → P p → Q p) → ((p : ℕ) → Q p → P p) → IsLatest P o → IsLatest Q o
+pub latest-as : (P Q : ℕ → Type 0) (o : Option ℕ) → ((p : ℕ) → P p → Q p) → ((p : ℕ) → Q p → P p) → IsLatest P o → IsLatest Q o
 latest-as P Q None f g l = λ p q. l p (g p q)
 latest-as P Q (Some m) f g l = record { holds = f m l.holds; greatest = λ n q. l.greatest n (g n q) }
 

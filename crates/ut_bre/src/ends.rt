@@ -9,6 +9,7 @@ ghost use Rattle.ut_bre.specs.Trees.{trees_of};
 use crate::back::{flow_back, step_back};
 use crate::group::Span;
 use crate::mark::{Mark, Marks};
+use crate::parts::find_part_ends;
 use crate::tree::Item;
 use rk_base::NoMemory;
 use std::mem::swap;
@@ -32,9 +33,9 @@ fn end_at(far: usize, found: Mark) -> usize
     }
 }
 
-// For each place that lies before the end, how far before it the turn ends that begins there. A mark is such an end, told
-// so too: the least is the last.
-fn find_ends(
+/// For each place that lies before the end, how far before it the turn ends that begins there. A mark is such an end, told
+/// so too: the least is the last.
+pub(crate) fn find_ends(
     body: &[Item],
     line: &[u8],
     span: Span,
@@ -84,7 +85,7 @@ fn extend_ends(
     if span.end - span.start <= ends.len() {
         return Ok(());
     }
-    find_ends(body, line, span, marks, ends)
+    find_part_ends(body, line, span, marks, ends)
 }
 
 /// Where the next turn of a star ends, which takes something; the ends of all turns behind it are kept.

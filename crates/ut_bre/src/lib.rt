@@ -17,6 +17,7 @@ mod last;
 mod law;
 mod mark;
 mod needed;
+mod parts;
 mod pick;
 mod place_rows;
 mod reader;

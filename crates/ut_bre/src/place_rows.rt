@@ -6,8 +6,8 @@ ghost use Rattle.ut_bre.specs.Trees.{trees_of};
 use crate::group::Span;
 use crate::groups::has_groups;
 use crate::mark::Marks;
+use crate::parts::find_part_row;
 use crate::row::Row;
-use crate::rows::find_row;
 use crate::tree::Item;
 use rk_base::NoMemory;
 use std::alloc::Global;
@@ -53,7 +53,7 @@ fn push_places(
     'items: while at > 0 {
         at -= 1;
         let item = &items[at];
-        let row = find_row(item, item.times(), line, span, marks, top(rows, bottom))?;
+        let row = find_part_row(item, item.times(), line, span, marks, top(rows, bottom))?;
         put_row(rows, row, has_groups(items.split_at(at).1))?;
     }
     Ok(())

@@ -13,6 +13,11 @@ use rk_base::NoMemory;
 const FEW: usize = 1024;
 
 impl Bre {
+    /// Whether it has so many marks that it is fitted to the line.
+    pub(crate) fn has_many(&self) -> bool {
+        self.size > FEW
+    }
+
     // The same, where it isn't small.
     fn search_fitted(
         &self,
@@ -43,7 +48,7 @@ impl Bre {
     ) -> Result<Option<Span>, NoMemory>
         ensures { IfOk result (λ r. Finds (expression self.now) line.now from r) }
     {
-        if self.size <= FEW {
+        if !self.has_many() {
             return self.scan(line, from, marks);
         }
         self.search_fitted(line, from, marks)

@@ -7,9 +7,9 @@ ghost use Rattle.ut_bre.specs.Trees.{tree_of};
 
 use crate::group::Span;
 use crate::mark::Marks;
+use crate::parts::find_part_row;
 use crate::place_rows::top;
 use crate::row::Row;
-use crate::rows::find_row;
 use crate::tree::{Item, Times};
 use rk_base::NoMemory;
 use std::alloc::Global;
@@ -32,7 +32,7 @@ fn bottom_row(
     match beyond {
         Some(_) => Ok(none),
         None => {
-            let star = find_row(item, Times::any(), line, span, marks, &none)?;
+            let star = find_part_row(item, Times::any(), line, span, marks, &none)?;
             Ok(star)
         }
     }
@@ -54,7 +54,7 @@ fn push_maybe(
     ensures { OnOk result (AreFound (MatchesTurn line.now (tree_of item.now)) span.start span.end (record { least = 0; beyond = Some more }) bottom.now rows.new.items) }
 {
     'turns: for _ in 0..more {
-        let row = find_row(
+        let row = find_part_row(
             item,
             Times::at_most_once(),
             line,
@@ -104,7 +104,7 @@ fn push_needed(
     ensures { OnOk result (AreFound (MatchesTurn line.now (tree_of item.now)) span.start span.end times bottom.now rows.new.items) }
 {
     'turns: for _ in 0..times.least {
-        let row = find_row(item, Times::once(), line, span, marks, top(rows, bottom))?;
+        let row = find_part_row(item, Times::once(), line, span, marks, top(rows, bottom))?;
         rows.push_front(row)?;
     }
     Ok(())

@@ -25,8 +25,8 @@ returns-in-Some c =
     let low = place-within a.line.now x xs a.span.start a.span.end c.in-Some.stop next in
     record { next = next; turns = next.holds.0; within = omega (arith, low, c.requires.within) }
 
-pub latest-requires-clause-some : goal.latest-requires-clause-some
-latest-requires-clause-some c =
+pub latest_part-requires-clause-some : goal.latest_part-requires-clause-some
+latest_part-requires-clause-some c =
     let a = c.args in
     let x = tree_of a.item.now in
     let xs = trees_of a.rest.now in

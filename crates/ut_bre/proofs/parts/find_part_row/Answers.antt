@@ -1,0 +1,11 @@
+use Rattle.std.proofs.Common.{ℕ, ◌+◌, ◌-◌, ◌≤◌, refl, arith}
+use Rattle.ut_bre.specs.Trees.{tree_of}
+use Rattle.ut_bre.proofs.PartLemmas.{row-fitted}
+use Rattle.ut_bre.proofs.parts.find_part_row.Goals as goal
+
+pub returns : goal.returns
+returns c =
+    let a = c.args in
+    let room = a.span.end - a.span.start in
+    let h : a.span.end ≤ a.span.start + room = omega arith in
+    row-fitted a.line.now (tree_of a.item.now) (tree_of c.in_ok-own.own) a.times c.times.result a.behind.now c.in_ok-row-2.row a.span.start a.span.end room c.times.ensures h c.in_ok-own.ensures c.in_ok-row-2.ensures
