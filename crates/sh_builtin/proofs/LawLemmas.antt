@@ -29,6 +29,7 @@ use Rattle.sh_builtin.specs.Action.{Ended, Action, heard, ends, pays, asks}
 use Rattle.sh_builtin.specs.Echoes.{echoed, pwds}
 use Rattle.sh_operands.specs.Formats.{pieces}
 use Rattle.sh_builtin.specs.Names.{name_of, is_builtin, text_of}
+use Rattle.sh_builtin.specs.Options.{operands_of}
 use Rattle.sh_operands.specs.Primaries.{follows}
 use Rattle.sh_builtin.specs.Prints.{bad_line, writes_made, puts_made, tells_bad, status_of as failed, prints_pieces, prints}
 use Rattle.sh_builtin.proofs.ReadLemmas.{alike-reads}
@@ -144,11 +145,11 @@ alike-prints (format ∷ operands) v p slots k k' env hk = alike-prints_pieces f
 -- All of them.
 
 alike-named : (n : Name) (w : Text) (operands : List Text) → IsAlike (named_does n w operands)
-alike-named Cd w operands = alike-cds operands
+alike-named Cd w words = alike-cds (operands_of words)
 alike-named Read w operands = alike-reads operands
 alike-named Echo w operands = alike-puts Echo (echoed operands) 0
 alike-named Printf w operands = alike-prints operands
-alike-named Pwd w operands = alike-pwds operands
+alike-named Pwd w words = alike-pwds (operands_of words)
 alike-named Test w operands = alike-judges (decides operands)
 alike-named Bracket w operands = alike-brackets operands
 alike-named True w operands = alike-ends 0

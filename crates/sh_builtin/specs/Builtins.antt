@@ -7,6 +7,7 @@ use Rattle.sh_builtin.specs.Cds.{cds}
 use Rattle.sh_builtin.specs.Action.{Action, ends}
 use Rattle.sh_builtin.specs.Echoes.{echoes, pwds}
 use Rattle.sh_builtin.specs.Names.{name_of}
+use Rattle.sh_builtin.specs.Options.{operands_of}
 use Rattle.sh_builtin.specs.Prints.{prints}
 use Rattle.sh_builtin.specs.Reads.{reads}
 use Rattle.sh_builtin.specs.Telling.{complains}
@@ -18,11 +19,11 @@ is_unknown word = complains Unknown word (codes "not found") 127
 
 -- the builtin of this name, from its operands
 abbrev pub named_does : Name → Text → List Text → Action
-named_does Cd word operands = cds operands
+named_does Cd word words = cds (operands_of words)
 named_does Read word operands = reads operands
 named_does Echo word operands = echoes operands
 named_does Printf word operands = prints operands
-named_does Pwd word operands = pwds operands
+named_does Pwd word words = pwds (operands_of words)
 named_does Test word operands = tests operands
 named_does Bracket word operands = brackets operands
 named_does True word operands = ends 0

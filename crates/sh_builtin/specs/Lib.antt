@@ -7,6 +7,7 @@ pub mod Fields
 pub mod Laws
 pub mod Lines
 pub mod Names
+pub mod Options
 pub mod Prints
 pub mod ReadLaws
 pub mod ReadLines

@@ -12,6 +12,7 @@ ghost use Rattle.sh_builtin.specs.Stages.{stage_does, progress_does, IsDoneBy, b
 use crate::cd::{cd, walked};
 use crate::echo::{echo, pwd};
 use crate::name::{Name, name_of};
+use crate::options::operands_of;
 use crate::printf::{printf, tell_bad, write_made};
 use crate::read::{line_read, read};
 use crate::stage::{Move, Progress, Stage};
@@ -50,11 +51,11 @@ fn begin_named(
     ensures costly { IfOk result (λ move. IsCostly move.turn) }
 {
     match name {
-        Name::Cd => cd(alloc, operands, env),
+        Name::Cd => cd(alloc, operands_of(operands), env),
         Name::Read => read(alloc, operands, env),
         Name::Echo => echo(alloc, operands),
         Name::Printf => printf(alloc, operands),
-        Name::Pwd => pwd(alloc, operands, env),
+        Name::Pwd => pwd(alloc, operands_of(operands), env),
         Name::Test => test(alloc, operands, env),
         Name::Bracket => bracket(alloc, operands, env),
         Name::True => Ok(over(0)),

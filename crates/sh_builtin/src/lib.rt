@@ -11,6 +11,7 @@ mod laws;
 mod line;
 mod marks;
 mod name;
+mod options;
 mod printf;
 mod read;
 mod stage;
