@@ -9,9 +9,9 @@ use Rattle.rk_calls.specs.declared.answer.Answer.TheVariants as answer
 use Rattle.rk_calls.specs.Proper.{IsProper}
 use Rattle.rk_calls.specs.Talk.{Says}
 use Rattle.rk_calls.specs.Turns.{turns}
-use Rattle.rk_calls.specs.Views.{View, Alike, alike-ask, alike-pay}
+use Rattle.rk_calls.specs.Views.{View, Alike, alike-ask}
 use Rattle.sh_vars.specs.declared.env.Env.{Env}
-use Rattle.sh_builtin.specs.Action.{Ended, Action, heard, at_slot, ends, pays, asks}
+use Rattle.sh_builtin.specs.Action.{Ended, Action, heard, at_slot, ends, asks}
 use Rattle.sh_builtin.specs.Telling.{tells}
 use Rattle.sh_builtin.specs.Laws.{EndsAlike, BothAlike, IsAlike}
 
@@ -20,10 +20,6 @@ lower v p q k k' le h status env r le' = h status env r (omega arith)
 
 pub alike-ends : (status : ℕ) → IsAlike (ends status)
 alike-ends status v p slots k k' env h = h status env p (omega arith)
-
-pub alike-pays : (c : ℕ) (x : Action) → IsAlike x → IsAlike (pays c x)
-alike-pays c x h v p slots k k' env hk =
-    alike-pay v p c (x slots k env) (x slots k' env) (λ le. h v (p - c) slots k k' env (lower v p (p - c) k k' (omega arith) hk))
 
 pub alike-choice : (b : Bool) (x y : Action) → IsAlike x → IsAlike y → IsAlike (if b then x else y)
 alike-choice true x y h k = h

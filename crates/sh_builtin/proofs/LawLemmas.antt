@@ -21,17 +21,17 @@ use Rattle.sh_builtin.specs.declared.name.Name.TheVariants.{Cd, Read, Echo, Prin
 use Rattle.sh_operands.specs.declared.verdict.Verdict.{Verdict}
 use Rattle.sh_operands.specs.declared.verdict.Verdict.TheVariants.{Holds, Asks, Misused}
 use Rattle.sh_builtin.specs.Laws.{IsAlike}
-use Rattle.sh_builtin.proofs.AlikeLemmas.{lower, alike-ends, alike-pays, alike-choice, alike-write, alike-tells}
+use Rattle.sh_builtin.proofs.AlikeLemmas.{lower, alike-ends, alike-choice, alike-write, alike-tells}
 use Rattle.sh_builtin.specs.Builtins.{named_does, does}
 use Rattle.sh_builtin.specs.Cds.{unless_readonly, with_value, pwd_name, moves, walked, walks, cds}
 use Rattle.sh_builtin.specs.Commands.{says, own_env, builtin_command}
-use Rattle.sh_builtin.specs.Action.{Ended, Action, heard, ends, pays, asks}
+use Rattle.sh_builtin.specs.Action.{Ended, Action, heard, ends, asks}
 use Rattle.sh_builtin.specs.Echoes.{echoed, pwds}
 use Rattle.sh_operands.specs.Formats.{pieces}
 use Rattle.sh_builtin.specs.Names.{name_of, is_builtin, text_of}
 use Rattle.sh_builtin.specs.Options.{operands_of}
 use Rattle.sh_operands.specs.Primaries.{follows}
-use Rattle.sh_builtin.specs.Prints.{bad_line, writes_made, puts_made, tells_bad, status_of as failed, prints_pieces, prints}
+use Rattle.sh_builtin.specs.Prints.{bad_line, tells_bad, status_of as failed, prints_pieces, prints}
 use Rattle.sh_builtin.proofs.ReadLemmas.{alike-reads}
 use Rattle.sh_builtin.specs.Telling.{complains, usage_line, written, puts}
 use Rattle.sh_builtin.specs.Tests.{holds, status_of, inverted_if, judges, is_closing, tests, brackets}
@@ -119,17 +119,8 @@ alike-brackets operands =
 
 -- `printf`.
 
-alike-writes_made : (output : Text) (status : ℕ) → IsAlike (writes_made output status)
-alike-writes_made output status v p =
-    alike-write v p 1 output 1 (λ a. written Printf status (brought a)) (λ a. written Printf status (brought a)) (λ a q le. alike-written Printf status (brought a) v q)
-
-alike-puts_made : (output : Text) (status : ℕ) → IsAlike (puts_made output status)
-alike-puts_made output status =
-    alike-choice (is_empty output) (ends status) (pays (turns output) (writes_made output status)) (alike-ends status)
-    (alike-pays (turns output) (writes_made output status) (alike-writes_made output status))
-
 alike-tells_bad : (words : List Text) (output : Text) (status : ℕ) → IsAlike (tells_bad words output status)
-alike-tells_bad [] output status v p slots k k' env hk = alike-puts_made output status v p slots k k' env hk
+alike-tells_bad [] output status v p slots k k' env hk = alike-puts Printf output status v p slots k k' env hk
 alike-tells_bad (w ∷ ws) output status v p slots k k' env hk =
     alike-write v p 2 (bad_line w) (1 + turns (bad_line w)) (λ a. tells_bad ws output status) (λ a. tells_bad ws output status) (λ a q le. alike-tells_bad ws output status v q) slots k k' env hk
 

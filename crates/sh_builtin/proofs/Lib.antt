@@ -1,4 +1,5 @@
 pub mod Alone
+pub mod Anywhere
 pub mod Assigning
 pub mod Ending
 pub mod Paying

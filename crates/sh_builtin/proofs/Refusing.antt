@@ -1,5 +1,5 @@
 -- Calls on descriptors that the map lacks, which leave fewer to come.
-use Rattle.std.proofs.Common.{◌≡◌, ◌<◌, ℕ, Result, Ok, Err, IfOk, sym, ap, subst, ◌∙◌, arith}
+use Rattle.std.proofs.Common.{◌≡◌, ◌<◌, ◌≤◌, ℕ, Result, Ok, Err, IfOk, sym, ap, subst, ◌∙◌, arith}
 use Rattle.rk_base.specs.Text.{Text}
 use Rattle.rk_base.specs.declared.errno.Errno.{Errno}
 use Rattle.rk_base.specs.declared.errno.Errno.TheVariants.{BadRef}
@@ -33,9 +33,15 @@ pub fewer_refused : {E : Type 0} (r : Result Move E) (a : Answer) (n n' : ℕ) �
 fewer_refused (Ok move) a n n' h same = λ is. subst (λ (n : ℕ). IsFewer n move.turn (refusals move.stage)) (sym same) h
 fewer_refused (Err e) a n n' h same = tt
 
-pub no_call_fewer : {E : Type 0} (r : Result Move E) (n : ℕ) → IfOk r (λ move. (n m : ℕ) → IsFewer n move.turn m) → IfOk r (λ move. IsFewer n move.turn (refusals move.stage))
-no_call_fewer (Ok move) n h = h n (refusals move.stage)
-no_call_fewer (Err e) n h = tt
+more_left : (t : Turn) (n n' m : ℕ) → n ≤ n' → IsFewer n t m → IsFewer n' t m
+more_left (Ask call cost) n n' m le h = omega arith
+more_left (More cost) n n' m le h = tt
+more_left (Exit status cost) n n' m le h = tt
+
+-- fewer than these, so than more
+pub fewer_left : {E : Type 0} (r : Result Move E) (n n' : ℕ) → n ≤ n' → IfOk r (λ move. IsFewer n move.turn (refusals move.stage)) → IfOk r (λ move. IsFewer n' move.turn (refusals move.stage))
+fewer_left (Ok move) n n' le h = more_left move.turn n n' (refusals move.stage) le h
+fewer_left (Err e) n n' le h = tt
 
 -- a refusal brings no line
 pub last_told : {E : Type 0} (r : Result Move E) (a : Answer) → IfOk r IsLast → IfOk r (λ move. a ≡ No BadRef → IsLast move)

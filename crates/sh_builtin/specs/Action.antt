@@ -54,10 +54,6 @@ after slots (Exit status cost) next k env = pay cost (k status env)
 abbrev pub ends : ℕ → Action
 ends status slots k env = k status env
 
--- it pays, and goes on
-abbrev pub pays : ℕ → Action → Action
-pays cost x slots k env = pay cost (x slots k env)
-
 -- it asks, and goes on by the answer
 abbrev pub asks : Call → ℕ → (Answer → Action) → Action
 asks call cost next slots k env = through slots call cost (λ a. next a slots k) env

@@ -1,6 +1,5 @@
 -- What `printf` does (XCU 4, `printf`).
-use Rattle.std.specs.Prelude.{ℕ, ◌+◌, List, [], ◌∷◌, codes, Option, Some, None, if◌then◌else◌}
-use Rattle.rk_base.specs.Canonical.{is_empty}
+use Rattle.std.specs.Prelude.{ℕ, ◌+◌, List, [], ◌∷◌, codes, Option, Some, None}
 use Rattle.rk_base.specs.Text.{Text}
 use Rattle.rk_calls.specs.declared.call.Call.TheVariants.{Write}
 use Rattle.rk_calls.specs.Brought.{brought}
@@ -11,23 +10,19 @@ use Rattle.sh_operands.specs.Formats.{pieces}
 use Rattle.sh_operands.specs.Made.{MadeValue}
 use Rattle.sh_operands.specs.Passes.{prints_of}
 use Rattle.sh_builtin.specs.declared.name.Name.TheVariants.{Printf}
-use Rattle.sh_builtin.specs.Action.{Action, ends, pays, asks}
-use Rattle.sh_builtin.specs.Telling.{complains, tells, usage_line, written}
+use Rattle.sh_builtin.specs.Action.{Action, asks}
+use Rattle.sh_builtin.specs.Telling.{complains, puts, tells, usage_line, written}
 
 abbrev pub bad_line : Text → Text
 bad_line word = error_line (codes "printf") word (codes "not valid")
 
--- the output, where there is any, on 1, once it is paid for
+-- what is left of an output, once all but the call is paid for
 abbrev pub writes_made : Text → ℕ → Action
 writes_made output status = asks (Write 1 output) 1 (λ a. written Printf status (brought a))
 
--- a turn for each 64 bytes is paid before the output is made
-abbrev pub puts_made : Text → ℕ → Action
-puts_made output status = if is_empty output then ends status else pays (turns output) (writes_made output status)
-
--- a line for each bad number, and then the output
+-- a line for each bad number, and then the output, as each builtin puts its own
 abbrev pub tells_bad : List Text → Text → ℕ → Action
-tells_bad [] output status = puts_made output status
+tells_bad [] output status = puts Printf output status
 tells_bad (word ∷ words) output status = asks (Write 2 (bad_line word)) (1 + turns (bad_line word)) (λ a. tells_bad words output status)
 
 abbrev pub status_of : List Text → ℕ

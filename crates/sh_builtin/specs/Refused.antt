@@ -1,5 +1,5 @@
 -- Calls on descriptors that the map lacks, one after another.
-use Rattle.std.specs.Prelude.{◌≡◌, ◌<◌, ℕ, ◌-◌, length}
+use Rattle.std.specs.Prelude.{◌≡◌, ◌<◌, ℕ, ◌+◌, ◌-◌, length}
 use Rattle.rk_calls.specs.declared.turn.Turn.{Turn}
 use Rattle.rk_calls.specs.declared.turn.Turn.TheVariants.{Ask, More, Exit}
 use Rattle.sh_builtin.specs.declared.builtin.Builtin.{Builtin}
@@ -9,12 +9,13 @@ use Rattle.sh_builtin.specs.declared.stage.Progress.TheVariants.{Begins, Stands}
 use Rattle.sh_builtin.specs.declared.stage.Stage.{Stage}
 use Rattle.sh_builtin.specs.declared.stage.Stage.TheVariants.{Writing, Walking, Reading, Printing, Paid, Judging, Over}
 
--- how many calls may still come where each of them is refused so: two after an output was made, for one its error is told
+-- how many calls may still come without a turn where each of them is refused so: lines on the operands that are left, the Write
+-- of an output that is paid for, and a line on its refusal
 abbrev pub refusals : Stage → ℕ
 refusals (Writing name status) = 1
 refusals (Walking operand) = 1
 refusals (Reading raw names marks) = 1
-refusals (Printing bad at ps operands status) = length bad - at
+refusals (Printing bad at ps operands status) = length bad - at + 1
 refusals (Paid ps operands status) = 2
 refusals (Judging p negated) = 1
 refusals (Over status) = 0

@@ -1,5 +1,5 @@
 -- What the machine of builtins does at each stage.
-use Rattle.std.specs.Prelude.{◌≡◌, ℕ, drop}
+use Rattle.std.specs.Prelude.{◌≡◌, ℕ, Bool, drop, is_some}
 use Rattle.rk_calls.specs.declared.answer.Answer.{Answer}
 use Rattle.rk_calls.specs.Brought.{brought}
 use Rattle.rk_calls.specs.Talk.{Says}
@@ -35,6 +35,15 @@ stage_does (Over status) a = ends status
 abbrev pub IsDoneBy : Action → Env → Move → Env → Type 0
 IsDoneBy x env move env' =
     (slots : Slots) (k : Ended) (p : ℕ) → x slots k env p ≡ after slots move.turn (λ a. stage_does move.stage a slots k) k env' p
+
+-- whether the map has descriptor 1
+abbrev pub HasOutput : Slots → Bool → Type 0
+HasOutput slots has_output = has_output ≡ is_some (slots 1)
+
+-- this is done so where the map has descriptor 1, or where it lacks it
+abbrev pub IsDoneWhere : Bool → Action → Env → Move → Env → Type 0
+IsDoneWhere has_output x env move env' =
+    (slots : Slots) (k : Ended) (p : ℕ) → HasOutput slots has_output → x slots k env p ≡ after slots move.turn (λ a. stage_does move.stage a slots k) k env' p
 
 abbrev pub progress_does : Progress → Answer → Action
 progress_does (Begins words) a = does words

@@ -111,7 +111,7 @@ impl Machine for BuiltinCommand {
 
     fn resume(&mut self, answer: Answer) -> Result<Turn, NoMemory> {
         hear(&answer, &mut self.env.next);
-        let turn = self.builtin.resume(&mut self.env, answer)?;
+        let turn = self.builtin.resume(true, &mut self.env, answer)?;
         Ok(turn)
     }
 }

@@ -1,19 +1,19 @@
 // `printf`.
-ghost use Rattle.std.specs.Prelude.{◌≡◌, ℕ, ◌-◌, IfOk, codes, drop, length};
+ghost use Rattle.std.specs.Prelude.{◌≡◌, ◌+◌, ◌-◌, IfOk, codes, drop, length};
 ghost use Rattle.rk_calls.specs.Costly.{IsCostly};
 ghost use Rattle.sh_vars.specs.declared.env.Env.{Env};
 ghost use Rattle.sh_builtin.specs.declared.name.Name.TheVariants.{Printf};
 ghost use Rattle.sh_operands.specs.Passes.{prints_of};
-ghost use Rattle.sh_builtin.specs.Prints.{bad_line, writes_made, puts_made, tells_bad, status_of, prints_pieces, prints};
+ghost use Rattle.sh_builtin.specs.Prints.{bad_line, writes_made, tells_bad, status_of, prints_pieces, prints};
 ghost use Rattle.sh_builtin.specs.Refused.{IsFewer, refusals};
-ghost use Rattle.sh_builtin.specs.Stages.{IsDoneBy};
-ghost use Rattle.sh_builtin.specs.Telling.{complains};
+ghost use Rattle.sh_builtin.specs.Stages.{IsDoneBy, IsDoneWhere};
+ghost use Rattle.sh_builtin.specs.Telling.{complains, puts};
 
 use crate::name::Name;
 use crate::stage::{Move, Stage};
-use crate::telling::{complain, misuse, over};
-use rk_base::{Bytes, NoMemory, WordList};
-use rk_calls::{Call, Turn, error_line, turns};
+use crate::telling::{complain, misuse, over, written};
+use rk_base::{Bytes, Errno, NoMemory, WordList};
+use rk_calls::{Answer, Call, Turn, error_line, turns};
 use sh_operands::{Format, copies, measured, pieces, printed};
 use std::alloc::Global;
 
@@ -23,15 +23,26 @@ fn bad_line(alloc: Global, word: &[u8]) -> Result<Bytes, NoMemory>
     error_line(alloc, b"printf", word, b"not valid")
 }
 
-// The output is paid for by its length, where there is any.
-fn pay_made(alloc: Global, pieces: Format, operands: WordList, status: u8) -> Result<Move, NoMemory>
-    ensures does { IfOk result (λ move. (env : Env) → IsDoneBy (puts_made (prints_of pieces operands).output status) env move env) }
+// The output is paid for by its length before it is made, where there is any. One that the map has no descriptor for is
+// refused: it isn't made, and nothing is paid for it.
+fn pay_made(
+    alloc: Global,
+    pieces: Format,
+    operands: WordList,
+    status: u8,
+    has_output: bool,
+) -> Result<Move, NoMemory>
+    ensures does { IfOk result (λ move. (env : Env) → IsDoneWhere has_output (puts Printf (prints_of pieces operands).output status) env move env) }
     ensures costly { IfOk result (λ move. IsCostly move.turn) }
-    ensures no_call { IfOk result (λ move. (n m : ℕ) → IsFewer n move.turn m) }
+    ensures fewer { IfOk result (λ move. IsFewer 1 move.turn (refusals move.stage)) }
 {
     let (bytes, _) = measured(alloc, pieces.as_slice(), operands.as_slice())?;
     if bytes == 0 {
         return Ok(over(status));
+    }
+    if !has_output {
+        let move_told = written(alloc, Name::Printf, status, Answer::No(Errno::BadRef))?;
+        return Ok(move_told);
     }
     Ok(Move {
         turn: Turn::More(bytes.div_ceil(64)),
@@ -67,13 +78,14 @@ pub(crate) fn tell_bad(
     pieces: Format,
     operands: WordList,
     status: u8,
+    has_output: bool,
 ) -> Result<Move, NoMemory>
-    ensures does { IfOk result (λ move. (env : Env) → IsDoneBy (tells_bad (drop at bad) (prints_of pieces operands).output status) env move env) }
+    ensures does { IfOk result (λ move. (env : Env) → IsDoneWhere has_output (tells_bad (drop at bad) (prints_of pieces operands).output status) env move env) }
     ensures costly { IfOk result (λ move. IsCostly move.turn) }
-    ensures fewer { IfOk result (λ move. IsFewer (length bad - at) move.turn (refusals move.stage)) }
+    ensures fewer { IfOk result (λ move. IsFewer (length bad - at + 1) move.turn (refusals move.stage)) }
 {
     if at >= bad.len() {
-        return pay_made(alloc, pieces, operands, status);
+        return pay_made(alloc, pieces, operands, status, has_output);
     }
     let line = bad_line(alloc, bad.as_slice()[at].as_slice())?;
     let cost = 1 + turns(line.as_slice());
@@ -104,8 +116,9 @@ fn print_pieces(
     format: &[u8],
     pieces: Option<Format>,
     operands: &[Bytes],
+    has_output: bool,
 ) -> Result<Move, NoMemory>
-    ensures does { IfOk result (λ move. (env : Env) → IsDoneBy (prints_pieces format.now pieces operands.now) env move env) }
+    ensures does { IfOk result (λ move. (env : Env) → IsDoneWhere has_output (prints_pieces format.now pieces operands.now) env move env) }
     ensures costly { IfOk result (λ move. IsCostly move.turn) }
 {
     match pieces {
@@ -114,20 +127,20 @@ fn print_pieces(
             let (_, bad) = measured(alloc, pieces.as_slice(), operands)?;
             let status = status_of(bad.as_slice());
             let operands = copies(alloc, operands)?;
-            tell_bad(alloc, bad, 0, pieces, operands, status)
+            tell_bad(alloc, bad, 0, pieces, operands, status, has_output)
         }
     }
 }
 
-pub(crate) fn printf(alloc: Global, operands: &[Bytes]) -> Result<Move, NoMemory>
-    ensures does { IfOk result (λ move. (env : Env) → IsDoneBy (prints operands.now) env move env) }
+pub(crate) fn printf(alloc: Global, operands: &[Bytes], has_output: bool) -> Result<Move, NoMemory>
+    ensures does { IfOk result (λ move. (env : Env) → IsDoneWhere has_output (prints operands.now) env move env) }
     ensures costly { IfOk result (λ move. IsCostly move.turn) }
 {
     match operands {
         [] => misuse(alloc, b"printf", 1),
         [format, operands @ ..] => {
             let pieces = pieces(alloc, format.as_slice())?;
-            print_pieces(alloc, format.as_slice(), pieces, operands)
+            print_pieces(alloc, format.as_slice(), pieces, operands, has_output)
         }
     }
 }

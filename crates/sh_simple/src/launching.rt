@@ -1,5 +1,5 @@
 // Commands that are launched, functions that are called, and builtins.
-ghost use Rattle.std.specs.Prelude.{◌≡◌, ◌<◌, ℕ, IfOk, drop, length};
+ghost use Rattle.std.specs.Prelude.{◌≡◌, ◌<◌, ℕ, IfOk, drop, is_some, length};
 ghost use Rattle.sh_redirect.specs.DescriptorTable.{slot};
 ghost use Rattle.sh_means.specs.Flows.{Next, ends};
 ghost use Rattle.sh_simple.specs.Launching.{through};
@@ -154,6 +154,13 @@ fn slot(descriptors: &DescriptorTable, d: u64) -> Option<u64>
     }
 }
 
+// Whether the map has a descriptor for the output of a builtin.
+fn has_output(descriptors: &DescriptorTable) -> bool
+    ensures { result ≡ is_some (slot descriptors.now 1) }
+{
+    slot(descriptors, 1).is_some()
+}
+
 // It has named a descriptor that the map lacks: it hears that, until it calls one that the map has, pays, or is over.
 fn resume_refused(builtin: Box<Builtin>, state: &mut State) -> Result<Acted, NoMemory>
     requires { HasBegun builtin.value }
@@ -162,7 +169,11 @@ fn resume_refused(builtin: Box<Builtin>, state: &mut State) -> Result<Acted, NoM
 {
     let mut builtin = builtin;
     'refused: loop {
-        let turn = builtin.resume(&mut state.env, Answer::No(Errno::BadRef))?;
+        let turn = builtin.resume(
+            has_output(&state.descriptors),
+            &mut state.env,
+            Answer::No(Errno::BadRef),
+        )?;
         match turn {
             Turn::Ask(call, cost) => match through(call, &state.descriptors) {
                 Some(call) => {
@@ -201,7 +212,7 @@ pub fn resume_builtin(
     ensures costly { IfOk result (Sinks 1) }
 {
     let mut builtin = builtin;
-    let turn = builtin.resume(&mut state.env, answer)?;
+    let turn = builtin.resume(has_output(&state.descriptors), &mut state.env, answer)?;
     match turn {
         Turn::Ask(call, cost) => match through(call, &state.descriptors) {
             Some(call) => Ok(Acted {

@@ -1,4 +1,4 @@
-use Rattle.std.proofs.Common.{◌-◌, length, ap, arith}
+use Rattle.std.proofs.Common.{◌+◌, ◌-◌, length, ap, arith}
 use Rattle.sh_builtin.specs.Refused.{refusals}
 use Rattle.sh_builtin.proofs.Refusing.{last_refused, last_read, last_fewer, fewer_refused}
 use Rattle.sh_builtin.proofs.builtin.go_on.Goals as goal
@@ -13,7 +13,7 @@ pub returns-in-Reading-clause-refused : goal.returns-in-Reading-clause-refused
 returns-in-Reading-clause-refused c = last_read c.line_read.result c.args.answer (refusals c.args.stage) c.line_read.ensures.refused (omega (arith, ap refusals c.in-Reading.is))
 
 pub returns-in-Printing-clause-refused : goal.returns-in-Printing-clause-refused
-returns-in-Printing-clause-refused c = fewer_refused c.tell_bad.result c.args.answer (refusals c.args.stage) (length c.in-Printing.bad - c.in-Printing.at) c.tell_bad.ensures.fewer (ap refusals c.in-Printing.is)
+returns-in-Printing-clause-refused c = fewer_refused c.tell_bad.result c.args.answer (refusals c.args.stage) (length c.in-Printing.bad - c.in-Printing.at + 1) c.tell_bad.ensures.fewer (ap refusals c.in-Printing.is)
 
 pub returns-in-Paid-clause-refused : goal.returns-in-Paid-clause-refused
 returns-in-Paid-clause-refused c = fewer_refused c.write_made.result c.args.answer (refusals c.args.stage) 2 c.write_made.ensures.fewer (ap refusals c.in-Paid.is)

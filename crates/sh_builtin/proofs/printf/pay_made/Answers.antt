@@ -3,7 +3,6 @@ use Rattle.rk_base.specs.Text.{Text}
 use Rattle.rk_calls.specs.Talk.{pay}
 use Rattle.sh_operands.specs.declared.format.Piece.{Piece}
 use Rattle.sh_operands.specs.Passes.{prints_of}
-use Rattle.sh_builtin.specs.Action.{Action}
 use Rattle.sh_builtin.specs.Prints.{writes_made}
 use Rattle.sh_builtin.proofs.Paying.{made_paid}
 use Rattle.sh_builtin.proofs.printf.pay_made.Goals as goal
@@ -14,6 +13,6 @@ returns-clause-does c =
     c.in_ok-bytes.ensures.bytes
     ∙ ap (λ (ps : List Piece). length (prints_of ps c.as_slice-2.result.now).output) c.as_slice.ensures
     ∙ ap (λ (operands : List Text). length (prints_of c.args.pieces operands).output) c.as_slice-2.ensures in
-    λ env slots k p.
-    ap (λ (x : Action). x slots k env p) (made_paid (prints_of c.args.pieces c.args.operands).output c.args.status c.in_ok-bytes.bytes bytes c.if-bytes-eq0.false)
+    λ env slots k p is.
+    made_paid c.args.status slots k env p (prints_of c.args.pieces c.args.operands).output c.in_ok-bytes.bytes bytes c.if-bytes-eq0.false (sym c.if-not-has_output.false ∙ is)
     ∙ ap (λ (cost : ℕ). pay cost (writes_made (prints_of c.args.pieces c.args.operands).output c.args.status slots k env) p) (sym c.div_ceil.ensures)
