@@ -112,14 +112,18 @@ edited_lines s opened n (line ∷ lines) =
 abbrev pub none_opened : List CommandValue → List Bool
 none_opened = map (λ c. false)
 
--- the inputs are one stream of lines
-abbrev pub sed_makes : SedValue → List Input → Made
-sed_makes s inputs =
+-- this output, and a line for each input that was refused
+abbrev pub made_of : List Input → Text → Made
+made_of inputs output =
     record {
-      output = edited_lines s (none_opened s.commands) 1 (all_lines inputs);
+      output = output;
       errors = refusals (codes "sed") inputs;
       status = status_of 1 (refusals (codes "sed") inputs);
     }
+
+-- the inputs are one stream of lines
+abbrev pub sed_makes : SedValue → List Input → Made
+sed_makes s inputs = made_of inputs (edited_lines s (none_opened s.commands) 1 (all_lines inputs))
 
 abbrev pub sed_job : SedValue → Job
 sed_job s = record { name = codes "sed"; failed = 1; out = None; makes = sed_makes s }

@@ -1,18 +1,21 @@
 // What commands make of a line.
 ghost use Rattle.std.specs.Prelude.{◌≡◌, ◌++◌, [], IfOk, OnOk};
 ghost use Rattle.std.specs.Fmt.{decimal};
+ghost use Rattle.ut_filter.specs.Outputs.{put};
 ghost use Rattle.ut_sed.specs.Commands.{act_of, command_of, commands_of, substitution_of};
 ghost use Rattle.ut_sed.specs.Editing.{line_of, edited, edited_by, substitution, first_opened, rest_opened, is_over, is_quit, cycle};
 ghost use Rattle.ut_sed.specs.Changing.{changed};
 
 use crate::change::Change;
 use crate::command::{Act, Command, Substitution};
+use crate::growth::extend;
 use crate::select::{Line, Selected};
 use rk_base::NoMemory;
 use std::alloc::Global;
 use std::marker::Model;
 use std::mem::swap;
 use ut_bre::Marks;
+use ut_filter::Output;
 
 /// How a cycle goes on, or ends.
 #[derive(Clone, Copy, Debug, Drop)]
@@ -84,16 +87,17 @@ impl Model for Space {
 }
 
 /// A line and its newline.
-pub(crate) fn put_line(line: &[u8], output: &mut Vec<u8>) -> Result<(), NoMemory>
-    ensures { OnOk result (output.new.items ≡ output.old.items ++ line_of line.now) }
+#[tactic(auto, using(ut_filter::proofs::OutputLemmas::put_more))]
+pub(crate) fn put_line(line: &[u8], output: &mut Output) -> Result<(), NoMemory>
+    ensures { OnOk result (output.new ≡ put output.old (line_of line.now)) }
 {
-    output.extend_from_slice(line)?;
-    output.push(b'\n')?;
+    output.put(line)?;
+    output.put(b"\n")?;
     Ok(())
 }
 
-fn put_number(alloc: Global, n: u64, output: &mut Vec<u8>) -> Result<(), NoMemory>
-    ensures { OnOk result (output.new.items ≡ output.old.items ++ line_of (decimal n)) }
+fn put_number(alloc: Global, n: u64, output: &mut Output) -> Result<(), NoMemory>
+    ensures { OnOk result (output.new ≡ put output.old (line_of (decimal n))) }
 {
     let digits = format!(in alloc; "{n}")?;
     put_line(digits.as_bytes(), output)
@@ -121,13 +125,14 @@ impl Space {
         ensures { OnOk result (self.new ≡ line.now) }
     {
         self.text.clear();
-        self.text.extend_from_slice(line)?;
+        extend(&mut self.text, line)?;
         Ok(())
     }
 
-    fn substitute(&mut self, s: &Substitution, output: &mut Vec<u8>) -> Result<(), NoMemory>
+    #[tactic(auto, using(ut_filter::proofs::OutputLemmas::put_nothing))]
+    fn substitute(&mut self, s: &Substitution, output: &mut Output) -> Result<(), NoMemory>
         ensures text { OnOk result (self.new ≡ (substitution (substitution_of s.now) self.old).text) }
-        ensures out { OnOk result (output.new.items ≡ output.old.items ++ (substitution (substitution_of s.now) self.old).out) }
+        ensures out { OnOk result (output.new ≡ put output.old (substitution (substitution_of s.now) self.old).out) }
     {
         self.spare.clear();
         let replaced = s.rewrite(self.text.as_slice(), &mut self.marks, &mut self.spare)?;
@@ -147,9 +152,10 @@ impl Space {
         Ok(())
     }
 
-    fn edit(&mut self, act: &Act, number: u64, output: &mut Vec<u8>) -> Result<Ends, NoMemory>
+    #[tactic(auto, using(ut_filter::proofs::OutputLemmas::put_nothing))]
+    fn edit(&mut self, act: &Act, number: u64, output: &mut Output) -> Result<Ends, NoMemory>
         ensures text { OnOk result (self.new ≡ (edited (act_of act.now) number self.old).text) }
-        ensures out { OnOk result (output.new.items ≡ output.old.items ++ (edited (act_of act.now) number self.old).out) }
+        ensures out { OnOk result (output.new ≡ put output.old (edited (act_of act.now) number self.old).out) }
         ensures ends { IfOk result (λ e. e ≡ (edited (act_of act.now) number self.old).ends) }
     {
         match act {
@@ -164,15 +170,16 @@ impl Space {
     }
 
     // Where the command selects the line.
+    #[tactic(auto, using(ut_filter::proofs::OutputLemmas::put_nothing))]
     fn edit_by(
         &mut self,
         command: &Command,
         selected: Selected,
         number: u64,
-        output: &mut Vec<u8>,
+        output: &mut Output,
     ) -> Result<Ends, NoMemory>
         ensures text { OnOk result (self.new ≡ (edited_by (command_of command.now) selected number self.old).text) }
-        ensures out { OnOk result (output.new.items ≡ output.old.items ++ (edited_by (command_of command.now) selected number self.old).out) }
+        ensures out { OnOk result (output.new ≡ put output.old (edited_by (command_of command.now) selected number self.old).out) }
         ensures ends { IfOk result (λ e. e ≡ (edited_by (command_of command.now) selected number self.old).ends) }
     {
         if selected.selected {
@@ -184,7 +191,7 @@ impl Space {
 
     /// One cycle of commands: which ranges are open behind the line is put after others, what is written after other
     /// output.
-    #[tactic(auto, using(crate::proofs::EditLemmas::cycle_more, crate::proofs::EditLemmas::cycle_over))]
+    #[tactic(auto, using(crate::proofs::EditLemmas::cycle_more, crate::proofs::EditLemmas::cycle_over, crate::proofs::EditLemmas::commands_end, ut_filter::proofs::OutputLemmas::put_more, ut_filter::proofs::OutputLemmas::put_nothing))]
     pub(crate) fn cycle(
         &mut self,
         commands: &[Command],
@@ -192,11 +199,11 @@ impl Space {
         number: u64,
         is_last: bool,
         next: &mut Vec<bool>,
-        output: &mut Vec<u8>,
+        output: &mut Output,
     ) -> Result<Ends, NoMemory>
         ensures opened { OnOk result (next.new.items ≡ next.old.items ++ (cycle (commands_of commands.now) opened.now number is_last self.old).opened) }
         ensures text { OnOk result (self.new ≡ (cycle (commands_of commands.now) opened.now number is_last self.old).text) }
-        ensures out { OnOk result (output.new.items ≡ output.old.items ++ (cycle (commands_of commands.now) opened.now number is_last self.old).out) }
+        ensures out { OnOk result (output.new ≡ put output.old (cycle (commands_of commands.now) opened.now number is_last self.old).out) }
         ensures ends { IfOk result (λ e. e ≡ (cycle (commands_of commands.now) opened.now number is_last self.old).ends) }
     {
         let mut rest = commands;

@@ -7,6 +7,7 @@ mod change;
 mod command;
 mod edit;
 mod gatherer;
+mod growth;
 mod laws;
 mod pieces;
 mod reader;

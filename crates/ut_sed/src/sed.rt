@@ -2,16 +2,19 @@
 ghost use Rattle.std.specs.Prelude.{◌≡◌, ◌+◌, ◌++◌, [], IfOk, OnOk, if◌then◌else◌};
 ghost use Rattle.rk_base.specs.Canonical.{is_empty};
 ghost use Rattle.ut_filter.specs.Lines.{lines_of};
+ghost use Rattle.ut_filter.specs.Outputs.{put, HasGrown};
 ghost use Rattle.ut_filter.specs.Parts.{all_lines};
 ghost use Rattle.ut_sed.specs.Commands.{commands_of};
-ghost use Rattle.ut_sed.specs.Editing.{cycle, shown, edited_lines, none_opened, sed_of};
+ghost use Rattle.ut_sed.specs.Editing.{cycle, shown, edited_lines, none_opened, made_of, sed_of};
 
 use crate::command::Command;
 use crate::edit::{Ends, Space, put_line};
 use rk_base::{Bytes, NoMemory};
 use std::alloc::Global;
 use std::mem::swap;
-use ut_filter::{Input, Made, Work, front_line, refusal_lines, status_of};
+use ut_filter::{
+    Grown, HELD, Input, Made, Measured, Output, Work, front_line, refusal_lines, status_of,
+};
 
 /// `sed`: whether lines are shown only where a command says so, and its commands.
 #[derive(Drop)]
@@ -76,8 +79,9 @@ fn is_last(after: &[u8], later: &[Input]) -> bool
 
 impl Sed {
     // The end of a cycle.
-    fn show(&self, ends: Ends, text: &[u8], output: &mut Vec<u8>) -> Result<(), NoMemory>
-        ensures { OnOk result (output.new.items ≡ output.old.items ++ shown self.now.quiet ends text.now) }
+    #[tactic(auto, using(ut_filter::proofs::OutputLemmas::put_nothing))]
+    fn show(&self, ends: Ends, text: &[u8], output: &mut Output) -> Result<(), NoMemory>
+        ensures { OnOk result (output.new ≡ put output.old (shown self.now.quiet ends text.now)) }
     {
         if self.quiet {
             return Ok(());
@@ -90,17 +94,18 @@ impl Sed {
     }
 
     // A cycle, and its end.
+    #[tactic(auto, using(ut_filter::proofs::OutputLemmas::put_more))]
     fn edit_line(
         &self,
         line: &[u8],
         is_last: bool,
         progress: &mut Progress,
-        output: &mut Vec<u8>,
+        output: &mut Output,
     ) -> Result<Ends, NoMemory>
         ensures opened { OnOk result (progress.new.opened.items ≡ (cycle (commands_of self.now.commands.items) progress.old.opened.items progress.old.number is_last line.now).opened) }
         ensures number { OnOk result (progress.new.number ≡ progress.old.number + 1) }
         ensures ends { IfOk result (λ e. e ≡ (cycle (commands_of self.now.commands.items) progress.old.opened.items progress.old.number is_last line.now).ends) }
-        ensures out { OnOk result (let c = cycle (commands_of self.now.commands.items) progress.old.opened.items progress.old.number is_last line.now in output.new.items ≡ output.old.items ++ (c.out ++ shown self.now.quiet c.ends c.text)) }
+        ensures out { OnOk result (let c = cycle (commands_of self.now.commands.items) progress.old.opened.items progress.old.number is_last line.now in output.new ≡ put output.old (c.out ++ shown self.now.quiet c.ends c.text)) }
     {
         let number = progress.number;
         progress.number = number.checked_add(1).ok_or(NoMemory)?;
@@ -120,15 +125,14 @@ impl Sed {
     }
 
     // The lines of a text, which inputs come after; whether nothing comes behind them.
-    #[tactic(auto, using(crate::proofs::EditLemmas::lines_more, crate::proofs::EditLemmas::lines_quit))]
     fn edit_text(
         &self,
         text: &[u8],
         later: &[Input],
         progress: &mut Progress,
-        output: &mut Vec<u8>,
+        output: &mut Output,
     ) -> Result<bool, NoMemory>
-        ensures { IfOk result (λ quits. output.new.items ++ (if quits then [] else edited_lines (sed_of self.now) progress.new.opened.items progress.new.number (all_lines later.now)) ≡ output.old.items ++ edited_lines (sed_of self.now) progress.old.opened.items progress.old.number (lines_of text.now ++ all_lines later.now)) }
+        ensures { IfOk result (λ quits. put output.new (if quits then [] else edited_lines (sed_of self.now) progress.new.opened.items progress.new.number (all_lines later.now)) ≡ put output.old (edited_lines (sed_of self.now) progress.old.opened.items progress.old.number (lines_of text.now ++ all_lines later.now))) }
     {
         let mut rest = text;
         'lines: while let Some((line, after)) = front_line(rest) {
@@ -142,13 +146,14 @@ impl Sed {
         Ok(false)
     }
 
+    #[tactic(auto, using(crate::proofs::EditLemmas::quit_end, crate::proofs::EditLemmas::inputs_end))]
     fn edit_inputs(
         &self,
         inputs: &[Input],
         progress: &mut Progress,
-        output: &mut Vec<u8>,
+        output: &mut Output,
     ) -> Result<(), NoMemory>
-        ensures { OnOk result (output.new.items ≡ output.old.items ++ edited_lines (sed_of self.now) progress.old.opened.items progress.old.number (all_lines inputs.now)) }
+        ensures { OnOk result (output.new ≡ put output.old (edited_lines (sed_of self.now) progress.old.opened.items progress.old.number (all_lines inputs.now))) }
     {
         let mut rest = inputs;
         'inputs: while let [input, later @ ..] = rest {
@@ -160,8 +165,10 @@ impl Sed {
         Ok(())
     }
 
-    fn output(&self, alloc: Global, inputs: &[Input]) -> Result<Bytes, NoMemory>
-        ensures { IfOk result (λ text. text ≡ edited_lines (sed_of self.now) (none_opened (sed_of self.now).commands) 1 (all_lines inputs.now)) }
+    // The output, of which so many bytes are held.
+    #[tactic(auto, using(ut_filter::proofs::OutputLemmas::grown_whole))]
+    fn output(&self, alloc: Global, inputs: &[Input], room: usize) -> Result<Grown, NoMemory>
+        ensures { IfOk result (HasGrown (edited_lines (sed_of self.now) (none_opened (sed_of self.now).commands) 1 (all_lines inputs.now))) }
     {
         let opened = none_opened(alloc, self.commands.as_slice())?;
         let mut progress = Progress {
@@ -170,10 +177,23 @@ impl Sed {
             number: 1,
             space: Space::new(alloc),
         };
-        let mut output = Vec::new(alloc);
+        let mut output = Output::new(alloc, room);
         self.edit_inputs(inputs, &mut progress, &mut output)?;
-        Bytes::new(alloc, output)
+        output.end(alloc)
     }
+}
+
+// What is made, where the output is this text.
+fn made_of(alloc: Global, inputs: &[Input], output: Bytes) -> Result<Made, NoMemory>
+    ensures { IfOk result (λ made. made ≡ made_of inputs.now output) }
+{
+    let errors = refusal_lines(alloc, b"sed", inputs)?;
+    let status = status_of(1, &errors);
+    Ok(Made {
+        output,
+        errors,
+        status,
+    })
 }
 
 impl Work for Sed {
@@ -193,14 +213,20 @@ impl Work for Sed {
         None
     }
 
+    fn measure(&self, alloc: Global, inputs: &[Input]) -> Result<Measured, NoMemory> {
+        match self.output(alloc, inputs, HELD)? {
+            Grown::Text(output) => {
+                let made = made_of(alloc, inputs, output)?;
+                Ok(Measured::Short(made))
+            }
+            Grown::Length(length) => Ok(Measured::Long(length)),
+        }
+    }
+
     fn make(&self, alloc: Global, inputs: &[Input]) -> Result<Made, NoMemory> {
-        let output = self.output(alloc, inputs)?;
-        let errors = refusal_lines(alloc, b"sed", inputs)?;
-        let status = status_of(1, &errors);
-        Ok(Made {
-            output,
-            errors,
-            status,
-        })
+        match self.output(alloc, inputs, usize::MAX)? {
+            Grown::Text(output) => made_of(alloc, inputs, output),
+            Grown::Length(_) => Err(NoMemory),
+        }
     }
 }

@@ -7,6 +7,7 @@ ghost use Rattle.ut_sed.specs.Commands.{substitution_of};
 ghost use Rattle.ut_sed.specs.Substituting.{group_text, part_text, parts_text, name_groups, next_found, match_text, is_final, substituted, is_substituted};
 
 use crate::command::{Part, Substitution};
+use crate::growth::{extend, push};
 use crate::pieces::{behind, piece};
 use rk_base::NoMemory;
 use ut_bre::{Bre, Found, GroupList, Marks, Span};
@@ -24,11 +25,9 @@ fn put_part(text: &[u8], found: &Found, part: Part, made: &mut Vec<u8>) -> Resul
     ensures { OnOk result (made.new.items ≡ made.old.items ++ part_text text.now found.now part) }
 {
     match part {
-        Part::Byte(b) => made.push(b)?,
-        Part::Whole => made.extend_from_slice(piece(text, found.start, found.end))?,
-        Part::Group(number) => {
-            made.extend_from_slice(group_text(text, found.groups.get(number)))?
-        }
+        Part::Byte(b) => push(made, b)?,
+        Part::Whole => extend(made, piece(text, found.start, found.end))?,
+        Part::Group(number) => { extend(made, group_text(text, found.groups.get(number)))? }
     }
     Ok(())
 }
@@ -106,7 +105,7 @@ impl Substitution {
         ensures { OnOk result (made.new.items ≡ made.old.items ++ match_text (substitution_of self.now) text.now at passed (with_groups (expression self.now.expression) text.now span)) }
     {
         if passed == 0 {
-            made.extend_from_slice(piece(text, at, span.start))?;
+            extend(made, piece(text, at, span.start))?;
             let groups = self.groups(text, span, marks)?;
             let found = Found {
                 start: span.start,
@@ -115,7 +114,7 @@ impl Substitution {
             };
             put_parts(text, &found, self.parts.as_slice(), made)
         } else {
-            made.extend_from_slice(piece(text, at, span.end))?;
+            extend(made, piece(text, at, span.end))?;
             Ok(())
         }
     }
@@ -139,14 +138,14 @@ impl Substitution {
             left -= 1;
             match next {
                 None => {
-                    made.extend_from_slice(behind(text, at))?;
+                    extend(made, behind(text, at))?;
                     return Ok(replaced);
                 }
                 Some(span) => {
                     self.put_match(text, at, passed, span, marks, made)?;
                     at = span.end;
                     if self.is_final(passed) {
-                        made.extend_from_slice(behind(text, at))?;
+                        extend(made, behind(text, at))?;
                         return Ok(true);
                     }
                     replaced = either(replaced, passed == 0);
@@ -155,7 +154,7 @@ impl Substitution {
                 }
             }
         }
-        made.extend_from_slice(behind(text, at))?;
+        extend(made, behind(text, at))?;
         Ok(replaced)
     }
 }

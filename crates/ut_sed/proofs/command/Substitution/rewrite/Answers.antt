@@ -41,7 +41,7 @@ returns-then-is_final-clause-made c =
     let f : Found = with_groups e text c.in-Some.span in
     let P : Option Span → Type 0 = λ o. c.matches.made.items ++ rewritten s text c.matches.at c.matches.passed (matches_from c.matches.left e text (found_at e text o)) ≡ c.args.made.now.items ++ substituted s text in
     let h : P (Some c.in-Some.span) = subst P c.in-Some.is c.matches.invariant.made in
-    c.in_ok-extend_from_slice-in-Some.ensures.items ∙ ap (λ (t : Text). c.put_match.new.made.items ++ t) c.behind-then-is_final.ensures
+    c.in_ok-extend-in-Some.ensures ∙ ap (λ (t : Text). c.put_match.new.made.items ++ t) c.behind-then-is_final.ensures
     ∙ made_last s text c.matches.made.items c.put_match.new.made.items _ c.matches.at c.matches.passed c.matches.left f some h c.in_ok-put_match-in-Some.ensures (sym c.is_final.ensures ∙ c.if-is_final.true)
 
 pub matches-preserved : goal.matches-preserved
