@@ -30,7 +30,7 @@ star-ordered : (end : ℕ) (R R' : Rel) → Mirrored end R R' → (i j : ℕ) �
 star-ordered end R R' M i j r = (mirrored-repeated end R R' star M).ordered i j r
 
 -- one turn more
-star-more : (R : Rel) (a b c : ℕ) → R a b → Repeated R star b c → Repeated R star a c
+pub star-more : (R : Rel) (a b c : ℕ) → R a b → Repeated R star b c → Repeated R star a c
 star-more R a b c x (k, e, (n, w, t)) = (a, refl, (suc n, tt, turn-first R n a b c x (subst (λ y. Turns R n y c) (sym e) t)))
 
 -- A turn that begins so far before the end, and from whose end turns lead on, ends no nearer to it than the least such mark.

@@ -27,3 +27,7 @@ pub mod Cut
 pub mod Joined
 pub mod Alike
 pub mod PartLemmas
+pub mod Related
+pub mod Sought
+pub mod Opened
+pub mod Idle

@@ -29,7 +29,7 @@ push-at (x ∷ xs) leads = push-at xs leads
 abbrev pub ToldBelow : (ℕ → Type 0) → ℕ → ℕ → Row → Type 0
 ToldBelow Q end far row = (k : ℕ) → k < far → (is_open row k ≡ true) ↔ Q (end - k)
 
-told-push : (Q : ℕ → Type 0) (end far : ℕ) (row : Row) (leads : Bool) → length row ≡ far → ToldBelow Q end far row → (leads ≡ true) ↔ Q (end - far) → ToldBelow Q end (far + 1) (row ++ leads ∷ [])
+pub told-push : (Q : ℕ → Type 0) (end far : ℕ) (row : Row) (leads : Bool) → length row ≡ far → ToldBelow Q end far row → (leads ≡ true) ↔ Q (end - far) → ToldBelow Q end (far + 1) (row ++ leads ∷ [])
 told-push Q end far row leads count all new = λ k lt.
     elim (cases_lt k far) as (λ w. (is_open (row ++ leads ∷ []) k ≡ true) ↔ Q (end - k)) [
       | inl a ↦ (let within : k < length row = omega (arith, count) in subst (λ (b : Bool). (b ≡ true) ↔ Q (end - k)) (sym (push-before row leads k within)) (all k a))
@@ -39,10 +39,10 @@ told-push Q end far row leads count all new = λ k lt.
           subst (λ (n : ℕ). (is_open (row ++ leads ∷ []) n ≡ true) ↔ Q (end - n)) same last)
     ]
 
-more-count : (row : Row) (leads : Bool) (far : ℕ) → length row ≡ far → length (row ++ leads ∷ []) ≡ far + 1
+pub more-count : (row : Row) (leads : Bool) (far : ℕ) → length row ≡ far → length (row ++ leads ∷ []) ≡ far + 1
 more-count row leads far e = length-append row (leads ∷ []) ∙ ap (λ n. n + 1) e
 
-told-where : (Q : ℕ → Type 0) (start end : ℕ) (row : Row) → ToldBelow Q end (end - start + 1) row → TellsWhere Q start end row
+pub told-where : (Q : ℕ → Type 0) (start end : ℕ) (row : Row) → ToldBelow Q end (end - start + 1) row → TellsWhere Q start end row
 told-where Q start end row all = λ p low high.
     (let lt : end - p < end - start + 1 = omega arith in
     let here : end - (end - p) ≡ p = omega arith in

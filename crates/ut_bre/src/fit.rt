@@ -54,7 +54,7 @@ fn limit(size: usize, room: usize, most: Option<usize>) -> Option<usize>
     }
 }
 
-// The same of turns that may be empty.
+// The most turns, empty ones among them, as far as they may be counted out in so many bytes.
 fn limit_all(room: usize, times: Times) -> Option<usize>
     ensures { result ≡ limit 1 room (and_more times.least times.beyond) }
 {
@@ -156,7 +156,7 @@ fn joined(own: Times, turns: Times) -> Option<Times>
     product(own, turns)
 }
 
-// The same of items in a group with so many turns, where they are one item.
+// Turns of a group that has one item only, as turns of this item, where no count between is left out.
 fn joined_items(body: &[Item], turns: Times) -> Option<Times>
     ensures { IfSome result (AreJoined (trees_of body.now) turns) }
 {

@@ -4,6 +4,8 @@
 mod back;
 mod bracket;
 mod bre;
+mod by_sets;
+mod chosen;
 mod ends;
 mod error;
 mod fault;
@@ -21,6 +23,7 @@ mod parts;
 mod pick;
 mod place_rows;
 mod reader;
+mod relation;
 mod row;
 mod rows;
 mod run;

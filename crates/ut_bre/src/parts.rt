@@ -8,6 +8,7 @@ ghost use Rattle.ut_bre.specs.Resting.{rest_of};
 ghost use Rattle.ut_bre.specs.Rows.{IsRow, ReachesOpen};
 ghost use Rattle.ut_bre.specs.Trees.{tree_of, trees_of, times_of};
 
+use crate::chosen::{ends_of, latest_of, open_of, row_of};
 use crate::ends::find_ends;
 use crate::fit::{fit_items, fit_part};
 use crate::group::Span;
@@ -18,7 +19,7 @@ use crate::rows::{find_row, latest_open};
 use crate::tree::{Item, Times};
 use rk_base::NoMemory;
 
-// The same, of a part that is fitted.
+// Where the last turn begins in a piece of the line, of a part that is fitted to it.
 fn latest_fitted(
     own: &Item,
     rest: Rest<'_>,
@@ -36,7 +37,7 @@ fn latest_fitted(
     match rest {
         Rest::Items(items) => {
             let items = fit_items(alloc, items, room)?;
-            let found = latest(
+            let found = latest_of(
                 own,
                 own.times(),
                 Rest::Items(items.as_slice()),
@@ -48,7 +49,7 @@ fn latest_fitted(
         }
         Rest::Turns(other, left) => {
             let other = fit_part(alloc, other, left, room)?;
-            let found = latest(
+            let found = latest_of(
                 own,
                 own.times(),
                 Rest::Turns(&other, other.times()),
@@ -102,7 +103,7 @@ pub(crate) fn find_part_row(
         return Ok(row);
     }
     let own = fit_part(marks.allocator(), item, times, span.end - span.start)?;
-    let row = find_row(&own, own.times(), line, span, marks, behind)?;
+    let row = row_of(&own, own.times(), line, span, marks, behind)?;
     Ok(row)
 }
 
@@ -124,7 +125,7 @@ pub(crate) fn latest_part_open(
         return Ok(found);
     }
     let own = fit_part(marks.allocator(), item, times, span.end - span.start)?;
-    let found = latest_open(&own, own.times(), line, span, marks, behind)?;
+    let found = open_of(&own, own.times(), line, span, marks, behind)?;
     Ok(found)
 }
 
@@ -146,6 +147,6 @@ pub(crate) fn find_part_ends(
         return Ok(());
     }
     let items = fit_items(marks.allocator(), body, span.end - span.start)?;
-    find_ends(items.as_slice(), line, span, marks, ends)?;
+    ends_of(items.as_slice(), line, span, marks, ends)?;
     Ok(())
 }

@@ -1,16 +1,32 @@
 // What is found in a line: an expression of many marks is fitted to it first.
-ghost use Rattle.std.specs.Prelude.{IfOk};
+ghost use Rattle.std.specs.Prelude.{◌-◌, ◌<◌, ◌≤◌, IfOk, length};
 ghost use Rattle.ut_bre.specs.Expressions.{expression};
 ghost use Rattle.ut_bre.specs.Matching.{Finds};
+ghost use Rattle.ut_bre.specs.Relations.{IsLastEnd};
 
 use crate::bre::Bre;
 use crate::fit::least_size;
 use crate::group::Span;
 use crate::mark::Marks;
+use crate::relation::relate_items;
+use crate::size::{FEW, are_too_many, marks_of};
 use rk_base::NoMemory;
+use ut_places::Places;
 
-/// As many marks are gone through as they are.
-const FEW: usize = 1024;
+// The last of so many places at which a match may end.
+fn last_end(set: &Places, at_end: bool, places: usize) -> Option<usize>
+    requires { 0 < places }
+    ensures { IsLastEnd set.now at_end (places - 1) result }
+{
+    if at_end {
+        return if set.has(places - 1) {
+            Some(places - 1)
+        } else {
+            None
+        };
+    }
+    set.last(places)
+}
 
 impl Bre {
     /// Whether it has so many marks that it is fitted to the line.
@@ -18,7 +34,34 @@ impl Bre {
         self.size > FEW
     }
 
-    // The same, where it isn't small.
+    // The match that `scan` tells, by the sets of places to which the items lead from each place.
+    fn search_related(&self, line: &[u8], from: usize) -> Result<Option<Span>, NoMemory>
+        requires { from ≤ length line.now }
+        ensures { IfOk result (λ r. Finds (expression self.now) line.now from r) }
+    {
+        let rest = Span {
+            start: from,
+            end: line.len(),
+        };
+        let table = relate_items(self.allocator(), self.items.as_slice(), line, rest)?;
+        'starts: for far in 0..table.len() {
+            if self.at_start && from + far > 0 {
+                return Ok(None);
+            }
+            match last_end(&table[far], self.at_end, table.len()) {
+                None => {}
+                Some(end) => {
+                    return Ok(Some(Span {
+                        start: from + far,
+                        end: from + end,
+                    }));
+                }
+            }
+        }
+        Ok(None)
+    }
+
+    // The leftmost match from this place on, and the longest there, of an expression fitted to the rest of the line.
     fn search_fitted(
         &self,
         line: &[u8],
@@ -35,6 +78,10 @@ impl Bre {
             return Ok(None);
         }
         let fitted = self.fitted(room)?;
+        if are_too_many(marks_of(fitted.items.as_slice()), room) {
+            let span = fitted.search_related(line, from)?;
+            return Ok(span);
+        }
         let span = fitted.scan(line, from, marks)?;
         Ok(span)
     }

@@ -17,7 +17,7 @@ pub(crate) fn extend(made: &mut Vec<u8>, bytes: &[u8]) -> Result<(), NoMemory>
     Ok(())
 }
 
-/// Puts one byte behind it.
+/// Puts one byte behind what is made of a pattern space.
 pub(crate) fn push(made: &mut Vec<u8>, b: u8) -> Result<(), NoMemory>
     ensures { OnOk result (made.new.items ≡ made.old.items ++ b ∷ []) }
 {

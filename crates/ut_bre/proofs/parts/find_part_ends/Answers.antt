@@ -12,6 +12,6 @@ returns c =
     let xs = trees_of a.body.now in
     let f = subst (λ (v : List Item). AreFitted room xs (trees_of v)) (sym c.as_slice.ensures.value) c.in_ok-items.ensures in
     record {
-      ends = ends-fitted a.line.now xs (trees_of c.as_slice.result.now) a.span.end room c.find_ends-2.new.ends.items c.in_ok-find_ends-2.ensures.count f c.in_ok-find_ends-2.ensures.ends;
-      count = c.in_ok-find_ends-2.ensures.count;
+      ends = ends-fitted a.line.now xs (trees_of c.as_slice.result.now) a.span.end room c.ends_of.new.ends.items c.in_ok-ends_of.ensures.count f c.in_ok-ends_of.ensures.ends;
+      count = c.in_ok-ends_of.ensures.count;
     }

@@ -8,8 +8,8 @@ use Rattle.ut_bre.specs.Fitting.{AreFitted}
 use Rattle.ut_bre.proofs.PartLemmas.{latest-fitted, part-same, fitted_rest-items, fitted_rest-turns}
 use Rattle.ut_bre.proofs.parts.latest_fitted.Goals as goal
 
-pub latest-requires-clause-some : goal.latest-requires-clause-some
-latest-requires-clause-some c =
+pub latest_of-requires-clause-some : goal.latest_of-requires-clause-some
+latest_of-requires-clause-some c =
     let a = c.args in
     let x = tree_of a.own.now in
     let room = a.span.end - a.span.start in
@@ -30,8 +30,8 @@ returns-in_ok-found-in-Items c =
     let f = subst (λ (v : List Item). AreFitted room xs (trees_of v)) (sym c.as_slice.ensures.value) c.in_ok-items-in-Items.ensures in
     subst (λ (r : RestTree). IsLatest (ReachesEnd a.line.now x (times_of x) r a.span.start a.span.end) c.in_ok-found-in-Items.found) (sym (ap rest_of c.in-Items.is)) (latest-fitted a.line.now x x (times_of x) c.times.result (rest_items xs) (rest_items ys) a.span.start a.span.end room c.in_ok-found-in-Items.found c.times.ensures h (part-same room x) (fitted_rest-items room xs ys f) c.in_ok-found-in-Items.ensures)
 
-pub latest-requires-in-Turns-clause-some : goal.latest-requires-in-Turns-clause-some
-latest-requires-in-Turns-clause-some c =
+pub latest_of-requires-in-Turns-clause-some : goal.latest_of-requires-in-Turns-clause-some
+latest_of-requires-in-Turns-clause-some c =
     let a = c.args in
     let x = tree_of a.own.now in
     let room = a.span.end - a.span.start in
