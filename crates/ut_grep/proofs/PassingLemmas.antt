@@ -1,15 +1,16 @@
 -- Lines that lack a byte are not selected.
-use Rattle.std.proofs.Common.{◌≡◌, ℕ, zero, suc, ◌+◌, List, [], ◌∷◌, ◌++◌, Bool, true, false, length, take, drop, refl, sym, ap, ◌∙◌, arith, append_assoc, zero-add}
+use Rattle.std.proofs.Common.{◌≡◌, ℕ, zero, suc, ◌+◌, List, [], ◌∷◌, ◌++◌, Bool, true, false, length, take, drop, refl, sym, ap, ◌∙◌, arith, zero-add}
 use Rattle.std.specs.Prelude.{◌==◌, ◌||◌, not, cond, if◌then◌else◌, Option, Some, None, IfSome, MatchOption, is_some, count_by}
 use Rattle.std.specs.Fmt.{decimal}
 use Rattle.std.specs.List.{list_any}
-use Rattle.std.proofs.lemmas.List.{append-nil}
 use Rattle.std.proofs.lemmas.List.Sums.{sum_by-cons}
 use Rattle.rk_base.specs.Text.{Text}
 use Rattle.ut_bre.specs.declared.group.Span.{Span}
 use Rattle.ut_bre.specs.Needing.{IsNeeded as IsNeededIn}
 use Rattle.ut_bre.specs.Trees.{Expression}
+use Rattle.ut_filter.proofs.OutputLemmas.{put_nothing, put_more}
 use Rattle.ut_filter.specs.Lines.{lines_of, onto_first, Lacks}
+use Rattle.ut_filter.specs.Outputs.{Growing, put}
 use Rattle.ut_grep.specs.Greps.{PatternValue, basic, GrepValue, is_whole, holds, matches, selects, prefix, number_of, row, rows}
 use Rattle.ut_grep.specs.Passing.{IsNeededBy, IsNeeded, NoneSelected, SameNumber}
 
@@ -125,11 +126,11 @@ told_next : (g : GrepValue) (name : Text) (number n : ℕ) (text front line afte
 told_next g name number n text front line after e h same =
     ap (rows g name number) e ∙ (none-told g name number (lines_of front) (line ∷ lines_of after) h ∙ same name (line ∷ lines_of after))
 
-pub told_on : (g : GrepValue) (name text front line after out more whole : Text) (number n next : ℕ) → lines_of text ≡ lines_of front ++ line ∷ lines_of after → NoneSelected g (lines_of front) → SameNumber g (number + length (lines_of front)) n → next ≡ n + 1 → more ≡ out ++ (if selects g line then row g name n line else []) → out ++ rows g name number (lines_of text) ≡ whole → more ++ rows g name next (lines_of after) ≡ whole
+pub told_on : (g : GrepValue) (name text front line after : Text) (out more whole : Growing) (number n next : ℕ) → lines_of text ≡ lines_of front ++ line ∷ lines_of after → NoneSelected g (lines_of front) → SameNumber g (number + length (lines_of front)) n → next ≡ n + 1 → more ≡ put out (if selects g line then row g name n line else []) → put out (rows g name number (lines_of text)) ≡ whole → put more (rows g name next (lines_of after)) ≡ whole
 told_on g name text front line after out more whole number n next e h same f o all =
     let w : Text = if selects g line then row g name n line else [] in
     let t = told_next g name number n text front line after e h same in
-    ap (λ (x : Text). x ++ rows g name next (lines_of after)) o ∙ (ap (λ k. (out ++ w) ++ rows g name k (lines_of after)) f ∙ (append_assoc out w (rows g name (n + 1) (lines_of after)) ∙ (ap (λ (x : Text). out ++ x) (sym t) ∙ all)))
+    ap (λ (x : Growing). put x (rows g name next (lines_of after))) o ∙ (ap (λ k. put (put out w) (rows g name k (lines_of after))) f ∙ (put_more out w (rows g name (n + 1) (lines_of after)) ∙ (ap (λ (x : Text). put out x) (sym t) ∙ all)))
 
 counted-none : (g : GrepValue) (lines : List Text) → NoneSelected g lines → count_by (selects g) lines ≡ 0
 counted-none g [] h = refl
@@ -146,8 +147,8 @@ told-none g name n (line ∷ lines) h =
     let both = or-none (selects g line) (list_any (selects g) lines) h in
     ap (λ z. (if z then row g name n line else []) ++ rows g name (n + 1) lines) both.0 ∙ told-none g name (n + 1) lines both.1
 
-pub told_end : (g : GrepValue) (name out whole : Text) (n : ℕ) (lines : List Text) → NoneSelected g lines → out ++ rows g name n lines ≡ whole → out ≡ whole
-told_end g name out whole n lines h all = sym (append-nil out) ∙ (ap (λ (x : Text). out ++ x) (sym (told-none g name n lines h)) ∙ all)
+pub told_end : (g : GrepValue) (name : Text) (out whole : Growing) (n : ℕ) (lines : List Text) → NoneSelected g lines → put out (rows g name n lines) ≡ whole → out ≡ whole
+told_end g name out whole n lines h all = sym (put_nothing out) ∙ (ap (λ (x : Text). put out x) (sym (told-none g name n lines h)) ∙ all)
 
 pub same_number : (g : GrepValue) (n m : ℕ) → n ≡ m → SameNumber g n m
 same_number g n m e = λ name lines. ap (λ k. rows g name k lines) e

@@ -110,13 +110,17 @@ some_of g input = nat_lt 0 (selected g (part_of input))
 abbrev pub status : GrepValue → Bool → Text → ℕ
 status g some errors = if g.quiet && some then 0 else (if is_empty errors then (if some then 0 else 1) else 2)
 
-abbrev pub grep_makes : GrepValue → List Input → Made
-grep_makes g inputs =
+-- this output, and a line for each input that was refused
+abbrev pub made_of : GrepValue → List Input → Text → Bool → Made
+made_of g inputs output some =
     record {
-      output = told_all g inputs;
+      output = output;
       errors = refusals (codes "grep") inputs;
-      status = status g (list_any (some_of g) inputs) (refusals (codes "grep") inputs);
+      status = status g some (refusals (codes "grep") inputs);
     }
+
+abbrev pub grep_makes : GrepValue → List Input → Made
+grep_makes g inputs = made_of g inputs (told_all g inputs) (list_any (some_of g) inputs)
 
 abbrev pub value_job : GrepValue → Job
 value_job g = record { name = codes "grep"; failed = 2; out = None; makes = grep_makes g }

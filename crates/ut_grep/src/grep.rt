@@ -6,7 +6,7 @@ use crate::pattern::Pattern;
 use crate::sought::Sought;
 use rk_base::{Bytes, NoMemory};
 use std::alloc::Global;
-use ut_filter::{Input, Made, Work, refusal_lines};
+use ut_filter::{Grown, HELD, Input, Made, Measured, Work};
 
 /// What `grep` tells of its lines, and how it selects them.
 #[derive(Clone, Copy, Debug, Drop)]
@@ -57,16 +57,22 @@ impl Work for Grep {
         None
     }
 
+    fn measure(&self, alloc: Global, inputs: &[Input]) -> Result<Measured, NoMemory> {
+        let (grown, some) = self.output(alloc, inputs, HELD)?;
+        match grown {
+            Grown::Text(output) => {
+                let made = self.made(alloc, inputs, output, some)?;
+                Ok(Measured::Short(made))
+            }
+            Grown::Length(length) => Ok(Measured::Long(length)),
+        }
+    }
+
     fn make(&self, alloc: Global, inputs: &[Input]) -> Result<Made, NoMemory> {
-        let mut output = Vec::new(alloc);
-        let some = self.tell_all(alloc, inputs, &mut output)?;
-        let output = Bytes::new(alloc, output)?;
-        let errors = refusal_lines(alloc, b"grep", inputs)?;
-        let status = self.status(some, &errors);
-        Ok(Made {
-            output,
-            errors,
-            status,
-        })
+        let (grown, some) = self.output(alloc, inputs, usize::MAX)?;
+        match grown {
+            Grown::Text(output) => self.made(alloc, inputs, output, some),
+            Grown::Length(_) => Err(NoMemory),
+        }
     }
 }

@@ -8,13 +8,13 @@ lines-preserved c =
     let g = grep_value c.args.self.now in
     let rest = c.lines.rest.now in
     let next = c.in-Some.ensures in (
-      told_on g c.args.name.now rest c.in-Some.passed.now c.in-Some.line.now c.in-Some.after.now c.lines.output.items c.put_greped.new.output.items _ c.lines.number c.in_ok-n.n c.in_ok-number.number next.cut next.passed c.in_ok-n.ensures c.in_ok-number.ensures c.in_ok-selects.ensures.output c.lines.invariant.0,
+      told_on g c.args.name.now rest c.in-Some.passed.now c.in-Some.line.now c.in-Some.after.now c.lines.output c.put_greped.new.output _ c.lines.number c.in_ok-n.n c.in_ok-number.number next.cut next.passed c.in_ok-n.ensures c.in_ok-number.ensures c.in_ok-selects.ensures.output c.lines.invariant.0,
       counted_on g rest c.in-Some.passed.now c.in-Some.line.now c.in-Some.after.now c.lines.count c.in_ok-count.count _ c.in_ok-selects.selects next.cut next.passed c.in_ok-selects.ensures.selects c.in_ok-count.ensures c.lines.invariant.1,
     )
 
 pub returns-clause-output : goal.returns-clause-output
 returns-clause-output c =
-    told_end (grep_value c.args.self.now) c.args.name.now c.lines.output.items _ c.lines.number (lines_of c.lines.rest.now) c.in_default.ensures.cut c.lines.invariant.0
+    told_end (grep_value c.args.self.now) c.args.name.now c.lines.output _ c.lines.number (lines_of c.lines.rest.now) c.in_default.ensures.cut c.lines.invariant.0
 
 pub returns-clause-count : goal.returns-clause-count
 returns-clause-count c = counted_end (grep_value c.args.self.now) (lines_of c.lines.rest.now) c.lines.count _ c.in_default.ensures.cut c.lines.invariant.1
