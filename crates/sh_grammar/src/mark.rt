@@ -32,6 +32,17 @@ impl Model for Marks {
     ghost view = { λ m. reverse (gathered (reverse m.rules.items) (reverse m.texts.items)) };
 }
 
+// Takes the last item of a list, and gives back the list's room once half of it is free.
+fn take_last<T>(items: &mut Vec<T>) -> Option<T>
+    ensures { MatchOption result ((items.old.items ≡ []) × (items.new.items ≡ [])) (λ x. items.old.items ≡ items.new.items ++ x ∷ []) }
+{
+    let last = items.pop();
+    if items.len() < items.capacity() / 2 {
+        items.shrink_to_fit();
+    }
+    last
+}
+
 impl Marks {
     /// No marks.
     pub fn new(alloc: Global) -> Marks
@@ -62,15 +73,15 @@ impl Marks {
         Ok(())
     }
 
-    /// Takes the last mark; `None` exactly where there are none.
+    /// Takes the last mark, and its room too; `None` exactly where there are none.
     #[tactic(auto, using(crate::proofs::Gathering::with_node, crate::proofs::Gathering::with_leaf, crate::proofs::Gathering::with_none))]
     pub fn pop(&mut self) -> Option<Mark>
         ensures { MatchOption result (self.old ≡ []) (λ mark. self.old ≡ self.new ++ (mark_named mark ∷ [])) }
     {
-        match self.rules.pop() {
+        match take_last(&mut self.rules) {
             None => None,
             Some(Some(rule)) => Some(Mark::Node(rule)),
-            Some(None) => match self.texts.pop() {
+            Some(None) => match take_last(&mut self.texts) {
                 None => None,
                 Some(text) => Some(Mark::Leaf(text)),
             },

@@ -8,7 +8,7 @@ use sh_token::place::HereDocument;
 use std::alloc::Global;
 use std::marker::Model;
 
-/// Here-documents to come. Those whose bodies came stay in front, so that none is moved.
+/// Here-documents to come. Those whose bodies came stay in front, so that none is moved, until each one's body came.
 #[derive(Drop)]
 pub struct Queue {
     documents: Vec<HereDocument>,
@@ -71,7 +71,7 @@ impl Queue {
         ensures { self.new ≡ drop 1 self.old }
     {
         let done = next_of(&self.documents, self.done);
-        self.done = done;
+        self.done = without_done(&mut self.documents, done);
     }
 }
 
@@ -85,5 +85,19 @@ fn next_of(documents: &Vec<HereDocument>, done: usize) -> usize
         done + 1
     } else {
         done
+    }
+}
+
+// Lets the documents go, where so many are done that none is to come; how many of those that stay are done.
+fn without_done(documents: &mut Vec<HereDocument>, done: usize) -> usize
+    requires { done ≤ length documents.old.items }
+    ensures rest { drop result documents.new.items ≡ drop done documents.old.items }
+    ensures within { result ≤ length documents.new.items }
+{
+    if done < documents.len() {
+        done
+    } else {
+        documents.clear();
+        0
     }
 }

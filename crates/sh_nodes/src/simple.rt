@@ -7,7 +7,7 @@ use crate::empties::Empties;
 use crate::lists::words_of;
 use crate::row::Row;
 use rk_base::NoMemory;
-use sh_ast::{Assignment, Assignments, Redirect, Redirects, SimpleCommand, Word};
+use sh_ast::{Assignment, Assignments, Redirect, Redirects, SimpleCommand, Word, Words};
 use std::alloc::Global;
 use std::rc::Rc;
 
@@ -43,6 +43,20 @@ fn assignments_of(
     Ok(assignments)
 }
 
+// The words of a command.
+fn arguments_of(
+    alloc: Global,
+    empties: &Empties,
+    words: Row<Rc<Word>>,
+) -> Result<Rc<Words>, NoMemory>
+    ensures { IfOk result (λ r. c.words r.value ≡ c.words_of (words_seen words)) }
+{
+    if words.is_empty() {
+        return empties.words();
+    }
+    words_of(alloc, words)
+}
+
 /// A simple command, out of what it is made of.
 pub fn simple_of(
     alloc: Global,
@@ -54,7 +68,7 @@ pub fn simple_of(
     ensures { IfOk result (λ r. c.simple_command r.value ≡ c.simply (c.assignments_of (map c.assignment assignments)) (c.words_of (words_seen words)) (c.redirects_of (map c.redirect redirects))) }
 {
     let assignments = assignments_of(alloc, empties, assignments)?;
-    let words = words_of(alloc, words)?;
+    let words = arguments_of(alloc, empties, words)?;
     let redirects = redirects_of(alloc, empties, redirects)?;
     let command = SimpleCommand {
         assignments,

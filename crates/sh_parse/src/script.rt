@@ -17,7 +17,7 @@ use std::alloc::Global;
 use std::rc::Rc;
 
 /// The most bytes that a script may have.
-pub const LONGEST: usize = 1_048_576;
+pub const LONGEST: usize = 16_777_216;
 
 /// A script: its commands.
 #[derive(Drop)]

@@ -13,7 +13,7 @@ use Rattle.sh_script.specs.Standing.{AllStand, AreAll, AreFirst, NoneGoesOn}
 
 -- the most bytes that a script may have
 abbrev pub longest : ℕ
-longest = 1048576
+longest = 16777216
 
 -- From a place to another one the text spells a parse tree of a script.
 unfoldable pub Spells : Trees script → Place → Place → Type 0

@@ -10,7 +10,7 @@ pub enum Why {
     Unclosed,
     /// More than 64 levels are open.
     Deep,
-    /// The text has more than 1,048,576 bytes.
+    /// The text has more than 16,777,216 bytes.
     Long,
     /// What the shell has and this profile leaves out.
     NotInProfile(Bytes),

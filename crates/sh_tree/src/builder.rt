@@ -1,5 +1,6 @@
 // What is built of a text, from the last of its marks to the first.
 ghost use Rattle.std.specs.Prelude.{◌≡◌, ◌∷◌, IfOk, OnOk, map, length, option_map};
+ghost use Rattle.sh_ast.specs.Words as w;
 ghost use Rattle.sh_ast.specs.Commands as c;
 ghost use Rattle.sh_nodes.specs.Nodes.{bodies_seen, word_told, words_seen};
 ghost use Rattle.sh_tree.specs.Seen.{seen, state};
@@ -9,8 +10,8 @@ ghost use Rattle.sh_script.specs.Values as v;
 use crate::rows::one;
 use crate::taking::word_in;
 use crate::value::Value;
-use rk_base::NoMemory;
-use sh_ast::{Assignment, Command, CommandList, Redirect, SimpleCommand, Word};
+use rk_base::{Bytes, NoMemory};
+use sh_ast::{Assignment, Command, CommandList, Part, Redirect, SimpleCommand, Word};
 use sh_nodes::{NewWord, Row, Shared};
 use std::alloc::Global;
 use std::collections::VecDeque;
@@ -87,7 +88,25 @@ impl Builder {
         self.put(Value::Commands(commands))
     }
 
-    // A word as a node; a literal is shared where it came lately.
+    /// A part, the name of its parameter shared where it came lately.
+    #[tactic(auto, unfolding(crate::specs::Seen::state))]
+    pub fn part(&mut self, alloc: Global, part: Part) -> Result<Part, NoMemory>
+        ensures part { IfOk result (λ p. w.part p ≡ w.part part) }
+        ensures left { state self.new ≡ state self.old }
+    {
+        self.shared.part(alloc, part)
+    }
+
+    /// A variable's name, or what stands for itself, shared where it came lately.
+    #[tactic(auto, unfolding(crate::specs::Seen::state))]
+    pub fn text(&mut self, alloc: Global, text: Bytes) -> Result<Bytes, NoMemory>
+        ensures text { IfOk result (λ b. b ≡ text) }
+        ensures left { state self.new ≡ state self.old }
+    {
+        self.shared.text(alloc, text)
+    }
+
+    // A word as a node; one of one part with a text is shared where it came lately.
     #[tactic(auto, unfolding(crate::specs::Seen::state))]
     fn word(&mut self, alloc: Global, word: NewWord) -> Result<Rc<Word>, NoMemory>
         ensures word { IfOk result (λ r. c.word r.value ≡ word_told word) }
@@ -105,8 +124,8 @@ impl Builder {
         self.word(alloc, word)
     }
 
-    /// A simple command, out of its first word and of what else it is made of; one that is a literal alone is shared where
-    /// it came lately.
+    /// A simple command, out of its first word and of what else it is made of; one that is a part with a text alone is shared
+    /// where it came lately.
     #[tactic(auto, unfolding(crate::specs::Seen::state))]
     pub fn named(
         &mut self,

@@ -28,6 +28,14 @@ fn put_part(b: &mut Builder, alloc: Global, part: Part) -> Result<(), NoMemory>
     b.put(Value::Parts(parts))
 }
 
+// One part of a parameter by itself.
+fn put_parameter(b: &mut Builder, alloc: Global, part: Part) -> Result<(), NoMemory>
+    ensures { OnOk result (state b.new ≡ st.with (v.parts (w.part part ∷ [])) (state b.old)) }
+{
+    let part = b.part(alloc, part)?;
+    put_part(b, alloc, part)
+}
+
 // A part in front of the next value's.
 #[tactic(auto, unfolding(crate::specs::Seen::seen))]
 fn put_front(b: &mut Builder, alloc: Global, part: Part) -> Result<(), NoMemory>
@@ -60,6 +68,7 @@ pub fn escape_part(b: &mut Builder, alloc: Global) -> Result<(), NoMemory>
 {
     let text = text_in(alloc, b.pop())?;
     let quoted = without_first(alloc, text.as_slice())?;
+    let quoted = b.text(alloc, quoted)?;
     put_front(b, alloc, Part::Literal(Quoting::Quoted, quoted))
 }
 
@@ -124,6 +133,7 @@ pub fn escape(b: &mut Builder, alloc: Global) -> Result<(), NoMemory>
         return put_part(b, alloc, Part::Literal(Quoting::Quoted, text));
     }
     let quoted = without_first(alloc, text.as_slice())?;
+    let quoted = b.text(alloc, quoted)?;
     put_part(b, alloc, Part::Literal(Quoting::Quoted, quoted))
 }
 
@@ -133,18 +143,21 @@ pub fn single(b: &mut Builder, alloc: Global) -> Result<(), NoMemory>
 {
     let text = text_in(alloc, b.pop())?;
     let quoted = without_ends(alloc, text.as_slice())?;
+    let quoted = b.text(alloc, quoted)?;
     put_part(b, alloc, Part::Literal(Quoting::Quoted, quoted))
 }
 
 // What double quotes hold: an empty pair of them is one quoted literal of no bytes.
-fn in_quotes(alloc: Global, parts: Row<Part>) -> Result<Row<Part>, NoMemory>
-    ensures { IfOk result (λ ps. map w.part ps ≡ act.in_quotes (map w.part parts)) }
+fn in_quotes(b: &mut Builder, alloc: Global, parts: Row<Part>) -> Result<Row<Part>, NoMemory>
+    ensures parts { IfOk result (λ ps. map w.part ps ≡ act.in_quotes (map w.part parts)) }
+    ensures left { state b.new ≡ state b.old }
 {
     if !parts.is_empty() {
         return Ok(parts);
     }
     drop(parts);
     let nothing = Bytes::new(alloc, Vec::new(alloc))?;
+    let nothing = b.text(alloc, nothing)?;
     one(alloc, Part::Literal(Quoting::Quoted, nothing))
 }
 
@@ -155,7 +168,7 @@ pub fn double(b: &mut Builder, alloc: Global) -> Result<(), NoMemory>
 {
     b.skip();
     let parts = parts_in(alloc, b.pop());
-    let parts = in_quotes(alloc, parts)?;
+    let parts = in_quotes(b, alloc, parts)?;
     b.put(Value::Parts(parts))
 }
 
@@ -188,7 +201,10 @@ fn substitution(b: &mut Builder, alloc: Global, quoting: Quoting) -> Result<Part
     let parts = parts_in(alloc, b.pop());
     let word = operator_word(alloc, parts)?;
     let (parameter, condition, substitute) = operation(alloc, text.as_slice())?;
-    Ok(Part::Substitute(quoting, parameter, condition, substitute, word))
+    b.part(
+        alloc,
+        Part::Substitute(quoting, parameter, condition, substitute, word),
+    )
 }
 
 /// `${x:-word}`
@@ -213,7 +229,7 @@ pub fn parameter(b: &mut Builder, alloc: Global) -> Result<(), NoMemory>
 {
     let text = text_in(alloc, b.pop())?;
     let part = plain_parameter(alloc, text.as_slice())?;
-    put_part(b, alloc, part)
+    put_parameter(b, alloc, part)
 }
 
 /// `${x}`
@@ -222,7 +238,7 @@ pub fn braced(b: &mut Builder, alloc: Global) -> Result<(), NoMemory>
 {
     let text = text_in(alloc, b.pop())?;
     let part = braced_parameter(alloc, text.as_slice())?;
-    put_part(b, alloc, part)
+    put_parameter(b, alloc, part)
 }
 
 /// A dollar sign that begins nothing.
@@ -253,7 +269,7 @@ pub fn pattern_braces(b: &mut Builder, alloc: Global) -> Result<(), NoMemory>
     let (parameter, removal) = removal(alloc, text.as_slice())?;
     let pattern = parts_of(alloc, parts)?;
     let part = Part::Remove(Quoting::Unquoted, parameter, removal, pattern);
-    put_part(b, alloc, part)
+    put_parameter(b, alloc, part)
 }
 
 /// `$((expression))`

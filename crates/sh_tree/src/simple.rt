@@ -120,6 +120,7 @@ pub fn assigned(b: &mut Builder, alloc: Global) -> Result<(), NoMemory>
     let value = b.pop_word(alloc)?;
     let (mut assignments, words, redirects) = simple_in(alloc, b.pop());
     let name = without_last(alloc, text.as_slice())?;
+    let name = b.text(alloc, name)?;
     assignments.add(Assignment { name, value })?;
     b.put(Value::Simple(assignments, words, redirects))
 }
