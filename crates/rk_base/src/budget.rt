@@ -1,29 +1,29 @@
 // The budget of a run.
-ghost use Rattle.std.specs.Prelude.{◌≡◌, ◌↔◌, ◌+◌, ◌-◌, ◌<◌, ◌≤◌, ◌^◌, IsTrue, IfSome, IsNone, true, false};
+ghost use Rattle.std.specs.Prelude.{◌≡◌, ◌↔◌, ◌+◌, ◌-◌, ◌≤◌, IsTrue, IfSome, IsNone, true, false};
 
 use std::marker::Model;
 
 /// A limit on turns, and the turns that were paid. The total never passes the limit.
 #[derive(Debug, Drop)]
 pub struct Budget {
-    limit: u32,
+    limit: u64,
     used: u64,
 }
 
 impl Model for Budget {
-    ghost use Rattle.std.specs.Prelude.{◌<◌, ◌≤◌, ◌^◌};
+    ghost use Rattle.std.specs.Prelude.{◌<◌, ◌≤◌};
     ghost use Rattle.rk_base.specs.Paid.{Paid};
 
     ghost Value = { Paid };
 
     ghost view = { λ b. record { limit = b.limit; used = b.used } };
 
-    ghost invariant = { λ b. (0 < b.limit) × (b.limit < 2 ^ 32) × (b.used ≤ b.limit) };
+    ghost invariant = { λ b. (0 < b.limit) × (b.used ≤ b.limit) };
 }
 
 impl Budget {
     /// A budget of so many turns, of which none was paid; `None` exactly for 0.
-    pub fn new(n: u32) -> Option<Budget>
+    pub fn new(n: u64) -> Option<Budget>
         ensures none { IsNone result ↔ (n ≡ 0) }
         ensures some { IfSome result (λ b. (b.limit ≡ n) × (b.used ≡ 0)) }
     {
@@ -40,7 +40,7 @@ impl Budget {
         ensures added { result ≡ true → self.new ≡ record self.old { used = self.old.used + cost } }
         ensures refused { result ≡ false → self.new ≡ self.old }
     {
-        if cost <= u64::from(self.limit) - self.used {
+        if cost <= self.limit - self.used {
             self.used += cost;
             true
         } else {
@@ -59,9 +59,8 @@ impl Budget {
     /// The turns that are left.
     pub fn left(&self) -> u64
         ensures left { result ≡ self.now.limit - self.now.used }
-        ensures small { result < 2 ^ 32 }
         ensures within { self.now.used ≤ self.now.limit }
     {
-        u64::from(self.limit) - self.used
+        self.limit - self.used
     }
 }

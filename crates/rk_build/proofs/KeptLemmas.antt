@@ -146,7 +146,7 @@ rows-kept [] are small = (refl, λ other spells. sym spells)
 rows-kept (row ∷ rows) are small = ((are, refl), λ other spells. one_attrs (row ∷ rows) other are spells.0 small spells.1)
 
 table-kept : (table : List Record) → Fits table → IsInMemory (Some (db_spelling table)) → IsTable (Some (db_spelling table)) table
-table-kept table fits small = ((fits, refl), λ other spells. one_table table other fits spells.0 small spells.1)
+table-kept table fits small = (inl (fits, refl), λ other spells. one_table (db_spelling table) table other small (inl (fits, refl)) spells)
 
 pub finds-next : (held after : Held) (world : World) (table : List Record) → IsWhole held → first_special held ≡ None → IsAfter held after (held_after world table) → IsWholeSnapshot (entries_of world.tree) → Fits table → AreInMemory world table → KeepsLeft world table after
 finds-next held after world table whole plain is entries fits small =

@@ -33,6 +33,7 @@ use Rattle.std.specs.List.{AllByRecursion}
 use Rattle.tr_codec.specs.Fits.{Fits}
 use Rattle.tr_codec.specs.Sound.{IsSound}
 use Rattle.tr_codec.specs.Spelling.{db_spelling}
+use Rattle.tr_codec.specs.Spelt.{IsSpelling}
 use Rattle.rk_build.specs.Outcomes.{ChecksMany}
 use Rattle.rk_build.specs.Calls.{PreparesCalls, ReadsAlone}
 use Rattle.rk_build.specs.Run.{fresh_run, IsRun, StartsRun, StopsRun}
@@ -102,6 +103,10 @@ in-memory (Some bytes) small = let few : length bytes ≤ longest_file = small i
 
 both-in-memory : (world : World) (table : List Record) → AreReadable world table → AreInMemory world table
 both-in-memory world table small = (in-memory (held_after world table).state.attrs small.0, in-memory (held_after world table).state.db small.1)
+
+-- bytes of the present version that spell a table are its spelling
+pub current-spelling : (slice was : Text) (old : List Record) → slice ≡ was → ((table : List Record) → IsSpelling slice table → Fits table × (slice ≡ db_spelling table)) → IsSpelling was old → Fits old × (was ≡ db_spelling old)
+current-spelling slice was old same tells spells = let it = tells old (subst (λ (t : Text). IsSpelling t old) (sym same) spells) in (it.0, sym same ∙ it.1)
 
 -- bytes that were read are the spelling of the table that a run leaves, where it is the one that was read
 pub kept-spelling : (found : Result Text NoMemory) (was : Text) (old table : List Record) → IfOk found (λ bytes. bytes ≡ was) → was ≡ db_spelling old → table ≡ old → IfOk found (λ bytes. bytes ≡ db_spelling table)

@@ -61,5 +61,5 @@ sound first table proper spoken small =
     record { steps = steps-sound (first key) (rec_at i table).steps (proper key) (spoken i l).follows; paid = omega arith })
 
 -- what a budget met is small
-pub small : (used before all limit steps : ℕ) → used ≡ before + all → before ≡ 0 → used ≤ limit → limit ≡ steps → steps < 2 ^ 32 → all < 2 ^ 64
+pub small : (used before all limit steps : ℕ) → used ≡ before + all → before ≡ 0 → used ≤ limit → limit ≡ steps → steps < 2 ^ 64 → all < 2 ^ 64
 small used before all limit steps paid none within same few = omega arith

@@ -40,7 +40,7 @@ attrs-clash (Some bytes) rows d a h = h.1 rows a.0.0 a.0.1
 
 db-clash : (o : Option Text) (table : List Record) (d : Damage) → IsTable o table → IsDamagedDb o d → ⊥
 db-clash None table d t h = h
-db-clash (Some bytes) table d t h = h.1 table t.0.0 t.0.1
+db-clash (Some bytes) table d t h = h.1 table t.0
 
 kept-clash : (state : State) (rows : List (Text × AttrRow)) (table : List Record) (f : StateFile) (d : Damage) → IsKept state rows table → IsDamaged state f d → ⊥
 kept-clash state rows table file.Attrs d k h = attrs-clash state.attrs rows d k.0 h

@@ -4,9 +4,8 @@ use Rattle.rk_base.specs.Text.{Text}
 use Rattle.tr_record.specs.declared.records.Record.{Record}
 use Rattle.rk_attrs.specs.Rows.{are_rows}
 use Rattle.tr_attrs.specs.Attrs.{attrs_spelling}
-use Rattle.tr_codec.specs.Fits.{Fits}
 use Rattle.tr_parts.specs.Reads.{IsDamage}
-use Rattle.tr_codec.specs.Spelling.{db_spelling}
+use Rattle.tr_codec.specs.Spelt.{IsSpelling}
 use Rattle.tr_parts.specs.declared.fault.Damage.{Damage}
 use Rattle.rk_attrs.specs.declared.rows.AttrRow.{AttrRow}
 use Rattle.rk_folder.specs.Told.{Held}
@@ -32,10 +31,10 @@ SpellsRows (Some bytes) rows = (are_rows rows ≡ true) × (bytes ≡ attrs_spel
 abbrev pub AreRows : Option Text → List (Text × AttrRow) → Type 0
 AreRows attrs rows = SpellsRows attrs rows × ((other : List (Text × AttrRow)) → SpellsRows attrs other → rows ≡ other)
 
--- these are the records that the database spells; where it doesn't stand there are none
+-- these are the records that the database spells, by the version that is written or the one before; where it doesn't stand there are none
 abbrev pub Spells : Option Text → List Record → Type 0
 Spells None table = table ≡ []
-Spells (Some bytes) table = Fits table × (bytes ≡ db_spelling table)
+Spells (Some bytes) table = IsSpelling bytes table
 
 -- and no others are
 abbrev pub IsTable : Option Text → List Record → Type 0
@@ -53,7 +52,7 @@ IsDamagedAttrs (Some bytes) damage = IsDamage 44 bytes damage × ((rows : List (
 -- the database stands, and is no spelling
 abbrev pub IsDamagedDb : Option Text → Damage → Type 0
 IsDamagedDb None damage = ⊥
-IsDamagedDb (Some bytes) damage = IsDamage 52 bytes damage × ((table : List Record) → Fits table → bytes ≢ db_spelling table)
+IsDamagedDb (Some bytes) damage = IsDamage 52 bytes damage × ((table : List Record) → IsSpelling bytes table → ⊥)
 
 -- this state file is damaged so; attrs comes before the database (a build doesn't look into a list of calls)
 abbrev pub IsDamaged : State → StateFile → Damage → Type 0

@@ -7,6 +7,7 @@ ghost use Rattle.std.specs.List.{AllByRecursion};
 ghost use Rattle.tr_codec.specs.Fits.{Fits};
 ghost use Rattle.tr_codec.specs.Sound.{IsSound};
 ghost use Rattle.tr_codec.specs.Spelling.{db_spelling};
+ghost use Rattle.tr_codec.specs.Spelt.{IsSpelling};
 ghost use Rattle.rk_replay.specs.Ran.{AreKept, ran_of};
 ghost use Rattle.rk_build.specs.Fresh.{IsReadable, attrs_bytes, held_after};
 ghost use Rattle.rk_build.specs.Kept.{Spells};
@@ -19,7 +20,7 @@ use rk_replay::{Built, is_as_found};
 use rk_tree::Snapshot;
 use std::alloc::Global;
 use tr_attrs::write_attrs;
-use tr_codec::write_db;
+use tr_codec::{is_current, write_db};
 use tr_record::Table;
 
 /// A run that ended: the world that it left, and the script's status, the records of its commands, and those of them that ran,
@@ -57,22 +58,24 @@ fn attrs_bytes(alloc: Global, entries: &Snapshot) -> Result<Option<Bytes>, NoMem
     }
 }
 
-// The spelling of the records that a run leaves, where these bytes spell the old ones: the very bytes, where it leaves those.
+// The spelling of the records that a run leaves, where these bytes spell the old ones: the very bytes, where it leaves those and
+// they are of the version that is written.
 fn kept_bytes(
     alloc: Global,
     finished: &Finished,
     old: &Table,
     was: &Bytes,
 ) -> Result<Bytes, NoMemory>
-    requires fit { Fits old.now }
-    requires spells { was.now ≡ db_spelling old.now }
+    requires spells { IsSpelling was.now old.now }
     requires kept { AreKept old.now finished.now.built.table }
     requires ran { finished.now.built.ran ≡ ran_of old.now finished.now.built.table }
     ensures bytes { IfOk result (λ bytes. bytes ≡ db_spelling finished.now.built.table) }
     ensures fits { OnOk result (AllByRecursion IsSound finished.now.built.table → Fits finished.now.built.table) }
 {
-    if is_as_found(old, &finished.built.table, &finished.built.ran) {
-        return was.copy();
+    if is_current(was.as_slice()) {
+        if is_as_found(old, &finished.built.table, &finished.built.ran) {
+            return was.copy();
+        }
     }
     write_db(alloc, &finished.built.table)
 }

@@ -47,7 +47,10 @@ pub fn table_in(alloc: Global, db: &Option<Bytes>) -> Result<ReadTable, BuildErr
     ensures { ReadsDb db.now result }
 {
     match db {
-        None => Ok(ReadTable::none(alloc)),
+        None => {
+            let table = ReadTable::none(alloc)?;
+            Ok(table)
+        }
         Some(bytes) => match read_db(alloc, bytes.as_slice()) {
             Ok(table) => Ok(table),
             Err(CodecErr::Damaged(damage)) => Err(damaged(StateFile::Db, damage)),

@@ -5,9 +5,9 @@ ghost use Rattle.rk_request.specs.Asked.{checks, explains, is_fresh, turns};
 use rk_request::Request;
 
 /// The turns within which it is to end; none of what isn't a build.
-pub(crate) fn turns(request: &Request) -> u32
+pub(crate) fn turns(request: &Request) -> u64
     ensures turns { result ≡ turns request.now }
-    ensures few { turns request.now < 2 ^ 32 }
+    ensures few { turns request.now < 2 ^ 64 }
 {
     match request {
         Request::Build { steps, .. } => *steps,

@@ -27,7 +27,7 @@ fn budget(request: &Request) -> Budget
     requires { 0 < turns request.now }
     ensures limit { result.limit ≡ turns request.now }
     ensures used { result.used ≡ 0 }
-    ensures few { turns request.now < 2 ^ 32 }
+    ensures few { turns request.now < 2 ^ 64 }
 {
     Budget::new(turns(request)).unwrap()
 }

@@ -1,13 +1,14 @@
 -- Why there is no text.
-use Rattle.std.proofs.Common.{ℕ, List, [], ◌∷◌, Err, refl}
+use Rattle.std.proofs.Common.{ℕ, List, [], ◌∷◌, Err, refl, inl, inr}
 use Rattle.std.specs.List.{AllByRecursion}
 use Rattle.rk_base.specs.Text.{Text}
 use Rattle.rk_calls.specs.Keys.{KeyValue}
 use Rattle.rk_calls.specs.Talk.{Says}
 use Rattle.rk_show.specs.Traces.{IsCounted}
-use Rattle.tr_codec.specs.Fits.{Fits, FitsRecord}
+use Rattle.tr_codec.specs.Fits.{FitsRecord}
+use Rattle.tr_codec.proofs.SoundLemmas.{old_fits}
 use Rattle.tr_record.specs.declared.records.Record.{Record}
-use Rattle.rk_database.specs.Texts.{NoCheck, NoTrace, StartsRecords}
+use Rattle.rk_database.specs.Texts.{NoCheck, NoTrace, Spells, StartsRecords}
 use Rattle.rk_database.specs.declared.stop.QueryErr.{QueryErr}
 use Rattle.rk_database.specs.declared.stop.QueryErr.TheVariants as stop
 use Rattle.rk_database.proofs.AnswerLemmas.{IsTextStop}
@@ -51,5 +52,6 @@ counted [] h = tt
 counted (rec ∷ table) h = (h.0.paid, counted table h.1)
 
 -- records that have a spelling paid numbers of 64 bits
-pub fits-counted : (table : List Record) → Fits table → AllByRecursion IsCounted table
-fits-counted table fits = counted table fits.records
+pub spelt-counted : (db : Text) (table : List Record) → Spells db table → AllByRecursion IsCounted table
+spelt-counted db table (inl new) = counted table new.0.records
+spelt-counted db table (inr old) = counted table (old_fits table old.0).records

@@ -8,9 +8,8 @@ use Rattle.rk_traces.specs.Started.{started}
 use Rattle.rk_traces.specs.Spoken.{AreSpoken}
 use Rattle.rk_show.specs.Json.{json_text}
 use Rattle.rk_show.specs.Traces.{records_line, trace_text}
-use Rattle.tr_codec.specs.Fits.{Fits}
 use Rattle.tr_parts.specs.Reads.{IsDamage}
-use Rattle.tr_codec.specs.Spelling.{db_spelling}
+use Rattle.tr_codec.specs.Spelt.{IsSpelling}
 use Rattle.tr_parts.specs.declared.fault.Damage.{Damage}
 use Rattle.tr_record.specs.declared.records.Record.{Record}
 use Rattle.rk_database.specs.declared.stop.QueryErr.{QueryErr}
@@ -24,13 +23,13 @@ TextOf = Text → Text → Type 0
 abbrev pub no_trace : Text
 no_trace = codes "no trace\n"
 
--- the bytes spell these records
+-- the bytes spell these records, by the version that is written or the one before
 abbrev pub Spells : Text → List Record → Type 0
-Spells db table = Fits table × (db ≡ db_spelling table)
+Spells db table = IsSpelling db table
 
 -- they spell none, and this is the damage
 abbrev pub IsDamaged : Text → Damage → Type 0
-IsDamaged db damage = IsDamage 52 db damage × ((table : List Record) → Fits table → db ≢ db_spelling table)
+IsDamaged db damage = IsDamage 52 db damage × ((table : List Record) → IsSpelling db table → ⊥)
 
 -- The trace.
 

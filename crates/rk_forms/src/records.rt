@@ -1,5 +1,5 @@
 // Steps of the table of records, and of its spelling.
-use crate::spelling::{Came, Spelt, bytes_step, came_of, not_read, spelling_shown};
+use crate::spelling::{Came, Spelt, bytes_step, came_of, chained, not_read, spelling_shown};
 use rk_base::{Bytes, NoMemory};
 use rk_calls::Key;
 use rk_steps::{
@@ -19,7 +19,7 @@ pub(crate) struct Records {
     seen: Seen,
 }
 
-fn step_line(alloc: Global, cost: u32, call: &str, answer: &str) -> Result<String, NoMemory> {
+fn step_line(alloc: Global, cost: u64, call: &str, answer: &str) -> Result<String, NoMemory> {
     let text = format!(in alloc; "; {cost} {call} -> {answer}")?;
     Ok(text)
 }
@@ -33,8 +33,13 @@ fn step_shown(alloc: Global, step: &Step) -> Result<String, NoMemory> {
 fn record_shown(alloc: Global, record: &Record) -> Result<String, NoMemory> {
     let key = key_shown(alloc, &record.key)?;
     let mut text = format!(in alloc; "{} #{}", key.as_str(), record.ordinal)?;
-    'steps: for step in record.steps.as_slice() {
+    let mut left = record.steps.walk();
+    'steps: for _ in 0..record.steps.len() {
+        let Some((step, rest)) = left.step() else {
+            break;
+        };
         text.push_str(step_shown(alloc, &step.copy()?)?.as_str())?;
+        left = rest;
     }
     let exit = format!(in alloc; "; {} exit {}", record.exit_cost, record.exit)?;
     text.push_str(exit.as_str())?;
@@ -69,7 +74,7 @@ fn add(alloc: Global, table: &mut Table, i: usize, step: Step) -> Result<String,
     plain(alloc, "none")
 }
 
-fn end(alloc: Global, table: &mut Table, i: usize, ended: (u8, u32)) -> Result<String, NoMemory> {
+fn end(alloc: Global, table: &mut Table, i: usize, ended: (u8, u64)) -> Result<String, NoMemory> {
     if i < table.len() {
         table.end(i, ended.0, ended.1);
         return plain(alloc, "ended");
@@ -81,10 +86,6 @@ fn small(words: &[Vec<u8>], i: usize) -> u8 {
     u8::try_from(number(words, i)).unwrap_or(0)
 }
 
-fn cost(words: &[Vec<u8>], i: usize) -> u32 {
-    u32::try_from(number(words, i)).unwrap_or(0)
-}
-
 // The step `COST CALL -> ANSWER`.
 fn step_of(alloc: Global, words: &[Vec<u8>]) -> Result<Option<Step>, NoMemory> {
     let mut parts = behind(words).split(|word| word.as_slice() == b"->".as_slice());
@@ -92,7 +93,7 @@ fn step_of(alloc: Global, words: &[Vec<u8>]) -> Result<Option<Step>, NoMemory> {
     let answer = answer_of(alloc, parts.next().unwrap_or(&[]))?;
     match (call, answer) {
         (Some(call), Some(answer)) => Ok(Some(Step {
-            cost: cost(words, 0),
+            cost: number(words, 0),
             call,
             answer,
         })),
@@ -140,7 +141,7 @@ impl Records {
     }
 
     fn end(&mut self, words: &[Vec<u8>]) -> Result<String, NoMemory> {
-        let ended = (small(words, 1), cost(words, 2));
+        let ended = (small(words, 1), number(words, 2));
         end(
             self.alloc,
             &mut self.table,
@@ -175,6 +176,32 @@ impl Records {
             Ok(table) => table_shown(self.alloc, &table),
             Err(e) => not_read(self.alloc, e),
         }
+    }
+
+    // How many records are read from the last bytes; steps speak of these then.
+    fn reread(&mut self) -> Result<String, NoMemory> {
+        match read_db(self.alloc, self.bytes.as_slice()) {
+            Ok(read) => {
+                self.table = read.into_table();
+                number_shown(self.alloc, Some(self.table.len()))
+            }
+            Err(e) => not_read(self.alloc, e),
+        }
+    }
+
+    // How many records are read from those bytes that have so many nodes, each behind the one before, and so many records, each of
+    // all of them; and how many steps the last one has.
+    fn chain(&mut self, many: u64) -> Result<String, NoMemory> {
+        self.bytes = Bytes::new(self.alloc, chained(self.alloc, many)?)?;
+        let records = self.reread()?;
+        let last = self.table.get(self.table.len().saturating_sub(1));
+        let steps = number_shown(self.alloc, last.map(|record| record.steps.len()))?;
+        let text = format!(in self.alloc;
+            "{} records, the last of {} steps",
+            records.as_str(),
+            steps.as_str()
+        )?;
+        Ok(text)
     }
 
     // What bytes are written as again.
@@ -226,6 +253,8 @@ impl Subject for Records {
             "count" | "place" | "find" => self.keyed(words),
             "table" => table_shown(alloc, &self.table),
             "spell" => self.spell(),
+            "reread" => self.reread(),
+            "chain" => self.chain(number(words, 1)),
             "back" => self.back(),
             _ => bytes_step(alloc, self, words),
         }

@@ -63,6 +63,36 @@ fn changed(alloc: Global, bytes: &[u8], place: usize) -> Result<Vec<u8>, NoMemor
     Ok(copy)
 }
 
+// Numbers of eight bytes.
+fn push_numbers(out: &mut Vec<u8>, numbers: &[u64]) -> Result<(), NoMemory> {
+    'numbers: for n in numbers {
+        out.extend_from_slice(&n.to_be_bytes())?;
+    }
+    Ok(())
+}
+
+/// A database of so many nodes, pipes at cost 1 of which each follows the one before, and as many records of `sh`, each with all
+/// of these steps.
+pub(crate) fn chained(alloc: Global, many: u64) -> Result<Vec<u8>, NoMemory> {
+    let mut out = Vec::from_slice(alloc, b"RKR2")?;
+    push_numbers(&mut out, &[2, 2])?;
+    out.extend_from_slice(b"sh")?;
+    push_numbers(&mut out, &[1])?;
+    out.extend_from_slice(b"/")?;
+    push_numbers(&mut out, &[many])?;
+    'nodes: for next in 0..many {
+        push_numbers(&mut out, &[next, 1])?;
+        out.extend_from_slice(&[17, 1])?;
+    }
+    push_numbers(&mut out, &[many])?;
+    'records: for _ in 0..many {
+        push_numbers(&mut out, &[1, 0, 1, 0, many])?;
+        out.push(0)?;
+        push_numbers(&mut out, &[0])?;
+    }
+    sealed(alloc, &out)
+}
+
 /// A length, and the digest at the end.
 pub(crate) fn spelling_shown(alloc: Global, bytes: &[u8]) -> Result<String, NoMemory> {
     let (_, digest) = bytes

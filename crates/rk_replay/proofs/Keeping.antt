@@ -1,5 +1,5 @@
 -- What didn't run is the old table's, once it has exited.
-use Rattle.std.proofs.Common.{◌≡◌, ◌≢◌, ℕ, ◌+◌, ◌<◌, inl, inr, List, [], ◌∷◌, ◌++◌, length, sym, ◌∙◌, ap, subst, arith, None}
+use Rattle.std.proofs.Common.{◌≡◌, ◌≢◌, ℕ, ◌+◌, ◌<◌, inl, inr, List, [], ◌∷◌, ◌++◌, length, sym, ◌∙◌, ap, subst, arith}
 use Rattle.std.proofs.lemmas.Bool.{cases_eq, cases_lt}
 use Rattle.rk_calls.specs.declared.drive.Spoke.{Spoke}
 use Rattle.rk_calls.specs.declared.drive.Spoke.TheVariants.{Exit as Exits}
@@ -12,22 +12,9 @@ use Rattle.rk_traces.specs.declared.active.Frame.{Frame}
 use Rattle.rk_traces.specs.Places.{length-begun, length-stepped, length-ended, rec-begun, rec-stepped, rec-ended, rec-ended_same}
 use Rattle.rk_replay.specs.declared.activity.Activity.{Activity}
 use Rattle.rk_replay.specs.Activities.{Speaks_on}
-use Rattle.rk_replay.specs.Ran.{cause_of, IsRecorded, AreKept}
+use Rattle.rk_replay.specs.Ran.{AreKept}
 use Rattle.rk_replay.proofs.Linking.{ends-recorded}
-use Rattle.rk_replay.proofs.Replaying.{Replaying}
-
--- it is the old table's, if its command didn't run
-abbrev pub IsKept : List Record → Record → Type 0
-IsKept old rec = cause_of old rec ≡ None → IsRecorded old rec
-
--- no waiting command stands at this place
-abbrev pub IsApart : {S : Type 0} → ℕ → List (Frame S) → Type 0
-IsApart i [] = Unit {0}
-IsApart i (f ∷ fs) = (i ≢ f.waiting.place) × IsApart i fs
-
--- of the commands that have exited, beside the one that goes on and those that wait
-pub record Keeps {S : Type 0} (old t : List Record) (m : Active S) (fs : List (Frame S)) : Type 0 where
-  pub each : (i : ℕ) → i < length t → i ≢ m.place → IsApart i fs → IsKept old (rec_at i t)
+use Rattle.rk_replay.specs.Links.{IsApart, IsKept, Keeps, Replaying}
 
 apart-push : {S : Type 0} (i : ℕ) (fs : List (Frame S)) (f : Frame S) → IsApart i fs → i ≢ f.waiting.place → IsApart i (fs ++ f ∷ [])
 apart-push i [] f a h = (h, tt)

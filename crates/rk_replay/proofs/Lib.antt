@@ -4,6 +4,7 @@ pub mod Differing
 pub mod Finding
 pub mod Keeping
 pub mod Linking
+pub mod Nodes
 pub mod Noting
 pub mod PaidLemmas
 pub mod Replaying
@@ -12,4 +13,5 @@ pub mod Starting
 pub mod Stopping
 pub mod Telling
 pub mod Totalling
+pub mod Turning
 pub mod Numbering

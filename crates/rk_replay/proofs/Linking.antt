@@ -1,5 +1,5 @@
 -- Commands and what stands in their records.
-use Rattle.std.proofs.Common.{◌≡◌, ◌≢◌, ℕ, ◌+◌, ◌≤◌, ◌<◌, List, [], ◌∷◌, ◌++◌, length, take, refl, sym, ◌∙◌, ap, subst, arith, Option, Some, None}
+use Rattle.std.proofs.Common.{◌≡◌, ◌≢◌, ℕ, ◌+◌, ◌<◌, List, [], ◌∷◌, ◌++◌, length, take, refl, sym, ◌∙◌, ap, subst, arith, Option, Some, None}
 use Rattle.std.proofs.lemmas.List.{take_all}
 use Rattle.rk_calls.specs.declared.call.Call.{Call}
 use Rattle.rk_calls.specs.declared.answer.Answer.{Answer}
@@ -9,7 +9,7 @@ use Rattle.rk_calls.specs.Keys.{KeyValue}
 use Rattle.tr_record.specs.declared.records.Record.{Record}
 use Rattle.tr_record.specs.declared.steps.Step.{Step}
 use Rattle.tr_record.specs.Rec.{rec_at, fresh_rec, with_step, with_exit, found}
-use Rattle.rk_traces.specs.Own.{steps_cost}
+use Rattle.tr_record.specs.Costs.{steps_cost}
 use Rattle.rk_traces.specs.Run.{step}
 use Rattle.rk_traces.specs.Spoken.{step_at}
 use Rattle.rk_traces.specs.Following.{next-take}
@@ -18,46 +18,29 @@ use Rattle.rk_replay.specs.declared.activity.Activity.{Activity}
 use Rattle.rk_replay.specs.declared.activity.Activity.TheVariants.{Runs, Replays}
 use Rattle.rk_replay.specs.declared.ran.Cause.{Cause}
 use Rattle.rk_replay.specs.declared.ran.Cause.TheVariants.{NoRecord, Differs}
-use Rattle.rk_replay.specs.Ran.{cause_by, cause_of, own_for, IsRecorded}
-use Rattle.rk_replay.specs.Activities.{IsReady, IsWaiting, IsLaunched, IsRunning, IsNext, Speaks_on, Takes, made, given_up, counted, exit_counted}
+use Rattle.rk_replay.specs.Links.{IsAsking, IsLinked}
+use Rattle.rk_replay.specs.Ran.{cause_by, cause_of, own_for, ran_one, IsRecorded}
+use Rattle.rk_replay.specs.Activities.{IsReady, IsWaiting, IsLaunched, IsRunning, IsNext, IsWhole, Speaks_on, Takes, made, given_up, counted, live_cost}
 use Rattle.rk_replay.proofs.Causing.{cause-found, cause-missing}
 use Rattle.rk_replay.proofs.Differing.{first_difference-prefix, first_difference-stable, first_difference-next}
 
--- its machine was made for a cause, or it has the beginning of the record under its key and ordinal
-abbrev pub IsLinked : {S : Type 0} → List Record → Record → Activity S → Type 0
-IsLinked old r (Runs m) = (c : Cause) × (cause_of old r ≡ Some c)
-IsLinked old r (Replays rec at) =
-    (rec < length old) × (at ≤ length (rec_at rec old).steps) × (found old r.key r.ordinal ≡ Some (rec_at rec old)) × (r.steps ≡ take at (rec_at rec old).steps)
-
--- the same while it waits for the answer to a call
-abbrev pub IsAsking : {S : Type 0} → List Record → Record → Call → ℕ → Activity S → Type 0
-IsAsking old r call cost (Runs m) = (c : Cause) × (cause_of old r ≡ Some c)
-IsAsking old r call cost (Replays rec at) =
-    (rec < length old) × (at < length (rec_at rec old).steps) × (found old r.key r.ordinal ≡ Some (rec_at rec old)) × (r.steps ≡ take at (rec_at rec old).steps)
-    × (call ≡ (step_at at (rec_at rec old).steps).call) × (cost ≡ (step_at at (rec_at rec old).steps).cost)
-
 pub linked-ready : {S : Type 0} (old : List Record) (r : Record) (a : Activity S) → IsLinked old r a → IsReady old a
 linked-ready old r (Runs m) l = tt
-linked-ready old r (Replays rec at) l = (l.0, l.1)
+linked-ready old r (Replays rec at node) l = (l.0, l.1)
 
 pub asking-waiting : {S : Type 0} (old : List Record) (r : Record) (call : Call) (c : ℕ) (a : Activity S) → IsAsking old r call c a → IsWaiting old a
 asking-waiting old r call c (Runs m) l = tt
-asking-waiting old r call c (Replays rec at) l = (l.0, l.1)
+asking-waiting old r call c (Replays rec at node) l = (l.0, l.1)
 
 running-asks : {S : Type 0} (old : List Record) (r : Record) (call : Call) (c : ℕ) (now : Activity S) → IsRunning now → (k : Cause) × (cause_of old r ≡ Some k) → IsAsking old r call c now
 running-asks old r call c (Runs m) h l = l
-running-asks old r call c (Replays rec at) h l = absurd h
+running-asks old r call c (Replays rec at node) h l = absurd h
 
 pub asks : {S : Type 0} (old : List Record) (r : Record) (was now : Activity S) (s : Spoke) (call : Call) (c : ℕ) → s ≡ Calls call c → IsLinked old r was → Speaks_on old was now s → IsAsking old r call c now
 asks old r (Runs m) now s call c es l h = running-asks old r call c now h l
-asks old r (Replays rec at) now s call c es l h =
+asks old r (Replays rec at node) now s call c es l h =
     let n = subst (IsNext (rec_at rec old) at) es h.1 in
     subst (IsAsking old r call c) (sym h.0) (l.0, n.0, l.2, l.3, n.1, n.2)
-
--- what counts of one record
-abbrev pub ran_one : Option Cause → ℕ
-ran_one None = 0
-ran_one (Some c) = 1
 
 -- it is replayed, so it didn't run so far
 pub replayed-cause : (old : List Record) (r : Record) (rec at : ℕ) → found old r.key r.ordinal ≡ Some (rec_at rec old) → r.steps ≡ take at (rec_at rec old).steps → cause_of old r ≡ None
@@ -78,7 +61,7 @@ pub begins : {S : Type 0} (old : List Record) (key : KeyValue) (ordinal : ℕ) (
 begins old key ordinal (Runs m) l =
     let c = cause-missing old (fresh_rec key ordinal) l in
     record { linked = (NoRecord, c); ran = rw c refl; live = rw c refl }
-begins old key ordinal (Replays rec at) l =
+begins old key ordinal (Replays rec at node) l =
     let z : at ≡ 0 = l.0 in
     let e : take 0 (rec_at rec old).steps ≡ take at (rec_at rec old).steps = ap (λ n. take n (rec_at rec old).steps) (sym z) in
     let c = replayed-cause old (fresh_rec key ordinal) rec 0 l.2 refl in
@@ -135,14 +118,14 @@ pub steps : {S : Type 0} (old : List Record) (r : Record) (call : Call) (c : ℕ
 steps {S} old r call c a (Runs m) now z l t =
     subst (Steps old r c (with_step r (step c call a)) (let w : Activity S = Runs m in w)) (sym t)
     (record { linked = (l.0, cause-stays old r (step c call a) l.0 l.1); changes = steps-running old r call c a l.0 l.1 })
-steps old r call c a (Replays rec at) (Runs m) z l t =
+steps old r call c a (Replays rec at node) (Runs m) z l t =
     record {
       linked = (Differs (1 + at) (step_at at (rec_at rec old).steps).answer a, cause-other old r call c a rec at l.1 l.2 l.3 t);
       changes = other-changes old r call c a rec at l.1 l.2 l.3 z t;
     }
-steps {S} old r call c a (Replays rec at) (Replays rec' at') z l t =
+steps {S} old r call c a (Replays rec at node) (Replays rec' at' node') z l t =
     let lt : at < length (rec_at rec old).steps = l.1 in
-    let on : Steps old r c (with_step r (step c call a)) (let w : Activity S = Replays rec at in w) (let w : Activity S = Replays rec (at + 1) in w) = record {
+    let on : Steps old r c (with_step r (step c call a)) (let w : Activity S = Replays rec at node in w) (let w : Activity S = Replays rec (at + 1) node' in w) = record {
       linked = (l.0, omega arith, l.2, as-recorded old r call c a rec at l.1 l.2 l.3 l.4 l.5 t.2);
       changes = same-changes old r call c a rec at l.1 l.2 l.3 l.4 l.5 t.2;
     } in
@@ -153,20 +136,24 @@ pub cause-ended : (old : List Record) (r : Record) (status c : ℕ) → cause_of
 unfolding cause_of
 cause-ended old r status c = refl
 
-running-ends : {S : Type 0} (old : List Record) (r : Record) (status c : ℕ) (k : Cause) (now : Activity S) → r.exit_cost ≡ 0 → cause_of old r ≡ Some k → IsRunning now → Changes old r (with_exit r status c) 0 (exit_counted now c)
+running-ends : {S : Type 0} (old : List Record) (r : Record) (status c : ℕ) (k : Cause) (now : Activity S) → r.exit_cost ≡ 0 → cause_of old r ≡ Some k → IsRunning now → Changes old r (with_exit r status c) 0 (live_cost now c)
 running-ends old r status c k (Runs m) z e h =
     let e' = cause-ended old r status c ∙ e in
     let o = own-exit r status c z in
     record { ran = rw (e', e) refl; live = rw (e', e) o }
-running-ends old r status c k (Replays rec at) z e h = absurd h
+running-ends old r status c k (Replays rec at node) z e h = absurd h
 
-pub ends : {S : Type 0} (old : List Record) (r : Record) (status c n : ℕ) (was now : Activity S) (s : Spoke) → r.exit_cost ≡ 0 → s ≡ Exits status n → IsLinked old r was → Speaks_on old was now s → Changes old r (with_exit r status c) 0 (exit_counted now c)
+pub ends : {S : Type 0} (old : List Record) (r : Record) (status c n : ℕ) (was now : Activity S) (s : Spoke) → r.exit_cost ≡ 0 → s ≡ Exits status n → IsLinked old r was → Speaks_on old was now s → Changes old r (with_exit r status c) 0 (live_cost now c)
 ends old r status c n (Runs m) now s z es l h = running-ends old r status c l.0 now z l.1 h
-ends {S} old r status c n (Replays rec at) now s z es l h =
+ends {S} old r status c n (Replays rec at node) now s z es l h =
     let k = replayed-cause old r rec at l.2 l.3 in
     let e = cause-ended old r status c ∙ k in
     let still : Changes old r (with_exit r status c) 0 0 = record { ran = rw (e, k) refl; live = rw (e, k) refl } in
-    subst (λ now. Changes old r (with_exit r status c) 0 (exit_counted now c)) (sym h.0) still
+    subst (λ now. Changes old r (with_exit r status c) 0 (live_cost now c)) (sym h.0) still
+
+running-whole : {S : Type 0} (old : List Record) (r : Record) (now : Activity S) → IsRunning now → IsWhole old r now
+running-whole old r (Runs m) h = tt
+running-whole old r (Replays rec at node) h = absurd h
 
 -- and where its command didn't run, it is the old table's then
 recorded : (old : List Record) (r : Record) (status c rec at : ℕ) → found old r.key r.ordinal ≡ Some (rec_at rec old) → r.steps ≡ take at (rec_at rec old).steps → at ≡ length (rec_at rec old).steps → status ≡ (rec_at rec old).exit → c ≡ (rec_at rec old).exit_cost → IsRecorded old (with_exit r status c)
@@ -174,10 +161,18 @@ recorded old r status c rec at ef es ea ex ec =
     let all : take at (rec_at rec old).steps ≡ (rec_at rec old).steps = take_all at (rec_at rec old).steps (omega arith) in
     (rec_at rec old, ef, sym (es ∙ all), sym ex, sym ec)
 
+-- a replayed command exits with all steps of its record
+pub whole : {S : Type 0} (old : List Record) (r : Record) (status n : ℕ) (was now : Activity S) (s : Spoke) → s ≡ Exits status n → IsLinked old r was → Speaks_on old was now s → IsWhole old r now
+whole old r status n (Runs m) now s es l h = running-whole old r now h
+whole old r status n (Replays rec at node) now s es l h =
+    let x = subst (IsNext (rec_at rec old) at) es h.1 in
+    let all : take at (rec_at rec old).steps ≡ (rec_at rec old).steps = take_all at (rec_at rec old).steps (omega (arith, x.0)) in
+    subst (IsWhole old r) (sym h.0) (l.0, l.3 ∙ all)
+
 pub ends-recorded : {S : Type 0} (old : List Record) (r : Record) (status c n : ℕ) (was now : Activity S) (s : Spoke) → s ≡ Exits status n → c ≡ n → IsLinked old r was → Speaks_on old was now s → cause_of old (with_exit r status c) ≡ None → IsRecorded old (with_exit r status c)
 ends-recorded old r status c n (Runs m) now s es ec l h none =
     let ran : Some l.0 ≡ None = sym l.1 ∙ sym (cause-ended old r status c) ∙ none in
     cc
-ends-recorded old r status c n (Replays rec at) now s es ec l h none =
+ends-recorded old r status c n (Replays rec at node) now s es ec l h none =
     let x = subst (IsNext (rec_at rec old) at) es h.1 in
     recorded old r status c rec at l.2 l.3 x.0 x.1 (ec ∙ x.2)

@@ -22,7 +22,8 @@ use Rattle.rk_replay.specs.Activities.{IsLaunched, Takes}
 use Rattle.rk_replay.specs.Causes.{cause_at, AreCauses, launch_cause, noted}
 use Rattle.rk_replay.specs.Ran.{cause_of, ran_for, ran_of}
 use Rattle.rk_replay.proofs.Causing.{cause-missing, ran-more}
-use Rattle.rk_replay.proofs.Linking.{IsAsking, replayed-cause, cause-stays, cause-other, cause-ended, as-recorded}
+use Rattle.rk_replay.specs.Links.{IsAsking}
+use Rattle.rk_replay.proofs.Linking.{replayed-cause, cause-stays, cause-other, cause-ended, as-recorded}
 
 pub causes-none : (old t : List Record) (cs : List (Option Cause)) → t ≡ [] → cs ≡ [] → AreCauses old t cs
 causes-none old t cs et ec = rw (et, ec) (record { many = refl; each = λ i h. let lt : i < 0 = h in absurd (omega arith) })
@@ -31,7 +32,7 @@ causes-none old t cs et ec = rw (et, ec) (record { many = refl; each = λ i h. l
 
 launched-cause : {S : Type 0} (old : List Record) (key : KeyValue) (ordinal : ℕ) (a : Activity S) → IsLaunched old key ordinal a → launch_cause a ≡ cause_of old (fresh_rec key ordinal)
 launched-cause old key ordinal (Runs m) l = sym (cause-missing old (fresh_rec key ordinal) l)
-launched-cause old key ordinal (Replays rec at) l = sym (replayed-cause old (fresh_rec key ordinal) rec 0 l.2 refl)
+launched-cause old key ordinal (Replays rec at node) l = sym (replayed-cause old (fresh_rec key ordinal) rec 0 l.2 refl)
 
 one-more : (old t : List Record) (cs : List (Option Cause)) (key : KeyValue) (o : Option Cause) → o ≡ cause_of old (fresh_rec key (count_of key t)) → AreCauses old t cs → AreCauses old (begun key t) (cs ++ o ∷ [])
 one-more old t cs key o is are =
@@ -89,11 +90,11 @@ module _ (old t : List Record) (cs : List (Option Cause)) (are : AreCauses old t
 pub stepped-causes : {S : Type 0} (old t : List Record) (cs : List (Option Cause)) (place : ℕ) (call : Call) (c : ℕ) (a : Answer) (was now : Activity S) → place < length t → IsAsking old (rec_at place t) call c was → Takes old was a now → AreCauses old t cs → AreCauses old (stepped place (step c call a) t) (noted old place was a now cs)
 unfolding stepped
 stepped-causes old t cs place call c a (Runs m) now h l k are = unchanged old t cs are place h (with_step (rec_at place t) (step c call a)) (cause-stays old (rec_at place t) (step c call a) l.0 l.1 ∙ sym l.1)
-stepped-causes old t cs place call c a (Replays rec at) (Runs m) h l k are =
+stepped-causes old t cs place call c a (Replays rec at node) (Runs m) h l k are =
     let n : at + 1 ≡ 1 + at = omega arith in
     changed old t cs are place h (with_step (rec_at place t) (step c call a)) (Some (Differs (at + 1) (step_at at (rec_at rec old).steps).answer a))
     (ap (λ n. Some (Differs n (step_at at (rec_at rec old).steps).answer a)) n ∙ sym (cause-other old (rec_at place t) call c a rec at l.1 l.2 l.3 k))
-stepped-causes old t cs place call c a (Replays rec at) (Replays rec' at') h l k are =
+stepped-causes old t cs place call c a (Replays rec at node) (Replays rec' at' node') h l k are =
     let was = replayed-cause old (rec_at place t) rec at l.2 l.3 in
     let now = replayed-cause old (with_step (rec_at place t) (step c call a)) rec (at + 1) l.2 (as-recorded old (rec_at place t) call c a rec at l.1 l.2 l.3 l.4 l.5 k.2) in
     unchanged old t cs are place h (with_step (rec_at place t) (step c call a)) (now ∙ sym was)

@@ -1,35 +1,43 @@
 -- Contents that are compared by their numbers.
-use Rattle.std.proofs.Common.{◌≡◌, ◌∙◌, ◌<◌, ℕ, List, [], Bool, Option, Some, None, length, refl, sym, ap}
+use Rattle.std.proofs.Common.{◌≡◌, ◌∙◌, ◌+◌, ◌<◌, ◌≤◌, ℕ, zero, suc, List, [], ◌∷◌, Bool, Option, Some, None, drop, length, sym, ap, subst, arith}
 use Rattle.std.specs.Prelude.{slice_get, IfSome, IsTrue, ◌↔◌}
-use Rattle.std.proofs.lemmas.Option.{slice_get-get_or}
+use Rattle.std.proofs.lemmas.List.{drop_more}
 use Rattle.rk_base.specs.Text.{Text}
 use Rattle.rk_calls.specs.declared.answer.Answer.{Answer}
 use Rattle.rk_calls.specs.declared.answer.Answer.TheVariants as answer
 use Rattle.rk_content.specs.Contents.{AreKnown, IsContent, Keeps}
-use Rattle.tr_record.specs.Contents.{AreContents, Recorded, content_number, number_by, number_in}
-use Rattle.tr_record.specs.Rec.{rec_at, fresh_rec, no_key}
+use Rattle.tr_nodes.proofs.GetLemmas.{get_some}
+use Rattle.tr_record.specs.Contents.{AreContents, Recorded}
+use Rattle.tr_record.specs.Pool.{steps_under, content_by, content_of, AreSteps}
+use Rattle.tr_record.specs.Rec.{rec_at}
 use Rattle.tr_record.specs.declared.records.Record.{Record}
 use Rattle.tr_record.specs.declared.steps.Step.{Step}
 use Rattle.rk_traces.specs.Spoken.{no_step, step_at}
+use Rattle.rk_replay.specs.Activities.{IsLeft}
 
-by_row : (texts : List Text) (row : Option (List (Option ℕ))) (rec : Record) (at n : ℕ) (step : Step) → number_by row at ≡ Some n → ((list : List (Option ℕ)) → row ≡ Some list → number_in list at ≡ Some n → IsContent texts n step.answer) → IsContent texts n step.answer
-by_row texts None rec at n step is f = cc
-by_row texts (Some list) rec at n step is f = f list refl is
+content_there : (o : Option (Option ℕ)) (n : ℕ) → content_by o ≡ Some n → o ≡ Some (Some n)
+content_there None n e = cc
+content_there (Some content) n e = ap (λ (c : Option ℕ). Some c) e
 
--- a number of the old table is that of its answer
-pub is_recorded : (it : Recorded) (old : List Record) (rec at n : ℕ) → AreContents it old → rec < length old → at < length (rec_at rec old).steps → content_number it rec at ≡ Some n → IsContent it.texts n (step_at at (rec_at rec old).steps).answer
-is_recorded it old rec at n are in_old in_rec is =
-    by_row it.texts (slice_get it.rows rec) (rec_at rec old) at n (step_at at (rec_at rec old).steps) is
-    (λ list here number. are rec list (rec_at rec old) here (slice_get-get_or old rec (fresh_rec no_key 0) in_old) at n (step_at at (rec_at rec old).steps) number (slice_get-get_or (rec_at rec old).steps at no_step in_rec))
+-- a node's number of a content is that of its answer
+answer_at : (it : Recorded) (old : List Record) (node n : ℕ) (step : Step) (rest : List Step) → AreContents it old → AreSteps it.nodes → node ≤ length it.nodes → steps_under it.nodes node ≡ step ∷ rest → content_of it.contents node ≡ Some n → IsContent it.texts n step.answer
+answer_at it old zero n step rest are behind le e number = absurd (let f : [] ≡ step ∷ rest = e in cc)
+answer_at it old (suc k) n step rest are behind le e number =
+    let some = get_some it.nodes k (omega arith) in
+    let both : step ∷ rest ≡ some.0.step ∷ steps_under it.nodes some.0.next = sym e ∙ behind k some.0 some.1 in
+    let is : some.0.step ≡ step = cc in
+    subst (λ (s : Step). IsContent it.texts n s.answer) is (are.numbers k n some.0 (content_there (slice_get it.contents k) n number) some.1)
 
 one_text : (a b : Text) → answer.Content a ≡ answer.Content b → a ≡ b
 one_text a b e = cc
 
 -- two contents are one exactly where their numbers say so
-pub alike : (contents now : List Text) (it : Recorded) (old : List Record) (rec at n id seen : ℕ) (text : Text) (a : Answer) (b : Bool) → content_number it rec at ≡ Some n → slice_get it.texts n ≡ Some text → slice_get now id ≡ Some text → Keeps contents now
-    → ((t o : Text) → slice_get now id ≡ Some t → slice_get now seen ≡ Some o → IsTrue b ↔ (t ≡ o)) → AreContents it old → rec < length old → at < length (rec_at rec old).steps → IsContent contents seen a → IsTrue b ↔ ((step_at at (rec_at rec old).steps).answer ≡ a)
-alike contents now it old rec at n id seen text a b number is here kept same are in_old in_rec saw =
-    let r = is_recorded it old rec at n are in_old in_rec number in
+pub alike : (contents now : List Text) (it : Recorded) (node n id seen : ℕ) (text : Text) (b : Bool) → content_of it.contents node ≡ Some n → AreSteps it.nodes → slice_get it.texts n ≡ Some text → slice_get now id ≡ Some text → Keeps contents now
+    → ((t o : Text) → slice_get now id ≡ Some t → slice_get now seen ≡ Some o → IsTrue b ↔ (t ≡ o))
+    → (old : List Record) (rec at : ℕ) (a : Answer) → AreContents it old → at < length (rec_at rec old).steps → IsLeft it.nodes old rec at node → IsContent contents seen a → IsTrue b ↔ ((step_at at (rec_at rec old).steps).answer ≡ a)
+alike contents now it node n id seen text b number behind is here kept same old rec at a are in_rec left saw =
+    let steps = (rec_at rec old).steps in
+    let r = answer_at it old node n (step_at at steps) (drop (at + 1) steps) are behind left.within (left.left ∙ drop_more steps at no_step in_rec) number in
     let e : r.0 ≡ text = let both : Some r.0 ≡ Some text = sym r.2 ∙ is in cc in
     let by = same text saw.0 here (kept seen saw.0 saw.2) in (
       λ t. r.1 ∙ ap (λ (x : Text). answer.Content x) (e ∙ by.0 t) ∙ sym saw.1,
@@ -48,8 +56,8 @@ pub known_text : (contents : List Text) (known : List (Option ℕ)) (texts : Lis
 known_text contents known texts n m text are at is = let k = are n m at in k.1 ∙ sym k.2 ∙ is
 
 -- what is told of a step is told of the command that waits for it
-pub alike_waits : (contents : List Text) (it : Recorded) (rec at id : ℕ) (o : Option Bool)
-    → IfSome o (λ b. (old : List Record) (a : Answer) → AreContents it old → rec < length old → at < length (rec_at rec old).steps → IsContent contents id a → IsTrue b ↔ ((step_at at (rec_at rec old).steps).answer ≡ a))
-    → IfSome o (λ b. (old : List Record) (a : Answer) → AreContents it old → (rec < length old) × (at < length (rec_at rec old).steps) → IsContent contents id a → IsTrue b ↔ ((step_at at (rec_at rec old).steps).answer ≡ a))
-alike_waits contents it rec at id None h = tt
-alike_waits contents it rec at id (Some b) h = λ old a are waits saw. h old a are waits.0 waits.1 saw
+pub alike_waits : (contents : List Text) (it : Recorded) (rec at node id : ℕ) (o : Option Bool)
+    → IfSome o (λ b. (old : List Record) (rec at : ℕ) (a : Answer) → AreContents it old → at < length (rec_at rec old).steps → IsLeft it.nodes old rec at node → IsContent contents id a → IsTrue b ↔ ((step_at at (rec_at rec old).steps).answer ≡ a))
+    → IfSome o (λ b. (old : List Record) (a : Answer) → AreContents it old → (rec < length old) × (at < length (rec_at rec old).steps) → IsLeft it.nodes old rec at node → IsContent contents id a → IsTrue b ↔ ((step_at at (rec_at rec old).steps).answer ≡ a))
+alike_waits contents it rec at node id None h = tt
+alike_waits contents it rec at node id (Some b) h = λ old a are waits left saw. h old rec at a are waits.1 left saw

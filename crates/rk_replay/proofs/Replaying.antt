@@ -1,7 +1,6 @@
 -- A build under way: what stands in the records of the command that goes on and of those that wait, and what
 -- changes of the counts.
 use Rattle.std.proofs.Common.{◌≡◌, ℕ, ◌+◌, ◌≤◌, ◌<◌, List, [], ◌∷◌, ◌++◌, length, refl, sym, ◌∙◌, ap, subst, arith, Option}
-use Rattle.std.specs.Prelude.{sum_by}
 use Rattle.std.proofs.lemmas.List.Sums.{sum_by_push}
 use Rattle.rk_calls.specs.declared.call.Call.{Call}
 use Rattle.rk_calls.specs.declared.call.Call.TheVariants.{Launch}
@@ -23,25 +22,14 @@ use Rattle.rk_traces.specs.Run.{step}
 use Rattle.rk_traces.specs.Places.{length-begun, length-stepped, length-ended, rec-begun, rec-begun_last, rec-stepped, rec-stepped_same, rec-ended}
 use Rattle.rk_traces.specs.Totals.{total-begun, total-stepped, total-ended}
 use Rattle.rk_replay.specs.declared.activity.Activity.{Activity}
-use Rattle.rk_replay.specs.Activities.{IsReady, IsWaiting, IsLaunched, Speaks_on, Takes, made, given_up, counted, exit_counted}
+use Rattle.rk_replay.specs.Activities.{IsReady, IsWaiting, IsLaunched, IsWhole, Speaks_on, Takes, made, given_up, counted, live_cost}
 use Rattle.rk_replay.specs.declared.ran.Cause.{Cause}
 use Rattle.rk_replay.specs.Causes.{AreCauses, noted}
-use Rattle.rk_replay.specs.Ran.{ran_total}
-use Rattle.rk_replay.proofs.Linking.{IsLinked, IsAsking, linked-ready, asking-waiting, asks, begins, steps, ends}
+use Rattle.rk_replay.specs.Ran.{ran_count, ran_total}
+use Rattle.rk_replay.specs.Links.{AllAsk, AllOver, IsAsking, IsLinked, Replaying, pend}
+use Rattle.rk_replay.proofs.Linking.{linked-ready, asking-waiting, asks, begins, steps, ends, whole}
 use Rattle.rk_replay.proofs.Noting.{stepped-causes, ended-causes}
-use Rattle.rk_replay.proofs.Totalling.{ran_count, ran_total-none, ran-within, Counts, stepped-counts, ended-counts, begun-counts}
-
--- each of them stands above this place
-abbrev pub AllOver : {S : Type 0} → ℕ → List (Frame S) → Type 0
-AllOver p [] = Unit {0}
-AllOver p (f ∷ fs) = (p < f.waiting.place) × AllOver p fs
-
--- the waiting commands stand at ascending places below this one
-abbrev pub AllAsk : {S : Type 0} → List Record → List Record → ℕ → List (Frame (Activity S)) → Type 0
-AllAsk old t n [] = Unit {0}
-AllAsk old t n (f ∷ fs) =
-    IsAsking old (rec_at f.waiting.place t) (Launch f.key f.map) f.cost f.waiting.machine × ((rec_at f.waiting.place t).exit_cost ≡ 0) × (f.waiting.place < n)
-    × AllOver f.waiting.place fs × AllAsk old t n fs
+use Rattle.rk_replay.proofs.Totalling.{ran_total-none, ran-within, Counts, stepped-counts, ended-counts, begun-counts}
 
 AllOver-push : {S : Type 0} (p : ℕ) (fs : List (Frame S)) (f : Frame S) → AllOver p fs → p < f.waiting.place → AllOver p (fs ++ f ∷ [])
 AllOver-push p [] f o h = (h, tt)
@@ -69,17 +57,6 @@ AllAsk-keep old t t' n [] k b = tt
 AllAsk-keep old t t' n (f ∷ fs) k b =
     let e = k f.waiting.place b.2 in
     (subst (λ r. IsAsking old r (Launch f.key f.map) f.cost f.waiting.machine) (sym e) b.0, ap (λ (r : Record). r.exit_cost) e ∙ b.1, b.2, b.3, AllAsk-keep old t t' n fs k b.4)
-
--- the command that goes on, and those that wait
-pub record Replaying {S : Type 0} (old t : List Record) (m : Active (Activity S)) (fs : List (Frame (Activity S))) : Type 0 where
-  pub here : m.place < length t
-  pub unended : (rec_at m.place t).exit_cost ≡ 0
-  pub linked : IsLinked old (rec_at m.place t) m.machine
-  pub asking : AllAsk old t m.place fs
-
--- what was paid for the calls of waiting commands
-abbrev pub pend : {S : Type 0} → List (Frame S) → ℕ
-pend fs = sum_by (λ f. f.cost) fs
 
 -- what changes of the counts, and of all that stands in the table
 pub record Pays (old t t' : List Record) (more count paid : ℕ) : Type 0 where
@@ -174,13 +151,17 @@ module _ {S : Type 0} (old t : List Record) (m : Active (Activity S)) (fs : List
   pub Pays-launch : (key : KeyValue) (child : Activity S) (t' : List Record) → IsLaunched old key (count_of key t) child → t' ≡ begun key t → Pays old t t' (made child) 0 0
   Pays-launch key child t' l et = rw et (launch-pays old t key child l)
 
-  pub Pays-end : (status n c : ℕ) (t' : List Record) → s ≡ Exits status n → t' ≡ ended m.place status c t → Pays old t t' 0 (exit_counted now c) c
+  pub Pays-end : (status n c : ℕ) (t' : List Record) → s ≡ Exits status n → t' ≡ ended m.place status c t → Pays old t t' 0 (live_cost now c) c
   Pays-end status n c t' es et =
       rw et
       (record {
-        counts = ended-counts old t m.place status c 0 (exit_counted now c) i.here (ends old (rec_at m.place t) status c n m.machine now s i.unended es i.linked on);
+        counts = ended-counts old t m.place status c 0 (live_cost now c) i.here (ends old (rec_at m.place t) status c n m.machine now s i.unended es i.linked on);
         total = total-ended m.place status c t i.here i.unended;
       })
+
+  -- a replayed command exits with all steps of its record
+  pub Whole-end : (status n : ℕ) → s ≡ Exits status n → IsWhole old (rec_at m.place t) now
+  Whole-end status n es = whole old (rec_at m.place t) status n m.machine now s es i.linked on
 
   pub Causes-end : (status c : ℕ) (t' : List Record) (cs : List (Option Cause)) → t' ≡ ended m.place status c t → AreCauses old t cs → AreCauses old t' cs
   Causes-end status c t' cs et are = rw et (ended-causes old t cs m.place status c i.here are)
@@ -226,13 +207,13 @@ module _ {S : Type 0} (old t : List Record) (m : Active (Activity S)) (fs : List
         rw et' (taken old t' f.waiting.place (Launch f.key f.map) f.cost (Joined status) f.waiting.machine next.machine next fs' join-place unended waiting k below ep refl)
 
     -- the exit of the launched one, and the step of the one that waited
-    pub Pays-join : (t'' : List Record) (next : Activity S) → t'' ≡ stepped f.waiting.place (step f.cost (Launch f.key f.map) (Joined status)) t' → Takes old f.waiting.machine (Joined status) next → Pays old t t'' (given_up f.waiting.machine next) (exit_counted now c + counted f.waiting.machine next f.cost (rec_at f.waiting.place t'')) (c + f.cost)
+    pub Pays-join : (t'' : List Record) (next : Activity S) → t'' ≡ stepped f.waiting.place (step f.cost (Launch f.key f.map) (Joined status)) t' → Takes old f.waiting.machine (Joined status) next → Pays old t t'' (given_up f.waiting.machine next) (live_cost now c + counted f.waiting.machine next f.cost (rec_at f.waiting.place t'')) (c + f.cost)
     Pays-join t'' next et' k =
         let a = Pays-end status n c t' es et in
         let b = take-pays old t' f.waiting.place (Launch f.key f.map) f.cost (Joined status) f.waiting.machine next join-place unended waiting k in
         let u = stepped f.waiting.place (step f.cost (Launch f.key f.map) (Joined status)) t' in
         let a1 : ran_count old t' ≡ ran_count old t + 0 = a.counts.ran in
-        let a2 : ran_total old t' ≡ ran_total old t + exit_counted now c = a.counts.live in
+        let a2 : ran_total old t' ≡ ran_total old t + live_cost now c = a.counts.live in
         let a3 : total t' ≡ total t + c = a.total in
         let b1 : ran_count old (stepped f.waiting.place (step f.cost (Launch f.key f.map) (Joined status)) t') ≡ ran_count old t' + given_up f.waiting.machine next = b.counts.ran in
         let b2 : ran_total old (stepped f.waiting.place (step f.cost (Launch f.key f.map) (Joined status)) t') ≡ ran_total old t' + counted f.waiting.machine next f.cost (rec_at f.waiting.place (stepped f.waiting.place (step f.cost (Launch f.key f.map) (Joined status)) t')) = b.counts.live in
@@ -245,12 +226,9 @@ pend-push fs fs' f e = ap pend e ∙ sum_by_push (λ (f : Frame _). f.cost) fs f
 pub pend-none : {S : Type 0} (fs : List (Frame S)) → fs ≡ [] → pend fs ≡ 0
 pend-none fs e = ap pend e
 
-none-from_length : {A : Type 0} (xs : List A) → length xs ≡ 0 → xs ≡ []
+pub none-from_length : {A : Type 0} (xs : List A) → length xs ≡ 0 → xs ≡ []
 none-from_length [] h = refl
 none-from_length (x ∷ xs) h = absurd (omega arith)
-
-pub pend-empty : {S : Type 0} (fs : List (Frame S)) → length fs ≡ 0 → pend fs ≡ 0
-pend-empty fs e = pend-none fs (none-from_length fs e)
 
 -- the count of starts
 pub starts-first : (s0 s n k : ℕ) → s ≡ started k s0 → n ≡ k → s ≡ started n s0

@@ -17,11 +17,9 @@ use Rattle.rk_traces.specs.declared.check.CheckErr.TheVariants as check
 use Rattle.rk_replay.specs.declared.ran.Cause.{Cause}
 use Rattle.rk_replay.specs.declared.stop.ReplayErr.{ReplayErr}
 use Rattle.rk_replay.specs.declared.stop.ReplayErr.TheVariants.{Spent, Forged, Stopped}
-use Rattle.rk_replay.specs.Ran.{cause_of}
+use Rattle.rk_replay.specs.Ran.{cause_of, ran_count, ran_one}
 use Rattle.rk_replay.specs.Starts.{StartsFor, StartsRan, StartsUpTo, StartsStopped}
 use Rattle.rk_replay.specs.Stops.{Stops, IsWant, IsHandedOn}
-use Rattle.rk_replay.proofs.Linking.{ran_one}
-use Rattle.rk_replay.proofs.Totalling.{ran_count}
 
 -- no more of them ran than there are
 ran-one_most : (o : Option Cause) → ran_one o ≤ 1

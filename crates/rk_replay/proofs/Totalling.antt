@@ -1,6 +1,6 @@
 -- What counts of all records, as the table changes.
 use Rattle.std.proofs.Common.{◌≡◌, ℕ, ◌+◌, ◌≤◌, ◌<◌, List, [], ◌∷◌, length, refl, sym, ◌∙◌, ap, arith, Option, Some, None}
-use Rattle.std.specs.Prelude.{slice_set, sum_by}
+use Rattle.std.specs.Prelude.{slice_set}
 use Rattle.std.specs.List.{cons_option}
 use Rattle.std.proofs.lemmas.List.Sums.{sum_by-set, sum_by-append}
 use Rattle.rk_calls.specs.Keys.{KeyValue}
@@ -9,12 +9,8 @@ use Rattle.tr_record.specs.declared.steps.Step.{Step}
 use Rattle.tr_record.specs.Rec.{rec_at, begun, stepped, ended, fresh_rec, with_step, with_exit, no_key, count_of}
 use Rattle.rk_traces.specs.Own.{own, total}
 use Rattle.rk_replay.specs.declared.ran.Cause.{Cause}
-use Rattle.rk_replay.specs.Ran.{cause_of, own_for, ran_for, ran_of, ran_total}
-use Rattle.rk_replay.proofs.Linking.{ran_one, Changes}
-
--- how many of them ran
-abbrev pub ran_count : List Record → List Record → ℕ
-ran_count old t = sum_by (λ rec. ran_one (cause_of old rec)) t
+use Rattle.rk_replay.specs.Ran.{cause_of, own_for, ran_count, ran_for, ran_of, ran_one, ran_total}
+use Rattle.rk_replay.proofs.Linking.{Changes}
 
 pub ran_count-length : (old t : List Record) → length (ran_of old t) ≡ ran_count old t
 unfolding ran_of

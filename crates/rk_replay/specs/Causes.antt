@@ -22,10 +22,19 @@ pub record AreCauses (old table : List Record) (causes : List (Option Cause)) : 
 -- of a command that is launched: it has no record, or is replayed
 abbrev pub launch_cause : {S : Type 0} → Activity S → Option Cause
 launch_cause (Runs machine) = Some NoRecord
-launch_cause (Replays rec at) = None
+launch_cause (Replays rec at node) = None
 
--- of the command at a place as it takes an answer: where its record is given up, the step and both answers
+-- why a command's record is given up as it takes an answer, if it is: the step and both answers
+abbrev pub cause_taken : {S : Type 0} → List Record → Activity S → Answer → Activity S → Option Cause
+cause_taken old (Runs machine) a now = None
+cause_taken old (Replays rec at node) a (Runs machine) = Some (Differs (at + 1) (step_at at (rec_at rec old).steps).answer a)
+cause_taken old (Replays rec at node) a (Replays rec' at' node') = None
+
+-- a cause is noted of the command at a place, if there is one
+abbrev pub with_cause : ℕ → Option Cause → List (Option Cause) → List (Option Cause)
+with_cause place None causes = causes
+with_cause place (Some cause) causes = slice_set causes place (Some cause)
+
+-- of the command at a place as it takes an answer
 abbrev pub noted : {S : Type 0} → List Record → ℕ → Activity S → Answer → Activity S → List (Option Cause) → List (Option Cause)
-noted old place (Runs machine) a now causes = causes
-noted old place (Replays rec at) a (Runs machine) causes = slice_set causes place (Some (Differs (at + 1) (step_at at (rec_at rec old).steps).answer a))
-noted old place (Replays rec at) a (Replays rec' at') causes = causes
+noted old place was a now causes = with_cause place (cause_taken old was a now) causes

@@ -1,7 +1,10 @@
 pub mod Activities
 pub mod Answers
 pub mod Causes
+pub mod Earlier
+pub mod Links
 pub mod Ran
 pub mod Script
 pub mod Starts
 pub mod Stops
+pub mod UnderWay

@@ -47,6 +47,15 @@ ran_for rec (Some cause) = Some (record { key = rec.key; ordinal = rec.ordinal; 
 unfoldable pub ran_of : List Record → List Record → List Ran
 ran_of old table = filter_map (λ rec. ran_for rec (cause_of old rec)) table
 
+-- how many it is: one that ran, or none
+abbrev pub ran_one : Option Cause → ℕ
+ran_one None = 0
+ran_one (Some cause) = 1
+
+-- how many commands ran
+abbrev pub ran_count : List Record → List Record → ℕ
+ran_count old table = sum_by (λ rec. ran_one (cause_of old rec)) table
+
 -- what a command paid, where it ran
 abbrev pub own_for : Record → Option Cause → ℕ
 own_for rec None = 0

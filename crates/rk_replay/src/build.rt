@@ -12,16 +12,14 @@ ghost use Rattle.rk_replay.specs.Ran.{AreKept, ran_of, ran_total};
 ghost use Rattle.rk_replay.specs.Starts.{StartsStopped};
 ghost use Rattle.rk_replay.specs.Stops.{Stops, StaysSo};
 
-use crate::activity::{Activity, begin, exit_counted};
-use crate::causes::{CauseList, ran_of};
-use crate::hearing::hear;
+use crate::earlier::Earlier;
 use crate::ran::RanList;
+use crate::replay::Replay;
 use crate::stop::ReplayErr;
-use crate::turns::{answer_call, launch_below, resume};
 use rk_base::{Budget, NoMemory, Steps};
-use rk_calls::{Answer, Call, Key, Machine, Maker, Refs, Spoke};
-use rk_content::{ContentId, Numbering};
-use rk_traces::{Frame, check_with, pay};
+use rk_calls::{Answer, Call, Key, Maker, Spoke};
+use rk_content::Numbering;
+use rk_traces::{check_with, pay};
 use std::alloc::Global;
 use std::sync::ledger::Ledger;
 use tr_record::{RecordedContents, Table};
@@ -40,13 +38,13 @@ pub struct Built {
 ///
 /// Errors: `Forged` for a record of the old table that isn't what its command says; `Spent` where the budget
 /// doesn't meet the run, and the old table has no such record.
-pub fn build_with<K: Maker, W: Numbering, L: Ledger>(
+pub fn build_with<'a, K: Maker, W: Numbering, L: Ledger>(
     alloc: Global,
     maker: &mut K,
     world: &mut W,
     key: &Key,
-    old: &Table,
-    contents: &RecordedContents,
+    old: &'a Table,
+    contents: &'a RecordedContents,
     budget: &mut Budget,
     live: &mut Steps<L>,
 ) -> Result<Built, ReplayErr<W::Stop>>
@@ -78,71 +76,31 @@ pub fn build_with<K: Maker, W: Numbering, L: Ledger>(
     ensures at_least { live.old ≤ live.new }
     ensures at_most { live.new ≤ live.old + left budget.old }
 {
-    let mut table = Table::new(alloc);
-    let mut causes = CauseList::new(alloc);
-    let mut known: Vec<Option<ContentId>> = Vec::new(alloc);
-    let mut stack: Vec<Frame<Activity<K::Made>>> = Vec::new(alloc);
-    let refs = Refs::top(alloc)?;
-    let mut top = begin(maker, &mut table, &mut causes, key, refs, old)?;
+    let mut replay = Replay::start(alloc, maker, Earlier::new(old, contents), key)?;
     let mut answer = Answer::Go;
     'turns: loop {
-        match hear(maker, &mut top.machine, answer, budget.left(), old)? {
+        match replay.hear(maker, answer, budget.left())? {
             Spoke::Call(call, cost) => {
                 let cost = pay(budget, cost);
                 match call {
                     Call::Launch(key, map) => {
-                        launch_below(
-                            maker,
-                            &mut table,
-                            &mut causes,
-                            &mut stack,
-                            &mut top,
-                            key,
-                            map,
-                            cost,
-                            old,
-                        )?;
+                        replay.launch(maker, key, map, cost)?;
                         answer = Answer::Go;
                     }
                     call => {
-                        answer = answer_call(
-                            maker,
-                            world,
-                            contents,
-                            &mut known,
-                            &mut table,
-                            &mut causes,
-                            &mut top,
-                            call,
-                            cost,
-                            old,
-                            live,
-                        )?;
+                        answer = replay.answer(maker, world, call, cost, live)?;
                     }
                 }
             }
             Spoke::Exit(status, cost) => {
                 let cost = pay(budget, cost);
-                let counted = exit_counted(&top.machine, cost);
-                table.end(top.place, status, cost);
-                match stack.pop() {
-                    None => {
-                        let ran = ran_of(alloc, &table, &causes)?;
-                        live.tick(u64::from(counted));
-                        return Ok(Built { status, table, ran });
+                match replay.exit(maker, status, cost, live)? {
+                    Some(joined) => {
+                        answer = joined;
                     }
-                    Some(frame) => {
-                        top = resume(
-                            maker,
-                            &mut table,
-                            &mut causes,
-                            frame,
-                            status,
-                            counted,
-                            old,
-                            live,
-                        )?;
-                        answer = Answer::Joined(status);
+                    None => {
+                        let (table, ran) = replay.finish(alloc)?;
+                        return Ok(Built { status, table, ran });
                     }
                 }
             }

@@ -1,12 +1,12 @@
 // Recorded contents, by the numbers that a world gives.
-ghost use Rattle.std.specs.Prelude.{◌≡◌, ◌↔◌, ◌<◌, IsTrue, IfOk, IfSome, List, OnOk, Some, slice_get, length};
+ghost use Rattle.std.specs.Prelude.{◌≡◌, ◌↔◌, ◌<◌, ℕ, IsTrue, IfOk, IfSome, List, OnOk, Some, slice_get, length};
 ghost use Rattle.rk_calls.specs.declared.answer.Answer.{Answer};
 ghost use Rattle.rk_content.specs.Contents.{AreKnown, IsContent, Keeps};
 ghost use Rattle.tr_record.specs.Contents.{AreContents};
 ghost use Rattle.tr_record.specs.Rec.{rec_at};
 ghost use Rattle.tr_record.specs.declared.records.Record.{Record};
 ghost use Rattle.rk_traces.specs.Spoken.{step_at};
-ghost use Rattle.rk_replay.specs.Activities.{IsAlike, IsWaiting};
+ghost use Rattle.rk_replay.specs.Activities.{IsAlike, IsAt, IsLeft, IsWaiting};
 
 use crate::activity::Activity;
 use rk_base::{Bytes, NoMemory};
@@ -77,18 +77,17 @@ fn is_alike_at<W: Numbering>(
     world: &mut W,
     contents: &RecordedContents,
     known: &mut Vec<Option<ContentId>>,
-    rec: usize,
-    at: usize,
+    node: usize,
     seen: ContentId,
 ) -> Result<Option<bool>, NoMemory>
     requires { AreKnown (W.contents world.old) known.old.items contents.now.texts }
-    ensures alike { IfOk result (λ it. IfSome it (λ alike. (old : List Record) (a : Answer) → AreContents contents.now old → rec < length old → at < length (rec_at rec old).steps → IsContent (W.contents world.old) seen a → IsTrue alike ↔ ((step_at at (rec_at rec old).steps).answer ≡ a))) }
+    ensures alike { IfOk result (λ it. IfSome it (λ alike. (old : List Record) (rec at : ℕ) (a : Answer) → AreContents contents.now old → at < length (rec_at rec old).steps → IsLeft contents.now.nodes old rec at node → IsContent (W.contents world.old) seen a → IsTrue alike ↔ ((step_at at (rec_at rec old).steps).answer ≡ a))) }
     ensures known { OnOk result (AreKnown (W.contents world.new) known.new.items contents.now.texts) }
     ensures told { W.told world.new ≡ W.told world.old }
     ensures keeps { W.Keeps world.old world.new }
     ensures stays { W.Stays world.old world.new }
 {
-    match contents.number(rec, at) {
+    match contents.number(node) {
         None => Ok(None),
         Some(n) => match contents.text(n) {
             None => Ok(None),
@@ -100,30 +99,34 @@ fn is_alike_at<W: Numbering>(
     }
 }
 
-/// Whether the step that a command waits for is answered as recorded, told by the numbers of both contents; `None` where there
-/// are not two.
-pub(crate) fn is_alike<M: Drop, W: Numbering>(
-    world: &mut W,
-    contents: &RecordedContents,
-    known: &mut Vec<Option<ContentId>>,
-    activity: &Activity<M>,
-    seen: Option<ContentId>,
-) -> Result<Option<bool>, NoMemory>
-    requires { AreKnown (W.contents world.old) known.old.items contents.now.texts }
-    ensures alike { IfOk result (λ it. IfSome it (λ alike. (old : List Record) (a : Answer) → AreContents contents.now old → IsWaiting old activity.now → IfSome seen (λ id. IsContent (W.contents world.old) id a) → IsAlike old activity.now a alike)) }
-    ensures known { OnOk result (AreKnown (W.contents world.new) known.new.items contents.now.texts) }
-    ensures told { W.told world.new ≡ W.told world.old }
-    ensures keeps { W.Keeps world.old world.new }
-    ensures stays { W.Stays world.old world.new }
-{
-    match seen {
-        None => Ok(None),
-        Some(seen) => match activity {
-            Activity::Runs(_) => Ok(None),
-            Activity::Replays(rec, at) => {
-                let alike = is_alike_at(world, contents, known, *rec, *at, seen)?;
-                Ok(alike)
-            }
-        },
+impl<M: Drop> Activity<M> {
+    /// Whether the step that the command waits for is answered as recorded, told by the numbers of both contents; `None` where
+    /// there are not two.
+    pub(crate) fn is_alike<W: Numbering>(
+        &self,
+        world: &mut W,
+        contents: &RecordedContents,
+        known: &mut Vec<Option<ContentId>>,
+        seen: Option<ContentId>,
+    ) -> Result<Option<bool>, NoMemory>
+        requires { AreKnown (W.contents world.old) known.old.items contents.now.texts }
+        ensures alike { IfOk result (λ it. IfSome it (λ alike. (old : List Record) (a : Answer) →
+            AreContents contents.now old → IsWaiting old self.now → IsAt contents.now.nodes old self.now →
+            IfSome seen (λ id. IsContent (W.contents world.old) id a) → IsAlike old self.now a alike)) }
+        ensures known { OnOk result (AreKnown (W.contents world.new) known.new.items contents.now.texts) }
+        ensures told { W.told world.new ≡ W.told world.old }
+        ensures keeps { W.Keeps world.old world.new }
+        ensures stays { W.Stays world.old world.new }
+    {
+        match seen {
+            None => Ok(None),
+            Some(seen) => match self {
+                Activity::Runs(_) => Ok(None),
+                Activity::Replays { node, .. } => {
+                    let alike = is_alike_at(world, contents, known, *node, seen)?;
+                    Ok(alike)
+                }
+            },
+        }
     }
 }

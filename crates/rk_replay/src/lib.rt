@@ -6,13 +6,14 @@ mod activity;
 mod as_found;
 mod build;
 mod causes;
+mod earlier;
 mod hearing;
 mod known;
 mod paying;
 mod ran;
+mod replay;
 mod script;
 mod stop;
-mod turns;
 
 pub use as_found::is_as_found;
 pub use build::{Built, build_with};

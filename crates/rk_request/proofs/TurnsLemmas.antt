@@ -19,7 +19,7 @@ number-low most low high text n e = grind (arith, nat_tests)
 
 turns-some : (text : Option Text) (n : ℕ) → steps_of text ≡ Some n → 0 < n
 turns-some None n e = let h : 1000000 ≡ n = some-is 1000000 n e in omega arith
-turns-some (Some text) n e = let h : 1 ≤ n = number-low 10 1 4294967295 text n e in omega arith
+turns-some (Some text) n e = let h : 1 ≤ n = number-low 13 1 1000000000000 text n e in omega arith
 
 abbrev HasTurns : Option Request → Type 0
 HasTurns None = Unit {0}

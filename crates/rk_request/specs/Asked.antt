@@ -7,10 +7,10 @@ use Rattle.rk_request.specs.Decimal.{number_of}
 use Rattle.rk_request.specs.declared.requests.Request.{Request}
 use Rattle.rk_request.specs.declared.requests.Request.TheVariants as request
 
--- the budget of turns: 1,000,000 where none is named, else a number of at most ten digits from 1 to 4,294,967,295
+-- the budget of turns: 1,000,000 where none is named, else a number of at most thirteen digits from 1 to 1,000,000,000,000
 abbrev pub steps_of : Option Text → Option ℕ
 steps_of None = Some 1000000
-steps_of (Some text) = number_of 10 1 4294967295 text
+steps_of (Some text) = number_of 13 1 1000000000000 text
 
 -- a flag that was given has the text `true`
 abbrev pub is_true : Option Text → Bool

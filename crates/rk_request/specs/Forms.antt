@@ -17,14 +17,14 @@ Answers asked (Err NoMemory) = Unit {0}
 
 -- a build within N turns, where N is a number in range
 abbrev pub build_within : Text → Option Request
-build_within n = option_map (λ steps. Build steps false false false) (number_of 10 1 4294967295 n)
+build_within n = option_map (λ steps. Build steps false false false) (number_of 13 1 1000000000000 n)
 
 abbrev pub explained_within : Text → Option Request
-explained_within n = option_map (λ steps. Build steps true false false) (number_of 10 1 4294967295 n)
+explained_within n = option_map (λ steps. Build steps true false false) (number_of 13 1 1000000000000 n)
 
 -- with every flag
 abbrev pub all_within : Text → Option Request
-all_within n = option_map (λ steps. Build steps true true true) (number_of 10 1 4294967295 n)
+all_within n = option_map (λ steps. Build steps true true true) (number_of 13 1 1000000000000 n)
 
 -- the workload of a seed, where that is a number in range
 abbrev pub made_of : Text → Option Request

@@ -10,7 +10,7 @@ pub enum Request {
     /// A build within so many turns, at least one. `explain`: the lines of what ran and why follow the error text.
     /// `fresh`: the recorded table counts as empty. `check`: every record is checked before the script runs.
     Build {
-        steps: u32,
+        steps: u64,
         explain: bool,
         fresh: bool,
         check: bool,

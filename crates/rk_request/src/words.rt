@@ -14,7 +14,7 @@ use clap::{ArgMatches, Error};
 use std::alloc::Global;
 
 /// The budget of turns where the words name none.
-pub const DEFAULT_STEPS: u32 = 1_000_000;
+pub const DEFAULT_STEPS: u64 = 1_000_000;
 
 fn text_of<'a>(matches: &ArgMatches<'a>, id: &str) -> Option<&'a str>
     ensures { option_map (λ s. s.now) result ≡ first_of id.now (rows_of (found_of matches.now)) }
@@ -22,12 +22,12 @@ fn text_of<'a>(matches: &ArgMatches<'a>, id: &str) -> Option<&'a str>
     matches.get_str(id)
 }
 
-fn steps(matches: &ArgMatches<'_>) -> Option<u32>
+fn steps(matches: &ArgMatches<'_>) -> Option<u64>
     ensures { result ≡ steps_of (first_of (codes "steps") (rows_of (found_of matches.now))) }
 {
     match text_of(matches, "steps") {
         None => Some(DEFAULT_STEPS),
-        Some(text) => Some(number(10, 1, 4_294_967_295, text)? as u32),
+        Some(text) => number(13, 1, 1_000_000_000_000, text),
     }
 }
 

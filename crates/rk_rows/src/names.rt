@@ -133,7 +133,7 @@ impl Names {
     }
 
     fn set_budget(&mut self, n: u64) -> Result<String, NoMemory> {
-        self.budget = Budget::new(u32::try_from(n).unwrap_or(0));
+        self.budget = Budget::new(n);
         match &self.budget {
             Some(budget) => budget_shown(self.alloc, "", budget),
             None => plain(self.alloc, "none"),

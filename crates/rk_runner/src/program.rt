@@ -4,7 +4,7 @@ use rk_folder::{MemFolder, MemSink};
 use std::alloc::Global;
 
 /// More turns than a session needs.
-pub(crate) const ENOUGH: u32 = 1_000_000;
+pub(crate) const ENOUGH: u64 = 1_000_000;
 
 /// How a call of the program ended, as far as sessions tell ends apart.
 #[derive(Clone, Copy)]
@@ -67,7 +67,7 @@ fn sink(alloc: Global, cut: Cut) -> Result<MemSink, NoMemory> {
 pub(crate) fn build_within<P: Program>(
     program: &P,
     alloc: Global,
-    turns: u32,
+    turns: u64,
     folder: &mut MemFolder,
 ) -> Result<Built, NoMemory> {
     let mut words = Vec::new(alloc);

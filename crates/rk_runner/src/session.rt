@@ -8,7 +8,7 @@ use rk_base::{NoMemory, Path};
 use rk_folder::{Folder, FolderErr, MemFolder};
 use rk_sessions::{
     SessionStep, StepKind, asks_change, bytes_of, contents, has_line, kind_at, number, ran,
-    rows_at, shown, size, steps_of, text_at, turns, unexplained,
+    rows_at, shown, size, steps_of, text_at, unexplained,
 };
 use std::alloc::Global;
 
@@ -22,7 +22,7 @@ pub struct Session<P: Program> {
     twin: MemFolder,
     script: String,
     /// What the next build is to cost, or 0 where that isn't looked at.
-    cost: u32,
+    cost: u64,
     /// The puts that fail in what is asked next.
     output: Cut,
     errors: Cut,
@@ -182,7 +182,7 @@ impl<P: Program> Session<P> {
         let cost = self.cost;
         if cost != 0 {
             self.cost = 0;
-            'turns: for turns in 1..400u32 {
+            'turns: for turns in 1..400u64 {
                 let built = build_within(&self.program, self.alloc, turns, &mut self.folder)?;
                 if !matches!(built.end, End::Spent) {
                     self.judge_turns(turns, cost)?;
@@ -195,13 +195,13 @@ impl<P: Program> Session<P> {
     }
 
     // Notes where the fewest turns that do aren't these.
-    fn judge_turns(&mut self, came: u32, wanted: u32) -> Result<(), NoMemory> {
-        let came = digits(self.alloc, u64::from(came))?;
+    fn judge_turns(&mut self, came: u64, wanted: u64) -> Result<(), NoMemory> {
+        let came = digits(self.alloc, came)?;
         self.judge_cost(came.as_str(), wanted)
     }
 
-    fn judge_cost(&mut self, came: &str, wanted: u32) -> Result<(), NoMemory> {
-        let wanted = digits(self.alloc, u64::from(wanted))?;
+    fn judge_cost(&mut self, came: &str, wanted: u64) -> Result<(), NoMemory> {
+        let wanted = digits(self.alloc, wanted)?;
         self.tell("costs", came, wanted.as_str())
     }
 
@@ -241,7 +241,7 @@ impl<P: Program> Session<P> {
         build_within(&self.program, self.alloc, ENOUGH, &mut self.twin)
     }
 
-    fn spent(&mut self, turns: u32) -> Result<(), NoMemory> {
+    fn spent(&mut self, turns: u64) -> Result<(), NoMemory> {
         self.begin_request();
         let built = build_within(&self.program, self.alloc, turns, &mut self.folder)?;
         if !matches!(built.end, End::Spent) || asks_change(self.folder.asked()) {
@@ -305,14 +305,14 @@ impl<P: Program> Session<P> {
             StepKind::Dir => self.make_dir(rest),
             StepKind::Removed => self.remove(rest),
             StepKind::Costs => {
-                self.cost = turns(rest);
+                self.cost = number(rest);
                 Ok(())
             }
             StepKind::Build => self.build(rest, text, step.errors.as_str()),
             StepKind::Asked => self.asked(rest, text, step.errors.as_str()),
             StepKind::Called => self.called(rest, text, step.errors.as_str()),
             StepKind::Refused => self.refused(rest),
-            StepKind::Spent => self.spent(turns(rest)),
+            StepKind::Spent => self.spent(number(rest)),
             StepKind::Ran => self.ran(rest),
             StepKind::Why => self.why(rest),
             StepKind::Holds => self.stands(rest, "file", text),

@@ -1,5 +1,5 @@
 // Bytes that are altered: files cut short, bits turned, and records of a database changed.
-use crate::numbers::{size, status, turns};
+use crate::numbers::{number, size, status};
 use crate::talks::{answer_of, call_of};
 use rk_base::{Bytes, NoMemory};
 use std::alloc::Global;
@@ -64,7 +64,7 @@ fn change_of(line: &str) -> Change<'_> {
 fn changed(alloc: Global, step: &Step, change: &Change<'_>) -> Result<Step, NoMemory> {
     let mut copy = step.copy()?;
     match change.part {
-        "cost" => copy.cost = turns(change.value),
+        "cost" => copy.cost = number(change.value),
         "call" => {
             let (word, rest) = change.value.split_once(' ').unwrap_or((change.value, ""));
             copy.call = call_of(alloc, word, rest)?;
@@ -79,23 +79,17 @@ fn changed(alloc: Global, step: &Step, change: &Change<'_>) -> Result<Step, NoMe
 fn steps_with(alloc: Global, record: &Record, change: &Change<'_>) -> Result<StepList, NoMemory> {
     let mut steps = StepList::new(alloc);
     let wanted = size(change.step);
-    let mut number = 0usize;
-    'steps: for step in record.steps.as_slice() {
-        number = number.saturating_add(1);
-        if number != wanted {
+    let mut left = record.steps.walk();
+    'steps: for place in 0..record.steps.len() {
+        let Some((step, rest)) = left.step() else {
+            break;
+        };
+        left = rest;
+        if place.saturating_add(1) != wanted {
             steps.push(step.copy()?)?;
         } else if change.part != "without" {
             steps.push(changed(alloc, step, change)?)?;
         }
-    }
-    Ok(steps)
-}
-
-// The steps of a record as they are.
-fn steps_as(alloc: Global, record: &Record) -> Result<StepList, NoMemory> {
-    let mut steps = StepList::new(alloc);
-    'steps: for step in record.steps.as_slice() {
-        steps.push(step.copy()?)?;
     }
     Ok(steps)
 }
@@ -111,13 +105,13 @@ fn push_with(
     let key = record.key.copy()?;
     match change.part {
         "exit" => table.push(key, steps, status(change.step), record.exit_cost),
-        "pays" => table.push(key, steps, record.exit, turns(change.step)),
+        "pays" => table.push(key, steps, record.exit, number(change.step)),
         _ => table.push(key, steps, record.exit, record.exit_cost),
     }
 }
 
-fn push_as(alloc: Global, table: &mut Table, record: &Record) -> Result<(), NoMemory> {
-    let steps = steps_as(alloc, record)?;
+fn push_as(table: &mut Table, record: &Record) -> Result<(), NoMemory> {
+    let steps = record.steps.share()?;
     table.push(record.key.copy()?, steps, record.exit, record.exit_cost)
 }
 
@@ -128,7 +122,7 @@ fn table_with(alloc: Global, table: &Table, change: &Change<'_>) -> Result<Table
         if number == change.record {
             push_with(alloc, &mut other, record, change)?;
         } else {
-            push_as(alloc, &mut other, record)?;
+            push_as(&mut other, record)?;
         }
         number = number.saturating_add(1);
     }

@@ -13,7 +13,7 @@ mod talks;
 pub use altering::{altered, bytes_of, cut, turned};
 pub use copying::copied;
 pub use drawing::{Draws, SOURCES, script, source};
-pub use numbers::{number, size, status, turns};
+pub use numbers::{number, size, status};
 pub use showing::{
     asks_change, calls_shown, changes_shown, contents, has_line, has_numbered, kind_at, ran,
     reads_list, rows_at, shown, text_at, unexplained,

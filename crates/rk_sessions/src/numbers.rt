@@ -1,13 +1,8 @@
 // Numbers in steps; each is 0 where the text is none, or too great.
 
-/// A number of 64 bits.
+/// A number of 64 bits, as of turns.
 pub fn number(text: &str) -> u64 {
     text.parse::<u64>().unwrap_or(0)
-}
-
-/// How many turns.
-pub fn turns(text: &str) -> u32 {
-    u32::try_from(number(text)).unwrap_or(0)
 }
 
 /// An exit status.

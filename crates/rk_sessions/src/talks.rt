@@ -1,5 +1,5 @@
 // Records as text: what a command asks, what it is answered, and how it ends.
-use crate::numbers::{number, status, turns};
+use crate::numbers::{number, status};
 use rk_base::{Bytes, Errno, FileType, Name, NameList, NoMemory, Path, VarList, WordList};
 use rk_calls::{Answer, Call, How, Key};
 use std::alloc::Global;
@@ -141,7 +141,7 @@ fn step_of(alloc: Global, line: &str) -> Result<Step, NoMemory> {
     let (cost, call) = asked.split_once(' ').unwrap_or((asked, ""));
     let (word, rest) = call.split_once(' ').unwrap_or((call, ""));
     Ok(Step {
-        cost: turns(cost),
+        cost: number(cost),
         call: call_of(alloc, word, rest)?,
         answer: answer_of(alloc, answer)?,
     })
@@ -164,12 +164,12 @@ fn key_of(alloc: Global, line: &str) -> Result<Key, NoMemory> {
 fn table_of(alloc: Global, words: &str, text: &str) -> Result<Table, NoMemory> {
     let mut steps = StepList::new(alloc);
     let mut exit = 0u8;
-    let mut cost = 0u32;
+    let mut cost = 0u64;
     'lines: for line in text.lines() {
         match line.split_once(" exit ") {
             Some((pays, end)) => {
                 exit = status(end);
-                cost = turns(pays);
+                cost = number(pays);
             }
             None => steps.push(step_of(alloc, line)?)?,
         }

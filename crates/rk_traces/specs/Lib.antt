@@ -19,3 +19,4 @@ pub mod Speaking
 pub mod Spoken
 pub mod Started
 pub mod Totals
+pub mod Walking

@@ -7,10 +7,11 @@ use Rattle.rk_calls.specs.declared.drive.Spoke.TheVariants.{Call as Calls, Exit 
 use Rattle.rk_calls.specs.Keys.{KeyValue}
 use Rattle.rk_calls.specs.Saying.{speaks, goes_on}
 use Rattle.rk_calls.specs.Talk.{Says, Lasts}
+use Rattle.tr_record.specs.Costs.{steps_cost}
 use Rattle.tr_record.specs.declared.records.Record.{Record}
 use Rattle.tr_record.specs.declared.steps.Step.{Step}
 use Rattle.rk_traces.specs.Lasting.{asks-enough, asks-exact, ends-exact, Lasts-goes, AllLast}
-use Rattle.rk_traces.specs.Own.{steps_cost, own}
+use Rattle.rk_traces.specs.Own.{own}
 use Rattle.rk_traces.specs.Run.{step}
 use Rattle.rk_traces.specs.Spoken.{follow, Follows, IsSpoken}
 use Rattle.rk_traces.specs.Over.{Exited, Spent, Dry, Heard, heard, then, last_heard, next_heard, over, answers_of, AllFit, IsRunOver}

@@ -3,10 +3,11 @@ use Rattle.std.proofs.Common.{◌≡◌, ℕ, ◌+◌, ◌<◌, List, [], ◌∷
 use Rattle.std.specs.Prelude.{slice_set}
 use Rattle.std.proofs.lemmas.List.Sums.{sum_by-set, sum_by-append}
 use Rattle.rk_calls.specs.Keys.{KeyValue}
+use Rattle.tr_record.specs.Costs.{steps_cost}
 use Rattle.tr_record.specs.declared.records.Record.{Record}
 use Rattle.tr_record.specs.declared.steps.Step.{Step}
 use Rattle.tr_record.specs.Rec.{rec_at, begun, stepped, ended, fresh_rec, with_step, with_exit, no_key, count_of}
-use Rattle.rk_traces.specs.Own.{steps_cost, own, total}
+use Rattle.rk_traces.specs.Own.{own, total}
 
 pub steps_cost-append : (xs : List Step) (st : Step) → steps_cost (xs ++ st ∷ []) ≡ steps_cost xs + st.cost
 steps_cost-append xs st = let e = sum_by-append (λ (s : Step). s.cost) xs (st ∷ []) in omega arith

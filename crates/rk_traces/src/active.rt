@@ -25,7 +25,7 @@ pub struct Frame<M> {
     pub waiting: Active<M>,
     pub key: Key,
     pub map: RefMap,
-    pub cost: u32,
+    pub cost: u64,
 }
 
 /// Asks the world a call, and records the step; with the number of the content that the answer is, where it has one. Nothing
@@ -36,7 +36,7 @@ pub fn ask<W: Numbering>(
     place: usize,
     refs: &mut Refs,
     call: Call,
-    cost: u32,
+    cost: u64,
 ) -> Result<(Answer, Option<ContentId>), W::Stop>
     requires { place < length table.old }
     ensures given { IfOk result (λ r. IfSome (W.told world.old) (λ before. IsSomeAnd (W.told world.new) (λ now. record { answer = r.0; refs = refs.new; world = now } ≡ W.given before refs.old call))) }

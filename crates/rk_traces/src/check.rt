@@ -47,7 +47,7 @@ impl FeedErr {
 fn exits_so<M: Machine>(machine: &mut M, answer: Answer, rec: &Record) -> Result<bool, NoMemory>
     ensures { IfOk result (λ b. IsTrue b ↔ (speaks rec.now.exit_cost (M.talk machine.old answer) ≡ Spoke.Exit rec.now.exit rec.now.exit_cost)) }
 {
-    let limit = u64::from(rec.exit_cost);
+    let limit = rec.exit_cost;
     match advance(machine, answer, limit)? {
         Spoke::Exit(status, cost) => Ok(status == rec.exit && cost == limit),
         Spoke::Call(_, _) => Ok(false),
@@ -68,7 +68,7 @@ pub fn check_record<K: Maker>(maker: &mut K, rec: &Record) -> Result<(), FeedErr
 
     ensures starts { StartsOne (K.starts maker.old) (K.starts maker.new) result }
 {
-    let count = rec.steps.as_slice().len();
+    let count = rec.steps.len();
     let Fed {
         mut machine,
         answer,

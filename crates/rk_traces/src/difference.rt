@@ -19,15 +19,20 @@ pub fn first_difference(a: &Record, b: &Record) -> Option<usize>
     ensures none { IfNone result (AnswerAlike a.now.steps b.now.steps) }
     ensures spoken { (first : KeyValue → Says) → AllLast first → IsSpoken first a.now → IsSpoken first b.now → a.now.key ≡ b.now.key → DifferFrom a.now b.now result }
 {
-    let xs = a.steps.as_slice();
-    let ys = b.steps.as_slice();
-    'steps: for i in 0..xs.len() {
-        if i >= ys.len() {
+    let mut xs = a.steps.walk();
+    let mut ys = b.steps.walk();
+    'steps: for i in 0..a.steps.len() {
+        let Some((x, more)) = xs.step() else {
             return None;
-        }
-        if !same_answer(&xs[i].answer, &ys[i].answer) {
+        };
+        let Some((y, others)) = ys.step() else {
+            return None;
+        };
+        if !same_answer(&x.answer, &y.answer) {
             return Some(i);
         }
+        xs = more;
+        ys = others;
     }
     None
 }

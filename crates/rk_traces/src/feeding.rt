@@ -42,7 +42,7 @@ fn takes<M: Machine>(machine: &mut M, answer: Answer, step: &Step) -> Result<boo
     ensures step { IfOk result (λ b. IsTrue b ↔ IsStep (M.talk machine.old answer) step.now) }
     ensures waits { IfOk result (λ b. IsTrue b → (a : Answer) → M.talk machine.new a ≡ goes_on step.now.cost (M.talk machine.old answer) a) }
 {
-    let limit = u64::from(step.cost);
+    let limit = step.cost;
     match advance(machine, answer, limit)? {
         Spoke::Call(call, cost) => {
             Ok(cost == limit && same_call(&call, &step.call) && fits(&step.call, &step.answer))
@@ -63,15 +63,18 @@ pub fn feed<K: Maker>(maker: &mut K, rec: &Record, count: usize) -> Result<Fed<K
     ensures starts { StartsOne (K.starts maker.old) (K.starts maker.new) result }
     ensures forged { IfErr result (IsWrongWithin K.first rec.now count) }
 {
-    let steps = rec.steps.as_slice();
     let mut machine = maker.start(&rec.key)?;
     let mut answer = Answer::Go;
+    let mut left = rec.steps.walk();
     'steps: for i in 0..count {
-        let step = &steps[i];
+        let Some((step, rest)) = left.step() else {
+            unreachable!()
+        };
         if !takes(&mut machine, answer, step)? {
             return Err(FeedErr::Forged { step: i as u64 + 1 });
         }
         answer = step.answer.copy()?;
+        left = rest;
     }
     Ok(Fed { machine, answer })
 }

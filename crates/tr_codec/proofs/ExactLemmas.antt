@@ -26,12 +26,15 @@ use Rattle.tr_record.specs.Rec.{count_of}
 use Rattle.tr_record.specs.declared.steps.Step.{Step}
 use Rattle.tr_record.specs.declared.records.Record.{Record}
 use Rattle.tr_record.proofs.PlacesLemmas.{numbered_push}
-use Rattle.tr_codec.specs.declared.records.Row.{Row}
+use Rattle.tr_codec.specs.Reading.{Row}
 use Rattle.tr_parts.specs.Piece.{Piece, plain, blob, ◌⊕◌, each, byte, mode, cost, number, counted, num, string, has}
-use Rattle.tr_codec.specs.Spelling.{var_piece, key_piece, pair_piece, how_code, flag_code, call_piece, kind_code, errno_code, answer_piece, step_piece, record_piece, table_piece}
-use Rattle.tr_codec.specs.Fits.{FitsKey, FitsMap, FitsCall, FitsAnswer, FitsStep, FitsRecord, Fits, paid}
-use Rattle.tr_codec.specs.Reading.{◌>>=◌, given, number_at, byte_at, mode_at, flag_of, flag_at, count_at, many_at, counted_at, string_at, fresh_at, blob_at, var_at, key_from, key_at, pair_at, map_at, how_of, kind_of, errno_of, number_call_at, path_call_at, texts_call_at, mode_call_at, open_at, write_at, stat_at, launch_at, call_at, text_answer_at, found_at, name_at, names_at, place_at, same_at, joined_at, no_at, answer_at, step_at, row_at, next_rec, record_at}
+use Rattle.tr_codec.specs.Pieces.{var_piece, key_piece, pair_piece, how_code, flag_code, call_piece, kind_code, errno_code, answer_piece}
+use Rattle.tr_codec.specs.OldSpelling.{step_piece, record_piece, table_piece, FitsStep, FitsRecord, FitsOld}
+use Rattle.tr_codec.specs.Fits.{FitsKey, FitsMap, FitsCall, FitsAnswer, paid}
+use Rattle.tr_codec.specs.Reading.{◌>>=◌, given, number_at, byte_at, mode_at, flag_of, flag_at, count_at, many_at, counted_at, string_at, fresh_at, blob_at, var_at, key_from, key_at, pair_at, map_at, how_of, kind_of, errno_of, number_call_at, path_call_at, texts_call_at, mode_call_at, open_at, write_at, stat_at, launch_at, call_at, text_answer_at, found_at, name_at, names_at, place_at, same_at, joined_at, no_at, answer_at, next_rec}
+use Rattle.tr_codec.specs.OldReading.{step_at, row_at, record_at}
 use Rattle.tr_codec.proofs.PutsLemmas.{numbered}
+use Rattle.tr_codec.proofs.TableAgain.{Covers, covers-join}
 use Rattle.tr_codec.proofs.UsedLemmas.{distinct_more}
 
 -- ---- what made a value
@@ -44,11 +47,11 @@ pub given_inv : {A : Type 0} (b : Bool) (x y : A) → given b x ≡ Some y → (
 given_inv true x y h = (refl, cc)
 given_inv false x y h = absurd cc
 
-some_is : {A : Type 0} (x y : A) → Some x ≡ Some y → x ≡ y
+pub some_is : {A : Type 0} (x y : A) → Some x ≡ Some y → x ≡ y
 some_is x y e = cc
 
 -- one of two
-if_inv : {A : Type 0} (b : Bool) (x y : Option A) (p : A) (P : Type 0) → (b ≡ true → x ≡ Some p → P) → (b ≡ false → y ≡ Some p → P) → cond b x y ≡ Some p → P
+pub if_inv : {A : Type 0} (b : Bool) (x y : Option A) (p : A) (P : Type 0) → (b ≡ true → x ≡ Some p → P) → (b ≡ false → y ≡ Some p → P) → cond b x y ≡ Some p → P
 if_inv true x y p P f g h = f refl h
 if_inv false x y p P f g h = g refl h
 
@@ -107,36 +110,38 @@ number_inv w spelt bytes p small h =
 -- ---- pieces
 
 module _ (blobs : List Text) where
-  -- a piece stands in front of the rest
+  -- a piece, whose texts have blobs, stands in front of the rest
   pub record Took (piece : Piece) (bytes rest : List ℕ) : Type 0 where
     pub spelt : bytes ≡ piece.spelt blobs ++ rest
+    pub covers : Covers blobs piece.uses
     pub left : AreBytes rest
 
-  took : (piece : Piece) (bytes rest : List ℕ) → AreBytes bytes → bytes ≡ piece.spelt blobs ++ rest → Took piece bytes rest
-  took piece bytes rest small e = record { spelt = e; left = later_bytes (piece.spelt blobs) rest (subst AreBytes e small) }
+  pub took : (piece : Piece) (bytes rest : List ℕ) → AreBytes bytes → bytes ≡ piece.spelt blobs ++ rest → Covers blobs piece.uses → Took piece bytes rest
+  took piece bytes rest small e covers = record { spelt = e; covers = covers; left = later_bytes (piece.spelt blobs) rest (subst AreBytes e small) }
 
-  took_then : (p q : Piece) (a b c : List ℕ) → Took p a b → Took q b c → Took (p ⊕ q) a c
+  pub took_then : (p q : Piece) (a b c : List ℕ) → Took p a b → Took q b c → Took (p ⊕ q) a c
   unfolding ◌⊕◌
-  took_then p q a b c f g = record { spelt = f.spelt ∙ ap (λ l. p.spelt blobs ++ l) g.spelt ∙ sym (append_assoc (p.spelt blobs) (q.spelt blobs) c); left = g.left }
+  took_then p q a b c f g =
+      record { spelt = f.spelt ∙ ap (λ l. p.spelt blobs ++ l) g.spelt ∙ sym (append_assoc (p.spelt blobs) (q.spelt blobs) c); covers = covers-join blobs p.uses q.uses f.covers g.covers; left = g.left }
 
   -- a reader of a piece
-  abbrev Exact : {X : Type 0} → (List ℕ → Option (X × List ℕ)) → (X → Piece) → (X → Type 0) → Type 0
+  abbrev pub Exact : {X : Type 0} → (List ℕ → Option (X × List ℕ)) → (X → Piece) → (X → Type 0) → Type 0
   Exact {X} one f P = (bytes : List ℕ) (p : X × List ℕ) → AreBytes bytes → one bytes ≡ Some p → P p.0 × Took (f p.0) bytes p.1
 
-  took_number : Exact (number_at w64) number (λ n. n < 2 ^ 64)
+  pub took_number : Exact (number_at w64) number (λ n. n < 2 ^ 64)
   unfolding plain num
-  took_number bytes p small h = let n = number_inv w64 be_bytes_8 bytes p small h in (n.0, took (number p.0) bytes p.1 small n.1)
+  took_number bytes p small h = let n = number_inv w64 be_bytes_8 bytes p small h in (n.0, took (number p.0) bytes p.1 small n.1 tt)
 
   took_cost : Exact (number_at w32) cost (λ n. n < 2 ^ 32)
   unfolding plain
-  took_cost bytes p small h = let n = number_inv w32 be_bytes_4 bytes p small h in (n.0, took (cost p.0) bytes p.1 small n.1)
+  took_cost bytes p small h = let n = number_inv w32 be_bytes_4 bytes p small h in (n.0, took (cost p.0) bytes p.1 small n.1 tt)
 
-  took_byte : Exact byte_at byte (λ n. n < 256)
+  pub took_byte : Exact byte_at byte (λ n. n < 256)
   unfolding byte_at plain
   took_byte [] p small h = absurd cc
   took_byte (b ∷ bytes) p small h =
       let g = given_inv (ltb b 256) (b, bytes) p h in
-      subst (λ (q : ℕ × List ℕ). (q.0 < 256) × Took (byte q.0) (b ∷ bytes) q.1) g.1 (small.0, record { spelt = refl; left = small.1 })
+      subst (λ (q : ℕ × List ℕ). (q.0 < 256) × Took (byte q.0) (b ∷ bytes) q.1) g.1 (small.0, record { spelt = refl; covers = tt; left = small.1 })
 
   took_mode : Exact mode_at mode (λ n. n ≤ 511)
   unfolding mode_at plain
@@ -144,7 +149,7 @@ module _ (blobs : List Text) where
       let a = bind_inv (number_at w16 bytes) _ p h in
       let n = number_inv w16 be_bytes_2 bytes a.0 small a.1 in
       let g = given_inv (nat_le a.0.0 511) a.0 p a.2 in
-      subst (λ (q : ℕ × List ℕ). (q.0 ≤ 511) × Took (mode q.0) bytes q.1) g.1 (leb-true a.0.0 511 g.0, took (mode a.0.0) bytes a.0.1 small n.1)
+      subst (λ (q : ℕ × List ℕ). (q.0 ≤ 511) × Took (mode q.0) bytes q.1) g.1 (leb-true a.0.0 511 g.0, took (mode a.0.0) bytes a.0.1 small n.1 tt)
 
   flag_inv : (code : ℕ) (b : Bool) → flag_of code ≡ Some b → code ≡ flag_code b
   flag_inv code b h =
@@ -179,7 +184,7 @@ module _ (blobs : List Text) where
       at.1 ∙ ap (λ l. num n ++ l) (sym (take-append-drop n rest)) ∙ sym (append_assoc (num n) (take n rest) (drop n rest)) ∙ ap (λ m. (num m ++ take n rest) ++ drop n rest) (sym len)
       in
       subst (λ (q : Text × List ℕ). Unit {0} × Took (plain (string q.0)) bytes q.1) (some_is (take n rest, drop n rest) p e)
-      (tt, took (plain (string (take n rest))) bytes (drop n rest) small whole))
+      (tt, took (plain (string (take n rest))) bytes (drop n rest) small whole tt))
       a.2
 
   -- ---- so many
@@ -189,7 +194,7 @@ module _ (blobs : List Text) where
     unfolding many_at each
     took_many zero front bytes p q small h =
         subst (λ (r : List A × List ℕ). (xs : List A) × (r.0 ≡ front ++ xs) × (length xs ≡ 0) × Q r.0 × Took (each f xs) bytes r.1) (some_is (front, bytes) p h)
-        ([], sym (append-nil front), refl, q, record { spelt = refl; left = small })
+        ([], sym (append-nil front), refl, q, record { spelt = refl; covers = tt; left = small })
     took_many (suc n) front bytes p q small h =
         let a = bind_inv (one front bytes) _ p h in
         let x = a.0.0 in
@@ -198,9 +203,9 @@ module _ (blobs : List Text) where
         let all : bytes ≡ flat_map (λ y. (f y).spelt blobs) (x ∷ later.0) ++ p.1 =
         first.1.spelt ∙ ap (λ l. (f x).spelt blobs ++ l) later.4.spelt ∙ sym (append_assoc ((f x).spelt blobs) (flat_map (λ y. (f y).spelt blobs) later.0) p.1)
         in
-        (x ∷ later.0, later.1 ∙ append_assoc front (x ∷ []) later.0, ap (λ k. suc k) later.2, later.3, record { spelt = all; left = later.4.left })
+        (x ∷ later.0, later.1 ∙ append_assoc front (x ∷ []) later.0, ap (λ k. suc k) later.2, later.3, record { spelt = all; covers = covers-join blobs (f x).uses (flat_map (λ y. (f y).uses) later.0) first.1.covers later.4.covers; left = later.4.left })
 
-    took_counted : (bytes : List ℕ) (p : List A × List ℕ) → Q [] → AreBytes bytes → counted_at one bytes ≡ Some p → Q p.0 × Took (counted f p.0) bytes p.1
+    pub took_counted : (bytes : List ℕ) (p : List A × List ℕ) → Q [] → AreBytes bytes → counted_at one bytes ≡ Some p → Q p.0 × Took (counted f p.0) bytes p.1
     unfolding count_at
     took_counted bytes p q small h =
         let a = bind_inv (count_at bytes) _ p h in
@@ -215,7 +220,7 @@ module _ (blobs : List Text) where
               (subst (λ xs. Took (each f xs) a.0.1 p.1) is all.4),
         )
 
-  all_push : {X : Type 0} (P : X → Type 0) (xs : List X) (x : X) → AllByRecursion P xs → P x → AllByRecursion P (xs ++ x ∷ [])
+  pub all_push : {X : Type 0} (P : X → Type 0) (xs : List X) (x : X) → AllByRecursion P xs → P x → AllByRecursion P (xs ++ x ∷ [])
   all_push P [] x h p = (p, tt)
   all_push P (y ∷ ys) x h p = (h.0, all_push P ys x h.1 p)
 
@@ -249,7 +254,7 @@ module _ (blobs : List Text) where
         let n = number_inv w64 be_bytes_8 bytes a.0 small a.1 in
         let at = numbered blobs a.0.0 b.0 once b.1 in
         subst (λ (q : Text × List ℕ). Unit {0} × Took (blob q.0) bytes q.1) (some_is (b.0, a.0.1) p b.2)
-        (tt, took (blob b.0) bytes a.0.1 small (n.1 ∙ ap (λ k. num k ++ a.0.1) at.1))
+        (tt, took (blob b.0) bytes a.0.1 small (n.1 ∙ ap (λ k. num k ++ a.0.1) at.1) (at.0, tt))
 
     took_var : Exact (var_at blobs) var_piece NoCondition
     unfolding var_at
@@ -262,7 +267,7 @@ module _ (blobs : List Text) where
         subst (λ (q : Var × List ℕ). Unit {0} × Took (var_piece q.0) bytes q.1) (some_is (it, b.0.1) p b.2)
         (tt, took_then (blob a.0.0) (blob b.0.0) bytes a.0.1 b.0.1 name.1 value.1)
 
-    took_key : Exact (key_at blobs) key_piece FitsKey
+    pub took_key : Exact (key_at blobs) key_piece FitsKey
     unfolding key_at
     took_key bytes p small h =
         let a = bind_inv (counted_at (λ front. blob_at blobs) bytes) _ p h in
@@ -397,7 +402,7 @@ module _ (blobs : List Text) where
         subst (GoodCall all) (some_is (call.Launch a.0.0 b.0.0, b.0.1) p b.2)
         ((key.0, map.0), took_then (byte 18) (key_piece a.0.0 ⊕ counted pair_piece b.0.0) all bytes b.0.1 front (took_then (key_piece a.0.0) (counted pair_piece b.0.0) bytes a.0.1 b.0.1 key.1 map.1))
 
-    took_call : Exact (call_at blobs) call_piece FitsCall
+    pub took_call : Exact (call_at blobs) call_piece FitsCall
     unfolding call_at
     took_call bytes p small h =
         let a = bind_inv (byte_at bytes) _ p h in
@@ -536,7 +541,7 @@ module _ (blobs : List Text) where
     alone : (all rest : List ℕ) (it : Answer) (p : Answer × List ℕ) → FitsAnswer it → Took (answer_piece it) all rest → Some (it, rest) ≡ Some p → GoodAnswer all p
     alone all rest it p fits front last = subst (GoodAnswer all) (some_is (it, rest) p last) (fits, front)
 
-    took_answer : Exact (answer_at blobs) answer_piece FitsAnswer
+    pub took_answer : Exact (answer_at blobs) answer_piece FitsAnswer
     unfolding answer_at
     took_answer bytes p small h =
         let a = bind_inv (byte_at bytes) _ p h in
@@ -606,10 +611,10 @@ module _ (blobs : List Text) where
               (took_then (counted step_piece b.0.0) ending a.0.1 b.0.1 d.0.1 steps.1 (took_then (byte c.0.0) (cost d.0.0) b.0.1 c.0.1 d.0.1 exit.1 last.1)),
         )
 
-    one_more : (front : List Record) (bytes : List ℕ) (p : Record × List ℕ) → Fits front → AreBytes bytes → record_at blobs front bytes ≡ Some p → Fits (front ++ p.0 ∷ []) × Took (record_piece p.0) bytes p.1
+    one_more : (front : List Record) (bytes : List ℕ) (p : Record × List ℕ) → FitsOld front → AreBytes bytes → record_at blobs front bytes ≡ Some p → FitsOld (front ++ p.0 ∷ []) × Took (record_piece p.0) bytes p.1
     one_more front bytes p h small e =
         let r = took_record front bytes p small e in
         (record { records = all_push FitsRecord front p.0 h.records r.0.0; numbered = numbered_push front p.0 h.numbered r.0.1 }, r.1)
 
-    pub took_records : (bytes : List ℕ) (p : List Record × List ℕ) → AreBytes bytes → counted_at (record_at blobs) bytes ≡ Some p → Fits p.0 × Took (table_piece p.0) bytes p.1
-    took_records bytes p small h = took_counted (record_at blobs) record_piece Fits one_more bytes p (record { records = tt; numbered = λ i lt. absurd (omega arith) }) small h
+    pub took_records : (bytes : List ℕ) (p : List Record × List ℕ) → AreBytes bytes → counted_at (record_at blobs) bytes ≡ Some p → FitsOld p.0 × Took (table_piece p.0) bytes p.1
+    took_records bytes p small h = took_counted (record_at blobs) record_piece FitsOld one_more bytes p (record { records = tt; numbered = λ i lt. absurd (omega arith) }) small h

@@ -6,7 +6,7 @@ use Rattle.std.proofs.lemmas.Grind.{flat_map-append}
 use Rattle.std.specs.Cmp.Lexicographic.{bytes_decides}
 use Rattle.rk_base.specs.Text.{Text, same_text}
 use Rattle.tr_parts.specs.Piece.{Piece, plain, blob, ◌⊕◌, each, num, number_of, string, has, with_use, with_uses}
-use Rattle.tr_codec.specs.Spelling.{magic, body}
+use Rattle.tr_codec.specs.Spelling.{body}
 use Rattle.tr_codec.specs.Puts.{Written, Puts}
 
 -- ---- blobs
@@ -116,9 +116,9 @@ pub puts_all : {X : Type 0} (f : X → Piece) (xs : List X) (i : ℕ) (a b : Wri
 puts_all f xs i a b le p = subst (λ ys. Puts (each f ys) a b) (take_all i xs le) p
 
 -- what the writer makes of a piece
-pub body_is : (piece : Piece) (new : Written) → Puts piece (record { blobs = []; bytes = [] }) new → magic ++ (num (length new.blobs) ++ (flat_map string new.blobs ++ new.bytes)) ≡ body piece
+pub body_is : (magic : List ℕ) (piece : Piece) (new : Written) → Puts piece (record { blobs = []; bytes = [] }) new → magic ++ (num (length new.blobs) ++ (flat_map string new.blobs ++ new.bytes)) ≡ body magic piece
 unfolding body
-body_is piece new p =
+body_is magic piece new p =
     let rest : (l : List Text) → List ℕ = λ l. magic ++ (num (length l) ++ (flat_map string l ++ piece.spelt l)) in
     ap (λ s. magic ++ (num (length new.blobs) ++ (flat_map string new.blobs ++ s))) (p.bytes [] ∙ ap piece.spelt (append-nil new.blobs))
     ∙ ap rest p.blobs

@@ -25,17 +25,19 @@ use Rattle.rk_calls.specs.declared.answer.Answer.TheVariants as answer
 use Rattle.tr_record.specs.Rec.{count_of, fresh_rec, no_key, rec_at, AreNumbered}
 use Rattle.tr_record.specs.declared.steps.Step.{Step}
 use Rattle.tr_record.specs.declared.records.Record.{Record}
-use Rattle.tr_codec.specs.declared.records.Row.{Row}
+use Rattle.tr_codec.specs.Reading.{Row}
 use Rattle.tr_parts.specs.Piece.{Piece, plain, blob, ◌⊕◌, each, byte, mode, cost, number, counted, num, has, number_of, with_use, with_uses}
-use Rattle.tr_codec.specs.Spelling.{var_piece, key_piece, pair_piece, how_code, flag_code, call_piece, kind_code, errno_code, answer_piece, step_piece, record_piece, table_piece}
-use Rattle.tr_codec.specs.Fits.{FitsKey, FitsMap, FitsCall, FitsAnswer, FitsStep, FitsRecord, Fits, paid}
-use Rattle.tr_codec.specs.Reading.{◌>>=◌, given, number_at, byte_at, mode_at, flag_of, flag_at, counted_at, blob_at, var_at, key_from, key_at, pair_at, map_at, how_of, kind_of, errno_of, number_call_at, path_call_at, texts_call_at, mode_call_at, open_at, write_at, stat_at, launch_at, call_of, call_at, text_answer_at, found_at, name_at, names_at, place_at, same_at, joined_at, no_at, answer_of, answer_at, step_at, row_at, next_rec, record_at}
+use Rattle.tr_codec.specs.Pieces.{var_piece, key_piece, pair_piece, how_code, flag_code, call_piece, kind_code, errno_code, answer_piece}
+use Rattle.tr_codec.specs.OldSpelling.{step_piece, record_piece, table_piece, FitsStep, FitsRecord, FitsOld}
+use Rattle.tr_codec.specs.Fits.{FitsKey, FitsMap, FitsCall, FitsAnswer, paid}
+use Rattle.tr_codec.specs.Reading.{◌>>=◌, given, number_at, byte_at, mode_at, flag_of, flag_at, counted_at, blob_at, var_at, key_from, key_at, pair_at, map_at, how_of, kind_of, errno_of, number_call_at, path_call_at, texts_call_at, mode_call_at, open_at, write_at, stat_at, launch_at, call_of, call_at, text_answer_at, found_at, name_at, names_at, place_at, same_at, joined_at, no_at, answer_of, answer_at, next_rec}
+use Rattle.tr_codec.specs.OldReading.{step_at, row_at, record_at}
 use Rattle.tr_parts.proofs.AgainLemmas.{Again, again_bind, again_last, again_check, again_given, number_again, mode_again, cost_again, byte_again, Items, again_counted}
 use Rattle.tr_codec.proofs.PutsLemmas.{has_use, with_uses_adds}
 
 -- ---- the texts of a piece are among the blobs
 
-has_more : (blobs more : List Text) (text : Text) → has blobs text ≡ true → has (blobs ++ more) text ≡ true
+pub has_more : (blobs more : List Text) (text : Text) → has blobs text ≡ true → has (blobs ++ more) text ≡ true
 has_more [] more text h = absurd cc
 has_more (b ∷ bs) more text h =
     elim (same_text text b) as (λ x. (x || has bs text) ≡ true → (x || has (bs ++ more) text) ≡ true) [ true ↦ λ e. refl | false ↦ λ e. has_more bs more text e ] h
@@ -47,6 +49,10 @@ covers-split : (blobs xs ys : List Text) → Covers blobs (xs ++ ys) → Covers 
 covers-split blobs [] ys h = (tt, h)
 covers-split blobs (x ∷ xs) ys h = let r = covers-split blobs xs ys h.1 in ((h.0, r.0), r.1)
 
+pub covers-join : (blobs xs ys : List Text) → Covers blobs xs → Covers blobs ys → Covers blobs (xs ++ ys)
+covers-join blobs [] ys h k = k
+covers-join blobs (x ∷ xs) ys h k = (h.0, covers-join blobs xs ys h.1 k)
+
 -- each text that is used has a blob
 pub uses_there : (blobs texts : List Text) → Covers (with_uses blobs texts) texts
 uses_there blobs [] = tt
@@ -55,11 +61,11 @@ uses_there blobs (text ∷ texts) =
     let grown = with_uses_adds one texts in
     (ap (λ l. has l text) grown.1 ∙ has_more one grown.0 text (has_use blobs text), uses_there one texts)
 
-both_covered : (blobs : List Text) (p q : Piece) → Covers blobs (p ⊕ q).uses → Covers blobs p.uses × Covers blobs q.uses
+pub both_covered : (blobs : List Text) (p q : Piece) → Covers blobs (p ⊕ q).uses → Covers blobs p.uses × Covers blobs q.uses
 unfolding ◌⊕◌
 both_covered blobs p q h = covers-split blobs p.uses q.uses h
 
-each_covered : {X : Type 0} (blobs : List Text) (f : X → Piece) (x : X) (xs : List X) → Covers blobs (each f (x ∷ xs)).uses → Covers blobs (f x).uses × Covers blobs (each f xs).uses
+pub each_covered : {X : Type 0} (blobs : List Text) (f : X → Piece) (x : X) (xs : List X) → Covers blobs (each f (x ∷ xs)).uses → Covers blobs (f x).uses × Covers blobs (each f xs).uses
 unfolding each
 each_covered blobs f x xs h = covers-split blobs (f x).uses (flat_map (λ y. (f y).uses) xs) h
 
@@ -81,10 +87,10 @@ named (b ∷ bs) text h =
 
 -- ---- pieces take at least one byte
 
-abbrev Long : List Text → Piece → Type 0
+abbrev pub Long : List Text → Piece → Type 0
 Long blobs p = 1 ≤ length (p.spelt blobs)
 
-long_left : (blobs : List Text) (p q : Piece) → Long blobs p → Long blobs (p ⊕ q)
+pub long_left : (blobs : List Text) (p q : Piece) → Long blobs p → Long blobs (p ⊕ q)
 unfolding ◌⊕◌
 long_left blobs p q h = omega (arith, length-append (p.spelt blobs) (q.spelt blobs))
 
@@ -100,7 +106,7 @@ long_cost : (blobs : List Text) (n : ℕ) → Long blobs (cost n)
 unfolding plain
 long_cost blobs n = omega arith
 
-long_number : (blobs : List Text) (n : ℕ) → Long blobs (number n)
+pub long_number : (blobs : List Text) (n : ℕ) → Long blobs (number n)
 unfolding plain num
 long_number blobs n = omega arith
 
@@ -147,11 +153,11 @@ module _ (blobs : List Text) where
   abbrev pub Back : {X : Type 0} → (List ℕ → Option (X × List ℕ)) → Piece → X → Type 0
   Back one p x = Again one (p.spelt blobs) x
 
-  back_bind : {X Y : Type 0} (one : List ℕ → Option (X × List ℕ)) (two : X → List ℕ → Option (Y × List ℕ)) (p q : Piece) (x : X) (y : Y) → Back one p x → Back (two x) q y → Back (λ bytes. one bytes >>= λ r. two r.0 r.1) (p ⊕ q) y
+  pub back_bind : {X Y : Type 0} (one : List ℕ → Option (X × List ℕ)) (two : X → List ℕ → Option (Y × List ℕ)) (p q : Piece) (x : X) (y : Y) → Back one p x → Back (two x) q y → Back (λ bytes. one bytes >>= λ r. two r.0 r.1) (p ⊕ q) y
   unfolding ◌⊕◌
   back_bind one two p q x y f g = again_bind one two (p.spelt blobs) (q.spelt blobs) x y f g
 
-  back_number : (n : ℕ) → n < 2 ^ 64 → Back (number_at w64) (number n) n
+  pub back_number : (n : ℕ) → n < 2 ^ 64 → Back (number_at w64) (number n) n
   unfolding plain
   back_number n lt = number_again n lt
 
@@ -159,7 +165,7 @@ module _ (blobs : List Text) where
   unfolding plain
   back_cost n lt = cost_again n lt
 
-  back_byte : (n : ℕ) → n < 256 → Back byte_at (byte n) n
+  pub back_byte : (n : ℕ) → n < 256 → Back byte_at (byte n) n
   unfolding plain
   back_byte n lt = byte_again n lt
 
@@ -171,23 +177,23 @@ module _ (blobs : List Text) where
   flag_back false = (omega arith, refl)
   flag_back true = (omega arith, refl)
 
-  back_flag : (b : Bool) → Back flag_at (byte (flag_code b)) b
+  pub back_flag : (b : Bool) → Back flag_at (byte (flag_code b)) b
   unfolding flag_at
   back_flag b = again_check byte_at flag_of (λ b. b) ((byte (flag_code b)).spelt blobs) (flag_code b) b (back_byte (flag_code b) (flag_back b).0) (flag_back b).1
 
-  items_of : {X : Type 0} (one : List ℕ → Option (X × List ℕ)) (f : X → Piece) (P : X → Type 0) → ((x : X) → P x → Covers blobs (f x).uses → Back one (f x) x) → ((x : X) → Long blobs (f x))
+  pub items_of : {X : Type 0} (one : List ℕ → Option (X × List ℕ)) (f : X → Piece) (P : X → Type 0) → ((x : X) → P x → Covers blobs (f x).uses → Back one (f x) x) → ((x : X) → Long blobs (f x))
       → (front xs : List X) → AllByRecursion P xs → Covers blobs (each f xs).uses → Items (λ before. one) (λ x. (f x).spelt blobs) front xs
   items_of one f P back long front [] h covered = tt
   items_of one f P back long front (x ∷ xs) h covered =
       let c = each_covered blobs f x xs covered in
       (back x h.0 c.0, long x, items_of one f P back long (front ++ x ∷ []) xs h.1 c.1)
 
-  back_counted : {X : Type 0} (one : List X → List ℕ → Option (X × List ℕ)) (f : X → Piece) (xs : List X) → Items one (λ x. (f x).spelt blobs) [] xs → Back (counted_at one) (counted f xs) xs
+  pub back_counted : {X : Type 0} (one : List X → List ℕ → Option (X × List ℕ)) (f : X → Piece) (xs : List X) → Items one (λ x. (f x).spelt blobs) [] xs → Back (counted_at one) (counted f xs) xs
   unfolding ◌⊕◌ plain each
   back_counted one f xs h = again_counted one (λ x. (f x).spelt blobs) xs h
 
   module _ (few : length blobs < 2 ^ 64) where
-    back_blob : (text : Text) → Covers blobs (blob text).uses → Back (blob_at blobs) (blob text) text
+    pub back_blob : (text : Text) → Covers blobs (blob text).uses → Back (blob_at blobs) (blob text) text
     unfolding blob_at blob
     back_blob text covered rest small =
         let n = named blobs text covered.0 in
@@ -224,7 +230,7 @@ module _ (blobs : List Text) where
         back_counted (λ front. var_at blobs) var_piece vars
         (items_of (var_at blobs) var_piece Any (λ v h d. back_var v d) (λ v. long_left blobs (blob v.name) (blob v.value) (long_blob blobs v.name)) [] vars (all_any vars) c.1)
 
-    back_key : (key : KeyValue) → FitsKey key → Covers blobs (key_piece key).uses → Back (key_at blobs) (key_piece key) key
+    pub back_key : (key : KeyValue) → FitsKey key → Covers blobs (key_piece key).uses → Back (key_at blobs) (key_piece key) key
     unfolding key_at
     back_key key fits covered =
         let c = both_covered blobs (counted blob key.argv) (blob key.wd ⊕ counted var_piece key.vars) covered in
@@ -318,7 +324,7 @@ module _ (blobs : List Text) where
         (again_last map_at (call.Launch key) ((counted pair_piece map).spelt blobs) map (back_map map g c.1))
 
     -- what stands after a kind has its blobs too
-    after_kind : (kind : ℕ) (p : Piece) → Covers blobs (byte kind ⊕ p).uses → Covers blobs p.uses
+    pub after_kind : (kind : ℕ) (p : Piece) → Covers blobs (byte kind ⊕ p).uses → Covers blobs p.uses
     after_kind kind p covered = (both_covered blobs (byte kind) p covered).1
 
     -- a kind, and the fields after it
@@ -332,7 +338,7 @@ module _ (blobs : List Text) where
         let next : Option (ℕ × List ℕ) → Option (Call × List ℕ) = λ o. o >>= λ kind. call_of blobs kind.0 kind.1 in
         ap next (back_byte 17 (omega arith) rest small)
 
-    back_call : (c : Call) → FitsCall c → Covers blobs (call_piece c).uses → Back (call_at blobs) (call_piece c) c
+    pub back_call : (c : Call) → FitsCall c → Covers blobs (call_piece c).uses → Back (call_at blobs) (call_piece c) c
     back_call (call.Open path h) fits covered =
         let p = blob path ⊕ byte (how_code h) in
         back_fields 1 p (call.Open path h) (omega arith) (back_open path h (after_kind 1 p covered))
@@ -374,7 +380,7 @@ module _ (blobs : List Text) where
 
     -- ---- answers
 
-    kind_back : (k : FileType) → (kind_code k < 256) × (kind_of (kind_code k) ≡ Some k)
+    pub kind_back : (k : FileType) → (kind_code k < 256) × (kind_of (kind_code k) ≡ Some k)
     kind_back File = (omega arith, refl)
     kind_back Dir = (omega arith, refl)
     kind_back Link = (omega arith, refl)
@@ -448,7 +454,7 @@ module _ (blobs : List Text) where
     unfolding answer_at
     back_told kind p a lt h = back_bind byte_at (answer_of blobs) (byte kind) p kind a (back_byte kind lt) h
 
-    back_answer : (a : Answer) → FitsAnswer a → Covers blobs (answer_piece a).uses → Back (answer_at blobs) (answer_piece a) a
+    pub back_answer : (a : Answer) → FitsAnswer a → Covers blobs (answer_piece a).uses → Back (answer_at blobs) (answer_piece a) a
     back_answer answer.Go fits covered = absurd fits
     back_answer answer.Done fits covered = back_kind 1 answer.Done (omega arith) (λ rest. refl)
     back_answer answer.Opened fits covered = back_kind 2 answer.Opened (omega arith) (λ rest. refl)
@@ -529,7 +535,7 @@ module _ (blobs : List Text) where
           record_items (front ++ rec ∷ []) table fits.1 (subst AreNumbered (sym (append_assoc front (rec ∷ []) table)) numbered) c.1,
         )
 
-    pub back_table : (table : List Record) → Fits table → Covers blobs (table_piece table).uses → Back (counted_at (record_at blobs)) (table_piece table) table
+    pub back_table : (table : List Record) → FitsOld table → Covers blobs (table_piece table).uses → Back (counted_at (record_at blobs)) (table_piece table) table
     back_table table fits covered =
         let c = both_covered blobs (number (length table)) (each record_piece table) covered in
         back_counted (record_at blobs) record_piece table (record_items [] table fits.records fits.numbered c.1)

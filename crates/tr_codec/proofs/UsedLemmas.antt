@@ -1,6 +1,7 @@
 -- First uses that ascend: what is in use, as a table goes on, is the front of the blobs.
 use Rattle.std.proofs.Common.{◌≡◌, ◌∙◌, refl, sym, ap, subst, ℕ, zero, suc, ◌+◌, ◌<◌, ◌≤◌, true, false, not, ◌||◌, cond, ltb, eqb, List, [], ◌∷◌, ◌++◌, Option, Some, None, length, take, append_assoc, arith}
 use Rattle.std.specs.Prelude.{fold}
+use Rattle.std.specs.Int.{w32, to_be_bytes}
 use Rattle.std.specs.List.{flat_map, AllByRecursion, IsDistinct}
 use Rattle.std.proofs.lemmas.Bool.{ltb-true, eqb-true, lt-ltb, le-ltb, eq-eqb}
 use Rattle.std.proofs.lemmas.List.{append-nil, length-append}
@@ -13,11 +14,14 @@ use Rattle.rk_calls.specs.declared.call.Call.{Call}
 use Rattle.rk_calls.specs.declared.call.Call.TheVariants as call
 use Rattle.rk_calls.specs.declared.answer.Answer.{Answer}
 use Rattle.rk_calls.specs.declared.answer.Answer.TheVariants as answer
+use Rattle.tr_nodes.specs.Tails.{Tail, head_in}
 use Rattle.tr_record.specs.declared.steps.Step.{Step}
 use Rattle.tr_record.specs.declared.records.Record.{Record}
-use Rattle.tr_parts.specs.Piece.{Piece, plain, blob, ◌⊕◌, each, byte, cost, number, counted, has, number_of, with_use, with_uses}
-use Rattle.tr_codec.specs.Spelling.{var_piece, key_piece, pair_piece, call_piece, answer_piece, step_piece, record_piece, table_piece}
-use Rattle.tr_codec.specs.Used.{used_with, used_by, var_used, key_used, call_used, answer_used, step_used, record_used, table_used}
+use Rattle.tr_parts.specs.Piece.{Piece, plain, blob, ◌⊕◌, each, byte, cost, number, counted, num, has, number_of, with_use, with_uses}
+use Rattle.tr_codec.specs.OldSpelling as old
+use Rattle.tr_codec.specs.Same.{same_step}
+use Rattle.tr_codec.specs.Spelling.{var_piece, key_piece, pair_piece, call_piece, answer_piece, step_piece, node_piece, record_piece, spelt_with}
+use Rattle.tr_codec.specs.Used.{used_with, used_by, var_used, key_used, call_used, answer_used, step_used, nodes_used, keys_used, record_used, table_used}
 use Rattle.tr_codec.proofs.PutsLemmas.{number_stays, has_use, with_uses_adds}
 use Rattle.tr_codec.proofs.TableAgain.{named}
 
@@ -114,26 +118,49 @@ module _ (blobs : List Text) where
   after_answer used (answer.Joined status) = refl
   after_answer used (answer.No errno) = refl
 
-  after_step : (used : Option ℕ) (step : Step) → step_used blobs used step ≡ after used (step_piece step)
+  -- a step, whatever its cost is spelt as
+  after_asked : (used : Option ℕ) (cost : List ℕ) (step : Step) → step_used blobs used step ≡ after used (plain cost ⊕ call_piece step.call ⊕ answer_piece step.answer)
   unfolding plain
-  after_step used step =
+  after_asked used cost step =
       after_answer (call_used blobs used step.call) step.answer ∙ ap (λ u. after u (answer_piece step.answer)) (after_call used step.call)
       ∙ after_then used (call_piece step.call) (answer_piece step.answer)
-      ∙ after_then used (cost step.cost) (call_piece step.call ⊕ answer_piece step.answer)
+      ∙ after_then used (plain cost) (call_piece step.call ⊕ answer_piece step.answer)
 
-  after_record : (used : Option ℕ) (rec : Record) → record_used blobs used rec ≡ after used (record_piece rec)
+  after_step : (used : Option ℕ) (step : Step) → step_used blobs used step ≡ after used (old.step_piece step)
+  after_step used step = after_asked used (to_be_bytes w32 step.cost) step
+
+  after_node : (all : List (Tail Step)) (used : Option ℕ) (tail : Tail Step) → step_used blobs used tail.first ≡ after used (node_piece all tail)
+  unfolding plain
+  after_node all used tail = after_asked used (num tail.first.cost) tail.first ∙ after_then used (number (head_in same_step all tail.rest)) (step_piece tail.first)
+
+  after_ends : (all : List (Tail Step)) (used : Option ℕ) (rec : Record) → key_used blobs used rec.key ≡ after used (record_piece all rec)
+  unfolding plain ◌⊕◌
+  after_ends all used rec =
+      let end = number (head_in same_step all rec.steps) ⊕ byte rec.exit ⊕ number rec.exit_cost in
+      after_key used rec.key ∙ after_then used (key_piece rec.key) end
+
+  -- after the nodes of tails, and then the keys of records
+  pub after_spelt : (used : Option ℕ) (tails : List (Tail Step)) (table : List Record) → keys_used blobs (nodes_used blobs used tails) table ≡ after used (spelt_with tails table)
+  after_spelt used tails table =
+      let nodes = counted (node_piece tails) tails in
+      let records = counted (record_piece tails) table in
+      after_counted (λ used rec. key_used blobs used rec.key) (record_piece tails) (after_ends tails) (nodes_used blobs used tails) table
+      ∙ ap (λ u. after u records) (after_counted (λ used tail. step_used blobs used tail.first) (node_piece tails) (after_node tails) used tails)
+      ∙ after_then used nodes records
+
+  after_record : (used : Option ℕ) (rec : Record) → record_used blobs used rec ≡ after used (old.record_piece rec)
   unfolding plain
   after_record used rec =
-      let steps = counted step_piece rec.steps in
+      let steps = counted old.step_piece rec.steps in
       let end = byte rec.exit ⊕ cost rec.exit_cost in
-      after_counted (step_used blobs) step_piece after_step (key_used blobs used rec.key) rec.steps
+      after_counted (step_used blobs) old.step_piece after_step (key_used blobs used rec.key) rec.steps
       ∙ ap (λ u. after u steps) (after_key used rec.key)
       ∙ after_then (after (after used (key_piece rec.key)) steps) (byte rec.exit) (cost rec.exit_cost)
       ∙ after_then (after used (key_piece rec.key)) steps end
       ∙ after_then used (key_piece rec.key) (steps ⊕ end)
 
-  pub after_table : (used : Option ℕ) (table : List Record) → table_used blobs used table ≡ after used (table_piece table)
-  after_table used table = after_counted (record_used blobs) record_piece after_record used table
+  pub after_table : (used : Option ℕ) (table : List Record) → table_used blobs used table ≡ after used (old.table_piece table)
+  after_table used table = after_counted (record_used blobs) old.record_piece after_record used table
 
   -- ---- where all ascend, the blobs in use are the first ones
 

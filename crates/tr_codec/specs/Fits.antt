@@ -62,7 +62,7 @@ FitsAnswer (answer.Joined status) = status < 256
 FitsAnswer (answer.No errno) = Unit {0}
 
 pub record FitsStep (step : Step) : Type 0 where
-  pub cost : step.cost < 2 ^ 32
+  pub cost : step.cost < 2 ^ 64
   pub call : FitsCall step.call
   pub answer : FitsAnswer step.answer
 
@@ -74,7 +74,6 @@ pub record FitsRecord (rec : Record) : Type 0 where
   pub key : FitsKey rec.key
   pub steps : AllByRecursion FitsStep rec.steps
   pub exit : rec.exit < 256
-  pub exit_cost : rec.exit_cost < 2 ^ 32
   pub paid : paid rec.steps rec.exit_cost < 2 ^ 64
 
 -- each record has a spelling, and each ordinal is the number of earlier records of its key

@@ -1,9 +1,14 @@
 -- Laws of the spelling.
-use Rattle.std.specs.Prelude.{◌≡◌, ◌<◌, ◌^◌, List, length}
+use Rattle.std.specs.Prelude.{◌≡◌, ◌<◌, ◌^◌, List, ℕ, length}
 use Rattle.tr_record.specs.declared.records.Record.{Record}
+use Rattle.tr_codec.specs.OldSpelling.{old_spelling}
 use Rattle.tr_codec.specs.Spelling.{db_spelling}
-use Rattle.tr_codec.specs.Fits.{Fits}
+use Rattle.tr_codec.specs.Spelt.{IsSpelling}
 
--- no two tables have one spelling (of fewer than 2^64 bytes, as all bytes in memory are)
+-- no two tables have one spelling, of whichever version (of fewer than 2^64 bytes, as all bytes in memory are)
 abbrev pub OneTable : Type 0
-OneTable = (a b : List Record) → Fits a → Fits b → length (db_spelling a) < 2 ^ 64 → db_spelling a ≡ db_spelling b → a ≡ b
+OneTable = (bytes : List ℕ) (a b : List Record) → length bytes < 2 ^ 64 → IsSpelling bytes a → IsSpelling bytes b → a ≡ b
+
+-- no bytes are spellings of both versions
+abbrev pub VersionsApart : Type 0
+VersionsApart = (a b : List Record) → db_spelling a ≡ old_spelling b → ⊥

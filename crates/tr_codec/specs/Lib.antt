@@ -1,7 +1,17 @@
 pub mod Fits
 pub mod Laws
+pub mod NodeKeys
+pub mod NodesPut
+pub mod NodesRead
+pub mod OldReading
+pub mod OldRows
+pub mod OldSpelling
+pub mod Pieces
 pub mod Puts
 pub mod Reading
+pub mod Rows
+pub mod Same
 pub mod Sound
 pub mod Spelling
+pub mod Spelt
 pub mod Used

@@ -1,6 +1,7 @@
 -- Reading a table, as functions on bytes: a value and the rest, or none. The order of first uses is looked at when all is read.
-use Rattle.std.specs.Prelude.{◌≡◌, ℕ, ◌^◌, List, Option, Some, None, not, ◌&&◌, ◌==◌, nat_lt, length, take, drop, if◌then◌else◌}
-use Rattle.std.specs.Int.{w32, w64}
+use Rattle.std.specs.Prelude.{◌≡◌, ℕ, ◌^◌, Bool, List, [], ◌∷◌, Option, Some, None, not, ◌&&◌, ◌==◌, nat_lt, nat_le, length, take, drop, if◌then◌else◌}
+use Rattle.std.specs.Int.{w64}
+use Rattle.std.specs.Cmp.Lexicographic.{pointwise}
 use Rattle.rk_base.specs.Text.{Text, same_text}
 use Rattle.rk_base.specs.Canonical.{is_canonical, is_name}
 use Rattle.rk_base.specs.Names.{are_names}
@@ -18,14 +19,14 @@ use Rattle.rk_calls.specs.declared.call.Call.{Call}
 use Rattle.rk_calls.specs.declared.call.Call.TheVariants as call
 use Rattle.rk_calls.specs.declared.answer.Answer.{Answer}
 use Rattle.rk_calls.specs.declared.answer.Answer.TheVariants as answer
+use Rattle.tr_nodes.specs.Tails.{Tail, has as has_tail, same_tail, needed, steps_at}
 use Rattle.tr_record.specs.Rec.{count_of}
 use Rattle.tr_record.specs.declared.steps.Step.{Step}
 use Rattle.tr_record.specs.declared.records.Record.{Record}
-use Rattle.tr_codec.specs.declared.records.Row.{Row}
-use Rattle.tr_parts.specs.Piece.{has}
+use Rattle.tr_parts.specs.Piece.{has, with_uses}
 use Rattle.tr_codec.specs.Fits.{paid}
-use Rattle.tr_codec.specs.Spelling.{magic}
-use Rattle.tr_codec.specs.Used.{table_used, all_used}
+use Rattle.tr_codec.specs.Same.{same_step}
+use Rattle.tr_codec.specs.Spelling.{talks, table_piece, magic}
 pub use Rattle.tr_parts.specs.Reading.{◌>>=◌, given, flag_of, counted_at}
 unfoldable pub use Rattle.tr_parts.specs.Reading.{number_at, byte_at, mode_at, flag_at, count_at, many_at, string_at, blob_at}
 
@@ -227,29 +228,60 @@ answer_at blobs bytes = do
   kind ← byte_at bytes
   answer_of blobs kind.0 kind.1
 
+-- a step of this cost: its call and its answer
+abbrev pub asked_at : List Text → ℕ → List ℕ → Option (Step × List ℕ)
+asked_at blobs cost bytes = do
+  asked ← call_at blobs bytes
+  told ← answer_at blobs asked.1
+  Some (record { cost = cost; call = asked.0; answer = told.0 }, told.1)
+
 unfoldable pub step_at : List Text → List ℕ → Option (Step × List ℕ)
 step_at blobs bytes = do
-  cost ← number_at w32 bytes
-  asked ← call_at blobs cost.1
-  told ← answer_at blobs asked.1
-  Some (record { cost = cost.0; call = asked.0; answer = told.0 }, told.1)
+  cost ← number_at w64 bytes
+  asked_at blobs cost.0 cost.1
 
--- a record but for its ordinal; its costs together are below 2^64
-unfoldable pub row_at : List Text → List ℕ → Option (Row × List ℕ)
-row_at blobs bytes = do
+-- a step, and the steps of a number in front of it
+abbrev pub tail_of : List (Tail Step) → ℕ → Step → Tail Step
+tail_of front next step = record { first = step; rest = steps_at front next }
+
+-- what a tail's steps cost together
+abbrev pub tail_paid : Tail Step → ℕ
+tail_paid tail = paid (tail.first ∷ tail.rest) 0
+
+-- the number of a rest stands in front of it, they aren't there together yet, and cost less than 2^64
+abbrev pub is_new : List (Tail Step) → ℕ → Tail Step → Bool
+is_new front next tail = nat_le next (length front) && (not (has_tail same_step front tail) && nat_lt (tail_paid tail) (2 ^ 64))
+
+-- a node: the number of a rest, and a step
+unfoldable pub node_at : List Text → List (Tail Step) → List ℕ → Option (Tail Step × List ℕ)
+node_at blobs front bytes = do
+  next ← number_at w64 bytes
+  step ← step_at blobs next.1
+  given (is_new front next.0 (tail_of front next.0 step.0)) (tail_of front next.0 step.0, step.1)
+
+-- a record but for its ordinal
+pub record Row : Type 0 where
+  pub key : KeyValue
+  pub steps : List Step
+  pub exit : ℕ
+  pub exit_cost : ℕ
+
+-- with the steps of a number; its costs together are below 2^64
+unfoldable pub row_at : List Text → List (Tail Step) → List ℕ → Option (Row × List ℕ)
+row_at blobs tails bytes = do
   key ← key_at blobs bytes
-  steps ← counted_at (λ before. step_at blobs) key.1
-  exit ← byte_at steps.1
-  exit_cost ← number_at w32 exit.1
-  given (nat_lt (paid steps.0 exit_cost.0) (2 ^ 64)) (record { key = key.0; steps = steps.0; exit = exit.0; exit_cost = exit_cost.0 }, exit_cost.1)
+  head ← number_at w64 key.1
+  exit ← byte_at head.1
+  exit_cost ← number_at w64 exit.1
+  given (nat_le head.0 (length tails) && nat_lt (paid (steps_at tails head.0) exit_cost.0) (2 ^ 64)) (record { key = key.0; steps = steps_at tails head.0; exit = exit.0; exit_cost = exit_cost.0 }, exit_cost.1)
 
 -- the next record after these
 abbrev pub next_rec : List Record → Row → Record
 next_rec front row = record { key = row.key; ordinal = count_of row.key front; steps = row.steps; exit = row.exit; exit_cost = row.exit_cost }
 
-unfoldable pub record_at : List Text → List Record → List ℕ → Option (Record × List ℕ)
-record_at blobs front bytes = do
-  row ← row_at blobs bytes
+unfoldable pub record_at : List Text → List (Tail Step) → List Record → List ℕ → Option (Record × List ℕ)
+record_at blobs tails front bytes = do
+  row ← row_at blobs tails bytes
   Some (next_rec front row.0, row.1)
 
 -- a blob: a text that isn't one of those in front
@@ -258,17 +290,23 @@ fresh_at front bytes = do
   text ← string_at bytes
   given (not (has front text.0)) text
 
--- so many records with these blobs, which use all of them in order; nothing stands behind them
-unfoldable pub records_at : List Text → List ℕ → Option (List Record)
-records_at blobs bytes = do
-  table ← counted_at (record_at blobs) bytes
-  given (all_used (table_used blobs (Some 0) table.0) (length blobs) && (length table.1 == 0)) table.0
+-- the nodes are those that the records need, the blobs those that both use, each in the order of first use, and nothing stands behind them
+abbrev pub is_whole : List Text → List (Tail Step) → List Record → List ℕ → Option (List Record)
+is_whole blobs tails table rest =
+    given (pointwise (same_tail same_step) (needed same_step (talks table)) tails && (pointwise same_text (with_uses [] (table_piece table).uses) blobs && (length rest == 0))) table
 
--- the table that is spelt after the magic: blobs, each once, and records
+-- so many records with these blobs and nodes, which use all of both
+abbrev pub records_at : List Text → List (Tail Step) → List ℕ → Option (List Record)
+records_at blobs tails bytes = do
+  table ← counted_at (record_at blobs tails) bytes
+  is_whole blobs tails table.0 table.1
+
+-- the table that is spelt after the magic: blobs, each once, nodes, each once, and records
 unfoldable pub table_at : List ℕ → Option (List Record)
 table_at bytes = do
   blobs ← counted_at fresh_at bytes
-  records_at blobs.0 blobs.1
+  tails ← counted_at (node_at blobs.0) blobs.1
+  records_at blobs.0 tails.0 tails.1
 
 -- the table that a body spells
 unfoldable pub body_at : List ℕ → Option (List Record)

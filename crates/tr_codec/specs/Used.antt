@@ -7,6 +7,7 @@ use Rattle.rk_calls.specs.declared.call.Call.{Call}
 use Rattle.rk_calls.specs.declared.call.Call.TheVariants as call
 use Rattle.rk_calls.specs.declared.answer.Answer.{Answer}
 use Rattle.rk_calls.specs.declared.answer.Answer.TheVariants as answer
+use Rattle.tr_nodes.specs.Tails.{Tail}
 use Rattle.tr_record.specs.declared.steps.Step.{Step}
 use Rattle.tr_record.specs.declared.records.Record.{Record}
 use Rattle.tr_parts.specs.Piece.{number_of}
@@ -65,6 +66,21 @@ answer_used blobs used (answer.No errno) = used
 abbrev pub step_used : List Text → Option ℕ → Step → Option ℕ
 step_used blobs used step = answer_used blobs (call_used blobs used step.call) step.answer
 
+-- after nodes of the first steps of these tails
+abbrev pub nodes_used : List Text → Option ℕ → List (Tail Step) → Option ℕ
+nodes_used blobs = fold (λ used tail. step_used blobs used tail.first)
+
+-- after the keys of these records
+abbrev pub keys_used : List Text → Option ℕ → List Record → Option ℕ
+keys_used blobs = fold (λ used rec. key_used blobs used rec.key)
+
+-- whether all of so many blobs are in use
+abbrev pub all_used : Option ℕ → ℕ → Bool
+all_used None blobs = false
+all_used (Some used) blobs = used == blobs
+
+-- ---- as a table of the first version goes on
+
 -- after a record with this key and these steps
 abbrev pub row_used : List Text → Option ℕ → KeyValue → List Step → Option ℕ
 row_used blobs used key steps = fold (step_used blobs) (key_used blobs used key) steps
@@ -74,8 +90,3 @@ record_used blobs used rec = row_used blobs used rec.key rec.steps
 
 abbrev pub table_used : List Text → Option ℕ → List Record → Option ℕ
 table_used blobs = fold (record_used blobs)
-
--- whether all of so many blobs are in use
-abbrev pub all_used : Option ℕ → ℕ → Bool
-all_used None blobs = false
-all_used (Some used) blobs = used == blobs

@@ -5,7 +5,7 @@ ghost use Rattle.rk_base.specs.Names.{are_names};
 ghost use Rattle.tr_parts.specs.Piece.{◌⊕◌, blob, byte, mode, each, counted};
 ghost use Rattle.tr_codec.specs.Spelling.{kind_code, flag_code, errno_code, answer_piece};
 ghost use Rattle.tr_codec.specs.Puts.{Puts};
-ghost use Rattle.tr_codec.specs.Sound.{SpeltAnswer};
+ghost use Rattle.tr_codec.specs.Sound.{TypedAnswer};
 
 use crate::call_pieces::flag_code;
 use crate::writer::Writer;
@@ -56,7 +56,8 @@ fn put_code_answer(w: &mut Writer, kind: u8, code: u8) -> Result<(), NoMemory>
 }
 
 fn put_stat(w: &mut Writer, kind: u8, permissions: u16, empty: u8) -> Result<(), NoMemory>
-    ensures { OnOk result (Puts (byte 5 ⊕ byte kind ⊕ mode permissions ⊕ byte empty) w.old w.new) }
+    ensures puts { OnOk result (Puts (byte 5 ⊕ byte kind ⊕ mode permissions ⊕ byte empty) w.old w.new) }
+    ensures range { permissions < 2 ^ 16 }
 {
     w.put_byte(5)?;
     w.put_byte(kind)?;
@@ -96,7 +97,7 @@ fn put_place(w: &mut Writer, path: &Path) -> Result<(), NoMemory>
 /// An answer: its kind and its fields.
 pub(crate) fn put_answer(w: &mut Writer, answer: &Answer) -> Result<(), NoMemory>
     ensures puts { OnOk result (Puts (answer_piece answer.now) w.old w.new) }
-    ensures fits { OnOk result (SpeltAnswer answer.now) }
+    ensures typed { OnOk result (TypedAnswer answer.now) }
 {
     match answer {
         Answer::Go => w.put_byte(0),

@@ -4,7 +4,7 @@ ghost use Rattle.tr_codec.specs.Fits.{FitsKey, FitsMap};
 ghost use Rattle.tr_parts.specs.Piece.{◌⊕◌, blob, byte, mode, number, counted};
 ghost use Rattle.tr_codec.specs.Spelling.{key_piece, pair_piece, how_code, flag_code, call_piece};
 ghost use Rattle.tr_codec.specs.Puts.{Puts};
-ghost use Rattle.tr_codec.specs.Sound.{SpeltCall};
+ghost use Rattle.tr_codec.specs.Sound.{TypedCall};
 
 use crate::key_pieces::{put_key, put_pairs};
 use crate::writer::Writer;
@@ -55,7 +55,8 @@ fn put_code_call(w: &mut Writer, kind: u8, path: &Bytes, code: u8) -> Result<(),
 }
 
 fn put_mode_call(w: &mut Writer, kind: u8, path: &Bytes, permissions: u16) -> Result<(), NoMemory>
-    ensures { OnOk result (Puts (byte kind ⊕ blob path.now ⊕ mode permissions) w.old w.new) }
+    ensures puts { OnOk result (Puts (byte kind ⊕ blob path.now ⊕ mode permissions) w.old w.new) }
+    ensures range { permissions < 2 ^ 16 }
 {
     w.put_byte(kind)?;
     w.put_blob(path)?;
@@ -96,7 +97,7 @@ fn put_launch(w: &mut Writer, key: &Key, map: &RefMap) -> Result<(), NoMemory>
 /// A call: its kind and its fields.
 pub(crate) fn put_call(w: &mut Writer, call: &Call) -> Result<(), NoMemory>
     ensures puts { OnOk result (Puts (call_piece call.now) w.old w.new) }
-    ensures fits { OnOk result (SpeltCall call.now) }
+    ensures typed { OnOk result (TypedCall call.now) }
 {
     match call {
         Call::Open(path, how) => put_code_call(w, 1, path, how_code(*how)),

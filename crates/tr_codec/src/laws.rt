@@ -1,6 +1,6 @@
 // Laws of the spelling.
 ghost use Rattle.tr_codec.specs.Fits.{Fits};
-ghost use Rattle.tr_codec.specs.Laws.{OneTable};
+ghost use Rattle.tr_codec.specs.Laws.{OneTable, VersionsApart};
 ghost use Rattle.tr_parts.specs.Reads.{Finds};
 
 use crate::reading::read_db;
@@ -9,9 +9,10 @@ use std::alloc::Global;
 use tr_parts::CodecErr;
 use tr_record::Table;
 
-/// No two tables have one spelling. It does nothing.
+/// No two tables have one spelling, and no bytes are spellings of both versions. It does nothing.
 pub fn one_table()
-    ensures { OneTable }
+    ensures one { OneTable }
+    ensures apart { VersionsApart }
 {}
 
 /// What is written is read back.

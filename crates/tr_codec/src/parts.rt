@@ -1,7 +1,7 @@
 // Parts of what is read: modes, truth values and blobs.
-ghost use Rattle.std.specs.Prelude.{◌≡◌, ◌<◌, ◌+◌, ◌^◌, ◌∷◌, ◌++◌, ℕ, List, [], fold, IfOk};
+ghost use Rattle.std.specs.Prelude.{◌≡◌, ◌==◌, ◌<◌, ◌+◌, ◌^◌, ◌∷◌, ◌++◌, ◌&&◌, ℕ, List, [], fold, length, IfOk};
 ghost use Rattle.tr_codec.specs.Reading.{mode_at, flag_of, flag_at, many_at, fresh_at, blob_at};
-ghost use Rattle.tr_codec.specs.Used.{used_with, used_by};
+ghost use Rattle.tr_codec.specs.Used.{used_with, used_by, all_used};
 ghost use Rattle.tr_parts.specs.Reads.{Gives};
 
 use rk_base::Bytes;
@@ -135,4 +135,21 @@ pub(crate) fn blobs_of<'a>(
         rest = after;
     }
     Ok((texts, rest))
+}
+
+/// Whether all of so many are in use.
+pub(crate) fn all_used(used: Option<usize>, many: usize) -> bool
+    ensures { result ≡ all_used used many }
+{
+    match used {
+        None => false,
+        Some(used) => used == many,
+    }
+}
+
+/// Whether so many blobs are all in use, and nothing stands behind them.
+pub(crate) fn all_read(used: Option<usize>, blobs: usize, rest: &[u8]) -> bool
+    ensures { result ≡ (all_used used blobs && (length rest.now == 0)) }
+{
+    all_used(used, blobs) && rest.is_empty()
 }

@@ -1,67 +1,66 @@
 // The pieces of a table, put by a writer.
-ghost use Rattle.std.specs.Prelude.{◌≡◌, OnOk};
+ghost use Rattle.std.specs.Prelude.{◌≡◌, ◌<◌, List, [], IfOk, OnOk, length, map};
 ghost use Rattle.std.specs.List.{AllByRecursion};
-ghost use Rattle.tr_codec.specs.Fits.{Fits};
-ghost use Rattle.tr_parts.specs.Piece.{each, counted};
-ghost use Rattle.tr_codec.specs.Spelling.{step_piece, record_piece, table_piece};
+ghost use Rattle.tr_nodes.specs.Tails.{Tail, needed, head_in};
+ghost use Rattle.tr_record.specs.declared.steps.Step.{Step as OneStep};
+ghost use Rattle.tr_parts.specs.Piece.{◌⊕◌, byte, number, counted};
+ghost use Rattle.tr_codec.specs.Fits.{FitsKey};
+ghost use Rattle.tr_codec.specs.NodesPut.{Holds};
 ghost use Rattle.tr_codec.specs.Puts.{Puts};
-ghost use Rattle.tr_codec.specs.Sound.{IsSound, Spelt, SpeltRecord};
+ghost use Rattle.tr_codec.specs.Same.{same_step};
+ghost use Rattle.tr_codec.specs.Sound.{IsTyped, TypedEnds, TypedSteps};
+ghost use Rattle.tr_codec.specs.Spelling.{key_piece, record_piece, talks};
 
-use crate::answer_pieces::put_answer;
-use crate::call_pieces::put_call;
 use crate::key_pieces::put_key;
+use crate::node_pieces::NodeWriter;
 use crate::writer::Writer;
 use rk_base::NoMemory;
-use tr_record::{Record, Step, Table};
+use std::alloc::Global;
+use tr_record::Record;
 
-fn put_step(w: &mut Writer, step: &Step) -> Result<(), NoMemory>
-    ensures puts { OnOk result (Puts (step_piece step.now) w.old w.new) }
-    ensures fits { OnOk result (Spelt step.now) }
+/// The nodes that records need, and of each record the number of its steps.
+pub(crate) fn put_nodes(
+    alloc: Global,
+    records: &[Record],
+) -> Result<(NodeWriter, Vec<usize>), NoMemory>
+    ensures nodes { IfOk result (λ x. Holds (needed same_step (talks records.now)) x.0) }
+    ensures heads { IfOk result (λ x. x.1.items ≡ map (head_in same_step (needed same_step (talks records.now))) (talks records.now)) }
+    ensures typed { OnOk result (AllByRecursion TypedSteps records.now) }
 {
-    w.put_cost(step.cost)?;
-    put_call(w, &step.call)?;
-    put_answer(w, &step.answer)?;
-    Ok(())
-}
-
-fn put_steps(w: &mut Writer, steps: &[Step]) -> Result<(), NoMemory>
-    ensures puts { OnOk result (Puts (counted step_piece steps.now) w.old w.new) }
-    ensures fits { OnOk result (AllByRecursion Spelt steps.now) }
-{
-    w.put_number(steps.len() as u64)?;
-    'steps: for step in steps {
-        put_step(w, step)?;
+    let mut nodes = NodeWriter::new(alloc);
+    let mut heads = Vec::new(alloc);
+    'records: for rec in records {
+        let head = nodes.put_talk(alloc, &rec.steps)?;
+        heads.push(head)?;
     }
-    Ok(())
+    Ok((nodes, heads))
 }
 
-fn put_record(w: &mut Writer, rec: &Record) -> Result<(), NoMemory>
-    ensures puts { OnOk result (Puts (record_piece rec.now) w.old w.new) }
-    ensures fits { OnOk result (SpeltRecord rec.now) }
+// A record whose steps have this number.
+fn put_record(w: &mut Writer, rec: &Record, head: usize) -> Result<(), NoMemory>
+    ensures puts { OnOk result (Puts (key_piece rec.now.key ⊕ number head ⊕ byte rec.now.exit ⊕ number rec.now.exit_cost) w.old w.new) }
+    ensures typed { OnOk result (TypedEnds rec.now) }
 {
     put_key(w, &rec.key)?;
-    put_steps(w, rec.steps.as_slice())?;
+    w.put_number(head as u64)?;
     w.put_byte(rec.exit)?;
-    w.put_cost(rec.exit_cost)?;
+    w.put_number(rec.exit_cost)?;
     Ok(())
 }
 
-fn put_records(w: &mut Writer, records: &[Record]) -> Result<(), NoMemory>
-    ensures puts { OnOk result (Puts (counted record_piece records.now) w.old w.new) }
-    ensures fits { OnOk result (AllByRecursion SpeltRecord records.now) }
+/// The records, whose steps have these numbers.
+pub(crate) fn put_records(
+    w: &mut Writer,
+    records: &[Record],
+    heads: &[usize],
+) -> Result<(), NoMemory>
+    requires { length heads.now ≡ length records.now }
+    ensures puts { OnOk result ((tails : List (Tail OneStep)) → heads.now ≡ map (head_in same_step tails) (talks records.now) → Puts (counted (record_piece tails) records.now) w.old w.new) }
+    ensures typed { OnOk result (AllByRecursion TypedEnds records.now) }
 {
     w.put_number(records.len() as u64)?;
-    'records: for rec in records {
-        put_record(w, rec)?;
+    'records: for (i, rec) in records.iter().enumerate() {
+        put_record(w, rec, heads[i])?;
     }
-    Ok(())
-}
-
-/// All records of a table.
-pub(crate) fn put_table(w: &mut Writer, table: &Table) -> Result<(), NoMemory>
-    ensures puts { OnOk result (Puts (table_piece table.now) w.old w.new) }
-    ensures fits { OnOk result (AllByRecursion IsSound table.now → Fits table.now) }
-{
-    put_records(w, table.as_slice())?;
     Ok(())
 }

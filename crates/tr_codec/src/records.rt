@@ -1,97 +1,40 @@
 // Records and tables that are read.
-ghost use Rattle.std.specs.Prelude.{◌≡◌, ◌++◌, ◌∷◌, ◌^◌, [], nat_lt, fold, IfOk, IfErr, OnOk};
-ghost use Rattle.tr_record.specs.Contents.{AreContents, AreStepContents};
-ghost use Rattle.tr_codec.specs.Fits.{paid};
-ghost use Rattle.tr_codec.specs.Reading.{step_at, row_at, record_at, records_at, table_at, many_at, counted_at};
-ghost use Rattle.tr_codec.specs.Used.{step_used, row_used, table_used, all_used};
+ghost use Rattle.std.specs.Prelude.{◌≡◌, ◌==◌, ◌≤◌, ◌^◌, ◌&&◌, [], Some, nat_le, nat_lt, length, IfOk};
+ghost use Rattle.tr_nodes.specs.Tails.{AreNodes, steps_at, tails_of};
 ghost use Rattle.tr_parts.specs.Reads.{Gives};
-ghost use Rattle.tr_parts.specs.declared.fault.PartErr.TheVariants as err;
+ghost use Rattle.tr_codec.specs.Fits.{paid};
+ghost use Rattle.tr_codec.specs.Reading.{row_at, record_at, records_at, table_at, many_at};
+ghost use Rattle.tr_codec.specs.Rows.{row_under, InUse, AreHeads};
+ghost use Rattle.tr_codec.specs.Used.{key_used, keys_used, nodes_used, all_used};
 
 use crate::keys::key_of;
-use crate::parts::fresh_blobs;
-use crate::read_table::ReadTable;
-use crate::steps::step_of;
-use rk_base::NoMemory;
-use rk_calls::Key;
+use crate::linked::in_use_after;
+use crate::nodes::nodes_of;
+use crate::parts::{all_read, all_used, fresh_blobs};
+use crate::read_table::{ReadTable, with_contents};
+use crate::rows::{HeadedRow, push_row};
 use rk_content::Contents;
 use std::alloc::Global;
-use tr_parts::{PartErr, byte_of, cost_of, count_of};
-use tr_record::{NumberList, RecordedContents, Step, StepList, Table};
+use std::rc::Rc;
+use tr_parts::{PartErr, byte_of, count_of, number_of};
+use tr_record::{StepPool, Table};
 
-// A record but for its ordinal.
+/// The records that were read so far, the numbers of their steps, and how many nodes these use, unless others were skipped.
 #[derive(Drop)]
-pub(crate) struct Row {
-    key: Key,
-    steps: StepList,
-    exit: u8,
-    exit_cost: u32,
+pub(crate) struct ReadRecords {
+    pub(crate) table: Table,
+    pub(crate) heads: Vec<usize>,
+    in_use: Option<usize>,
 }
 
-// One step more, and the number of the content that its answer is.
-fn add_step(
-    steps: &mut StepList,
-    numbers: &mut NumberList,
-    step: Step,
-    number: Option<usize>,
-) -> Result<(), PartErr>
-    ensures steps { OnOk result (steps.new ≡ steps.old ++ step ∷ []) }
-    ensures numbers { OnOk result (numbers.new ≡ numbers.old ++ number ∷ []) }
-    ensures memory { IfErr result (λ e. e ≡ err.NoMemory) }
+// Whether there is such a number, and its steps cost less than 2^64 turns with an exit at this cost.
+fn is_payable(pool: &StepPool, head: usize, exit_cost: u64) -> bool
+    ensures { result ≡ (nat_le head (length (tails_of pool.now.nodes)) && nat_lt (paid (steps_at (tails_of pool.now.nodes) head) exit_cost) (2 ^ 64)) }
 {
-    steps.push(step)?;
-    numbers.push(number)?;
-    Ok(())
-}
-
-fn so_many_steps<'a>(
-    alloc: Global,
-    blobs: &Contents,
-    used: &mut Option<usize>,
-    count: u64,
-    bytes: &'a [u8],
-) -> Result<(StepList, NumberList, &'a [u8]), PartErr>
-    ensures gives { Gives (λ x. (x.0, x.2.now)) result (many_at (λ before. step_at blobs.now) count [] bytes.now) }
-    ensures contents { IfOk result (λ x. AreStepContents blobs.now x.1 x.0) }
-    ensures used { IfOk result (λ x. used.new ≡ fold (step_used blobs.now) used.old x.0) }
-{
-    let mut steps = StepList::new(alloc);
-    let mut numbers = NumberList::new(alloc);
-    let mut rest = bytes;
-    'steps: for _ in 0..count {
-        let (step, number, after) = step_of(alloc, blobs, used, rest)?;
-        add_step(&mut steps, &mut numbers, step, number)?;
-        rest = after;
+    if pool.len() < head {
+        return false;
     }
-    Ok((steps, numbers, rest))
-}
-
-fn steps_of<'a>(
-    alloc: Global,
-    blobs: &Contents,
-    used: &mut Option<usize>,
-    bytes: &'a [u8],
-) -> Result<(StepList, NumberList, &'a [u8]), PartErr>
-    ensures gives { Gives (λ x. (x.0, x.2.now)) result (counted_at (λ before. step_at blobs.now) bytes.now) }
-    ensures contents { IfOk result (λ x. AreStepContents blobs.now x.1 x.0) }
-    ensures used { IfOk result (λ x. used.new ≡ fold (step_used blobs.now) used.old x.0) }
-{
-    let (count, rest) = count_of(bytes)?;
-    let (steps, numbers, rest) = so_many_steps(alloc, blobs, used, count, rest)?;
-    Ok((steps, numbers, rest))
-}
-
-// Whether these costs together are below 2^64.
-fn costs_fit(steps: &[Step], exit_cost: u32) -> bool
-    ensures { result ≡ nat_lt (paid steps.now exit_cost) (2 ^ 64) }
-{
-    let mut sum = u64::from(exit_cost);
-    'steps: for step in steps {
-        match sum.checked_add(u64::from(step.cost)) {
-            Some(more) => sum = more,
-            None => return false,
-        }
-    }
-    true
+    pool.paid(head).checked_add(exit_cost).is_some()
 }
 
 #[tactic(auto, unfolding(crate::specs::Reading::row_at))]
@@ -99,102 +42,94 @@ fn row_of<'a>(
     alloc: Global,
     blobs: &Contents,
     used: &mut Option<usize>,
+    pool: &StepPool,
     bytes: &'a [u8],
-) -> Result<(Row, NumberList, &'a [u8]), PartErr>
-    ensures gives { Gives (λ x. (x.0, x.2.now)) result (row_at blobs.now bytes.now) }
-    ensures contents { IfOk result (λ x. AreStepContents blobs.now x.1 x.0.steps) }
-    ensures used { IfOk result (λ x. used.new ≡ row_used blobs.now used.old x.0.key x.0.steps) }
+) -> Result<(HeadedRow, &'a [u8]), PartErr>
+    ensures gives { Gives (λ x. (row_under pool.now.nodes x.0, x.1.now)) result (row_at blobs.now (tails_of pool.now.nodes) bytes.now) }
+    ensures head { IfOk result (λ x. x.0.head ≤ length pool.now.nodes) }
+    ensures used { IfOk result (λ x. used.new ≡ key_used blobs.now used.old x.0.key) }
 {
     let (key, rest) = key_of(alloc, blobs, used, bytes)?;
-    let (steps, numbers, rest) = steps_of(alloc, blobs, used, rest)?;
+    let (head, rest) = number_of(rest)?;
     let (exit, rest) = byte_of(rest)?;
-    let (exit_cost, rest) = cost_of(rest)?;
-    if !costs_fit(steps.as_slice(), exit_cost) {
+    let (exit_cost, rest) = number_of(rest)?;
+    let head = head as usize;
+    if !is_payable(pool, head, exit_cost) {
         return Err(PartErr::Form);
     }
-    let row = Row {
+    let row = HeadedRow {
         key,
-        steps,
+        head,
         exit,
         exit_cost,
     };
-    Ok((row, numbers, rest))
-}
-
-fn add_numbers(rows: &mut Vec<NumberList>, numbers: NumberList) -> Result<(), PartErr>
-    ensures rows { OnOk result (rows.new.items ≡ rows.old.items ++ numbers ∷ []) }
-    ensures memory { IfErr result (λ e. e ≡ err.NoMemory) }
-{
-    rows.push(numbers)?;
-    Ok(())
+    Ok((row, rest))
 }
 
 fn so_many_records<'a>(
     alloc: Global,
     blobs: &Contents,
     used: &mut Option<usize>,
+    pool: &Rc<StepPool>,
     count: u64,
     bytes: &'a [u8],
-) -> Result<(Table, Vec<NumberList>, &'a [u8]), PartErr>
-    ensures gives { Gives (λ x. (x.0, x.2.now)) result (many_at (record_at blobs.now) count [] bytes.now) }
-    ensures contents { IfOk result (λ x. AreContents (record { texts = blobs.now; rows = x.1.items }) x.0) }
-    ensures used { IfOk result (λ x. used.new ≡ table_used blobs.now used.old x.0) }
+) -> Result<(ReadRecords, &'a [u8]), PartErr>
+    ensures gives { Gives (λ x. (x.0.table, x.1.now)) result (many_at (record_at blobs.now (tails_of pool.now.value.nodes)) count [] bytes.now) }
+    ensures heads { IfOk result (λ x. AreHeads pool.now.value.nodes x.0.heads.items x.0.table) }
+    ensures in_use { IfOk result (λ x. InUse pool.now.value.nodes x.0.heads.items x.0.in_use) }
+    ensures used { IfOk result (λ x. used.new ≡ keys_used blobs.now used.old x.0.table) }
 {
     let mut table = Table::new(alloc);
-    let mut rows = Vec::new(alloc);
+    let mut heads = Vec::new(alloc);
+    let mut in_use = Some(0);
     let mut rest = bytes;
     'records: for _ in 0..count {
-        let (row, numbers, after) = row_of(alloc, blobs, used, rest)?;
-        table.push(row.key, row.steps, row.exit, row.exit_cost)?;
-        add_numbers(&mut rows, numbers)?;
+        let (row, after) = row_of(alloc, blobs, used, pool.as_ref(), rest)?;
+        in_use = in_use_after(pool.as_ref(), in_use, row.head);
+        push_row(&mut table, &mut heads, pool, row)?;
         rest = after;
     }
-    Ok((table, rows, rest))
+    let records = ReadRecords {
+        table,
+        heads,
+        in_use,
+    };
+    Ok((records, rest))
 }
 
-// Whether all of so many blobs are in use.
-fn all_used(used: Option<usize>, blobs: usize) -> bool
-    ensures { result ≡ all_used used blobs }
+// Whether so many nodes and so many blobs are all in use, and nothing stands behind them.
+fn is_whole(
+    in_use: Option<usize>,
+    nodes: usize,
+    used: Option<usize>,
+    blobs: usize,
+    rest: &[u8],
+) -> bool
+    ensures { result ≡ (all_used in_use nodes && (all_used used blobs && (length rest.now == 0))) }
 {
-    match used {
-        None => false,
-        Some(used) => used == blobs,
-    }
+    all_used(in_use, nodes) && all_read(used, blobs, rest)
 }
 
-// The records of a table with these blobs, which use all of them in order, and behind which nothing stands.
-#[tactic(auto, unfolding(crate::specs::Reading::records_at))]
+// The records of a table with these blobs and nodes, which use all of them in order, and behind which nothing stands.
 fn records_of(
     alloc: Global,
     blobs: &Contents,
+    used: &mut Option<usize>,
+    pool: &Rc<StepPool>,
     bytes: &[u8],
-) -> Result<(Table, Vec<NumberList>), PartErr>
-    ensures gives { Gives (λ x. x.0) result (records_at blobs.now bytes.now) }
-    ensures contents { IfOk result (λ x. AreContents (record { texts = blobs.now; rows = x.1.items }) x.0) }
+) -> Result<ReadRecords, PartErr>
+    requires nodes { AreNodes pool.now.value.nodes }
+    requires used { used.old ≡ nodes_used blobs.now (Some 0) (tails_of pool.now.value.nodes) }
+    ensures gives { Gives (λ x. x.table) result (records_at blobs.now (tails_of pool.now.value.nodes) bytes.now) }
+    ensures heads { IfOk result (λ x. AreHeads pool.now.value.nodes x.heads.items x.table) }
 {
     let (count, rest) = count_of(bytes)?;
-    let mut used = Some(0);
-    let (table, rows, rest) = so_many_records(alloc, blobs, &mut used, count, rest)?;
-    if all_used(used, blobs.as_slice().len()) && rest.is_empty() {
-        Ok((table, rows))
-    } else {
-        Err(PartErr::Form)
+    let (records, rest) = so_many_records(alloc, blobs, used, pool, count, rest)?;
+    let nodes = pool.as_ref().len();
+    if !is_whole(records.in_use, nodes, *used, blobs.as_slice().len(), rest) {
+        return Err(PartErr::Form);
     }
-}
-
-fn contents_of(
-    alloc: Global,
-    blobs: &Contents,
-    rows: Vec<NumberList>,
-) -> Result<RecordedContents, NoMemory>
-    ensures { IfOk result (λ x. x ≡ record { texts = blobs.now; rows = rows.items }) }
-{
-    let all = blobs.as_slice();
-    let mut texts = Vec::new(alloc);
-    'texts: for text in all {
-        texts.push(text.copy()?)?;
-    }
-    Ok(RecordedContents { texts, rows })
+    Ok(records)
 }
 
 /// The table that is spelt after the magic.
@@ -204,7 +139,11 @@ pub(crate) fn table_of(alloc: Global, bytes: &[u8]) -> Result<ReadTable, PartErr
 {
     let (count, rest) = count_of(bytes)?;
     let (blobs, rest) = fresh_blobs(alloc, count, rest)?;
-    let (table, rows) = records_of(alloc, &blobs, rest)?;
-    let contents = contents_of(alloc, &blobs, rows)?;
-    Ok(ReadTable::new(table, contents))
+    let mut used = Some(0);
+    let (nodes, rest) = nodes_of(alloc, &blobs, &mut used, rest)?;
+    let pool = Rc::new(alloc, nodes.into_pool())?;
+    let records = records_of(alloc, &blobs, &mut used, &pool, rest)?;
+    let ReadRecords { table, heads, .. } = records;
+    let table = with_contents(alloc, table, heads, pool, &blobs)?;
+    Ok(table)
 }

@@ -2,8 +2,8 @@
 ghost use Rattle.std.specs.Prelude.{◌≡◌, ◌<◌, ◌^◌, ◌++◌, [], length, true, IfOk, IfSome, OnOk};
 ghost use Rattle.std.specs.List.{flat_map};
 ghost use Rattle.rk_base.specs.Canonical.{is_canonical};
-ghost use Rattle.tr_parts.specs.Piece.{with_use, number_of, num, string, plain, blob, byte, mode, cost, number};
-ghost use Rattle.tr_codec.specs.Puts.{Puts};
+ghost use Rattle.tr_parts.specs.Piece.{with_use, number_of, num, string, plain, blob, byte, mode, number};
+ghost use Rattle.tr_codec.specs.Puts.{Puts, spelt_body};
 
 use indexmap::IndexMap;
 use rk_base::{Bytes, Name, NoMemory, Path};
@@ -100,6 +100,15 @@ fn push_strings(out: &mut Vec<u8>, texts: &[Bytes]) -> Result<(), NoMemory>
     Ok(())
 }
 
+fn push_all(out: &mut Vec<u8>, texts: &[Bytes]) -> Result<(), NoMemory>
+    ensures { OnOk result (out.new.items ≡ out.old.items ++ flat_map (λ text. text) texts.now) }
+{
+    'texts: for text in texts {
+        out.extend_from_slice(text.as_slice())?;
+    }
+    Ok(())
+}
+
 impl Writer {
     /// Nothing was put.
     pub(crate) fn new(alloc: Global) -> Writer
@@ -131,15 +140,6 @@ impl Writer {
     /// Two bytes.
     pub(crate) fn put_mode(&mut self, n: u16) -> Result<(), NoMemory>
         ensures { OnOk result (Puts (mode n) self.old self.new) }
-    {
-        self.put_plain(&n.to_be_bytes())?;
-        Ok(())
-    }
-
-    /// Four bytes.
-    pub(crate) fn put_cost(&mut self, n: u32) -> Result<(), NoMemory>
-        ensures puts { OnOk result (Puts (cost n) self.old self.new) }
-        ensures range { n < 2 ^ 32 }
     {
         self.put_plain(&n.to_be_bytes())?;
         Ok(())
@@ -185,15 +185,31 @@ impl Writer {
         Ok(())
     }
 
-    /// The magic, the blobs and what was put.
-    pub(crate) fn body(&self, magic: &[u8]) -> Result<Vec<u8>, NoMemory>
-        ensures { IfOk result (λ out. out.items ≡ magic.now ++ (num (length self.now.blobs) ++ (flat_map string self.now.blobs ++ self.now.bytes))) }
+    /// The bytes that were put, which are taken out.
+    pub(crate) fn take(&mut self) -> Result<Bytes, NoMemory>
+        ensures taken { IfOk result (λ bytes. bytes ≡ self.old.bytes) }
+        ensures left { OnOk result (self.new ≡ record { blobs = self.old.blobs; bytes = [] }) }
+        ensures few { IfOk result (λ bytes. length bytes < 2 ^ 64) }
+        ensures blobs { OnOk result (length self.new.blobs < 2 ^ 64) }
+    {
+        let alloc = *self.out.allocator();
+        let bytes = Bytes::from_slice(alloc, self.out.as_slice())?;
+        self.out.clear();
+        let _ = self.blobs.as_slice();
+        Ok(bytes)
+    }
+
+    /// The magic, the blobs, the nodes, whose bytes these are, and what was put.
+    pub(crate) fn body(&self, magic: &[u8], nodes: &[Bytes]) -> Result<Vec<u8>, NoMemory>
+        ensures { IfOk result (λ out. out.items ≡ spelt_body magic.now self.now nodes.now) }
     {
         let alloc = *self.out.allocator();
         let mut out = Vec::from_slice(alloc, magic)?;
         let blobs = self.blobs.as_slice();
         push_number(&mut out, blobs.len() as u64)?;
         push_strings(&mut out, blobs)?;
+        push_number(&mut out, nodes.len() as u64)?;
+        push_all(&mut out, nodes)?;
         out.extend_from_slice(self.out.as_slice())?;
         Ok(out)
     }

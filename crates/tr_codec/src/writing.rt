@@ -3,10 +3,10 @@ ghost use Rattle.std.specs.Prelude.{◌≡◌, ◌<◌, ◌^◌, length, IfOk, O
 ghost use Rattle.std.specs.List.{AllByRecursion};
 ghost use Rattle.tr_codec.specs.Fits.{Fits};
 ghost use Rattle.tr_codec.specs.Sound.{IsSound};
-ghost use Rattle.tr_codec.specs.Spelling.{body, table_piece, db_spelling};
+ghost use Rattle.tr_codec.specs.Spelling.{magic, body, table_piece, db_spelling};
 
-use crate::pieces::put_table;
-use crate::writer::Writer;
+use crate::node_pieces::NodeWriter;
+use crate::pieces::{put_nodes, put_records};
 use rk_base::{Bytes, NoMemory};
 use std::alloc::Global;
 use tr_parts::seal;
@@ -14,12 +14,14 @@ use tr_record::Table;
 
 // All but the digest.
 pub(crate) fn body_of(alloc: Global, table: &Table) -> Result<Vec<u8>, NoMemory>
-    ensures body { IfOk result (λ out. out.items ≡ body (table_piece table.now)) }
+    ensures body { IfOk result (λ out. out.items ≡ body magic (table_piece table.now)) }
     ensures fits { OnOk result (AllByRecursion IsSound table.now → Fits table.now) }
 {
-    let mut writer = Writer::new(alloc);
-    put_table(&mut writer, table)?;
-    writer.body(b"RKR1")
+    let records = table.as_slice();
+    let (nodes, heads) = put_nodes(alloc, records)?;
+    let NodeWriter { mut writer, nodes } = nodes;
+    put_records(&mut writer, records, heads.as_slice())?;
+    writer.body(b"RKR2", nodes.as_slice())
 }
 
 /// The one spelling of a table. Where each recorded answer fits its call, a mode in a call is at most 0777, and no record

@@ -1,3 +1,4 @@
 pub mod Finding
 pub mod KeyLemmas
 pub mod PlacesLemmas
+pub mod PoolLemmas

@@ -1,59 +1,22 @@
-// The contents that recorded answers are, by numbers.
-ghost use Rattle.std.specs.Prelude.{◌≡◌, ◌++◌, ◌∷◌, [], OnOk, option_copied, slice_get};
-ghost use Rattle.tr_record.specs.Contents.{content_number, no_contents, number_in};
+// The contents that recorded answers are, and the nodes of recorded steps, by numbers.
+ghost use Rattle.std.specs.Prelude.{◌≡◌, ◌∷◌, ◌≤◌, [], IfOk, IfSome, IfNone, length, option_copied, slice_get};
+ghost use Rattle.tr_record.specs.Contents.{no_contents};
+ghost use Rattle.tr_record.specs.Pool.{steps_under, next_of, content_of, AreSteps};
 
+use crate::Step;
+use crate::pool::StepPool;
 use rk_base::{Bytes, NoMemory};
 use std::alloc::Global;
 use std::marker::Model;
+use std::rc::Rc;
 
-/// For each step of a command the number of the content that its answer is, where it has one.
-#[derive(Debug, Drop)]
-pub struct NumberList {
-    numbers: Vec<Option<usize>>,
-}
-
-impl Model for NumberList {
-    ghost use Rattle.std.specs.Prelude.{List, ℕ, Option};
-
-    ghost Value = { List (Option ℕ) };
-
-    ghost view = { λ n. n.numbers.items };
-}
-
-impl NumberList {
-    /// No steps.
-    pub fn new(alloc: Global) -> NumberList
-        ensures { result ≡ [] }
-    {
-        NumberList {
-            numbers: Vec::new(alloc),
-        }
-    }
-
-    /// One step more, at the end.
-    pub fn push(&mut self, number: Option<usize>) -> Result<(), NoMemory>
-        ensures { OnOk result (self.new ≡ self.old ++ number ∷ []) }
-    {
-        self.numbers.push(number)?;
-        Ok(())
-    }
-
-    // The number of a step.
-    fn at(&self, step: usize) -> Option<usize>
-        ensures { result ≡ number_in self.now step }
-    {
-        match self.numbers.get(step) {
-            None => None,
-            Some(number) => *number,
-        }
-    }
-}
-
-/// The contents that the answers of a table's records are: each once, and for each record the numbers of its steps.
+/// The contents that the answers of a table's records are, each once; the nodes of its records' steps, each with the number of
+/// the content that its answer is, where it has one; and for each record the number of its steps.
 #[derive(Debug, Drop)]
 pub struct RecordedContents {
-    pub texts: Vec<Bytes>,
-    pub rows: Vec<NumberList>,
+    texts: Vec<Bytes>,
+    pool: Rc<StepPool>,
+    heads: Vec<usize>,
 }
 
 impl Model for RecordedContents {
@@ -61,28 +24,27 @@ impl Model for RecordedContents {
 
     ghost Value = { Recorded };
 
-    ghost view = { λ r. record { texts = r.texts.items; rows = r.rows.items } };
+    ghost view = { λ r. record { texts = r.texts.items; nodes = r.pool.value.nodes; contents = r.pool.value.contents; heads = r.heads.items } };
 }
 
 impl RecordedContents {
-    /// No contents.
-    pub fn none(alloc: Global) -> RecordedContents
-        ensures { result ≡ no_contents }
+    /// These contents, nodes and numbers.
+    pub fn new(pool: Rc<StepPool>, texts: Vec<Bytes>, heads: Vec<usize>) -> RecordedContents
+        ensures { result ≡ record { texts = texts.items; nodes = pool.value.nodes; contents = pool.value.contents; heads = heads.items } }
     {
-        RecordedContents {
-            texts: Vec::new(alloc),
-            rows: Vec::new(alloc),
-        }
+        RecordedContents { texts, pool, heads }
     }
 
-    /// The number of the content that the answer to a record's step is, where it has one.
-    pub fn number(&self, rec: usize, step: usize) -> Option<usize>
-        ensures { result ≡ content_number self.now rec step }
+    /// No contents.
+    pub fn none(alloc: Global) -> Result<RecordedContents, NoMemory>
+        ensures { IfOk result (λ it. it ≡ no_contents) }
     {
-        match self.rows.get(rec) {
-            None => None,
-            Some(row) => row.at(step),
-        }
+        let pool = Rc::new(alloc, StepPool::new(alloc))?;
+        Ok(RecordedContents {
+            texts: Vec::new(alloc),
+            pool,
+            heads: Vec::new(alloc),
+        })
     }
 
     /// The content of a number; `None` exactly where it is none of these.
@@ -90,5 +52,38 @@ impl RecordedContents {
         ensures { option_copied result ≡ slice_get self.now.texts number }
     {
         self.texts.get(number)
+    }
+
+    /// The number of a record's steps; `None` exactly where there is no such record.
+    pub fn head(&self, rec: usize) -> Option<usize>
+        ensures { result ≡ slice_get self.now.heads rec }
+    {
+        self.heads.get(rec).copied()
+    }
+
+    /// The first step of a number; `None` exactly where there are none.
+    pub fn step(&self, number: usize) -> Option<&Step>
+        requires { number ≤ length self.now.nodes }
+        ensures some { IfSome result (λ step. steps_under self.now.nodes number ≡ step.now ∷ steps_under self.now.nodes (next_of self.now.nodes number)) }
+        ensures none { IfNone result (steps_under self.now.nodes number ≡ []) }
+    {
+        self.pool.step(number)
+    }
+
+    /// The number of what follows the first step of a number; 0 of none.
+    pub fn next(&self, number: usize) -> usize
+        requires { number ≤ length self.now.nodes }
+        ensures value { result ≡ next_of self.now.nodes number }
+        ensures within { result ≤ length self.now.nodes }
+    {
+        self.pool.next(number)
+    }
+
+    /// The number of the content that the answer to the first step of a number is, where it has one.
+    pub fn number(&self, number: usize) -> Option<usize>
+        ensures value { result ≡ content_of self.now.contents number }
+        ensures steps { AreSteps self.now.nodes }
+    {
+        self.pool.content(number)
     }
 }

@@ -3,11 +3,17 @@
 
 mod contents;
 mod index;
+mod list;
+mod pool;
 mod records;
 mod steps;
 mod table;
+mod walk;
 
-pub use contents::{NumberList, RecordedContents};
+pub use contents::RecordedContents;
+pub use list::StepList;
+pub use pool::StepPool;
 pub use records::Record;
-pub use steps::{Step, StepList};
+pub use steps::Step;
 pub use table::Table;
+pub use walk::Walk;

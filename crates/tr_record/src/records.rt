@@ -11,5 +11,5 @@ pub struct Record {
     pub ordinal: u64,
     pub steps: StepList,
     pub exit: u8,
-    pub exit_cost: u32,
+    pub exit_cost: u64,
 }

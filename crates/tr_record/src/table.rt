@@ -55,7 +55,7 @@ impl Table {
         key: Key,
         steps: StepList,
         exit: u8,
-        exit_cost: u32,
+        exit_cost: u64,
     ) -> Result<(), NoMemory>
         ensures ok { OnOk result (self.new ≡ pushed key steps exit exit_cost self.old) }
         ensures err { OnErr result (self.new ≡ self.old) }
@@ -99,13 +99,23 @@ impl Table {
     }
 
     /// The command of this number has exited with this status, at what was paid since its last step.
-    pub fn end(&mut self, i: usize, exit: u8, exit_cost: u32)
+    pub fn end(&mut self, i: usize, exit: u8, exit_cost: u64)
         requires { i < length self.old }
         ensures { self.new ≡ ended i exit exit_cost self.old }
     {
         let rec = &mut self.records[i];
         rec.exit = exit;
         rec.exit_cost = exit_cost;
+    }
+
+    /// The steps of the command of this number give way to the same ones, kept otherwise.
+    pub fn hand_on(&mut self, i: usize, steps: StepList)
+        requires here { i < length self.old }
+        requires steps { steps ≡ (rec_at i self.old).steps }
+        ensures { self.new ≡ self.old }
+    {
+        let rec = &mut self.records[i];
+        rec.steps = steps;
     }
 
     /// All records, each with the number of earlier ones of its key as its ordinal.

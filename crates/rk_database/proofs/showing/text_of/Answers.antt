@@ -1,9 +1,9 @@
 use Rattle.std.proofs.lemmas.Result.{err_from_is_err_and}
-use Rattle.rk_database.proofs.TextLemmas.{fits-counted}
+use Rattle.rk_database.proofs.TextLemmas.{spelt-counted}
 use Rattle.rk_database.proofs.showing.text_of.Goals as goal
 
 pub shown-requires : goal.shown-requires
-shown-requires c = fits-counted _ c.in_ok-table.ensures.spelt.0
+shown-requires c = spelt-counted _ _ c.in_ok-table.ensures.spelt
 
 pub returns-in_err-table-clause-refused : goal.returns-in_err-table-clause-refused
 returns-in_err-table-clause-refused c =

@@ -1,32 +1,28 @@
-use Rattle.std.proofs.Common.{◌<◌, length, arith, refl, ◌∙◌, ap}
-use Rattle.std.proofs.lemmas.Grind.{common_steps}
+use Rattle.std.proofs.Common.{◌∙◌, ap}
+use Rattle.tr_record.specs.Rec.{rec_at}
 use Rattle.rk_traces.specs.Lasting.{all-last}
 use Rattle.rk_replay.proofs.Standing.{Heard-exit, Heard-exit_short, Heard-call, Heard-call_short, Follows-dear}
 use Rattle.rk_replay.proofs.hearing.hear_record.Goals as goal
 
-pub returns-then-cost-purse-clause-spoke : goal.returns-then-cost-purse-clause-spoke
-returns-then-cost-purse-clause-spoke g c = λ spoken.
-    Heard-exit_short _ (all-last g.K.Maker.first g.met.K.Maker.command) _ _ _ c.requires.in_old _ c.at-record.ensures _ c.as_slice-steps.ensures _ spoken
-    _ c.if-at-steps.true c.from-cost.ensures c.if-cost-purse.true
+pub returns-then-record-purse-clause-spoke : goal.returns-then-record-purse-clause-spoke
+returns-then-record-purse-clause-spoke g c = λ spoken.
+    Heard-exit_short _ (all-last g.K.Maker.first g.met.K.Maker.command) _ _ _ c.requires.in_old _ spoken _ (c.at-record.ensures ∙ ap (rec_at c.args.rec) c.table.ensures) c.requires.in_rec c.in_default.ensures.none
+    c.if-record-purse.true
 
-pub returns-then-at-steps-clause-spoke : goal.returns-then-at-steps-clause-spoke
-returns-then-at-steps-clause-spoke g c = λ spoken.
-    Heard-exit _ (all-last g.K.Maker.first g.met.K.Maker.command) _ _ _ c.requires.in_old _ c.at-record.ensures _ c.as_slice-steps.ensures _ spoken
-    _ _ c.if-at-steps.true c.from-cost.ensures refl c.if-cost-purse.false
+pub returns-in_default-clause-spoke : goal.returns-in_default-clause-spoke
+returns-in_default-clause-spoke g c = λ spoken.
+    Heard-exit _ (all-last g.K.Maker.first g.met.K.Maker.command) _ _ _ c.requires.in_old _ spoken _ (c.at-record.ensures ∙ ap (rec_at c.args.rec) c.table.ensures) c.requires.in_rec c.in_default.ensures.none
+    c.if-record-purse.false
 
-pub returns-then-cost-purse-2-clause-spoke : goal.returns-then-cost-purse-2-clause-spoke
-returns-then-cost-purse-2-clause-spoke g c = λ spoken.
-    let lt : c.args.at < length c.as_slice-steps.result.now = grind (arith, common_steps) in
-    Heard-call_short _ (all-last g.K.Maker.first g.met.K.Maker.command) _ _ _ c.requires.in_old _ c.at-record.ensures _ c.as_slice-steps.ensures _ spoken
-    _ _ lt c.from-cost-2.ensures c.if-cost-purse-2.true
+pub returns-then-step-purse-clause-spoke : goal.returns-then-step-purse-clause-spoke
+returns-then-step-purse-clause-spoke g c = λ spoken.
+    Heard-call_short _ (all-last g.K.Maker.first g.met.K.Maker.command) _ _ _ c.requires.in_old _ spoken _ c.in-Some.ensures.here c.in-Some.ensures.step
+    c.if-step-purse.true
 
 pub unreachable-requires : goal.unreachable-requires
-unreachable-requires g c =
-    let lt : c.args.at < length c.as_slice-steps.result.now = grind (arith, common_steps) in
-    Follows-dear _ _ _ _ _ _ (c.as_slice-steps.ensures ∙ ap (λ r. r.steps) c.at-record.ensures) lt c.from-cost-2.ensures c.if-cost-eq0.true c.in_ok-_machine.ensures.follows
+unreachable-requires g c = Follows-dear _ _ _ _ c.in-Some.ensures.here c.in-Some.ensures.step c.if-step-eq0.true c.in_ok-_machine.ensures.follows
 
 pub returns-clause-spoke : goal.returns-clause-spoke
 returns-clause-spoke g c = λ spoken.
-    let lt : c.args.at < length c.as_slice-steps.result.now = grind (arith, common_steps) in
-    Heard-call _ (all-last g.K.Maker.first g.met.K.Maker.command) _ _ _ c.requires.in_old _ c.at-record.ensures _ c.as_slice-steps.ensures _ spoken
-    _ _ _ _ lt c.from-cost-2.ensures c.in_ok-call.ensures c.if-cost-purse-2.false
+    Heard-call _ (all-last g.K.Maker.first g.met.K.Maker.command) _ _ _ c.requires.in_old _ spoken _ c.in-Some.ensures.here c.in-Some.ensures.step
+    _ c.in_ok-call.ensures c.if-step-purse.false

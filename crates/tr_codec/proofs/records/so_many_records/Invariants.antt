@@ -1,14 +1,14 @@
-use Rattle.std.proofs.Common.{◌≡◌, ◌-◌, [], length}
-use Rattle.std.specs.Prelude.{fold}
-use Rattle.tr_record.specs.Contents.{AreContents}
+use Rattle.std.proofs.Common.{◌≡◌, ◌-◌, []}
+use Rattle.tr_nodes.specs.Tails.{tails_of}
 use Rattle.tr_codec.specs.Reading.{record_at, many_at}
-use Rattle.tr_codec.specs.Used.{record_used}
+use Rattle.tr_codec.specs.Rows.{InUse, AreHeads}
+use Rattle.tr_codec.specs.Used.{keys_used}
 use Rattle.tr_codec.proofs.records.so_many_records.Given as goal
 
 abbrev pub invariant-records : goal.invariant-records
 invariant-records l = record {
-  read : many_at (record_at l.blobs) (l.count - l.counter) l.table l.rest ≡ many_at (record_at l.blobs) l.count [] l.bytes;
-  used : l.used ≡ fold (record_used l.blobs) l.initial.used l.table;
-  contents : AreContents (record { texts = l.blobs; rows = l.rows.items }) l.table;
-  alike : length l.rows.items ≡ length l.table;
+  read : many_at (record_at l.blobs (tails_of l.pool.value.nodes)) (l.count - l.counter) l.table l.rest ≡ many_at (record_at l.blobs (tails_of l.pool.value.nodes)) l.count [] l.bytes;
+  used : l.used ≡ keys_used l.blobs l.initial.used l.table;
+  heads : AreHeads l.pool.value.nodes l.heads.items l.table;
+  in_use : InUse l.pool.value.nodes l.heads.items l.in_use;
 }

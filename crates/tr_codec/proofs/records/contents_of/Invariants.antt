@@ -1,5 +1,0 @@
-use Rattle.std.proofs.Common.{◌≡◌, take}
-use Rattle.tr_codec.proofs.records.contents_of.Given as goal
-
-abbrev pub invariant-texts : goal.invariant-texts
-invariant-texts l = l.texts.items ≡ take l.text-index l.all
