@@ -1,4 +1,6 @@
 pub mod Finding
+pub mod GenerationLemmas
+pub mod KeepingLemmas
 pub mod KeyLemmas
 pub mod PlacesLemmas
 pub mod PoolLemmas

@@ -1,5 +1,8 @@
 pub mod Contents
 pub mod Costs
+pub mod Generations
+pub mod Keeping
+pub mod Known
 pub mod Lists
 pub mod Places
 pub mod Pool

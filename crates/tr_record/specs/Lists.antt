@@ -2,14 +2,14 @@
 use Rattle.std.specs.Prelude.{◌≤◌, List, length}
 use Rattle.tr_record.specs.Pool.{steps_under}
 use Rattle.tr_record.specs.declared.steps.Step.{Step}
-use Rattle.tr_record.specs.declared.list.Kept.{Kept}
-use Rattle.tr_record.specs.declared.list.Kept.TheVariants as kept
+use Rattle.tr_record.specs.declared.list.Storage.{Storage}
+use Rattle.tr_record.specs.declared.list.Storage.TheVariants as storage
 
-abbrev pub steps_of : Kept → List Step
-steps_of (kept.Own steps) = steps.items
-steps_of (kept.Shared pool head) = steps_under pool.value.nodes head
+abbrev pub steps_of : Storage → List Step
+steps_of (storage.Own steps) = steps.items
+steps_of (storage.Shared pool head) = steps_under pool.value.nodes head
 
 -- the number is 0 or that of a node
-abbrev pub IsWithin : Kept → Type 0
-IsWithin (kept.Own steps) = Unit {0}
-IsWithin (kept.Shared pool head) = head ≤ length pool.value.nodes
+abbrev pub IsWithin : Storage → Type 0
+IsWithin (storage.Own steps) = Unit {0}
+IsWithin (storage.Shared pool head) = head ≤ length pool.value.nodes

@@ -1,10 +1,10 @@
 // The contents that recorded answers are, and the nodes of recorded steps, by numbers.
-ghost use Rattle.std.specs.Prelude.{◌≡◌, ◌∷◌, ◌≤◌, [], IfOk, IfSome, IfNone, length, option_copied, slice_get};
+ghost use Rattle.std.specs.Prelude.{◌≡◌, ◌∷◌, ◌≤◌, ℕ, [], Some, map, IfOk, IfSome, IfNone, length, option_copied, slice_get};
 ghost use Rattle.tr_record.specs.Contents.{no_contents};
 ghost use Rattle.tr_record.specs.Pool.{steps_under, next_of, content_of, AreSteps};
 
-use crate::Step;
 use crate::pool::StepPool;
+use crate::{KnownHeads, Step};
 use rk_base::{Bytes, NoMemory};
 use std::alloc::Global;
 use std::marker::Model;
@@ -45,6 +45,13 @@ impl RecordedContents {
             pool,
             heads: Vec::new(alloc),
         })
+    }
+
+    /// The numbers of the records' steps, as what is known of them.
+    pub fn known(&self, alloc: Global) -> Result<KnownHeads, NoMemory>
+        ensures { IfOk result (λ it. it ≡ record { nodes = self.now.nodes; heads = map (λ (head : ℕ). Some head) self.now.heads }) }
+    {
+        KnownHeads::all(alloc, &self.pool, self.heads.as_slice())
     }
 
     /// The content of a number; `None` exactly where it is none of these.

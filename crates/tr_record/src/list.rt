@@ -13,7 +13,7 @@ use std::rc::Rc;
 
 // Steps of its own while they are written; or those of a number, of nodes that other lists have too.
 #[derive(Debug, Drop)]
-enum Kept {
+enum Storage {
     Own(Vec<Step>),
     Shared(Rc<StepPool>, usize),
 }
@@ -21,7 +21,7 @@ enum Kept {
 /// The steps of a command, in order.
 #[derive(Debug, Drop)]
 pub struct StepList {
-    kept: Kept,
+    storage: Storage,
 }
 
 impl Model for StepList {
@@ -31,17 +31,17 @@ impl Model for StepList {
 
     ghost Value = { List Step };
 
-    ghost view = { λ s. steps_of s.kept };
+    ghost view = { λ s. steps_of s.storage };
 
-    ghost invariant = { λ s. IsWithin s.kept };
+    ghost invariant = { λ s. IsWithin s.storage };
 }
 
-impl Kept {
+impl Storage {
     // The allocator of the steps.
     fn allocator(&self) -> Global {
         match self {
-            Kept::Own(steps) => *steps.allocator(),
-            Kept::Shared(pool, _) => pool.allocator(),
+            Storage::Own(steps) => *steps.allocator(),
+            Storage::Shared(pool, _) => pool.allocator(),
         }
     }
 }
@@ -62,7 +62,7 @@ fn sum(steps: &[Step]) -> u64
 fn copies(steps: &StepList) -> Result<Vec<Step>, NoMemory>
     ensures { IfOk result (λ v. v.items ≡ steps.now) }
 {
-    let mut all = Vec::new(steps.kept.allocator());
+    let mut all = Vec::new(steps.storage.allocator());
     let mut left = steps.walk();
     'steps: while let Some((step, rest)) = left.step() {
         all.push(step.copy()?)?;
@@ -77,7 +77,7 @@ impl StepList {
         ensures { result ≡ [] }
     {
         StepList {
-            kept: Kept::Own(Vec::new(alloc)),
+            storage: Storage::Own(Vec::new(alloc)),
         }
     }
 
@@ -88,7 +88,7 @@ impl StepList {
     {
         let pool = pool.clone()?;
         Ok(StepList {
-            kept: Kept::Shared(pool, head),
+            storage: Storage::Shared(pool, head),
         })
     }
 
@@ -97,9 +97,9 @@ impl StepList {
         ensures value { result ≡ length self.now }
         ensures small { result < 2 ^ 63 }
     {
-        match &self.kept {
-            Kept::Own(steps) => steps.len(),
-            Kept::Shared(pool, head) => pool.count(*head),
+        match &self.storage {
+            Storage::Own(steps) => steps.len(),
+            Storage::Shared(pool, head) => pool.count(*head),
         }
     }
 
@@ -107,9 +107,9 @@ impl StepList {
     pub fn walk(&self) -> Walk<'_>
         ensures { result ≡ self.now }
     {
-        match &self.kept {
-            Kept::Own(steps) => Walk::own(steps.as_slice()),
-            Kept::Shared(pool, head) => Walk::shared(pool.as_ref(), *head),
+        match &self.storage {
+            Storage::Own(steps) => Walk::own(steps.as_slice()),
+            Storage::Shared(pool, head) => Walk::shared(pool.as_ref(), *head),
         }
     }
 
@@ -118,13 +118,13 @@ impl StepList {
         ensures ok { OnOk result (self.new ≡ self.old ++ step ∷ []) }
         ensures err { OnErr result (self.new ≡ self.old) }
     {
-        if let Kept::Own(steps) = &mut self.kept {
+        if let Storage::Own(steps) = &mut self.storage {
             steps.push(step)?;
             return Ok(());
         }
         let mut steps = copies(self)?;
         steps.push(step)?;
-        self.kept = Kept::Own(steps);
+        self.storage = Storage::Own(steps);
         Ok(())
     }
 
@@ -132,14 +132,14 @@ impl StepList {
     pub fn share(&self) -> Result<StepList, NoMemory>
         ensures { IfOk result (λ list. list ≡ self.now) }
     {
-        match &self.kept {
-            Kept::Own(_) => {
+        match &self.storage {
+            Storage::Own(_) => {
                 let steps = copies(self)?;
                 Ok(StepList {
-                    kept: Kept::Own(steps),
+                    storage: Storage::Own(steps),
                 })
             }
-            Kept::Shared(pool, head) => StepList::shared(pool, *head),
+            Storage::Shared(pool, head) => StepList::shared(pool, *head),
         }
     }
 
@@ -148,9 +148,9 @@ impl StepList {
         requires { steps_cost self.now < 2 ^ 64 }
         ensures { result ≡ steps_cost self.now }
     {
-        match &self.kept {
-            Kept::Own(steps) => sum(steps.as_slice()),
-            Kept::Shared(pool, head) => pool.paid(*head),
+        match &self.storage {
+            Storage::Own(steps) => sum(steps.as_slice()),
+            Storage::Shared(pool, head) => pool.paid(*head),
         }
     }
 }

@@ -144,6 +144,7 @@ impl StepPool {
         requires { number ≤ length self.now.nodes }
         ensures value { result ≡ next_of self.now.nodes number }
         ensures within { result ≤ length self.now.nodes }
+        ensures steps { AreSteps self.now.nodes }
     {
         match self.node(number) {
             None => 0,
