@@ -6,14 +6,15 @@ ghost use Rattle.rk_base.specs.Text.{text_cmp};
 ghost use Rattle.rk_base.specs.Canonical.{is_name};
 ghost use Rattle.rk_base.specs.Names.{ascend_from, are_names};
 
-use crate::{Name, NoMemory};
+use crate::{Name, NoMemory, Shared};
+use std::alloc::Global;
 use std::cmp::Ordering;
 use std::marker::Model;
 
-/// Names, strictly ascending by their bytes.
+/// Names, strictly ascending by their bytes. A copy shares them.
 #[derive(Debug, Drop, Clone)]
 pub struct NameList {
-    names: Vec<Name>,
+    names: Shared<Vec<Name>>,
 }
 
 impl Model for NameList {
@@ -60,13 +61,14 @@ fn are_names(names: &[Name]) -> bool
 
 impl NameList {
     /// The list of these names; `None` exactly where they don't ascend strictly.
-    pub fn from_vec(names: Vec<Name>) -> Option<NameList>
-        ensures { result ≡ (if are_names names.items then Some names.items else None) }
+    pub fn from_vec(alloc: Global, names: Vec<Name>) -> Result<Option<NameList>, NoMemory>
+        ensures { IfOk result (λ n. n ≡ (if are_names names.items then Some names.items else None)) }
     {
         if are_names(&names) {
-            Some(NameList { names })
+            let names = Shared::new(alloc, names)?;
+            Ok(Some(NameList { names }))
         } else {
-            None
+            Ok(None)
         }
     }
 
@@ -75,35 +77,35 @@ impl NameList {
         ensures value { result.now ≡ self.now }
         ensures names { are_names self.now ≡ true }
     {
-        self.names.as_slice()
+        self.names.get().as_slice()
     }
 
     /// How many names there are.
     pub fn len(&self) -> usize
         ensures { result ≡ length self.now }
     {
-        self.names.len()
+        self.names.get().len()
     }
 
     /// Whether there are none.
     pub fn is_empty(&self) -> bool
         ensures { IsTrue result ↔ (length self.now ≡ 0) }
     {
-        self.names.is_empty()
+        self.names.get().is_empty()
     }
 
     /// Whether both are the same names.
     pub fn same(&self, other: &NameList) -> bool
         ensures { IsTrue result ↔ (self.now ≡ other.now) }
     {
-        self.names.as_slice() == other.names.as_slice()
+        self.names.get().as_slice() == other.names.get().as_slice()
     }
 
-    /// A copy of the names.
+    /// A copy, which shares the names.
     pub fn copy(&self) -> Result<NameList, NoMemory>
         ensures { IfOk result (λ n. n ≡ self.now) }
     {
-        let names = self.names.clone()?;
+        let names = self.names.copy()?;
         Ok(NameList { names })
     }
 }

@@ -1,5 +1,5 @@
 // Paths.
-ghost use Rattle.std.specs.Prelude.{◌≡◌, ◌+◌, ◌++◌, ◌∷◌, [], ◌↔◌, IsTrue, ℕ, List, IfOk, drop, nat_eq, Some, refl, true, false};
+ghost use Rattle.std.specs.Prelude.{◌≡◌, ◌+◌, ◌++◌, ◌∷◌, [], ◌↔◌, IsTrue, ℕ, List, IfOk, drop, nat_eq, None, Some, refl, true, false, if◌then◌else◌};
 ghost use Rattle.std.specs.Ordering.{nat_cmp};
 ghost use Rattle.std.specs.Hash as fed;
 ghost use Rattle.std.specs.Cmp.{po, partial_equiv_from_equiv, nat_eq_equiv, unsigned_ties, unsigned_Decides};
@@ -87,6 +87,17 @@ impl Path {
         Ok(Path { text })
     }
 
+    /// The path that a text is, which shares its bytes; `None` exactly where it is not canonical.
+    pub fn from_text(text: &Bytes) -> Result<Option<Path>, NoMemory>
+        ensures { IfOk result (λ p. p ≡ (if is_canonical text.now then Some text.now else None)) }
+    {
+        if !is_canonical(text.as_slice()) {
+            return Ok(None);
+        }
+        let text = text.copy()?;
+        Ok(Some(Path { text }))
+    }
+
     /// The root, `/`.
     pub fn root(alloc: Global) -> Result<Path, NoMemory>
         ensures { IfOk result (λ p. p ≡ root) }
@@ -104,6 +115,14 @@ impl Path {
     {
         let text = join(alloc, self.text.as_slice(), name.as_slice())?;
         Ok(Path { text })
+    }
+
+    /// The canonical text, which can be shared.
+    pub fn bytes(&self) -> &Bytes
+        ensures value { result.now ≡ self.now }
+        ensures canonical { is_canonical self.now ≡ true }
+    {
+        &self.text
     }
 
     /// The canonical text.

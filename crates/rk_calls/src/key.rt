@@ -4,19 +4,19 @@ ghost use Rattle.std.specs.List.{list_any};
 ghost use Rattle.rk_base.specs.Text.{is_slash};
 ghost use Rattle.rk_calls.specs.Keys.{key_of, takes_variables, is_key};
 
-use rk_base::{Bytes, NoMemory, Path, VarList, WordList};
+use rk_base::{Bytes, NoMemory, Path, Shared, VarList, WordList};
+use std::alloc::Global;
 use std::marker::Model;
 
-/// What a command is known by: its words, its working directory and, where the first word is `sh` or has a
-/// slash, its exported variables.
-#[derive(Debug, Drop, Clone, PartialEq, Eq, Hash)]
-pub struct Key {
+// The parts of a key.
+#[derive(Debug, Drop, PartialEq, Eq, Hash)]
+struct KeyParts {
     argv: WordList,
     wd: Path,
     vars: VarList,
 }
 
-impl Model for Key {
+impl Model for KeyParts {
     ghost use Rattle.std.specs.Prelude.{◌≡◌, true};
     ghost use Rattle.rk_calls.specs.Keys.{KeyValue, is_key};
 
@@ -27,6 +27,23 @@ impl Model for Key {
     ghost invariant = { λ k. is_key k.argv k.vars ≡ true };
 
     ghost inverse = { λ v. record { argv = v.argv; wd = v.wd; vars = v.vars } };
+}
+
+/// What a command is known by: its words, its working directory and, where the first word is `sh` or has a
+/// slash, its exported variables. A copy shares them, so it takes no memory for them.
+#[derive(Debug, Drop, Clone, PartialEq, Eq, Hash)]
+pub struct Key {
+    parts: Shared<KeyParts>,
+}
+
+impl Model for Key {
+    ghost use Rattle.rk_calls.specs.Keys.{KeyValue};
+
+    ghost Value = { KeyValue };
+
+    ghost view = { λ k. k.parts };
+
+    ghost inverse = { λ v. record { parts = v } };
 }
 
 fn has_slash(word: &[u8]) -> bool
@@ -53,26 +70,33 @@ fn is_key(argv: &WordList, vars: &VarList) -> bool
 impl Key {
     /// The key of a command of at least one word. The variables are dropped where the first word is neither
     /// `sh` nor has a slash.
-    pub fn new(argv: WordList, wd: Path, exported: VarList) -> Key
+    pub fn new(alloc: Global, argv: WordList, wd: Path, exported: VarList) -> Result<Key, NoMemory>
         requires { 0 < length argv }
-        ensures { result ≡ key_of argv wd exported }
+        ensures { IfOk result (λ k. k ≡ key_of argv wd exported) }
     {
         let vars = if takes_variables(argv.as_slice()) {
             exported
         } else {
             exported.cleared()
         };
-        Key { argv, wd, vars }
+        let parts = Shared::new(alloc, KeyParts { argv, wd, vars })?;
+        Ok(Key { parts })
     }
 
     /// The key of just these; `None` exactly where there is no word, or there are variables that don't count.
-    pub fn from_parts(argv: WordList, wd: Path, vars: VarList) -> Option<Key>
-        ensures { result ≡ (if is_key argv vars then Some (record { argv = argv; wd = wd; vars = vars }) else None) }
+    pub fn from_parts(
+        alloc: Global,
+        argv: WordList,
+        wd: Path,
+        vars: VarList,
+    ) -> Result<Option<Key>, NoMemory>
+        ensures { IfOk result (λ k. k ≡ (if is_key argv vars then Some (record { argv = argv; wd = wd; vars = vars }) else None)) }
     {
         if is_key(&argv, &vars) {
-            Some(Key { argv, wd, vars })
+            let parts = Shared::new(alloc, KeyParts { argv, wd, vars })?;
+            Ok(Some(Key { parts }))
         } else {
-            None
+            Ok(None)
         }
     }
 
@@ -81,37 +105,38 @@ impl Key {
         ensures value { result.now ≡ self.now.argv }
         ensures key { is_key self.now.argv self.now.vars ≡ true }
     {
-        &self.argv
+        let parts = self.parts.get();
+        &parts.argv
     }
 
     /// The working directory.
     pub fn wd(&self) -> &Path
         ensures { result.now ≡ self.now.wd }
     {
-        &self.wd
+        &self.parts.get().wd
     }
 
     /// The variables; only a shell has any.
     pub fn vars(&self) -> &VarList
         ensures { result.now ≡ self.now.vars }
     {
-        &self.vars
+        &self.parts.get().vars
     }
 
     /// Whether both are one key.
     pub fn same(&self, other: &Key) -> bool
         ensures { IsTrue result ↔ (self.now ≡ other.now) }
     {
-        self.argv.same(&other.argv) && self.wd.same(&other.wd) && self.vars.same(&other.vars)
+        self.argv().same(other.argv())
+            && self.wd().same(other.wd())
+            && self.vars().same(other.vars())
     }
 
-    /// A copy of the key, which shares its bytes.
+    /// A copy of the key, which shares its parts.
     pub fn copy(&self) -> Result<Key, NoMemory>
         ensures { IfOk result (λ k. k ≡ self.now) }
     {
-        let argv = self.argv.copy()?;
-        let wd = self.wd.copy()?;
-        let vars = self.vars.copy()?;
-        Ok(Key { argv, wd, vars })
+        let parts = self.parts.copy()?;
+        Ok(Key { parts })
     }
 }

@@ -2,14 +2,15 @@
 ghost use Rattle.std.specs.Prelude.{◌≡◌, ◌↔◌, IsTrue, IfOk, Some, None, true, if◌then◌else◌};
 ghost use Rattle.rk_calls.specs.RefMaps.{is_refmap, rise_from, number_of};
 
-use rk_base::NoMemory;
+use rk_base::{NoMemory, Shared};
+use std::alloc::Global;
 use std::marker::Model;
 
 /// Pairs of a descriptor of the launched command, 0 to 9, and the launcher's number that it stands for; each
-/// descriptor once, ascending.
+/// descriptor once, ascending. A copy shares them.
 #[derive(Debug, Drop, Clone)]
 pub struct RefMap {
-    pairs: Vec<(u8, u64)>,
+    pairs: Shared<Vec<(u8, u64)>>,
 }
 
 impl Model for RefMap {
@@ -48,13 +49,14 @@ fn is_refmap(pairs: &[(u8, u64)]) -> bool
 
 impl RefMap {
     /// The map of these pairs; `None` exactly where a descriptor isn't 0 to 9, or they don't ascend strictly.
-    pub fn from_vec(pairs: Vec<(u8, u64)>) -> Option<RefMap>
-        ensures { result ≡ (if is_refmap pairs.items then Some pairs.items else None) }
+    pub fn from_vec(alloc: Global, pairs: Vec<(u8, u64)>) -> Result<Option<RefMap>, NoMemory>
+        ensures { IfOk result (λ m. m ≡ (if is_refmap pairs.items then Some pairs.items else None)) }
     {
         if is_refmap(&pairs) {
-            Some(RefMap { pairs })
+            let pairs = Shared::new(alloc, pairs)?;
+            Ok(Some(RefMap { pairs }))
         } else {
-            None
+            Ok(None)
         }
     }
 
@@ -63,14 +65,14 @@ impl RefMap {
         ensures value { result.now ≡ self.now }
         ensures refmap { is_refmap self.now ≡ true }
     {
-        self.pairs.as_slice()
+        self.pairs.get().as_slice()
     }
 
     /// The number that a descriptor stands for.
     pub fn number_of(&self, descriptor: u8) -> Option<u64>
         ensures { result ≡ number_of descriptor self.now }
     {
-        'pairs: for (d, number) in &self.pairs {
+        'pairs: for (d, number) in self.pairs.get().as_slice() {
             if *d == descriptor {
                 return Some(*number);
             }
@@ -82,14 +84,14 @@ impl RefMap {
     pub fn same(&self, other: &RefMap) -> bool
         ensures { IsTrue result ↔ (self.now ≡ other.now) }
     {
-        self.pairs.as_slice() == other.pairs.as_slice()
+        self.pairs.get().as_slice() == other.pairs.get().as_slice()
     }
 
-    /// A copy of the pairs.
+    /// A copy, which shares the pairs.
     pub fn copy(&self) -> Result<RefMap, NoMemory>
         ensures { IfOk result (λ m. m ≡ self.now) }
     {
-        let pairs = self.pairs.clone()?;
+        let pairs = self.pairs.copy()?;
         Ok(RefMap { pairs })
     }
 }

@@ -14,5 +14,5 @@ pub fn script_key(alloc: Global) -> Result<Key, NoMemory>
     words.push(Bytes::from_slice(alloc, b"sh")?)?;
     words.push(Bytes::from_slice(alloc, b"Rikerfile")?)?;
     let wd = Path::root(alloc)?;
-    Ok(Key::new(words, wd, VarList::new(alloc)))
+    Key::new(alloc, words, wd, VarList::new(alloc))
 }

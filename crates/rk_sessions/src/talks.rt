@@ -102,7 +102,7 @@ fn names(alloc: Global, text: &str) -> Result<Answer, NoMemory> {
     'names: for name in text.split(' ') {
         add_name(alloc, &mut names, name)?;
     }
-    match NameList::from_vec(names) {
+    match NameList::from_vec(alloc, names)? {
         Some(names) => Ok(Answer::Names(names)),
         None => Err(NoMemory),
     }
@@ -154,7 +154,7 @@ fn key_of(alloc: Global, line: &str) -> Result<Key, NoMemory> {
         let word = if word == "''" { "" } else { word };
         words.push(Bytes::from_slice(alloc, word.as_bytes())?)?;
     }
-    match Key::from_parts(words, path(alloc, "/w")?, VarList::new(alloc)) {
+    match Key::from_parts(alloc, words, path(alloc, "/w")?, VarList::new(alloc))? {
         Some(key) => Ok(key),
         None => Err(NoMemory),
     }

@@ -13,7 +13,7 @@ pub fn map_of(alloc: Global, pairs: &str) -> Result<Option<RefMap>, NoMemory> {
             map.push((d, number.parse::<u64>().unwrap_or(0)))?;
         }
     }
-    Ok(RefMap::from_vec(map))
+    RefMap::from_vec(alloc, map)
 }
 
 /// The key `WD VARIABLES WORD ..`, as `Key::new` makes it.
@@ -28,7 +28,7 @@ pub fn key_of(alloc: Global, words: &[Vec<u8>]) -> Result<Option<Key>, NoMemory>
     if argv.len() == 0 {
         return Ok(None);
     }
-    Ok(Some(Key::new(argv, wd, vars)))
+    Ok(Some(Key::new(alloc, argv, wd, vars)?))
 }
 
 /// The key of just these.
@@ -40,7 +40,7 @@ pub fn key_of_parts(alloc: Global, words: &[Vec<u8>]) -> Result<Option<Key>, NoM
     ) else {
         return Ok(None);
     };
-    Ok(Key::from_parts(argv, wd, vars))
+    Key::from_parts(alloc, argv, wd, vars)
 }
 
 /// A key's copy as such words.

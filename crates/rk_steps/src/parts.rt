@@ -30,7 +30,7 @@ pub fn name_list(alloc: Global, words: &[Vec<u8>]) -> Result<Option<NameList>, N
             None => return Ok(None),
         }
     }
-    Ok(NameList::from_vec(names))
+    NameList::from_vec(alloc, names)
 }
 
 /// These words as a list.

@@ -211,9 +211,8 @@ impl Tree {
         requires { is_dir (hierarchy.node self.now dir) ≡ true }
         ensures { IfOk result (λ list. list ≡ hierarchy.names self.now dir) }
     {
-        let _ = &self.nodes;
         let names = self.names(dir)?;
-        match NameList::from_vec(names) {
+        match NameList::from_vec(*self.nodes.allocator(), names)? {
             None => unreachable!(),
             Some(list) => Ok(list),
         }

@@ -74,7 +74,7 @@ impl DescriptorTable {
         ensures { IfOk result (λ m. m ≡ refmap_of self.now) }
     {
         let pairs = self.pairs(alloc)?;
-        match RefMap::from_vec(pairs) {
+        match RefMap::from_vec(alloc, pairs)? {
             Some(map) => Ok(map),
             None => unreachable!(),
         }

@@ -40,7 +40,7 @@ pub(crate) fn launch(
     let wd = state.env.wd.copy()?;
     let vars = state.env.vars.exported()?;
     let map = state.descriptors.refmap(alloc)?;
-    let key = Key::new(fields, wd, vars);
+    let key = Key::new(alloc, fields, wd, vars)?;
     Ok(Acted {
         turn: Turn::Ask(Call::Launch(key, map), 1),
         control: Control::Waits(Wait::Launched(flow)),

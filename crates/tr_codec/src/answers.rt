@@ -8,12 +8,12 @@ ghost use Rattle.tr_codec.specs.Reading.{given, many_at, counted_at, kind_of, er
 ghost use Rattle.tr_codec.specs.Used.{used_by, answer_used};
 ghost use Rattle.tr_parts.specs.Reads.{Gives};
 
-use crate::parts::{blob_of, flag_of, permissions_of};
+use crate::parts::{blob_of, flag_of, path_from, permissions_of};
 use rk_base::{Errno, FileType, Name, NameList, PathFault};
 use rk_calls::Answer;
 use rk_content::Contents;
 use std::alloc::Global;
-use tr_parts::{PartErr, byte_of, count_of, path_of};
+use tr_parts::{PartErr, byte_of, count_of};
 
 fn kind_of(code: u8) -> Result<FileType, PartErr>
     ensures { Gives (λ kind. kind) result (kind_of code) }
@@ -126,10 +126,10 @@ fn so_many_names<'a>(
     Ok((names, rest))
 }
 
-fn list_from(names: Vec<Name>) -> Result<NameList, PartErr>
+fn list_from(alloc: Global, names: Vec<Name>) -> Result<NameList, PartErr>
     ensures { Gives (λ l. l) result (given (are_names names.items) names.items) }
 {
-    match NameList::from_vec(names) {
+    match NameList::from_vec(alloc, names)? {
         Some(names) => Ok(names),
         None => Err(PartErr::Form),
     }
@@ -147,13 +147,12 @@ fn names_of<'a>(
 {
     let (count, rest) = count_of(bytes)?;
     let (names, rest) = so_many_names(alloc, blobs, used, count, rest)?;
-    let names = list_from(names)?;
+    let names = list_from(alloc, names)?;
     Ok((Answer::Names(names), rest))
 }
 
 #[tactic(auto, unfolding(crate::specs::Reading::place_at))]
 fn place_of<'a>(
-    alloc: Global,
     blobs: &Contents,
     used: &mut Option<usize>,
     bytes: &'a [u8],
@@ -162,7 +161,7 @@ fn place_of<'a>(
     ensures used { IfOk result (λ x. used.new ≡ answer_used blobs.now used.old x.0) }
 {
     let (text, rest) = blob_of(blobs, used, bytes)?;
-    let path = path_of(alloc, text.as_slice())?;
+    let path = path_from(&text)?;
     Ok((Answer::Place(path), rest))
 }
 
@@ -212,7 +211,7 @@ fn answer_after<'a>(
         5 => found_of(bytes),
         6 => names_of(alloc, blobs, used, bytes),
         7 => text_of(blobs, used, bytes),
-        8 => place_of(alloc, blobs, used, bytes),
+        8 => place_of(blobs, used, bytes),
         9 => same_answer_of(bytes),
         10 => joined_of(bytes),
         11 => no_of(bytes),

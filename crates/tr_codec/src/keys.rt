@@ -7,12 +7,12 @@ ghost use Rattle.tr_codec.specs.Reading.{counted_at, given, many_at, blob_at, va
 ghost use Rattle.tr_codec.specs.Used.{used_by, var_used, key_used};
 ghost use Rattle.tr_parts.specs.Reads.{Gives};
 
-use crate::parts::{blob_of, blobs_of};
+use crate::parts::{blob_of, blobs_of, path_from, room_for};
 use rk_base::{Bytes, Path, Var, VarList, WordList};
 use rk_calls::{Key, RefMap};
 use rk_content::Contents;
 use std::alloc::Global;
-use tr_parts::{PartErr, byte_of, count_of, number_of, path_of};
+use tr_parts::{PartErr, byte_of, count_of, number_of};
 
 fn words_of<'a>(
     alloc: Global,
@@ -85,22 +85,22 @@ fn var_list_of(vars: Vec<Var>) -> Result<VarList, PartErr>
     }
 }
 
-fn whole_key(argv: Vec<Bytes>, wd: Path, vars: VarList) -> Result<Key, PartErr>
+fn whole_key(alloc: Global, argv: Vec<Bytes>, wd: Path, vars: VarList) -> Result<Key, PartErr>
     ensures { Gives (λ k. k) result (given (is_key argv.items vars) (record { argv = argv.items; wd = wd; vars = vars })) }
 {
-    match Key::from_parts(WordList::new(argv), wd, vars) {
+    match Key::from_parts(alloc, WordList::new(argv), wd, vars)? {
         Some(key) => Ok(key),
         None => Err(PartErr::Form),
     }
 }
 
 // The key of these parts, where they are parts of one.
-fn key_from(alloc: Global, argv: Vec<Bytes>, wd: &[u8], vars: Vec<Var>) -> Result<Key, PartErr>
+fn key_from(alloc: Global, argv: Vec<Bytes>, wd: &Bytes, vars: Vec<Var>) -> Result<Key, PartErr>
     ensures { Gives (λ k. k) result (key_from argv.items wd.now vars.items) }
 {
-    let wd = path_of(alloc, wd)?;
+    let wd = path_from(wd)?;
     let vars = var_list_of(vars)?;
-    whole_key(argv, wd, vars)
+    whole_key(alloc, argv, wd, vars)
 }
 
 #[tactic(auto, unfolding(crate::specs::Reading::key_at))]
@@ -116,7 +116,7 @@ pub(crate) fn key_of<'a>(
     let (argv, rest) = words_of(alloc, blobs, used, bytes)?;
     let (wd, rest) = blob_of(blobs, used, rest)?;
     let (vars, rest) = vars_of(alloc, blobs, used, rest)?;
-    let key = key_from(alloc, argv, wd.as_slice(), vars)?;
+    let key = key_from(alloc, argv, &wd, vars)?;
     Ok((key, rest))
 }
 
@@ -136,7 +136,8 @@ fn so_many_pairs(
 ) -> Result<(Vec<(u8, u64)>, &[u8]), PartErr>
     ensures { Gives (λ x. (x.0.items, x.1.now)) result (many_at (λ front. pair_at) count [] bytes.now) }
 {
-    let mut pairs = Vec::new(alloc);
+    // A pair has nine bytes.
+    let mut pairs = Vec::with_capacity(alloc, room_for(count, 9, bytes))?;
     let mut rest = bytes;
     'pairs: for _ in 0..count {
         let (pair, after) = pair_of(rest)?;
@@ -146,10 +147,10 @@ fn so_many_pairs(
     Ok((pairs, rest))
 }
 
-fn map_from(pairs: Vec<(u8, u64)>) -> Result<RefMap, PartErr>
+fn map_from(alloc: Global, pairs: Vec<(u8, u64)>) -> Result<RefMap, PartErr>
     ensures { Gives (λ m. m) result (given (is_refmap pairs.items) pairs.items) }
 {
-    match RefMap::from_vec(pairs) {
+    match RefMap::from_vec(alloc, pairs)? {
         Some(map) => Ok(map),
         None => Err(PartErr::Form),
     }
@@ -161,6 +162,6 @@ pub(crate) fn map_of(alloc: Global, bytes: &[u8]) -> Result<(RefMap, &[u8]), Par
 {
     let (count, rest) = count_of(bytes)?;
     let (pairs, rest) = so_many_pairs(alloc, count, rest)?;
-    let map = map_from(pairs)?;
+    let map = map_from(alloc, pairs)?;
     Ok((map, rest))
 }

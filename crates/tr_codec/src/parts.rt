@@ -1,13 +1,28 @@
 // Parts of what is read: modes, truth values and blobs.
-ghost use Rattle.std.specs.Prelude.{◌≡◌, ◌==◌, ◌<◌, ◌+◌, ◌^◌, ◌∷◌, ◌++◌, ◌&&◌, ℕ, List, [], fold, length, IfOk};
-ghost use Rattle.tr_codec.specs.Reading.{mode_at, flag_of, flag_at, many_at, fresh_at, blob_at};
+ghost use Rattle.std.specs.Prelude.{◌≡◌, ◌==◌, ◌≤◌, ◌<◌, ◌+◌, ◌^◌, ◌∷◌, ◌++◌, ◌&&◌, ℕ, List, [], fold, length, IfOk};
+ghost use Rattle.rk_base.specs.Canonical.{is_canonical};
+ghost use Rattle.tr_codec.specs.Reading.{given, mode_at, flag_of, flag_at, many_at, fresh_at, blob_at};
 ghost use Rattle.tr_codec.specs.Used.{used_with, used_by, all_used};
 ghost use Rattle.tr_parts.specs.Reads.{Gives};
 
-use rk_base::Bytes;
+use rk_base::{Bytes, Path};
 use rk_content::Contents;
 use std::alloc::Global;
 use tr_parts::{PartErr, byte_of, mode_of, number_of, string_of};
+
+/// Room for so many things of at least so many bytes each, as far as there are bytes for them: no more memory is asked for than
+/// what these can need.
+pub(crate) fn room_for(count: u64, least: usize, bytes: &[u8]) -> usize
+    requires { 0 < least }
+    ensures { result ≤ length bytes.now }
+{
+    let most = bytes.len() / least;
+    if count < most as u64 {
+        count as usize
+    } else {
+        most
+    }
+}
 
 /// A mode, to 0777.
 #[tactic(auto, unfolding(tr_parts::specs::Reading::mode_at))]
@@ -19,6 +34,16 @@ pub(crate) fn permissions_of(bytes: &[u8]) -> Result<(u16, &[u8]), PartErr>
         Ok((mode, rest))
     } else {
         Err(PartErr::Form)
+    }
+}
+
+/// The path that a text is, where it is canonical. It shares the text's bytes.
+pub(crate) fn path_from(text: &Bytes) -> Result<Path, PartErr>
+    ensures { Gives (λ p. p) result (given (is_canonical text.now) text.now) }
+{
+    match Path::from_text(text)? {
+        Some(path) => Ok(path),
+        None => Err(PartErr::Form),
     }
 }
 
@@ -127,7 +152,8 @@ pub(crate) fn blobs_of<'a>(
     ensures gives { Gives (λ x. (x.0.items, x.1.now)) result (many_at (λ front. blob_at blobs.now) count [] bytes.now) }
     ensures used { IfOk result (λ x. used.new ≡ fold (used_by blobs.now) used.old x.0.items) }
 {
-    let mut texts = Vec::new(alloc);
+    // The number of a blob has eight bytes.
+    let mut texts = Vec::with_capacity(alloc, room_for(count, 8, bytes))?;
     let mut rest = bytes;
     'texts: for _ in 0..count {
         let (text, after) = blob_of(blobs, used, rest)?;

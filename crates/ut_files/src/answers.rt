@@ -169,7 +169,7 @@ pub fn same_in(answer: &Answer) -> Result<bool, Errno>
 fn no_names(alloc: Global) -> Result<NameList, NoMemory>
     ensures { IfOk result (λ names. names ≡ []) }
 {
-    match NameList::from_vec(Vec::new(alloc)) {
+    match NameList::from_vec(alloc, Vec::new(alloc))? {
         Some(names) => Ok(names),
         None => Err(NoMemory),
     }
