@@ -9,6 +9,7 @@ mod key_pieces;
 mod keys;
 mod laws;
 mod linked;
+mod node_bytes;
 mod node_pieces;
 mod nodes;
 mod old_records;

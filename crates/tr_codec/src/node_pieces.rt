@@ -11,9 +11,10 @@ ghost use Rattle.tr_codec.specs.Spelling.{step_piece};
 
 use crate::answer_pieces::put_answer;
 use crate::call_pieces::put_call;
+use crate::node_bytes::NodeBytes;
 use crate::writer::Writer;
 use indexmap::IndexSet;
-use rk_base::{Bytes, NoMemory};
+use rk_base::NoMemory;
 use std::alloc::Global;
 use tr_record::{Step, StepList};
 
@@ -22,7 +23,7 @@ use tr_record::{Step, StepList};
 #[derive(Drop)]
 pub(crate) struct NodeWriter {
     pub(crate) writer: Writer,
-    pub(crate) nodes: IndexSet<Bytes>,
+    pub(crate) nodes: IndexSet<NodeBytes>,
 }
 
 fn put_step(w: &mut Writer, step: &Step) -> Result<(), NoMemory>

@@ -7,6 +7,7 @@ ghost use Rattle.tr_codec.specs.NodesRead.{AreRead, NodeRead, Adds, Refuses, tai
 ghost use Rattle.tr_codec.specs.Reading.{node_at, many_at, counted_at};
 ghost use Rattle.tr_codec.specs.Used.{nodes_used};
 
+use crate::parts::room_for;
 use crate::steps::step_of;
 use rk_base::{Bytes, NoMemory};
 use rk_content::Contents;
@@ -40,16 +41,20 @@ fn is_fresh(keys: &mut Contents, key: &Bytes) -> Result<bool, NoMemory>
     Ok(keys.as_slice().len() != before)
 }
 
+// A node has the numbers of its rest and of its cost, and a byte for each of its call and its answer.
+const LEAST: usize = 18;
+
 impl ReadNodes {
-    /// No nodes.
-    pub(crate) fn new(alloc: Global) -> ReadNodes
-        ensures are { (blobs : List Text) → AreRead blobs result }
-        ensures none { tails_in result ≡ [] }
+    /// No nodes, and room for so many.
+    pub(crate) fn with_room(alloc: Global, count: usize) -> Result<ReadNodes, NoMemory>
+        ensures are { IfOk result (λ nodes. (blobs : List Text) → AreRead blobs nodes) }
+        ensures none { IfOk result (λ nodes. tails_in nodes ≡ []) }
     {
-        ReadNodes {
-            pool: StepPool::new(alloc),
+        let pool = StepPool::with_room(alloc, count)?;
+        Ok(ReadNodes {
+            pool,
             keys: Contents::new(alloc),
-        }
+        })
     }
 
     /// The nodes alone.
@@ -120,7 +125,7 @@ fn so_many_nodes<'a>(
     ensures are { IfOk result (λ x. AreRead blobs.now x.0) }
     ensures used { IfOk result (λ x. used.new ≡ nodes_used blobs.now used.old (tails_in x.0)) }
 {
-    let mut nodes = ReadNodes::new(alloc);
+    let mut nodes = ReadNodes::with_room(alloc, room_for(count, LEAST, bytes))?;
     let mut rest = bytes;
     'nodes: for _ in 0..count {
         rest = nodes.node_of(alloc, blobs, used, rest)?;

@@ -5,6 +5,7 @@ ghost use Rattle.rk_base.specs.Canonical.{is_canonical};
 ghost use Rattle.tr_parts.specs.Piece.{with_use, number_of, num, string, plain, blob, byte, mode, number};
 ghost use Rattle.tr_codec.specs.Puts.{Puts, spelt_body};
 
+use crate::node_bytes::NodeBytes;
 use indexmap::IndexMap;
 use rk_base::{Bytes, Name, NoMemory, Path};
 use rk_content::{ContentId, Contents};
@@ -100,11 +101,11 @@ fn push_strings(out: &mut Vec<u8>, texts: &[Bytes]) -> Result<(), NoMemory>
     Ok(())
 }
 
-fn push_all(out: &mut Vec<u8>, texts: &[Bytes]) -> Result<(), NoMemory>
-    ensures { OnOk result (out.new.items ≡ out.old.items ++ flat_map (λ text. text) texts.now) }
+fn push_all(out: &mut Vec<u8>, nodes: &[NodeBytes]) -> Result<(), NoMemory>
+    ensures { OnOk result (out.new.items ≡ out.old.items ++ flat_map (λ node. node) nodes.now) }
 {
-    'texts: for text in texts {
-        out.extend_from_slice(text.as_slice())?;
+    'nodes: for node in nodes {
+        out.extend_from_slice(node.as_slice())?;
     }
     Ok(())
 }
@@ -169,9 +170,7 @@ impl Writer {
         ensures puts { OnOk result (Puts (blob path.now) self.old self.new) }
         ensures canonical { is_canonical path.now ≡ true }
     {
-        let alloc = *self.out.allocator();
-        let text = Bytes::from_slice(alloc, path.text())?;
-        self.put_blob(&text)?;
+        self.put_blob(path.bytes())?;
         Ok(())
     }
 
@@ -186,21 +185,21 @@ impl Writer {
     }
 
     /// The bytes that were put, which are taken out.
-    pub(crate) fn take(&mut self) -> Result<Bytes, NoMemory>
+    pub(crate) fn take(&mut self) -> Result<NodeBytes, NoMemory>
         ensures taken { IfOk result (λ bytes. bytes ≡ self.old.bytes) }
         ensures left { OnOk result (self.new ≡ record { blobs = self.old.blobs; bytes = [] }) }
         ensures few { IfOk result (λ bytes. length bytes < 2 ^ 64) }
         ensures blobs { OnOk result (length self.new.blobs < 2 ^ 64) }
     {
         let alloc = *self.out.allocator();
-        let bytes = Bytes::from_slice(alloc, self.out.as_slice())?;
+        let bytes = NodeBytes::from_slice(alloc, self.out.as_slice())?;
         self.out.clear();
         let _ = self.blobs.as_slice();
         Ok(bytes)
     }
 
     /// The magic, the blobs, the nodes, whose bytes these are, and what was put.
-    pub(crate) fn body(&self, magic: &[u8], nodes: &[Bytes]) -> Result<Vec<u8>, NoMemory>
+    pub(crate) fn body(&self, magic: &[u8], nodes: &[NodeBytes]) -> Result<Vec<u8>, NoMemory>
         ensures { IfOk result (λ out. out.items ≡ spelt_body magic.now self.now nodes.now) }
     {
         let alloc = *self.out.allocator();

@@ -1,5 +1,5 @@
 // The numbers of records by key.
-ghost use Rattle.std.specs.Prelude.{◌≡◌, ◌++◌, ◌∷◌, [], OnOk, OnErr, slice_get};
+ghost use Rattle.std.specs.Prelude.{◌≡◌, ◌++◌, ◌∷◌, [], IfOk, OnOk, OnErr, slice_get};
 ghost use Rattle.tr_record.specs.Places.{places_at, Adds, Stays};
 
 use indexmap::IndexMap;
@@ -23,12 +23,13 @@ impl Model for PlaceList {
 }
 
 impl PlaceList {
-    fn new(alloc: Global) -> PlaceList
-        ensures { result ≡ [] }
+    // One number. Most keys have no other one, so there is room for no more.
+    fn of(alloc: Global, place: usize) -> Result<PlaceList, NoMemory>
+        ensures { IfOk result (λ p. p ≡ place ∷ []) }
     {
-        PlaceList {
-            places: Vec::new(alloc),
-        }
+        let mut places = Vec::with_capacity(alloc, 1)?;
+        places.push(place)?;
+        Ok(PlaceList { places })
     }
 
     pub(crate) fn as_slice(&self) -> &[usize]
@@ -70,8 +71,7 @@ pub(crate) fn note(
         Some(places) => places.push(place),
         None => {
             let copy = key.copy()?;
-            let mut places = PlaceList::new(alloc);
-            places.push(place)?;
+            let places = PlaceList::of(alloc, place)?;
             index.insert(copy, places)?;
             Ok(())
         }

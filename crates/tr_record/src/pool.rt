@@ -47,6 +47,14 @@ impl StepPool {
         }
     }
 
+    /// No nodes, and room for so many.
+    pub fn with_room(alloc: Global, count: usize) -> Result<StepPool, NoMemory>
+        ensures { IfOk result (λ pool. pool ≡ no_nodes) }
+    {
+        let nodes = Vec::with_capacity(alloc, count)?;
+        Ok(StepPool { nodes })
+    }
+
     /// How many nodes there are.
     pub fn len(&self) -> usize
         ensures { result ≡ length self.now.nodes }

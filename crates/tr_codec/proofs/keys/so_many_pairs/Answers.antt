@@ -6,7 +6,7 @@ use Rattle.tr_codec.proofs.keys.so_many_pairs.Goals as goal
 
 pub returns-in_err-pair : goal.returns-in_err-pair
 returns-in_err-pair c =
-    let p = err_from_is_err_and c.from_residual.result c.from_residual.ensures.1 in
+    let p = err_from_is_err_and c.from_residual-in_err-pair.result c.from_residual-in_err-pair.ensures.1 in
     rw (p.1, p.2) (ends (λ (front : List (ℕ × ℕ)). pair_at) c.in_err-pair.field-0.0 c.pairs.pairs.items c.args.count c.pairs.counter c.pairs.rest.now (many_at (λ (front : List (ℕ × ℕ)). pair_at) c.args.count [] c.args.bytes.now) c.pairs-test.true c.in_err-pair.ensures c.pairs.invariant)
 
 pub pairs-preserved : goal.pairs-preserved

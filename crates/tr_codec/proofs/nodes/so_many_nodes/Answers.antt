@@ -11,14 +11,14 @@ use Rattle.tr_codec.proofs.nodes.so_many_nodes.Goals as goal
 
 pub nodes-init : goal.nodes-init
 nodes-init c = record {
-  read = rw c.new-nodes.ensures.none (starts (node_at c.args.blobs.now) c.args.count c.args.bytes.now);
-  are = c.new-nodes.ensures.are c.args.blobs.now;
-  used = rw c.new-nodes.ensures.none refl;
+  read = rw c.in_ok-nodes.ensures.none (starts (node_at c.args.blobs.now) c.args.count c.args.bytes.now);
+  are = c.in_ok-nodes.ensures.are c.args.blobs.now;
+  used = rw c.in_ok-nodes.ensures.none refl;
 }
 
 pub returns-in_err-rest-clause-gives : goal.returns-in_err-rest-clause-gives
 returns-in_err-rest-clause-gives c =
-    let p = err_from_is_err_and c.from_residual.result c.from_residual.ensures.1 in
+    let p = err_from_is_err_and c.from_residual-in_err-rest.result c.from_residual-in_err-rest.ensures.1 in
     rw (p.1, p.2) (ends (node_at c.args.blobs.now) c.in_err-rest.field-0.0 (tails_in c.nodes.nodes) c.args.count c.nodes.counter c.nodes.rest.now (many_at (node_at c.args.blobs.now) c.args.count [] c.args.bytes.now) c.nodes-test.true c.in_err-rest.ensures.fails c.nodes.invariant.read)
 
 pub nodes-preserved : goal.nodes-preserved

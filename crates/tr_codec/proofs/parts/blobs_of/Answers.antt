@@ -8,7 +8,7 @@ use Rattle.tr_codec.proofs.parts.blobs_of.Goals as goal
 
 pub returns-in_err-text-clause-gives : goal.returns-in_err-text-clause-gives
 returns-in_err-text-clause-gives c =
-    let p = err_from_is_err_and c.from_residual.result c.from_residual.ensures.1 in
+    let p = err_from_is_err_and c.from_residual-in_err-text.result c.from_residual-in_err-text.ensures.1 in
     rw (p.1, p.2) (ends (λ (front : List (List ℕ)). blob_at c.args.blobs.now) c.in_err-text.field-0.0 c.texts.texts.items c.args.count c.texts.counter c.texts.rest.now (many_at (λ (front : List (List ℕ)). blob_at c.args.blobs.now) c.args.count [] c.args.bytes.now) c.texts-test.true c.in_err-text.ensures.gives c.texts.invariant.read)
 
 pub texts-preserved : goal.texts-preserved

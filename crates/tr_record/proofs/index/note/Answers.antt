@@ -14,8 +14,8 @@ returns-in-Some-clause-err c =
 pub returns-in_ok-insert-in-None-clause-ok : goal.returns-in_ok-insert-in-None-clause-ok
 returns-in_ok-insert-in-None-clause-ok c =
     λ q.
-    adds_new c.args.index.now.entries c.insert.new.self.entries c.in_ok-copy-in-None.copy c.args.key.now q c.args.place c.push-in-None.new.self
-    (c.in_ok-insert-in-None.ensures.updates.0 q ∙ ap (λ m. cond (same_key c.in_ok-copy-in-None.copy q) (Some c.push-in-None.new.self) (lookup (same_key q) m.entries)) c.get_mut.follows.holds-at-none)
+    adds_new c.args.index.now.entries c.insert.new.self.entries c.in_ok-copy-in-None.copy c.args.key.now q c.args.place c.in_ok-places-in-None.places
+    (c.in_ok-insert-in-None.ensures.updates.0 q ∙ ap (λ m. cond (same_key c.in_ok-copy-in-None.copy q) (Some c.in_ok-places-in-None.places) (lookup (same_key q) m.entries)) c.get_mut.follows.holds-at-none)
     c.in_ok-copy-in-None.ensures
-    (c.in_ok-push-in-None.ensures.ok ∙ ap (λ l. l ++ c.args.place ∷ []) c.new-places.ensures)
+    c.in_ok-places-in-None.ensures
     c.in-None.ensures.value
