@@ -116,9 +116,10 @@ pub(crate) fn held_after(
     ensures readable { IfOk result (λ holding. IsReadable holding.state.attrs × IsReadable holding.state.db) }
     ensures fits { OnOk result (AllByRecursion IsSound finished.now.built.table → Fits finished.now.built.table) }
 {
+    // What the spelling of the database takes is given back before the entries are made.
+    let db = db_bytes(alloc, finished, old, was)?;
     let entries = finished.world.snapshot()?;
     let attrs = attrs_bytes(alloc, &entries)?;
-    let db = db_bytes(alloc, finished, old, was)?;
     Ok(Holding {
         entries,
         rkr: true,
