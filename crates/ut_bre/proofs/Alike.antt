@@ -230,7 +230,7 @@ none-taken R times e i j (k, t, (n, w, u)) =
     rest None f v = absurd (cc)
     rest (Some more) f v = (let y : more ≡ 0 = eqb-true more 0 f in let x : n ≡ 0 = omega arith in subst (λ m. Turns R m k j) x u)
 
-none-alike : (R : Rel) (times : Times) (room : ℕ) → takes_none times ≡ true → AreAlike room (Repeated R times) (λ i j. i ≡ j)
+pub none-alike : (R : Rel) (times : Times) (room : ℕ) → takes_none times ≡ true → AreAlike room (Repeated R times) (λ i j. i ≡ j)
 none-alike R times room e i j h =
     let b = and-true (is_zero times.beyond) (times.least == 0) e in
     (none-taken R times e i j, λ z. subst (Repeated R times i) z (none-needed R times (eqb-true times.least 0 b.1) i))

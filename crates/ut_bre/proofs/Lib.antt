@@ -28,6 +28,8 @@ pub mod Joined
 pub mod Alike
 pub mod PartLemmas
 pub mod Related
+pub mod Imaged
+pub mod Halved
 pub mod Sought
 pub mod Opened
 pub mod Idle

@@ -52,8 +52,8 @@ fn relate_nothing(alloc: Global, size: usize) -> Result<Vec<Places>, NoMemory>
     Ok(table)
 }
 
-// How many turns may be taken in so many bytes.
-fn most_in(beyond: Option<usize>, size: usize) -> usize
+/// How many turns may be taken in so many bytes.
+pub(crate) fn most_in(beyond: Option<usize>, size: usize) -> usize
     ensures { result ≡ most_in beyond size }
 {
     match beyond {

@@ -2,31 +2,16 @@
 ghost use Rattle.std.specs.Prelude.{◌-◌, ◌<◌, ◌≤◌, IfOk, length};
 ghost use Rattle.ut_bre.specs.Expressions.{expression};
 ghost use Rattle.ut_bre.specs.Matching.{Finds};
-ghost use Rattle.ut_bre.specs.Relations.{IsLastEnd};
 
 use crate::bre::Bre;
 use crate::fit::least_size;
 use crate::group::Span;
+use crate::halt::{Allowance, Halt};
+use crate::halves::last_end;
 use crate::mark::Marks;
 use crate::relation::relate_items;
-use crate::size::{FEW, are_too_many, marks_of};
+use crate::size::{FEW, marks_of};
 use rk_base::NoMemory;
-use ut_places::Places;
-
-// The last of so many places at which a match may end.
-fn last_end(set: &Places, at_end: bool, places: usize) -> Option<usize>
-    requires { 0 < places }
-    ensures { IsLastEnd set.now at_end (places - 1) result }
-{
-    if at_end {
-        return if set.has(places - 1) {
-            Some(places - 1)
-        } else {
-            None
-        };
-    }
-    set.last(places)
-}
 
 impl Bre {
     /// Whether it has so many marks that it is fitted to the line.
@@ -61,6 +46,19 @@ impl Bre {
         Ok(None)
     }
 
+    // The match that `scan` tells, by sets of places.
+    fn search_sets(&self, line: &[u8], from: usize) -> Result<Option<Span>, NoMemory>
+        requires { from ≤ length line.now }
+        ensures { IfOk result (λ r. Finds (expression self.now) line.now from r) }
+    {
+        let mut allowed = Allowance::of(line.len() - from);
+        match self.seek(line, from, &mut allowed) {
+            Ok(span) => Ok(span),
+            Err(Halt::NoMemory) => Err(NoMemory),
+            Err(Halt::Spent) => self.search_related(line, from),
+        }
+    }
+
     // The leftmost match from this place on, and the longest there, of an expression fitted to the rest of the line.
     fn search_fitted(
         &self,
@@ -78,8 +76,8 @@ impl Bre {
             return Ok(None);
         }
         let fitted = self.fitted(room)?;
-        if are_too_many(marks_of(fitted.items.as_slice()), room) {
-            let span = fitted.search_related(line, from)?;
+        if marks_of(fitted.items.as_slice()) > FEW {
+            let span = fitted.search_sets(line, from)?;
             return Ok(span);
         }
         let span = fitted.scan(line, from, marks)?;

@@ -1,15 +1,19 @@
 -- Sets of places of a line.
-use Rattle.std.specs.Prelude.{◌≡◌, ℕ, ◌/◌, ◌%◌, ◌≤◌, ◌<◌, List, Option, Some, None, slice_index}
+use Rattle.std.specs.Prelude.{◌≡◌, ℕ, ◌-◌, ◌/◌, ◌%◌, ◌≤◌, ◌<◌, Option, Some, None, nat_lt, slice_index, if◌then◌else◌}
 use Rattle.std.specs.Int.{bit_at}
 use Rattle.ut_places.specs.declared.places.Places.{Places}
 
+-- one of the words of a set, with no place in those before its own
+abbrev pub word_at : Places → ℕ → ℕ
+word_at set k = if nat_lt k set.before then 0 else slice_index set.words.items (k - set.before)
+
 -- the bit of a place in words of 64
-abbrev pub bit_of : List ℕ → ℕ → ℕ
-bit_of words j = bit_at (slice_index words (j / 64)) (j % 64)
+abbrev pub bit_of : Places → ℕ → ℕ
+bit_of set j = bit_at (word_at set (j / 64)) (j % 64)
 
 -- a set has a place
 abbrev pub Has : Places → ℕ → Type 0
-Has set j = bit_of set.words.items j ≡ 1
+Has set j = bit_of set j ≡ 1
 
 -- the first place of a set from one place on and before another one; None where there is none
 abbrev pub IsNext : Places → ℕ → ℕ → Option ℕ → Type 0
