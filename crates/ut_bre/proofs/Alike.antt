@@ -1,8 +1,7 @@
 -- What matches the same in so many bytes.
-use Rattle.std.proofs.Common.{◌≡◌, ℕ, zero, suc, ◌+◌, ◌-◌, ◌*◌, ◌<◌, ◌≤◌, inl, inr, List, [], ◌∷◌, ◌++◌, Bool, true, false, refl, sym, ap, ◌∙◌, arith, subst, length, take, drop, get_or, map, add-one}
-use Rattle.std.specs.Prelude.{Option, Some, None, min, ◌==◌, ◌&&◌, ◌↔◌}
+use Rattle.std.proofs.Common.{◌≡◌, ℕ, zero, suc, ◌+◌, ◌-◌, ◌*◌, ◌<◌, ◌≤◌, inl, inr, List, [], ◌∷◌, ◌++◌, Bool, true, false, refl, sym, ap, ◌∙◌, arith, subst, length, take, drop, get_or, add-one}
+use Rattle.std.specs.Prelude.{Option, Some, None, ◌==◌, ◌&&◌}
 use Rattle.std.proofs.Math.Seq.{take-suc}
-use Rattle.std.proofs.Math.Nat.{mul-le-mul_left}
 use Rattle.std.proofs.lemmas.Bool.{cases_lt, eqb-true}
 use Rattle.std.proofs.lemmas.List.{drop_all}
 use Rattle.rk_base.specs.Text.{Text}
@@ -10,13 +9,13 @@ use Rattle.ut_bre.specs.declared.set.One.{One}
 use Rattle.ut_bre.specs.declared.tree.Times.{Times}
 use Rattle.ut_bre.specs.declared.tree.Item.{Item}
 use Rattle.ut_bre.specs.declared.group.Span.{Span}
-use Rattle.ut_bre.specs.Trees.{ItemTree, one, group, ItemsTree, no_items, item_and, items_of, tree_of, trees_of, times_of, Expression}
+use Rattle.ut_bre.specs.Trees.{ItemTree, one, group, ItemsTree, no_items, item_and, tree_of, trees_of, times_of, Expression}
 use Rattle.ut_bre.specs.Times.{is_zero, takes_none}
-use Rattle.ut_bre.specs.Matching.{MatchesOne, Turns, IsWithin, Repeated, MatchesItem, MatchesItems, Matches, IsNoWorse, Finds}
+use Rattle.ut_bre.specs.Matching.{MatchesOne, Turns, IsWithin, Repeated, MatchesItem, MatchesItems, Matches, Finds}
 use Rattle.ut_bre.specs.Mirroring.{put_last}
 use Rattle.ut_bre.specs.Picking.{MatchesTurn}
 use Rattle.ut_bre.specs.Reading.{with_times}
-use Rattle.ut_bre.specs.Fitting.{turn_size, least_size, capped, AreAlike, cut, IsJoined, AreJoined, IsFittedPart, IsFitted, AreFitted, with_fitted, IsFit}
+use Rattle.ut_bre.specs.Fitting.{turn_size, least_size, capped, AreAlike, cut, IsJoined, IsFittedPart, IsFitted, AreFitted, with_fitted, IsFit}
 use Rattle.ut_bre.proofs.ItemLemmas.{drop_item}
 use Rattle.ut_bre.proofs.Standing.{Rel, After}
 use Rattle.ut_bre.proofs.Laws.{sound_item, sound_items}

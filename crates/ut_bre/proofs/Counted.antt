@@ -1,9 +1,8 @@
 -- How many turns are taken, and how many bytes they take.
-use Rattle.std.proofs.Common.{◌≡◌, ℕ, zero, suc, ◌+◌, ◌-◌, ◌*◌, ◌<◌, ◌≤◌, inl, inr, refl, sym, ap, ◌∙◌, arith, subst}
-use Rattle.std.specs.Prelude.{Option, Some, None}
+use Rattle.std.proofs.Common.{◌≡◌, ℕ, zero, suc, ◌+◌, ◌-◌, ◌*◌, ◌≤◌, inl, inr, refl, arith, subst}
 use Rattle.std.proofs.lemmas.Bool.{cases_lt}
 use Rattle.ut_bre.specs.declared.tree.Times.{Times}
-use Rattle.ut_bre.specs.Matching.{Turns, IsWithin, Beyond, Repeated}
+use Rattle.ut_bre.specs.Matching.{Turns, IsWithin, Repeated}
 use Rattle.ut_bre.proofs.Standing.{Rel}
 use Rattle.ut_bre.proofs.Turning.{Ordered}
 

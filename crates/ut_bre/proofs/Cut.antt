@@ -1,10 +1,10 @@
 -- So many turns in so many bytes.
-use Rattle.std.proofs.Common.{◌≡◌, ℕ, zero, suc, ◌+◌, ◌-◌, ◌*◌, ◌<◌, ◌≤◌, inl, inr, Bool, true, false, refl, sym, ap, ◌∙◌, arith, subst}
+use Rattle.std.proofs.Common.{◌≡◌, ℕ, zero, suc, ◌+◌, ◌-◌, ◌*◌, ◌<◌, ◌≤◌, inl, inr, Bool, true, false, refl, arith, subst}
 use Rattle.std.specs.Prelude.{Option, Some, None, nat_lt, ◌==◌, ◌↔◌, if◌then◌else◌}
 use Rattle.std.proofs.lemmas.Bool.{cases_lt, leb-true, leb-false, eqb-true, eqb-false}
 use Rattle.std.proofs.Math.Nat.{mul-le-mul_left}
 use Rattle.ut_bre.specs.declared.tree.Times.{Times}
-use Rattle.ut_bre.specs.Matching.{Turns, IsWithin, Beyond, Repeated}
+use Rattle.ut_bre.specs.Matching.{Turns, IsWithin, Repeated}
 use Rattle.ut_bre.specs.Fitting.{AreAlike, and_more, limit, cut_sized, cut}
 use Rattle.ut_bre.proofs.Standing.{Rel}
 use Rattle.ut_bre.proofs.Turning.{Ordered}

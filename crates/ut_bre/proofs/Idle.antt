@@ -1,8 +1,8 @@
 -- Needed turns at the end of what a group takes: each takes nothing, and puts what the first one put.
-use Rattle.std.proofs.Common.{◌≡◌, ℕ, zero, suc, ◌+◌, ◌-◌, ◌<◌, ◌≤◌, ◌⊎◌, inl, inr, List, [], ◌∷◌, ◌++◌, Bool, true, false, length, get_or, set, refl, sym, ap, ◌∙◌, arith, subst}
+use Rattle.std.proofs.Common.{◌≡◌, ℕ, zero, suc, ◌-◌, ◌<◌, ◌≤◌, ◌⊎◌, inl, inr, List, [], ◌∷◌, ◌++◌, Bool, true, false, length, get_or, refl, sym, ap, ◌∙◌, arith, subst}
 use Rattle.std.specs.Prelude.{Option, Some, None, ◌==◌, nat_lt, slice_set, if◌then◌else◌}
 use Rattle.std.proofs.Math.ListN.{length-set}
-use Rattle.std.proofs.lemmas.Bool.{cases_lt, leb-true, leb-false, eqb-true, eqb-false, eq-eqb}
+use Rattle.std.proofs.lemmas.Bool.{cases_lt, leb-true, leb-false, eqb-true, eqb-false}
 use Rattle.std.proofs.lemmas.List.{get_or-set_same, get_or-set_other, ext_get_or}
 use Rattle.rk_base.specs.Text.{Text}
 use Rattle.ut_bre.specs.declared.tree.Times.{Times}
@@ -10,7 +10,7 @@ use Rattle.ut_bre.specs.declared.group.Span.{Span}
 use Rattle.ut_bre.specs.Trees.{ItemsTree, group}
 use Rattle.ut_bre.specs.Times.{less_one}
 use Rattle.ut_bre.specs.Matching.{Turns, IsWithin, Repeated, MatchesItems}
-use Rattle.ut_bre.specs.Picking.{Turn, IsGreatest, IsWorth, IsDone, IsNextTurn, PicksTurns, PicksItems, PutsItem, PutsItems, put_span, put_turns}
+use Rattle.ut_bre.specs.Picking.{Turn, IsDone, IsNextTurn, PicksTurns, PicksItems, PutsItem, PutsItems, put_span, put_turns}
 use Rattle.ut_bre.proofs.Standing.{Rel}
 use Rattle.ut_bre.proofs.Turning.{Ordered, Turned, put-append, less-least}
 use Rattle.ut_bre.proofs.Laws.{sound_items}

@@ -1,5 +1,5 @@
 -- Where items lead from a set of places.
-use Rattle.std.proofs.Common.{◌≡◌, ℕ, zero, suc, ◌+◌, ◌-◌, ◌<◌, ◌≤◌, ◌⊎◌, inl, inr, List, length, get_or, Bool, true, refl, sym, ap, ◌∙◌, arith, subst, take}
+use Rattle.std.proofs.Common.{◌≡◌, ℕ, zero, suc, ◌+◌, ◌-◌, ◌<◌, ◌≤◌, ◌⊎◌, inl, inr, List, length, get_or, true, refl, sym, arith, subst, take}
 use Rattle.std.specs.Prelude.{◌↔◌, Option, Some, None, min}
 use Rattle.std.proofs.lemmas.Bool.{cases_lt}
 use Rattle.rk_base.specs.Text.{Text}

@@ -1,14 +1,14 @@
 -- So many turns of so many turns.
-use Rattle.std.proofs.Common.{◌≡◌, ℕ, zero, suc, ◌+◌, ◌-◌, ◌*◌, ◌<◌, ◌≤◌, ◌⊎◌, inl, inr, Bool, true, false, refl, sym, ap, ◌∙◌, arith, subst}
-use Rattle.std.specs.Prelude.{Option, Some, None, nat_lt, nat_le, ◌==◌, ◌||◌, ◌&&◌, ◌↔◌, if◌then◌else◌}
-use Rattle.std.proofs.lemmas.Bool.{cases_lt, leb-true, leb-false, eqb-true, eqb-false, eq-eqb}
+use Rattle.std.proofs.Common.{◌≡◌, ℕ, zero, suc, ◌+◌, ◌-◌, ◌*◌, ◌<◌, ◌≤◌, ◌⊎◌, inl, inr, Bool, true, false, refl, sym, ap, arith, subst}
+use Rattle.std.specs.Prelude.{Option, Some, None, nat_lt, nat_le, ◌==◌, ◌||◌, ◌&&◌}
+use Rattle.std.proofs.lemmas.Bool.{cases_lt, leb-true, eqb-true, eqb-false, eq-eqb}
 use Rattle.std.proofs.Math.Nat.{mul-le-mul_left}
 use Rattle.ut_bre.specs.declared.tree.Times.{Times}
-use Rattle.ut_bre.specs.Times.{is_zero, takes_none}
-use Rattle.ut_bre.specs.Matching.{Turns, IsWithin, Beyond, Repeated}
-use Rattle.ut_bre.specs.Fitting.{and_more, reaches, has_no_gap, most_joined, IsJoined}
+use Rattle.ut_bre.specs.Times.{is_zero}
+use Rattle.ut_bre.specs.Matching.{Turns, IsWithin, Repeated}
+use Rattle.ut_bre.specs.Fitting.{and_more, reaches, most_joined, IsJoined}
 use Rattle.ut_bre.proofs.Standing.{Rel}
-use Rattle.ut_bre.proofs.Counted.{IsCount, count-of, repeated-of, turns-join, turns-split}
+use Rattle.ut_bre.proofs.Counted.{count-of, repeated-of, turns-join, turns-split}
 
 -- no more turns than so many times the most of one
 abbrev IsTop : ℕ → Option ℕ → ℕ → ℕ → Type 0

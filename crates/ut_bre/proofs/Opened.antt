@@ -1,5 +1,5 @@
 -- Rows and places by the sets of places to which a relation leads.
-use Rattle.std.proofs.Common.{◌≡◌, ℕ, zero, suc, ◌+◌, ◌-◌, ◌<◌, ◌≤◌, ◌⊎◌, inl, inr, List, [], ◌∷◌, length, Bool, true, false, refl, sym, ap, ◌∙◌, arith, subst, slice_get}
+use Rattle.std.proofs.Common.{◌≡◌, ℕ, zero, suc, ◌+◌, ◌-◌, ◌<◌, ◌≤◌, ◌⊎◌, inl, inr, List, [], ◌∷◌, length, true, refl, sym, arith, subst, slice_get}
 use Rattle.std.specs.Prelude.{◌↔◌, Option, Some, None, is_some}
 use Rattle.std.proofs.lemmas.Bool.{cases_lt}
 use Rattle.ut_places.specs.declared.places.Places.{Places}
@@ -7,10 +7,10 @@ use Rattle.ut_places.specs.Places.{Has, IsLast}
 use Rattle.ut_places.specs.Steps.{Leads}
 use Rattle.ut_bre.specs.declared.tree.Times.{Times}
 use Rattle.ut_bre.specs.Times.{star}
-use Rattle.ut_bre.specs.Matching.{Turns, Repeated}
+use Rattle.ut_bre.specs.Matching.{Repeated}
 use Rattle.rk_base.specs.Text.{Text}
 use Rattle.ut_bre.specs.Trees.{ItemTree}
-use Rattle.ut_bre.specs.Picking.{IsGreatest, IsLatest, IsNextTurn, RestTree, MatchesTurn, MatchesRest, ReachesEnd}
+use Rattle.ut_bre.specs.Picking.{IsLatest, RestTree, MatchesTurn, MatchesRest, ReachesEnd}
 use Rattle.ut_bre.specs.Ends.{EndsAt}
 use Rattle.ut_bre.specs.Rows.{Row, is_open, IsOpen, LeadsOn, TellsWhere, IsRow, ReachesOpen}
 use Rattle.ut_bre.specs.Relations.{IsRelation, OpensAt, ahead, far_from}

@@ -1,14 +1,14 @@
 -- Parts that are fitted to the piece of a line in which they are sought lead where the parts do.
-use Rattle.std.proofs.Common.{◌≡◌, ℕ, ◌+◌, ◌-◌, ◌<◌, ◌≤◌, List, sym, subst, arith, length, get_or}
-use Rattle.std.specs.Prelude.{Option, Some, None, ◌↔◌}
+use Rattle.std.proofs.Common.{◌≡◌, ℕ, ◌+◌, ◌-◌, ◌≤◌, List, sym, subst, arith, length, get_or}
+use Rattle.std.specs.Prelude.{Option, ◌↔◌}
 use Rattle.rk_base.specs.Text.{Text}
 use Rattle.ut_bre.specs.declared.tree.Times.{Times}
 use Rattle.ut_bre.specs.Trees.{ItemTree, group, ItemsTree, times_of}
 use Rattle.ut_bre.specs.Times.{star, less_one}
-use Rattle.ut_bre.specs.Matching.{Repeated, MatchesItem, MatchesItems}
-use Rattle.ut_bre.specs.Picking.{MatchesTurn, MatchesRest, RestTree, rest_items, rest_turns, ReachesEnd, IsLatest, IsGreatest, IsWorth, IsNextTurn}
+use Rattle.ut_bre.specs.Matching.{Repeated, MatchesItems}
+use Rattle.ut_bre.specs.Picking.{MatchesTurn, RestTree, rest_items, rest_turns, ReachesEnd, IsLatest, IsWorth, IsNextTurn}
 use Rattle.ut_bre.specs.Rows.{Row, LeadsOn, IsRow, ReachesOpen}
-use Rattle.ut_bre.specs.Ends.{EndsAt, AreEnds}
+use Rattle.ut_bre.specs.Ends.{AreEnds}
 use Rattle.ut_bre.specs.Fitting.{AreAlike, AreFitted, IsFittedPart, IsFittedRest}
 use Rattle.ut_bre.proofs.Standing.{Rel}
 use Rattle.ut_bre.proofs.Laws.{sound_items}

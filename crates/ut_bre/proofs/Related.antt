@@ -1,17 +1,17 @@
 -- Relations told by tables.
-use Rattle.std.proofs.Common.{◌≡◌, ℕ, zero, suc, ◌+◌, ◌-◌, ◌<◌, ◌≤◌, ◌⊎◌, inl, inr, List, [], ◌∷◌, ◌++◌, length, length-append, get_or, Bool, true, false, refl, sym, ap, ◌∙◌, arith, subst, take, take_all, slice_get}
+use Rattle.std.proofs.Common.{◌≡◌, ℕ, zero, suc, ◌+◌, ◌-◌, ◌<◌, ◌≤◌, ◌⊎◌, inl, inr, List, [], ◌∷◌, ◌++◌, length, length-append, get_or, true, refl, sym, ap, ◌∙◌, arith, subst, take, slice_get}
 use Rattle.std.specs.Prelude.{◌↔◌, Option, Some, None}
 use Rattle.std.proofs.lemmas.Bool.{cases_lt}
 use Rattle.rk_base.specs.Text.{Text}
 use Rattle.ut_places.specs.declared.places.Places.{Places}
 use Rattle.ut_places.specs.Places.{Has}
-use Rattle.ut_places.specs.Steps.{Steps, UpTo, Counted, Leads}
+use Rattle.ut_places.specs.Steps.{Steps, Counted, Leads}
 use Rattle.ut_places.proofs.StepLemmas.{leads-push, some-below}
 use Rattle.ut_bre.specs.declared.set.One.{One}
 use Rattle.ut_bre.specs.declared.tree.Times.{Times}
 use Rattle.ut_bre.specs.declared.tree.Item.{Item}
-use Rattle.ut_bre.specs.Trees.{meets, ItemTree, ItemsTree, no_items, tree_of, trees_of, times_of}
-use Rattle.ut_bre.specs.Matching.{MatchesOne, Turns, IsWithin, Beyond, Repeated, MatchesItem, MatchesItems}
+use Rattle.ut_bre.specs.Trees.{meets, ItemTree, no_items, tree_of, trees_of, times_of}
+use Rattle.ut_bre.specs.Matching.{MatchesOne, Turns, IsWithin, Repeated, MatchesItems}
 use Rattle.ut_bre.specs.Mirroring.{put_last}
 use Rattle.ut_bre.specs.Picking.{MatchesTurn}
 use Rattle.ut_bre.specs.Relations.{Relates, IsRelation, most_in}

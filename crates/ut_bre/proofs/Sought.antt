@@ -1,12 +1,11 @@
 -- A match that is sought by a table of where the items lead.
-use Rattle.std.proofs.Common.{◌≡◌, ℕ, zero, suc, ◌+◌, ◌-◌, ◌<◌, ◌≤◌, ◌⊎◌, inl, inr, List, length, Bool, true, false, refl, sym, ap, ◌∙◌, arith, subst, slice_get}
-use Rattle.std.specs.Prelude.{◌↔◌, Option, Some, None}
+use Rattle.std.proofs.Common.{◌≡◌, ℕ, ◌+◌, ◌-◌, ◌<◌, ◌≤◌, ◌⊎◌, inl, inr, List, length, true, sym, arith, subst, slice_get}
+use Rattle.std.specs.Prelude.{Some, None}
 use Rattle.std.proofs.lemmas.Bool.{cases_lt}
 use Rattle.rk_base.specs.Text.{Text}
 use Rattle.ut_places.specs.declared.places.Places.{Places}
 use Rattle.ut_places.specs.Places.{Has}
 use Rattle.ut_places.specs.Steps.{Leads}
-use Rattle.ut_bre.specs.declared.group.Span.{Span}
 use Rattle.ut_bre.specs.Trees.{Expression}
 use Rattle.ut_bre.specs.Matching.{MatchesItems, Matches, IsNoWorse, Finds}
 use Rattle.ut_bre.specs.Running.{NoneFrom}

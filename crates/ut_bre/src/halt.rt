@@ -28,14 +28,10 @@ pub(crate) struct Allowance {
 }
 
 impl Allowance {
-    /// As many as the sets of all places of a piece of so many bytes have words for each of these, and some.
+    /// As many as the places of all sets of a piece of so many bytes, and some.
     pub(crate) fn of(room: usize) -> Allowance {
-        let words = room / 64 + 1;
         Allowance {
-            left: words
-                .saturating_mul(room)
-                .saturating_mul(room)
-                .saturating_add(1 << 20),
+            left: room.saturating_mul(room).saturating_add(1 << 20),
         }
     }
 

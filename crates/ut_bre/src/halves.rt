@@ -11,9 +11,6 @@ use crate::halt::{Allowance, Halt};
 use crate::image::image;
 use ut_places::Places;
 
-/// So many places where a match may begin are looked at together first, and twice as many each time that none was found.
-const FIRST: usize = 64;
-
 // The last of so many places at which a match may end.
 pub(crate) fn last_end(set: &Places, at_end: bool, places: usize) -> Option<usize>
     requires { 0 < places }
@@ -114,7 +111,8 @@ impl Bre {
         start.saturating_add(places).min(line.len() + 1)
     }
 
-    /// The leftmost match from this place on, and the longest there, as far as the places that are gone over are allowed.
+    /// The leftmost match from this place on, and the longest there, as far as the places that are gone over are allowed. The
+    /// first place where one may begin is looked at alone, then four times as many each time that none was found.
     pub(crate) fn seek(
         &self,
         line: &[u8],
@@ -125,7 +123,7 @@ impl Bre {
         ensures { IfOk result (λ r. Finds (expression self.now) line.now from r) }
     {
         let mut at = from;
-        let mut places = FIRST;
+        let mut places = 1usize;
         'starts: loop {
             let Some(start) = self.next_start(line, at) else {
                 return Ok(None);
@@ -142,7 +140,7 @@ impl Bre {
                 return Ok(found);
             }
             at = to;
-            places = places.saturating_mul(2);
+            places = places.saturating_mul(4);
         }
     }
 }

@@ -1,19 +1,17 @@
-use Rattle.std.proofs.Common.{◌≡◌, ℕ, ◌+◌, ◌-◌, ◌<◌, ◌≤◌, List, [], ◌∷◌, ◌++◌, Bool, true, length, get_or, slice_get, refl, sym, ap, ◌∙◌, subst, arith}
-use Rattle.std.specs.Prelude.{Option, Some, None, ◌↔◌, is_some}
+use Rattle.std.proofs.Common.{◌≡◌, ◌+◌, ◌-◌, ◌<◌, ◌≤◌, [], ◌∷◌, ◌++◌, Bool, true, length, slice_get, sym, ap, ◌∙◌, subst, arith}
+use Rattle.std.specs.Prelude.{Some, ◌↔◌}
 use Rattle.ut_places.proofs.StepLemmas.{at-some}
-use Rattle.ut_bre.specs.Trees.{tree_of, trees_of}
+use Rattle.ut_bre.specs.Trees.{trees_of}
 use Rattle.ut_bre.specs.Times.{star}
 use Rattle.ut_bre.specs.Matching.{Repeated, MatchesItems}
-use Rattle.ut_bre.specs.Picking.{MatchesTurn, IsLatest}
+use Rattle.ut_bre.specs.Picking.{IsLatest}
 use Rattle.ut_bre.specs.Ends.{EndsAt, AreEnds}
-use Rattle.ut_bre.specs.Rows.{Row, is_open, LeadsOn, IsRow, ReachesOpen}
-use Rattle.ut_bre.specs.Relations.{OpensAt, ahead}
-use Rattle.ut_bre.proofs.Turning.{turn-ordered}
+use Rattle.ut_bre.specs.Rows.{Row}
+use Rattle.ut_bre.specs.Relations.{OpensAt}
 use Rattle.ut_bre.proofs.Laws.{sound_items}
-use Rattle.ut_bre.proofs.Rowed.{ToldBelow, told-push, more-count, told-where}
+use Rattle.ut_bre.proofs.Rowed.{ToldBelow, told-push, more-count}
 use Rattle.ut_bre.proofs.Ended.{count-more, ends-more, no-ends}
-use Rattle.ut_bre.proofs.Related.{repeated-ordered}
-use Rattle.ut_bre.proofs.Opened.{row-bit, open-ahead, open-within, star-first, star-end}
+use Rattle.ut_bre.proofs.Opened.{star-first, star-end}
 use Rattle.ut_bre.proofs.by_sets.related_ends.Goals as goal
 
 pub places-init : goal.places-init

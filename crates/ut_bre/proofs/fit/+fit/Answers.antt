@@ -1,7 +1,7 @@
-use Rattle.std.proofs.Common.{rules, ◌≡◌, sym, ap, ◌∙◌, subst, arith}
+use Rattle.std.proofs.Common.{rules, ◌≡◌, sym, ap, ◌∙◌}
 use Rattle.ut_bre.specs.declared.tree.Item.TheFolds.{the_lemmas}
 use Rattle.ut_bre.specs.declared.tree.Item.TheBlock.{One as ItemOne}
-use Rattle.ut_bre.specs.Trees.{tree_of, trees_of, times_of, one, group}
+use Rattle.ut_bre.specs.Trees.{tree_of, trees_of, one, group}
 use Rattle.ut_bre.specs.Times.{takes_none}
 use Rattle.ut_bre.specs.Fitting.{turn_size, capped, cut}
 use Rattle.ut_bre.proofs.Alike.{fitted_more, fitted_none, fitted_of-one, fitted_of-group}

@@ -1,7 +1,4 @@
-use Rattle.std.proofs.Common.{◌≡◌, ◌+◌, ◌≤◌, length, drop, sym, ap, ◌∙◌, arith}
-use Rattle.std.proofs.lemmas.List.{drop_all}
-use Rattle.ut_bre.specs.Trees.{tree_of, trees_of, times_of}
-use Rattle.ut_bre.specs.Fitting.{turn_size, least_size, capped}
+use Rattle.std.proofs.Common.{arith}
 use Rattle.ut_bre.proofs.Alike.{size_more, size_all}
 use Rattle.ut_bre.proofs.fit.+size.Goals as goal
 

@@ -1,8 +1,7 @@
-use Rattle.std.proofs.Common.{◌≡◌, List, [], ◌∷◌, ◌++◌, sym, ap, ◌∙◌, subst}
+use Rattle.std.proofs.Common.{◌≡◌, sym, ap, ◌∙◌, subst}
 use Rattle.std.proofs.lemmas.List.{nil_from_length}
-use Rattle.ut_bre.specs.declared.tree.Item.{Item}
 use Rattle.ut_bre.specs.Trees.{ItemTree, no_items, item_and, tree_of, trees_of, times_of}
-use Rattle.ut_bre.specs.Fitting.{AreJoined, IsJoined}
+use Rattle.ut_bre.specs.Fitting.{IsJoined}
 use Rattle.ut_bre.proofs.Alike.{fitted_empty, fitted_joined, last-only}
 use Rattle.ut_bre.proofs.fit.fit_group.Goals as goal
 

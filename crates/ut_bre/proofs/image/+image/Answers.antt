@@ -1,6 +1,5 @@
-use Rattle.std.proofs.Common.{◌≡◌, ℕ, suc, ◌+◌, ◌≤◌, List, refl, sym, subst, arith, rules, take, take_all, length}
-use Rattle.ut_places.specs.Places.{Has}
-use Rattle.ut_places.specs.Steps.{Steps, UpTo, IsImage}
+use Rattle.std.proofs.Common.{◌≡◌, suc, ◌+◌, ◌≤◌, List, refl, sym, subst, arith, rules, take_all, length}
+use Rattle.ut_places.specs.Steps.{Steps, IsImage}
 use Rattle.ut_places.proofs.StepLemmas.{IsWave, wave-first, wave-more, wave-end, no-step, step-more}
 use Rattle.ut_bre.specs.declared.tree.Item.{Item}
 use Rattle.ut_bre.specs.declared.tree.Item.TheFolds.{the_lemmas}
@@ -8,7 +7,7 @@ use Rattle.ut_bre.specs.Images.{Until}
 use Rattle.ut_bre.specs.Matching.{MatchesOne, MatchesItems, Turns, Beyond, Repeated}
 use Rattle.ut_bre.specs.Picking.{MatchesTurn}
 use Rattle.ut_bre.specs.Times.{needed, unneeded}
-use Rattle.ut_bre.specs.Trees.{ItemTree, one, group, tree_of, trees_of}
+use Rattle.ut_bre.specs.Trees.{one, group, tree_of, trees_of}
 use Rattle.ut_bre.proofs.Standing.{Rel}
 use Rattle.ut_bre.proofs.Laws.{sound_items}
 use Rattle.ut_bre.proofs.Imaged.{image-alike, needed-alone, beyond-alone, needed-done, needed-none, beyond-done, image-none, image-item}

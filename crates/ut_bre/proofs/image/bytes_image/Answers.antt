@@ -1,7 +1,7 @@
-use Rattle.std.proofs.Common.{◌≡◌, ℕ, ◌+◌, ◌-◌, ◌<◌, ◌≤◌, refl, sym, ap, ◌∙◌, subst, arith, length}
+use Rattle.std.proofs.Common.{◌+◌, ◌<◌, ◌≤◌, sym, ap, ◌∙◌, arith}
 use Rattle.std.specs.Prelude.{min}
-use Rattle.ut_bre.specs.Matching.{MatchesOne, Repeated}
-use Rattle.ut_bre.proofs.Imaged.{led-image, pass-first, pass-step, pass-dead, pass-last, image-idle, none-image}
+use Rattle.ut_bre.specs.Matching.{MatchesOne}
+use Rattle.ut_bre.proofs.Imaged.{led-image, pass-first, pass-step, pass-dead, pass-last, image-idle}
 use Rattle.ut_bre.proofs.image.bytes_image.Goals as goal
 
 pub returns-then-takes_none : goal.returns-then-takes_none

@@ -1,4 +1,4 @@
-use Rattle.std.proofs.Common.{◌-◌, List, ap, sym, subst}
+use Rattle.std.proofs.Common.{◌-◌, List, sym, subst}
 use Rattle.ut_bre.specs.declared.tree.Item.{Item}
 use Rattle.ut_bre.specs.Trees.{trees_of}
 use Rattle.ut_bre.specs.Fitting.{AreFitted}

@@ -1,4 +1,4 @@
-use Rattle.std.proofs.Common.{◌≡◌, ℕ, ◌+◌, ◌-◌, ◌≤◌, List, refl, sym, ap, subst, arith}
+use Rattle.std.proofs.Common.{◌+◌, ◌-◌, ◌≤◌, List, sym, ap, subst, arith}
 use Rattle.std.specs.Prelude.{None}
 use Rattle.ut_bre.specs.declared.tree.Item.{Item}
 use Rattle.ut_bre.specs.Trees.{tree_of, trees_of, times_of}

@@ -1,4 +1,4 @@
-use Rattle.std.proofs.Common.{ℕ, ◌+◌, ◌-◌, ◌≤◌, refl, arith}
+use Rattle.std.proofs.Common.{◌+◌, ◌-◌, ◌≤◌, refl, arith}
 use Rattle.std.specs.Prelude.{None}
 use Rattle.ut_bre.specs.Trees.{tree_of, times_of}
 use Rattle.ut_bre.specs.Resting.{rest_of}

@@ -1,4 +1,4 @@
-use Rattle.std.proofs.Common.{ℕ, ◌+◌, ◌-◌, ◌≤◌, refl, arith}
+use Rattle.std.proofs.Common.{◌+◌, ◌-◌, ◌≤◌, arith}
 use Rattle.ut_bre.specs.Trees.{tree_of}
 use Rattle.ut_bre.proofs.PartLemmas.{open-fitted}
 use Rattle.ut_bre.proofs.parts.latest_part_open.Goals as goal

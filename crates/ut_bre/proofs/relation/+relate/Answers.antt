@@ -1,10 +1,10 @@
-use Rattle.std.proofs.Common.{◌≡◌, ◌+◌, ◌-◌, List, take, length, sym, ap, ◌∙◌, subst, arith}
+use Rattle.std.proofs.Common.{◌-◌, List, take, sym, subst}
 use Rattle.ut_places.specs.declared.places.Places.{Places}
 use Rattle.ut_bre.specs.Trees.{tree_of, trees_of}
 use Rattle.ut_bre.specs.Matching.{MatchesItems}
 use Rattle.ut_bre.specs.Picking.{MatchesTurn}
-use Rattle.ut_bre.specs.Relations.{IsRelation, most_in}
-use Rattle.ut_bre.proofs.Related.{related-item, related-none}
+use Rattle.ut_bre.specs.Relations.{IsRelation}
+use Rattle.ut_bre.proofs.Related.{related-item}
 use Rattle.ut_bre.proofs.relation.+relate.Goals as goal
 
 pub relate_items-items-preserved : goal.relate_items-items-preserved

@@ -1,4 +1,4 @@
-use Rattle.std.proofs.Common.{◌-◌, take}
+use Rattle.std.proofs.Common.{take}
 use Rattle.ut_bre.specs.Matching.{MatchesItems}
 use Rattle.ut_bre.specs.Trees.{trees_of}
 use Rattle.ut_bre.specs.Relations.{IsRelation}

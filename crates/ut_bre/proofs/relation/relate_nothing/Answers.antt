@@ -1,5 +1,4 @@
-use Rattle.std.proofs.Common.{◌≡◌, ◌+◌, ◌≤◌, List, [], subst, arith}
-use Rattle.ut_places.specs.declared.places.Places.{Places}
+use Rattle.std.proofs.Common.{◌≡◌, ◌≤◌, subst, arith}
 use Rattle.ut_bre.specs.Relations.{Relates}
 use Rattle.ut_bre.proofs.Related.{related-first, related-more, set-of-place}
 use Rattle.ut_bre.proofs.relation.relate_nothing.Goals as goal

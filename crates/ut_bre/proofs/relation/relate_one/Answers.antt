@@ -1,6 +1,5 @@
-use Rattle.std.proofs.Common.{◌≡◌, ℕ, ◌+◌, ◌-◌, ◌<◌, ◌≤◌, List, [], Some, slice_get, get_or, true, sym, ap, ◌∙◌, subst, arith, length}
+use Rattle.std.proofs.Common.{◌≡◌, ℕ, ◌+◌, ◌-◌, ◌<◌, ◌≤◌, Some, slice_get, get_or, true, sym, ◌∙◌, subst, arith, length}
 use Rattle.std.specs.Prelude.{◌↔◌}
-use Rattle.ut_places.specs.declared.places.Places.{Places}
 use Rattle.ut_places.specs.Places.{Has}
 use Rattle.ut_places.proofs.StepLemmas.{at-some}
 use Rattle.ut_bre.specs.Trees.{meets}

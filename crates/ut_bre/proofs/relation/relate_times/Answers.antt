@@ -1,4 +1,4 @@
-use Rattle.std.proofs.Common.{◌≡◌, ℕ, ◌+◌, ◌-◌, List, length, sym, subst}
+use Rattle.std.proofs.Common.{◌≡◌, ℕ, ◌-◌, List, sym, subst}
 use Rattle.ut_places.specs.declared.places.Places.{Places}
 use Rattle.ut_bre.specs.Trees.{tree_of}
 use Rattle.ut_bre.specs.Picking.{MatchesTurn}

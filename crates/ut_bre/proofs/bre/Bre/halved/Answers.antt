@@ -1,4 +1,4 @@
-use Rattle.std.proofs.Common.{◌≡◌, ℕ, ◌+◌, ◌-◌, ◌/◌, ◌<◌, ◌≤◌, subst, arith}
+use Rattle.std.proofs.Common.{ℕ, ◌+◌, ◌-◌, ◌/◌, ◌<◌, ◌≤◌, subst, arith}
 use Rattle.ut_bre.specs.Expressions.{expression}
 use Rattle.ut_bre.specs.Images.{IsFarthest}
 use Rattle.ut_bre.proofs.Halved.{later-half, none-until, one-left}

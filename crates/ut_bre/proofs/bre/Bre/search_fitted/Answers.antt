@@ -1,9 +1,9 @@
-use Rattle.std.proofs.Common.{◌≡◌, ◌+◌, length, ap, ◌∙◌, arith}
+use Rattle.std.proofs.Common.{ap, ◌∙◌, arith}
 use Rattle.ut_bre.specs.Expressions.{expression}
 use Rattle.ut_bre.specs.Trees.{trees_of}
 use Rattle.ut_bre.specs.Fitting.{least_size, capped}
 use Rattle.ut_bre.proofs.Walked.{past-end}
-use Rattle.ut_bre.proofs.Alike.{too-long, fit-finds}
+use Rattle.ut_bre.proofs.Alike.{too-long}
 use Rattle.ut_bre.proofs.bre.Bre.search_fitted.Goals as goal
 
 pub returns-then-from-line : goal.returns-then-from-line
