@@ -25,10 +25,10 @@ use Rattle.tr_codec.proofs.NodesAgain.{needed_fit, needed_in, each_long, node_lo
 
 -- ---- what is spelt is read
 
-needed_built : (table : List Record) → Built (needed same_step (talks table))
+pub needed_built : (table : List Record) → Built (needed same_step (talks table))
 needed_built table = (grows_all same_step step_decides [] (built_none same_step step_decides) (talks table)).built
 
-whole_again : (blobs : List Text) (table : List Record) → blobs ≡ with_uses [] (table_piece table).uses → is_whole blobs (needed same_step (talks table)) table [] ≡ Some table
+pub whole_again : (blobs : List Text) (table : List Record) → blobs ≡ with_uses [] (table_piece table).uses → is_whole blobs (needed same_step (talks table)) table [] ≡ Some table
 whole_again blobs table e =
     let tails = needed same_step (talks table) in
     let first : pointwise (same_tail same_step) tails tails ≡ true = (pointwise_decides (tail_decides same_step step_decides) tails tails).1 refl in

@@ -6,20 +6,22 @@ use Rattle.rk_base.specs.Text.{Text}
 use Rattle.tr_nodes.specs.Nodes.{Node}
 use Rattle.tr_nodes.specs.Tails.{Tail, needed, node_in}
 use Rattle.tr_nodes.proofs.ReadLemmas.{nodes_again}
+use Rattle.tr_record.specs.Generations.{records}
 use Rattle.tr_record.specs.declared.records.Record.{Record}
 use Rattle.tr_record.specs.declared.steps.Step.{Step}
-use Rattle.tr_parts.specs.Piece.{plain, ◌⊕◌, each, counted, num, string, with_uses}
+use Rattle.tr_parts.specs.Piece.{Piece, plain, ◌⊕◌, each, counted, num, string, with_uses}
 use Rattle.tr_codec.specs.declared.node_pieces.NodeWriter.{NodeWriter}
+use Rattle.tr_codec.specs.KeptSpelling as latest
 use Rattle.tr_codec.specs.NodeKeys.{own_piece, key_of}
 use Rattle.tr_codec.specs.NodesPut.{Holds}
 use Rattle.tr_codec.specs.Puts.{Written, Puts, spelt_body}
 use Rattle.tr_codec.specs.Same.{same_step}
-use Rattle.tr_codec.specs.Spelling.{node_piece, record_piece, spelt_with, talks, table_piece, magic, body}
+use Rattle.tr_codec.specs.Spelling.{node_piece, record_piece, talks, table_piece, magic, body}
 use Rattle.tr_codec.proofs.PutsLemmas.{with_uses_adds, with_uses-append}
 use Rattle.tr_codec.proofs.SameLemmas.{step_decides}
 
 -- what comes of each, of what each was made of
-flat_map-map : {X Y A : Type 0} (f : Y → List A) (g : X → Y) (xs : List X) → flat_map f (map g xs) ≡ flat_map (λ x. f (g x)) xs
+pub flat_map-map : {X Y A : Type 0} (f : Y → List A) (g : X → Y) (xs : List X) → flat_map f (map g xs) ≡ flat_map (λ x. f (g x)) xs
 flat_map-map f g [] = refl
 flat_map-map f g (x ∷ xs) = ap (λ l. f (g x) ++ l) (flat_map-map f g xs)
 
@@ -49,33 +51,37 @@ module _ (tails : List (Tail Step)) (w : NodeWriter) (h : Holds tails w) where
   bytes_are : (more : List Text) → flat_map (λ node. node) w.nodes.keys ≡ flat_map (λ tail. (node_piece tails tail).spelt (w.writer.blobs ++ more)) tails
   bytes_are more = ap (flat_map (λ node. node)) (keys_are more) ∙ flat_map-map (λ (node : Text). node) (λ tail. (node_piece tails tail).spelt (w.writer.blobs ++ more)) tails
 
-  module _ (new : Written) (table : List Record) (p : Puts (counted (record_piece tails) table) w.writer new) where
-    blobs_are : new.blobs ≡ with_uses [] (spelt_with tails table).uses
+  -- and what is put behind them
+  module _ (version : List ℕ) (new : Written) (last : Piece) (p : Puts last w.writer new) where
+    blobs_are : new.blobs ≡ with_uses [] (counted (node_piece tails) tails ⊕ last).uses
     unfolding ◌⊕◌
     blobs_are =
         let nodes = (counted (node_piece tails) tails).uses in
-        let records = (counted (record_piece tails) table).uses in
-        p.blobs ∙ ap (λ l. with_uses l records) uses_are ∙ sym (with_uses-append [] nodes records)
+        p.blobs ∙ ap (λ l. with_uses l last.uses) uses_are ∙ sym (with_uses-append [] nodes last.uses)
 
-    spelt_are : num (length w.nodes.keys) ++ (flat_map (λ node. node) w.nodes.keys ++ new.bytes) ≡ (spelt_with tails table).spelt new.blobs
+    spelt_are : num (length w.nodes.keys) ++ (flat_map (λ node. node) w.nodes.keys ++ new.bytes) ≡ (counted (node_piece tails) tails ⊕ last).spelt new.blobs
     unfolding each ◌⊕◌ plain
     spelt_are =
-        let grown = with_uses_adds w.writer.blobs (counted (record_piece tails) table).uses in
+        let grown = with_uses_adds w.writer.blobs last.uses in
         let later : w.writer.blobs ++ grown.0 ≡ new.blobs = sym (p.blobs ∙ grown.1) in
         let nodes : List Text → List ℕ = λ blobs. flat_map (λ tail. (node_piece tails tail).spelt blobs) tails in
-        let records = (counted (record_piece tails) table).spelt new.blobs in
-        let bytes : new.bytes ≡ records = p.bytes [] ∙ ap (λ l. l ++ (counted (record_piece tails) table).spelt (new.blobs ++ [])) h.bytes ∙ ap (counted (record_piece tails) table).spelt (append-nil new.blobs) in
+        let records = last.spelt new.blobs in
+        let bytes : new.bytes ≡ records = p.bytes [] ∙ ap (λ l. l ++ last.spelt (new.blobs ++ [])) h.bytes ∙ ap last.spelt (append-nil new.blobs) in
         ap (λ n. num n ++ (flat_map (λ node. node) w.nodes.keys ++ new.bytes)) many
         ∙ ap (λ l. num (length tails) ++ (l ++ new.bytes)) (bytes_are grown.0 ∙ ap nodes later)
         ∙ ap (λ l. num (length tails) ++ (nodes new.blobs ++ l)) bytes
         ∙ sym (append_assoc (num (length tails)) (nodes new.blobs) records)
 
-    body_are : spelt_body magic new w.nodes.keys ≡ body magic (spelt_with tails table)
+    body_are : spelt_body version new w.nodes.keys ≡ body version (counted (node_piece tails) tails ⊕ last)
     unfolding body
     body_are =
-        let rest : List Text → List ℕ = λ blobs. magic ++ (num (length blobs) ++ (flat_map string blobs ++ (spelt_with tails table).spelt blobs)) in
-        ap (λ l. magic ++ (num (length new.blobs) ++ (flat_map string new.blobs ++ l))) spelt_are ∙ ap rest blobs_are
+        let rest : List Text → List ℕ = λ blobs. version ++ (num (length blobs) ++ (flat_map string blobs ++ (counted (node_piece tails) tails ⊕ last).spelt blobs)) in
+        ap (λ l. version ++ (num (length new.blobs) ++ (flat_map string new.blobs ++ l))) spelt_are ∙ ap rest blobs_are
 
 -- the body of a table, of the nodes that it needs
 pub table_put : (w : NodeWriter) (new : Written) (table : List Record) → Holds (needed same_step (talks table)) w → Puts (counted (record_piece (needed same_step (talks table))) table) w.writer new → spelt_body magic new w.nodes.keys ≡ body magic (table_piece table)
-table_put w new table h p = body_are (needed same_step (talks table)) w h new table p
+table_put w new table h p = let tails = needed same_step (talks table) in body_are tails w h magic new (counted (record_piece tails) table) p
+
+-- and of what is kept
+pub kept_put : (w : NodeWriter) (new : Written) (kept : List (List Record)) → Holds (needed same_step (talks (records kept))) w → Puts (counted (counted (record_piece (needed same_step (talks (records kept))))) kept) w.writer new → spelt_body latest.magic new w.nodes.keys ≡ body latest.magic (latest.kept_piece kept)
+kept_put w new kept h p = let tails = needed same_step (talks (records kept)) in body_are tails w h latest.magic new (counted (counted (record_piece tails)) kept) p

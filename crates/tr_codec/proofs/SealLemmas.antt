@@ -54,7 +54,7 @@ parsed front table small is =
           either_old front table x.1 (ap reading.body_at x.1 ∙ before.body_again table x.0 less)
     ]
 
-either_exact : (front : List ℕ) (table : List Record) → AreBytes front → either_at front ≡ Some table → IsBody front table
+pub either_exact : (front : List ℕ) (table : List Record) → AreBytes front → either_at front ≡ Some table → IsBody front table
 unfolding body_at
 either_exact front table small h =
     let read = table_at (drop 4 front) in
@@ -88,7 +88,7 @@ body_length version piece four =
       length-append (flat_map string blobs) spelt,
     )
 
-counted_length : {X : Type 0} (f : X → Piece) (xs : List X) (blobs : List Text) → 8 ≤ length ((counted f xs).spelt blobs)
+pub counted_length : {X : Type 0} (f : X → Piece) (xs : List X) (blobs : List Text) → 8 ≤ length ((counted f xs).spelt blobs)
 unfolding ◌⊕◌ plain
 counted_length f xs blobs = omega (arith, num_length (length xs), length-append (num (length xs)) ((each f xs).spelt blobs))
 
@@ -98,7 +98,7 @@ table_length blobs table =
     let tails = needed same_step (talks table) in
     omega (arith, counted_length (node_piece tails) tails blobs, length-append ((counted (node_piece tails) tails).spelt blobs) ((counted (record_piece tails) table).spelt blobs))
 
-sealed_length : (bytes : List ℕ) (version : List ℕ) (piece : Piece) → length version ≡ 4 → 8 ≤ length (piece.spelt (with_uses [] piece.uses)) → bytes ≡ sealed (body version piece) → 52 ≤ length bytes
+pub sealed_length : (bytes : List ℕ) (version : List ℕ) (piece : Piece) → length version ≡ 4 → 8 ≤ length (piece.spelt (with_uses [] piece.uses)) → bytes ≡ sealed (body version piece) → 52 ≤ length bytes
 sealed_length bytes version piece four least e =
     let front = body version piece in
     omega (arith, ap length e, body_length version piece four, length-append front (sha256 front), length-sha256 front)

@@ -1,4 +1,8 @@
 pub mod Fits
+pub mod Generations
+pub mod KeptReading
+pub mod KeptSpelling
+pub mod KnownPut
 pub mod Laws
 pub mod NodeKeys
 pub mod NodesPut

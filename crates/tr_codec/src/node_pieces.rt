@@ -60,8 +60,8 @@ impl NodeWriter {
         }
     }
 
-    // A step in front of those of a number. It tells the number of them all; the node is added where it is new.
-    fn put_node(&mut self, next: usize, step: &Step) -> Result<usize, NoMemory>
+    /// A step in front of those of a number. It tells the number of them all; the node is added where it is new.
+    pub(crate) fn put_node(&mut self, next: usize, step: &Step) -> Result<usize, NoMemory>
         ensures put { IfOk result (λ number. (tails : List (Tail OneStep)) → Holds tails self.old → next ≤ length tails → IsPut tails next step.now number self.new) }
         ensures typed { OnOk result (IsTyped step.now) }
     {

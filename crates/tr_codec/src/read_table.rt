@@ -64,8 +64,8 @@ impl ReadTable {
     }
 }
 
-// All texts of blobs. They are shared, not copied.
-fn texts_of(alloc: Global, blobs: &Contents) -> Result<Vec<Bytes>, NoMemory>
+/// All texts of blobs. They are shared, not copied.
+pub(crate) fn texts_of(alloc: Global, blobs: &Contents) -> Result<Vec<Bytes>, NoMemory>
     ensures { IfOk result (λ texts. texts.items ≡ blobs.now) }
 {
     let all = blobs.as_slice();

@@ -1,5 +1,5 @@
 // Records and tables that are read.
-ghost use Rattle.std.specs.Prelude.{◌≡◌, ◌==◌, ◌≤◌, ◌^◌, ◌&&◌, [], Some, nat_le, nat_lt, length, IfOk};
+ghost use Rattle.std.specs.Prelude.{◌≡◌, ◌==◌, ◌≤◌, ◌^◌, ◌&&◌, ◌++◌, ℕ, List, [], Some, nat_le, nat_lt, length, IfOk};
 ghost use Rattle.tr_nodes.specs.Tails.{AreNodes, steps_at, tails_of};
 ghost use Rattle.tr_parts.specs.Reads.{Gives};
 ghost use Rattle.tr_codec.specs.Fits.{paid};
@@ -19,12 +19,18 @@ use std::rc::Rc;
 use tr_parts::{PartErr, byte_of, count_of, number_of};
 use tr_record::{StepPool, Table};
 
-/// The records that were read so far, the numbers of their steps, and how many nodes these use, unless others were skipped.
+/// The records of a table, and the numbers of their steps.
 #[derive(Drop)]
 pub(crate) struct ReadRecords {
     pub(crate) table: Table,
     pub(crate) heads: Vec<usize>,
-    in_use: Option<usize>,
+}
+
+/// How many of the blobs and of the nodes are in use so far, unless others were skipped.
+#[derive(Drop)]
+pub(crate) struct Used {
+    pub(crate) blobs: Option<usize>,
+    pub(crate) nodes: Option<usize>,
 }
 
 // Whether there is such a number, and its steps cost less than 2^64 turns with an exit at this cost.
@@ -66,67 +72,57 @@ fn row_of<'a>(
     Ok((row, rest))
 }
 
-fn so_many_records<'a>(
+/// So many records with these blobs and nodes.
+pub(crate) fn so_many_records<'a>(
     alloc: Global,
     blobs: &Contents,
-    used: &mut Option<usize>,
     pool: &Rc<StepPool>,
+    used: &mut Used,
     count: u64,
     bytes: &'a [u8],
 ) -> Result<(ReadRecords, &'a [u8]), PartErr>
     ensures gives { Gives (λ x. (x.0.table, x.1.now)) result (many_at (record_at blobs.now (tails_of pool.now.value.nodes)) count [] bytes.now) }
     ensures heads { IfOk result (λ x. AreHeads pool.now.value.nodes x.0.heads.items x.0.table) }
-    ensures in_use { IfOk result (λ x. InUse pool.now.value.nodes x.0.heads.items x.0.in_use) }
-    ensures used { IfOk result (λ x. used.new ≡ keys_used blobs.now used.old x.0.table) }
+    ensures nodes { IfOk result (λ x. (earlier : List ℕ) → InUse pool.now.value.nodes earlier used.old.nodes → InUse pool.now.value.nodes (earlier ++ x.0.heads.items) used.new.nodes) }
+    ensures blobs { IfOk result (λ x. used.new.blobs ≡ keys_used blobs.now used.old.blobs x.0.table) }
 {
     let mut table = Table::new(alloc);
     let mut heads = Vec::new(alloc);
-    let mut in_use = Some(0);
     let mut rest = bytes;
     'records: for _ in 0..count {
-        let (row, after) = row_of(alloc, blobs, used, pool.as_ref(), rest)?;
-        in_use = in_use_after(pool.as_ref(), in_use, row.head);
+        let (row, after) = row_of(alloc, blobs, &mut used.blobs, pool.as_ref(), rest)?;
+        used.nodes = in_use_after(pool.as_ref(), used.nodes, row.head);
         push_row(&mut table, &mut heads, pool, row)?;
         rest = after;
     }
-    let records = ReadRecords {
-        table,
-        heads,
-        in_use,
-    };
-    Ok((records, rest))
+    Ok((ReadRecords { table, heads }, rest))
 }
 
-// Whether so many nodes and so many blobs are all in use, and nothing stands behind them.
-fn is_whole(
-    in_use: Option<usize>,
-    nodes: usize,
-    used: Option<usize>,
-    blobs: usize,
-    rest: &[u8],
-) -> bool
-    ensures { result ≡ (all_used in_use nodes && (all_used used blobs && (length rest.now == 0))) }
+/// Whether so many nodes and so many blobs are all in use, and nothing stands behind them.
+pub(crate) fn is_whole(used: &Used, nodes: usize, blobs: usize, rest: &[u8]) -> bool
+    ensures { result ≡ (all_used used.now.nodes nodes && (all_used used.now.blobs blobs && (length rest.now == 0))) }
 {
-    all_used(in_use, nodes) && all_read(used, blobs, rest)
+    all_used(used.nodes, nodes) && all_read(used.blobs, blobs, rest)
 }
 
 // The records of a table with these blobs and nodes, which use all of them in order, and behind which nothing stands.
 fn records_of(
     alloc: Global,
     blobs: &Contents,
-    used: &mut Option<usize>,
     pool: &Rc<StepPool>,
+    used: &mut Used,
     bytes: &[u8],
 ) -> Result<ReadRecords, PartErr>
     requires nodes { AreNodes pool.now.value.nodes }
-    requires used { used.old ≡ nodes_used blobs.now (Some 0) (tails_of pool.now.value.nodes) }
+    requires none { used.old.nodes ≡ Some 0 }
+    requires used { used.old.blobs ≡ nodes_used blobs.now (Some 0) (tails_of pool.now.value.nodes) }
     ensures gives { Gives (λ x. x.table) result (records_at blobs.now (tails_of pool.now.value.nodes) bytes.now) }
     ensures heads { IfOk result (λ x. AreHeads pool.now.value.nodes x.heads.items x.table) }
 {
     let (count, rest) = count_of(bytes)?;
-    let (records, rest) = so_many_records(alloc, blobs, used, pool, count, rest)?;
+    let (records, rest) = so_many_records(alloc, blobs, pool, used, count, rest)?;
     let nodes = pool.as_ref().len();
-    if !is_whole(records.in_use, nodes, *used, blobs.as_slice().len(), rest) {
+    if !is_whole(used, nodes, blobs.as_slice().len(), rest) {
         return Err(PartErr::Form);
     }
     Ok(records)
@@ -139,11 +135,14 @@ pub(crate) fn table_of(alloc: Global, bytes: &[u8]) -> Result<ReadTable, PartErr
 {
     let (count, rest) = count_of(bytes)?;
     let (blobs, rest) = fresh_blobs(alloc, count, rest)?;
-    let mut used = Some(0);
-    let (nodes, rest) = nodes_of(alloc, &blobs, &mut used, rest)?;
+    let mut in_use = Some(0);
+    let (nodes, rest) = nodes_of(alloc, &blobs, &mut in_use, rest)?;
     let pool = Rc::new(alloc, nodes.into_pool())?;
-    let records = records_of(alloc, &blobs, &mut used, &pool, rest)?;
-    let ReadRecords { table, heads, .. } = records;
+    let mut used = Used {
+        blobs: in_use,
+        nodes: Some(0),
+    };
+    let ReadRecords { table, heads } = records_of(alloc, &blobs, &pool, &mut used, rest)?;
     let table = with_contents(alloc, table, heads, pool, &blobs)?;
     Ok(table)
 }
