@@ -155,6 +155,9 @@ impl Places {
     pub fn add(&mut self, other: &Places) -> Result<(), NoMemory>
         ensures { OnOk result ((j : ℕ) → Has self.new j ↔ (Has self.old j ⊎ Has other.now j)) }
     {
+        if other.words.is_empty() {
+            return Ok(());
+        }
         self.begin(other.before)?;
         let from = other.before - self.before;
         let Some(count) = from.checked_add(other.words.len()) else {
