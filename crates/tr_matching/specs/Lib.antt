@@ -1,0 +1,13 @@
+pub mod AnswerLaws
+pub mod Answers
+pub mod Causes
+pub mod Earlier
+pub mod Groups
+pub mod Index
+pub mod Left
+pub mod Matching
+pub mod Once
+pub mod Parted
+pub mod Parting
+pub mod Places
+pub mod Steps
