@@ -1,15 +1,7 @@
 pub mod BodyLemmas
 pub mod ExactLemmas
-pub mod GenerationLemmas
-pub mod GenerationsReadLemmas
-pub mod HeadedLemmas
 pub mod InUseLemmas
-pub mod KeptBodyLemmas
-pub mod KeptPutLemmas
-pub mod KeptSealLemmas
 pub mod KeyLemmas
-pub mod KnownLemmas
-pub mod KnownPutLemmas
 pub mod LentLemmas
 pub mod NodesAgain
 pub mod NodesExact

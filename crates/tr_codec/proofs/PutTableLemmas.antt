@@ -6,12 +6,10 @@ use Rattle.rk_base.specs.Text.{Text}
 use Rattle.tr_nodes.specs.Nodes.{Node}
 use Rattle.tr_nodes.specs.Tails.{Tail, needed, node_in}
 use Rattle.tr_nodes.proofs.ReadLemmas.{nodes_again}
-use Rattle.tr_record.specs.Generations.{records}
 use Rattle.tr_record.specs.declared.records.Record.{Record}
 use Rattle.tr_record.specs.declared.steps.Step.{Step}
 use Rattle.tr_parts.specs.Piece.{Piece, plain, ◌⊕◌, each, counted, num, string, with_uses}
 use Rattle.tr_codec.specs.declared.node_pieces.NodeWriter.{NodeWriter}
-use Rattle.tr_codec.specs.KeptSpelling as latest
 use Rattle.tr_codec.specs.NodeKeys.{own_piece, key_of}
 use Rattle.tr_codec.specs.NodesPut.{Holds}
 use Rattle.tr_codec.specs.Puts.{Written, Puts, spelt_body}
@@ -72,7 +70,7 @@ module _ (tails : List (Tail Step)) (w : NodeWriter) (h : Holds tails w) where
         ∙ ap (λ l. num (length tails) ++ (nodes new.blobs ++ l)) bytes
         ∙ sym (append_assoc (num (length tails)) (nodes new.blobs) records)
 
-    body_are : spelt_body version new w.nodes.keys ≡ body version (counted (node_piece tails) tails ⊕ last)
+    pub body_are : spelt_body version new w.nodes.keys ≡ body version (counted (node_piece tails) tails ⊕ last)
     unfolding body
     body_are =
         let rest : List Text → List ℕ = λ blobs. version ++ (num (length blobs) ++ (flat_map string blobs ++ (counted (node_piece tails) tails ⊕ last).spelt blobs)) in
@@ -81,7 +79,3 @@ module _ (tails : List (Tail Step)) (w : NodeWriter) (h : Holds tails w) where
 -- the body of a table, of the nodes that it needs
 pub table_put : (w : NodeWriter) (new : Written) (table : List Record) → Holds (needed same_step (talks table)) w → Puts (counted (record_piece (needed same_step (talks table))) table) w.writer new → spelt_body magic new w.nodes.keys ≡ body magic (table_piece table)
 table_put w new table h p = let tails = needed same_step (talks table) in body_are tails w h magic new (counted (record_piece tails) table) p
-
--- and of what is kept
-pub kept_put : (w : NodeWriter) (new : Written) (kept : List (List Record)) → Holds (needed same_step (talks (records kept))) w → Puts (counted (counted (record_piece (needed same_step (talks (records kept))))) kept) w.writer new → spelt_body latest.magic new w.nodes.keys ≡ body latest.magic (latest.kept_piece kept)
-kept_put w new kept h p = let tails = needed same_step (talks (records kept)) in body_are tails w h latest.magic new (counted (counted (record_piece tails)) kept) p

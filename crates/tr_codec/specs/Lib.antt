@@ -1,8 +1,4 @@
 pub mod Fits
-pub mod Generations
-pub mod KeptReading
-pub mod KeptSpelling
-pub mod KnownPut
 pub mod Laws
 pub mod NodeKeys
 pub mod NodesPut

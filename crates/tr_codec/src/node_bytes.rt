@@ -11,7 +11,7 @@ use std::marker::Model;
 
 /// The bytes of a node, which nothing else shares: so they take no more memory than they need.
 #[derive(Debug, Drop)]
-pub(crate) struct NodeBytes {
+pub struct NodeBytes {
     bytes: Vec<u8>,
 }
 
@@ -25,7 +25,7 @@ impl Model for NodeBytes {
 
 impl NodeBytes {
     /// A copy of these bytes.
-    pub(crate) fn from_slice(alloc: Global, bytes: &[u8]) -> Result<NodeBytes, NoMemory>
+    pub fn from_slice(alloc: Global, bytes: &[u8]) -> Result<NodeBytes, NoMemory>
         ensures { IfOk result (λ b. b ≡ bytes.now) }
     {
         let bytes = Vec::from_slice(alloc, bytes)?;
@@ -33,7 +33,7 @@ impl NodeBytes {
     }
 
     /// The bytes.
-    pub(crate) fn as_slice(&self) -> &[u8]
+    pub fn as_slice(&self) -> &[u8]
         ensures { result.now ≡ self.now }
     {
         self.bytes.as_slice()

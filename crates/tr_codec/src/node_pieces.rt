@@ -21,9 +21,9 @@ use tr_record::{Step, StepList};
 /// The nodes that were put so far, each once: its own bytes are its key. The writer has their blobs, and no bytes but those of a
 /// node that is being put.
 #[derive(Drop)]
-pub(crate) struct NodeWriter {
-    pub(crate) writer: Writer,
-    pub(crate) nodes: IndexSet<NodeBytes>,
+pub struct NodeWriter {
+    pub writer: Writer,
+    pub nodes: IndexSet<NodeBytes>,
 }
 
 fn put_step(w: &mut Writer, step: &Step) -> Result<(), NoMemory>
@@ -51,7 +51,7 @@ fn lent<'a>(alloc: Global, steps: &'a StepList) -> Result<Vec<&'a Step>, NoMemor
 
 impl NodeWriter {
     /// No nodes.
-    pub(crate) fn new(alloc: Global) -> NodeWriter
+    pub fn new(alloc: Global) -> NodeWriter
         ensures { Holds [] result }
     {
         NodeWriter {
@@ -61,7 +61,7 @@ impl NodeWriter {
     }
 
     /// A step in front of those of a number. It tells the number of them all; the node is added where it is new.
-    pub(crate) fn put_node(&mut self, next: usize, step: &Step) -> Result<usize, NoMemory>
+    pub fn put_node(&mut self, next: usize, step: &Step) -> Result<usize, NoMemory>
         ensures put { IfOk result (λ number. (tails : List (Tail OneStep)) → Holds tails self.old → next ≤ length tails → IsPut tails next step.now number self.new) }
         ensures typed { OnOk result (IsTyped step.now) }
     {
@@ -75,7 +75,7 @@ impl NodeWriter {
     }
 
     /// The nodes of steps, from the last to the first. It tells their number.
-    pub(crate) fn put_talk(&mut self, alloc: Global, steps: &StepList) -> Result<usize, NoMemory>
+    pub fn put_talk(&mut self, alloc: Global, steps: &StepList) -> Result<usize, NoMemory>
         ensures holds { OnOk result ((tails : List (Tail OneStep)) → Holds tails self.old → Holds (needing same_step tails steps.now) self.new) }
         ensures number { IfOk result (λ head. (tails : List (Tail OneStep)) → Holds tails self.old → head ≡ head_in same_step (needing same_step tails steps.now) steps.now) }
         ensures typed { OnOk result (AllByRecursion IsTyped steps.now) }

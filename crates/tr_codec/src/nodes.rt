@@ -17,7 +17,7 @@ use tr_record::{Step, StepPool};
 
 /// The nodes that were read so far, and the bytes of each, by which equal ones are told.
 #[derive(Drop)]
-pub(crate) struct ReadNodes {
+pub struct ReadNodes {
     pool: StepPool,
     keys: Contents,
 }
@@ -58,7 +58,7 @@ impl ReadNodes {
     }
 
     /// The nodes alone.
-    pub(crate) fn into_pool(self) -> StepPool
+    pub fn into_pool(self) -> StepPool
         ensures { result ≡ self.pool }
     {
         let ReadNodes { pool, .. } = self;
@@ -134,7 +134,7 @@ fn so_many_nodes<'a>(
 }
 
 /// The nodes of a table, each once.
-pub(crate) fn nodes_of<'a>(
+pub fn nodes_of<'a>(
     alloc: Global,
     blobs: &Contents,
     used: &mut Option<usize>,

@@ -125,11 +125,7 @@ fn fresh_of<'a>(
 }
 
 /// The blobs of a table, each once.
-pub(crate) fn fresh_blobs(
-    alloc: Global,
-    count: u64,
-    bytes: &[u8],
-) -> Result<(Contents, &[u8]), PartErr>
+pub fn fresh_blobs(alloc: Global, count: u64, bytes: &[u8]) -> Result<(Contents, &[u8]), PartErr>
     ensures { Gives (λ x. (x.0, x.1.now)) result (many_at fresh_at count [] bytes.now) }
 {
     let mut blobs = Contents::new(alloc);

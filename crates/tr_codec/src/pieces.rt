@@ -49,11 +49,7 @@ fn put_record(w: &mut Writer, rec: &Record, head: usize) -> Result<(), NoMemory>
 }
 
 /// The records, whose steps have these numbers.
-pub(crate) fn put_records(
-    w: &mut Writer,
-    records: &[Record],
-    heads: &[usize],
-) -> Result<(), NoMemory>
+pub fn put_records(w: &mut Writer, records: &[Record], heads: &[usize]) -> Result<(), NoMemory>
     requires { length heads.now ≡ length records.now }
     ensures puts { OnOk result ((tails : List (Tail OneStep)) → heads.now ≡ map (head_in same_step tails) (talks records.now) → Puts (counted (record_piece tails) records.now) w.old w.new) }
     ensures typed { OnOk result (AllByRecursion TypedEnds records.now) }

@@ -65,7 +65,7 @@ impl ReadTable {
 }
 
 /// All texts of blobs. They are shared, not copied.
-pub(crate) fn texts_of(alloc: Global, blobs: &Contents) -> Result<Vec<Bytes>, NoMemory>
+pub fn texts_of(alloc: Global, blobs: &Contents) -> Result<Vec<Bytes>, NoMemory>
     ensures { IfOk result (λ texts. texts.items ≡ blobs.now) }
 {
     let all = blobs.as_slice();

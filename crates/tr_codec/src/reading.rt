@@ -16,7 +16,7 @@ use tr_parts::{CodecErr, Damage, PartErr, is_same, open_seal};
 
 /// The table that is spelt behind the magic, by the version that the magic names.
 #[tactic(auto, unfolding(crate::specs::Reading::body_at, crate::specs::OldReading::body_at))]
-pub(crate) fn table_in(alloc: Global, front: &[u8]) -> Result<ReadTable, PartErr>
+pub fn table_in(alloc: Global, front: &[u8]) -> Result<ReadTable, PartErr>
     requires { 4 ≤ length front.now }
     ensures { Gives (λ x. x) result (either_at front.now) }
 {

@@ -21,16 +21,16 @@ use tr_record::{StepPool, Table};
 
 /// The records of a table, and the numbers of their steps.
 #[derive(Drop)]
-pub(crate) struct ReadRecords {
-    pub(crate) table: Table,
-    pub(crate) heads: Vec<usize>,
+pub struct ReadRecords {
+    pub table: Table,
+    pub heads: Vec<usize>,
 }
 
 /// How many of the blobs and of the nodes are in use so far, unless others were skipped.
 #[derive(Drop)]
-pub(crate) struct Used {
-    pub(crate) blobs: Option<usize>,
-    pub(crate) nodes: Option<usize>,
+pub struct Used {
+    pub blobs: Option<usize>,
+    pub nodes: Option<usize>,
 }
 
 // Whether there is such a number, and its steps cost less than 2^64 turns with an exit at this cost.
@@ -73,7 +73,7 @@ fn row_of<'a>(
 }
 
 /// So many records with these blobs and nodes.
-pub(crate) fn so_many_records<'a>(
+pub fn so_many_records<'a>(
     alloc: Global,
     blobs: &Contents,
     pool: &Rc<StepPool>,
@@ -99,7 +99,7 @@ pub(crate) fn so_many_records<'a>(
 }
 
 /// Whether so many nodes and so many blobs are all in use, and nothing stands behind them.
-pub(crate) fn is_whole(used: &Used, nodes: usize, blobs: usize, rest: &[u8]) -> bool
+pub fn is_whole(used: &Used, nodes: usize, blobs: usize, rest: &[u8]) -> bool
     ensures { result ≡ (all_used used.now.nodes nodes && (all_used used.now.blobs blobs && (length rest.now == 0))) }
 {
     all_used(used.nodes, nodes) && all_read(used.blobs, blobs, rest)

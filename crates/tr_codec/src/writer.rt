@@ -16,7 +16,7 @@ use tr_parts::{push_number, push_string};
 /// The blobs that were used so far, in the order of first use, and the bytes that were put. A long text that was used before
 /// is mostly found by its mark, so that it isn't hashed again.
 #[derive(Drop)]
-pub(crate) struct Writer {
+pub struct Writer {
     blobs: Contents,
     recent: IndexMap<u64, ContentId>,
     out: Vec<u8>,
@@ -148,7 +148,7 @@ impl Writer {
 
     /// Eight bytes.
     #[tactic(auto, unfolding(tr_parts::specs::Piece::num))]
-    pub(crate) fn put_number(&mut self, n: u64) -> Result<(), NoMemory>
+    pub fn put_number(&mut self, n: u64) -> Result<(), NoMemory>
         ensures puts { OnOk result (Puts (number n) self.old self.new) }
         ensures range { n < 2 ^ 64 }
     {
@@ -199,7 +199,7 @@ impl Writer {
     }
 
     /// The magic, the blobs, the nodes, whose bytes these are, and what was put.
-    pub(crate) fn body(&self, magic: &[u8], nodes: &[NodeBytes]) -> Result<Vec<u8>, NoMemory>
+    pub fn body(&self, magic: &[u8], nodes: &[NodeBytes]) -> Result<Vec<u8>, NoMemory>
         ensures { IfOk result (λ out. out.items ≡ spelt_body magic.now self.now nodes.now) }
     {
         let alloc = *self.out.allocator();

@@ -1,7 +1,0 @@
-use Rattle.std.proofs.Common.{take}
-use Rattle.tr_record.specs.Generations.{records}
-use Rattle.tr_codec.specs.KnownPut.{RecordsPut}
-use Rattle.tr_codec.proofs.kept_writing.put_all_nodes.Given as goal
-
-abbrev pub invariant-tables : goal.invariant-tables
-invariant-tables l = RecordsPut (records (take l.k l.kept)) l.heads.items l.nodes

@@ -1,0 +1,5 @@
+pub mod Generations
+pub mod KeptReading
+pub mod KeptSpelling
+pub mod KnownPut
+pub mod Laws
