@@ -122,7 +122,7 @@ common-off e it at a c lt ne =
 -- ---- more groups
 
 pub grows-itself : (groups : List Group) → Grows groups groups
-grows-itself groups = record { more = omega arith; same = λ g h. refl; alike = λ g h. omega arith; start = λ g h. refl }
+grows-itself groups = record { more = omega arith; same = λ g h. refl; alike = λ g h. omega arith; start = λ g h. refl; known = λ g h at k. k }
 
 pub grows-on : (a b c : List Group) → Grows a b → Grows b c → Grows a c
 grows-on a b c v w = record {
@@ -130,6 +130,7 @@ grows-on a b c v w = record {
   same = λ g h. w.same g (let x = v.more in omega arith) ∙ v.same g h;
   alike = λ g h. let x = v.alike g h in let y = w.alike g (let z = v.more in omega arith) in omega arith;
   start = λ g h. w.start g (let x = v.more in omega arith) ∙ v.start g h;
+  known = λ g h at k. w.known g (let x = v.more in omega arith) at (v.known g h at k);
 }
 
 pub grows-append : (groups more : List Group) → Grows groups (groups ++ more)
@@ -138,11 +139,13 @@ grows-append groups more = record {
   same = λ g h. ap numbers_of (get_or-append groups more no_group g h);
   alike = λ g h. let x : (group_at g (groups ++ more)).alike ≡ (group_at g groups).alike = ap (λ (x : Group). x.alike) (get_or-append groups more no_group g h) in omega arith;
   start = λ g h. ap (λ (x : Group). x.start) (get_or-append groups more no_group g h);
+  known = λ g h at k. subst (IsKnown at) (sym (get_or-append groups more no_group g h)) k;
 }
 
 -- one group changes
-pub grows-set : (groups : List Group) (g : ℕ) (now : Group) → g < length groups → numbers_of now ≡ numbers_of (group_at g groups) → (group_at g groups).alike ≤ now.alike → now.start ≡ (group_at g groups).start → Grows groups (slice_set groups g now)
-grows-set groups g now h em ea es = record {
+pub grows-set : (groups : List Group) (g : ℕ) (now : Group) → g < length groups → numbers_of now ≡ numbers_of (group_at g groups) → (group_at g groups).alike ≤ now.alike → now.start ≡ (group_at g groups).start
+    → ((at : ℕ) → IsKnown at (group_at g groups) → IsKnown at now) → Grows groups (slice_set groups g now)
+grows-set groups g now h em ea es ek = record {
   more = (let n = length-set groups g now in omega arith);
   same = λ k l. elim (cases_eq k g) [
     | inl e ↦ ap (λ n. numbers_of (group_at n (slice_set groups g now))) e ∙ ap numbers_of there ∙ em ∙ ap (λ n. numbers_of (group_at n groups)) (sym e)
@@ -158,6 +161,12 @@ grows-set groups g now h em ea es = record {
   start = λ k l. elim (cases_eq k g) [
     | inl e ↦ ap (λ n. (group_at n (slice_set groups g now)).start) e ∙ ap (λ (x : Group). x.start) there ∙ es ∙ ap (λ n. (group_at n groups).start) (sym e)
     | inr ne ↦ ap (λ (x : Group). x.start) (other k ne)
+  ];
+  known = λ k l at w. elim (cases_eq k g) [
+    | inl e ↦
+        subst (λ n. IsKnown at (group_at n (slice_set groups g now))) (sym e)
+        (subst (IsKnown at) (sym there) (ek at (subst (λ n. IsKnown at (group_at n groups)) e w)))
+    | inr ne ↦ subst (IsKnown at) (sym (other k ne)) w
   ];
 }
   where

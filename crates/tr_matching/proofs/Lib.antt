@@ -7,6 +7,7 @@ pub mod LeadLemmas
 pub mod LeftLemmas
 pub mod MemberLemmas
 pub mod NextLemmas
+pub mod NumberLemmas
 pub mod OnceLemmas
 pub mod PartingLemmas
 pub mod PutLemmas

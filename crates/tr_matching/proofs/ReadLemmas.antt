@@ -5,8 +5,9 @@ use Rattle.std.proofs.Math.ListN.{get_or-append}
 use Rattle.std.proofs.lemmas.List.{get_or_default, get_or-set_same, set-get_or}
 use Rattle.tr_matching.specs.declared.group.Group.{Group}
 use Rattle.tr_matching.specs.Earlier.{EarlierRecords}
-use Rattle.tr_matching.specs.Groups.{AreGroups, Grows, IsCommon, IsGroup, group_at, no_group, numbers_of}
+use Rattle.tr_matching.specs.Groups.{AreGroups, Grows, IsCommon, IsGroup, IsKnown, group_at, no_group, numbers_of}
 use Rattle.tr_matching.proofs.GroupLemmas.{grows-itself, grows-set, groups-set}
+use Rattle.tr_matching.proofs.KnownLemmas.{known-more}
 
 module _ (e : EarlierRecords) (groups : List Group) (g : ℕ) (it : Group) (a : AreGroups e groups) (h : g < length groups) (read : it ≡ get_or groups g it) where
   pub read-is : it ≡ group_at g groups
@@ -26,6 +27,7 @@ module _ (e : EarlierRecords) (groups : List Group) (g : ℕ) (it : Group) (a : 
         grows-set groups g now h (numbers ∙ ap numbers_of read-is)
         (let x : it.alike ≡ (group_at g groups).alike = ap (λ (y : Group). y.alike) read-is in omega arith)
         (start ∙ ap (λ (y : Group). y.start) read-is)
+        (λ at k. known-more it now unknown alike at (subst (IsKnown at) (sym read-is) k))
 
     pub looked-groups : AreGroups e (slice_set groups g now)
     looked-groups =

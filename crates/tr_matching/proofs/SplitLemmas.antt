@@ -20,6 +20,7 @@ use Rattle.tr_matching.specs.Steps.{no_step, step, step_at}
 use Rattle.tr_matching.proofs.EachLemmas.{each-both, each-map, each-to_filter}
 use Rattle.tr_matching.proofs.FilterLemmas.{answered-tells, of-first}
 use Rattle.tr_matching.proofs.GroupLemmas.{begin-same, grows-append, grows-on, grows-set, groups-set, split-grows}
+use Rattle.tr_matching.proofs.KnownLemmas.{known-same}
 use Rattle.tr_matching.proofs.MemberLemmas.{each-numbers, some-numbers}
 use Rattle.tr_matching.proofs.NextLemmas.{next_step}
 
@@ -142,6 +143,9 @@ module _ (e : EarlierRecords) (groups : List Group) (g : ℕ) (now : Group) (mor
       let z : now.alike ≡ (group_at g groups).alike = ap (λ (y : Group). y.alike) from in
       omega arith)
       (ap (λ (y : Group). y.start) from ∙ sym (ap (λ (y : Group). y.start) (front g h)))
+      (known-same (group_at g (groups ++ more.groups.items)) now
+      (ap (λ (y : Group). y.alike) from ∙ sym (ap (λ (y : Group). y.alike) (front g h)))
+      (ap (λ (y : Group). y.agreed) from ∙ sym (ap (λ (y : Group). y.agreed) (front g h))))
 
   pub parted-grows : Grows groups (slice_set (groups ++ more.groups.items) g now)
   parted-grows = grows-on groups (groups ++ more.groups.items) (slice_set (groups ++ more.groups.items) g now) (grows-append groups more.groups.items) set-grows

@@ -1,18 +1,21 @@
 -- Commands at places among groups.
-use Rattle.std.proofs.Common.{◌≡◌, ◌≢◌, ℕ, zero, suc, ◌<◌, true, false, List, [], ◌∷◌, length, take, refl, sym, ◌∙◌, ap, subst, arith}
+use Rattle.std.proofs.Common.{◌≡◌, ◌≢◌, ℕ, ◌+◌, ◌<◌, true, false, List, [], ◌∷◌, ◌++◌, length, take, refl, sym, ◌∙◌, ap, subst, arith, inl, inr, length-append}
+use Rattle.std.proofs.Math.ListN.{get_or-append}
+use Rattle.std.proofs.Math.Seq.{get_or-append_seam}
+use Rattle.std.proofs.lemmas.Bool.{cases_lt}
 use Rattle.tr_record.specs.Rec.{rec_at}
 use Rattle.tr_matching.specs.declared.group.Group.{Group}
 use Rattle.tr_matching.specs.declared.member.Member.{Member}
 use Rattle.tr_matching.specs.declared.next.Next.{Next}
 use Rattle.tr_matching.specs.declared.next.Next.TheVariants.{Asks, Ends, Torn}
 use Rattle.tr_matching.specs.Earlier.{EarlierRecords, IsRest}
-use Rattle.tr_matching.specs.Groups.{AreGroups, AreMembers, BeginAlike, IsCommon, IsKnown, first_of, numbers_in, numbers_of}
+use Rattle.tr_matching.specs.Groups.{AreGroups, AreMembers, BeginAlike, Grows, IsCommon, IsGroup, IsKnown, first_of, group_at, no_group, numbers_in, numbers_of}
 use Rattle.tr_matching.specs.Left.{next_at}
 use Rattle.tr_matching.specs.Matching.{AllSay, head_of}
 use Rattle.tr_matching.specs.Places.{IsBegun, IsNext, IsNextOf}
 use Rattle.tr_matching.proofs.EachLemmas.{each-all}
 use Rattle.tr_matching.proofs.FilterLemmas.{of-first}
-use Rattle.tr_matching.proofs.GroupLemmas.{known-say}
+use Rattle.tr_matching.proofs.GroupLemmas.{grows-append, known-say, split-grows}
 use Rattle.tr_matching.proofs.MemberLemmas.{some-numbers}
 
 -- ---- the first group
@@ -26,15 +29,36 @@ module _ (e : EarlierRecords) (it : Group) (some : it.members ≢ []) (zero_alik
     agreed = λ z. absurd (let f : false ≡ true = sym unknown ∙ z in cc);
   }
 
-  one : AreGroups e (it ∷ [])
-  one zero h = record { common = first-common; split = λ z. absurd (let f : false ≡ true = sym whole ∙ z in cc) }
-  one (suc g) h = absurd (omega arith)
+  first-is : (groups : List Group) → IsGroup e groups it
+  first-is groups = record { common = first-common; split = λ z. absurd (let f : false ≡ true = sym whole ∙ z in cc) }
 
-  pub first-groups : (groups : List Group) → groups ≡ it ∷ [] → AreGroups e groups
-  first-groups groups q = subst (AreGroups e) (sym q) one
+  -- behind other groups
+  with-first : (groups : List Group) → AreGroups e groups → AreGroups e (groups ++ it ∷ [])
+  with-first groups are g h = elim (cases_lt g (length groups)) [
+    | inl lt ↦
+        let was = are g lt in
+        subst (IsGroup e (groups ++ it ∷ [])) (sym (get_or-append groups (it ∷ []) no_group g lt))
+        (record { common = was.common; split = λ z. let s = was.split z in (s.0, split-grows e groups (groups ++ it ∷ []) (group_at g groups) (grows-append groups (it ∷ [])) s.1) })
+    | inr ge ↦
+        let last : g ≡ length groups = (let n = length-append groups (it ∷ []) in omega arith) in
+        subst (IsGroup e (groups ++ it ∷ [])) (sym (ap (λ n. group_at n (groups ++ it ∷ [])) last ∙ get_or-append_seam groups it [] no_group)) (first-is (groups ++ it ∷ []))
+  ]
 
-pub first-begun : (e : EarlierRecords) (groups : List Group) (it : Group) → groups ≡ it ∷ [] → IsRest e (first_of it) 0 it.start → IsBegun e groups
-first-begun e groups it q r = subst (IsBegun e) (sym q) (omega arith, r)
+  pub first-groups : (groups now : List Group) → AreGroups e groups → now ≡ groups ++ it ∷ [] → AreGroups e now
+  first-groups groups now are q = subst (AreGroups e) (sym q) (with-first groups are)
+
+pub first-grows : (groups now : List Group) (it : Group) → now ≡ groups ++ it ∷ [] → Grows groups now
+first-grows groups now it q = subst (Grows groups) (sym q) (grows-append groups (it ∷ []))
+
+-- the last group
+pub first-last : (groups now : List Group) (it : Group) (g : ℕ) → now ≡ groups ++ it ∷ [] → g ≡ length groups → group_at g now ≡ it
+first-last groups now it g q n = ap (λ (l : List Group). group_at g l) q ∙ ap (λ n. group_at n (groups ++ it ∷ [])) n ∙ get_or-append_seam groups it [] no_group
+
+pub first-begun : (e : EarlierRecords) (groups now : List Group) (it : Group) (g : ℕ) → now ≡ groups ++ it ∷ [] → g ≡ length groups → IsRest e (first_of it) 0 it.start → IsBegun e now g
+first-begun e groups now it g q n r = (
+  (let long : length now ≡ length groups + 1 = ap length q ∙ length-append groups (it ∷ []) in omega arith),
+  subst (λ (y : Group). IsRest e (first_of y) 0 y.start) (sym (first-last groups now it g q n)) r,
+)
 
 -- the first of some members is a record
 pub first-in : (e : EarlierRecords) (at : ℕ) (ms : List Member) → ms ≢ [] → AreMembers e at ms → head_of (numbers_in ms) < length e.records

@@ -99,9 +99,10 @@ pub record IsGroup (e : EarlierRecords) (groups : List Group) (it : Group) : Typ
 abbrev pub AreGroups : EarlierRecords → List Group → Type 0
 AreGroups e groups = (g : ℕ) → g < length groups → IsGroup e groups (group_at g groups)
 
--- there are more groups, and those that there were have their records still, and no less in common
+-- there are more groups; those that there were have their records still, and no less in common, and what was known is so still
 pub record Grows (before now : List Group) : Type 0 where
   pub more : length before ≤ length now
   pub same : (g : ℕ) → g < length before → numbers_of (group_at g now) ≡ numbers_of (group_at g before)
   pub alike : (g : ℕ) → g < length before → (group_at g before).alike ≤ (group_at g now).alike
   pub start : (g : ℕ) → g < length before → (group_at g now).start ≡ (group_at g before).start
+  pub known : (g : ℕ) → g < length before → (at : ℕ) → IsKnown at (group_at g before) → IsKnown at (group_at g now)

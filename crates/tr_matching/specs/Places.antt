@@ -40,9 +40,9 @@ pub record IsAt (e : EarlierRecords) (groups : List Group) (place : Place) : Typ
   pub within : place.at ≤ (group_at place.group groups).alike
   pub rest : IsRest e (first_of (group_at place.group groups)) place.at place.rest
 
--- The first group begins behind no step.
-abbrev pub IsBegun : EarlierRecords → List Group → Type 0
-IsBegun e groups = (0 < length groups) × IsRest e (first_of (group_at 0 groups)) 0 (group_at 0 groups).start
+-- The group of this number begins behind no step.
+abbrev pub IsBegun : EarlierRecords → List Group → ℕ → Type 0
+IsBegun e groups g = (g < length groups) × IsRest e (first_of (group_at g groups)) 0 (group_at g groups).start
 
 -- behind an answer: the place of those that were answered so; where none was, why the records are given up
 abbrev pub TakesOn : EarlierRecords → ℕ → List ℕ → Answer → List Group → Taken → Type 0

@@ -1,11 +1,16 @@
 // What is kept of earlier builds.
-ghost use Rattle.std.specs.Prelude.{◌≡◌, ◌+◌, ◌<◌, ◌≤◌, ◌^◌, IfSome, IfNone, length};
+ghost use Rattle.std.specs.Prelude.{◌≡◌, ◌+◌, ◌<◌, ◌≤◌, ◌^◌, IfOk, IfSome, IfNone, length};
 ghost use Rattle.tr_record.specs.Contents.{AreContents};
 ghost use Rattle.tr_record.specs.Generations.{records};
+ghost use Rattle.tr_record.specs.Places.{places_of};
 ghost use Rattle.tr_record.specs.Rec.{rec_at};
 ghost use Rattle.tr_matching.specs.Earlier.{IsRest};
 ghost use Rattle.tr_matching.specs.Steps.{step_at};
 
+use crate::numbers::numbers_of;
+use rk_base::NoMemory;
+use rk_calls::Key;
+use std::alloc::Global;
 use std::marker::Model;
 use tr_record::{Kept, Record, RecordedContents, Step};
 
@@ -31,6 +36,21 @@ impl<'a> Earlier<'a> {
         ensures { result ≡ record { records = records kept.now; contents = contents.now } }
     {
         Earlier { kept, contents }
+    }
+
+    /// The contents and the nodes of the records' steps.
+    pub fn contents(&self) -> &'a RecordedContents
+        ensures { result.now ≡ self.now.contents }
+    {
+        self.contents
+    }
+
+    /// The numbers of the records of a key, ascending.
+    pub fn numbers(&self, alloc: Global, key: &Key) -> Result<Vec<usize>, NoMemory>
+        ensures { IfOk result (λ numbers. numbers.items ≡ places_of key.now self.now.records) }
+    {
+        let numbers = numbers_of(alloc, self.kept, key)?;
+        Ok(numbers)
     }
 
     /// The record of this number.

@@ -10,6 +10,7 @@ mod group;
 mod groups;
 mod member;
 mod next;
+mod numbers;
 mod part_index;
 mod parting;
 mod place;
@@ -17,7 +18,7 @@ mod talks;
 
 pub use cause::Cause;
 pub use earlier::Earlier;
-pub use first::first_groups;
+pub use first::{first_group, first_place};
 pub use group::Group;
 pub use member::{Member, MemberList};
 pub use next::Next;

@@ -1,12 +1,12 @@
 // What the records at a place have next, and where an answer leads.
-ghost use Rattle.std.specs.Prelude.{◌≡◌, ◌⊎◌, ◌+◌, ◌<◌, ◌^◌, true, length, IfOk, IfSome, IfNone};
+ghost use Rattle.std.specs.Prelude.{◌≡◌, ◌↔◌, ◌⊎◌, ◌+◌, ◌<◌, ◌^◌, true, length, IfOk, IfSome, IfNone, IsTrue};
 ghost use Rattle.tr_record.specs.Rec.{rec_at};
 ghost use Rattle.tr_matching.specs.declared.cause.Cause.TheVariants.{Differs};
 ghost use Rattle.tr_matching.specs.declared.place.Taken.TheVariants.{GivenUp, On};
 ghost use Rattle.tr_matching.specs.Earlier.{IsRest};
 ghost use Rattle.tr_matching.specs.Groups.{AreGroups, Grows, IsKnown, first_of, group_at, numbers_of};
 ghost use Rattle.tr_matching.specs.Places.{IsAt, IsNext, IsTorn, TakesOn};
-ghost use Rattle.tr_matching.specs.Steps.{step_at};
+ghost use Rattle.tr_matching.specs.Steps.{answer_at, step_at};
 
 use crate::group::Group;
 use crate::groups::{group_of, know, lead, split};
@@ -65,22 +65,36 @@ fn given_up(number: usize, step: &Step, answer: &Answer) -> Result<Taken, NoMemo
     Ok(Taken::GivenUp(cause))
 }
 
-/// Where an answer to a step that all records at a place have in common leads: on, or nowhere. One of them is looked at.
+// Whether a step is answered as recorded, which may be told already.
+fn is_recorded(recorded: &Answer, answer: &Answer, alike: Option<bool>) -> bool
+    requires { IfSome alike (λ b. IsTrue b ↔ (recorded.now ≡ answer.now)) }
+    ensures { IsTrue result ↔ (recorded.now ≡ answer.now) }
+{
+    match alike {
+        Some(alike) => alike,
+        None => same_answer(recorded, answer),
+    }
+}
+
+/// Where an answer to a step that all records at a place have in common leads: on, or nowhere. One of them is looked at; whether it
+/// was answered so may be told already.
 pub(crate) fn take_common(
     earlier: &Earlier,
     groups: &Vec<Group>,
     place: Place,
     answer: &Answer,
+    alike: Option<bool>,
 ) -> Result<Taken, NoMemory>
     requires groups { AreGroups earlier.now groups.now.items }
     requires at { IsAt earlier.now groups.now.items place }
     requires common { place.at < (group_at place.group groups.now.items).alike }
     requires asks { place.at < length (rec_at (first_of (group_at place.group groups.now.items)) earlier.now.records).steps }
+    requires alike { IfSome alike (λ b. IsTrue b ↔ (answer_at earlier.now.records place.at (first_of (group_at place.group groups.now.items)) ≡ answer.now)) }
     ensures { IfOk result (TakesOn earlier.now place.at (numbers_of (group_at place.group groups.now.items)) answer.now groups.now.items) }
 {
     let step = first_step(earlier, groups, place);
     let next = place.at + 1;
-    if same_answer(&step.answer, answer) {
+    if is_recorded(&step.answer, answer, alike) {
         let rest = first_rest(earlier, groups, place);
         return Ok(Taken::On(Place {
             group: place.group,
@@ -133,7 +147,7 @@ pub(crate) fn take_part(
 }
 
 /// Where an answer to what is next at a place leads: to the place of those records that were answered so; where none was, it is told
-/// why they are given up.
+/// why they are given up. Whether the first of them was answered so may be told already.
 #[tactic(auto, using(crate::proofs::ReadLemmas::grows_same))]
 pub fn take(
     alloc: Global,
@@ -141,17 +155,19 @@ pub fn take(
     groups: &mut Vec<Group>,
     place: Place,
     answer: &Answer,
+    alike: Option<bool>,
 ) -> Result<Taken, NoMemory>
     requires groups { AreGroups earlier.now groups.old.items }
     requires at { IsAt earlier.now groups.old.items place }
     requires known { IsKnown place.at (group_at place.group groups.old.items) }
     requires asks { place.at < length (rec_at (first_of (group_at place.group groups.old.items)) earlier.now.records).steps }
+    requires alike { IfSome alike (λ b. IsTrue b ↔ (answer_at earlier.now.records place.at (first_of (group_at place.group groups.old.items)) ≡ answer.now)) }
     ensures groups { AreGroups earlier.now groups.new.items }
     ensures grows { Grows groups.old.items groups.new.items }
     ensures taken { IfOk result (TakesOn earlier.now place.at (numbers_of (group_at place.group groups.old.items)) answer.now groups.new.items) }
 {
     if place.at < group_of(groups, place.group).alike {
-        let taken = take_common(earlier, groups, place, answer)?;
+        let taken = take_common(earlier, groups, place, answer, alike)?;
         return Ok(taken);
     }
     let taken = take_part(alloc, earlier, groups, place, answer)?;

@@ -10,6 +10,7 @@ take_common-requires c = record {
   at = c.requires.at;
   common = (let same = ap (λ (y : Group). y.alike) c.group_of.ensures in omega arith);
   asks = c.requires.asks;
+  alike = c.requires.alike;
 }
 
 pub take_part-requires : goal.take_part-requires
