@@ -1,0 +1,11 @@
+pub mod Exchange
+pub mod Listing
+pub mod Sorting
+pub mod PlacedLemmas
+pub mod Rounds
+pub mod InWaves
+pub mod Lawful
+pub mod GreatestLemmas
+pub mod LeastLemmas
+pub mod NotedLemmas
+pub mod NumberedLemmas

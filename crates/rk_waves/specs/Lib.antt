@@ -1,0 +1,11 @@
+pub mod Tests
+pub mod System
+pub mod Goes
+pub mod Waves
+pub mod Programs
+pub mod CellNumbers
+pub mod Pieces
+pub mod Table
+pub mod Tells
+pub mod Least
+pub mod Numbered
