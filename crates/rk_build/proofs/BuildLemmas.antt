@@ -17,6 +17,7 @@ use Rattle.rk_kernel.specs.World.{World}
 use Rattle.rk_replay.specs.declared.ran.Ran.{Ran}
 use Rattle.rk_traces.specs.Run.{Outcome as Run}
 use Rattle.rk_traces.specs.Spoken.{AreSpoken}
+use Rattle.tr_record.specs.Generations.{records}
 use Rattle.rk_request.specs.Asked.{turns, is_fresh}
 use Rattle.rk_request.specs.declared.requests.Request.{Request}
 use Rattle.rk_build.specs.Outcomes.{Checked, outcome_of_stop, IfSpecial, IfDamaged, IfForged, EndsSo, EndsWith, HasStatus, Tallies, IsLeft, RanSo, StartsBoth, Leaves, FolderCounts, PartlyInstalled, StoppedAt, Tried, Halts, GainsAll, Gains, GainsErrors, InOrder, Counts, Counted, ErrorsCounted, Ticked}
@@ -31,8 +32,9 @@ use Rattle.rk_build.specs.Kept.{Keeping, IsDamaged, state_in, decoded}
 use Rattle.rk_build.specs.declared.stop.Refusal.TheVariants as refusal
 use Rattle.rk_build.specs.declared.outcome.Outcome.{Outcome}
 use Rattle.rk_build.specs.declared.outcome.Outcome.TheVariants as out
-use Rattle.rk_build.specs.declared.build.Ended.{Ended}
+use Rattle.rk_build.specs.declared.work.Ended.{Ended}
 use Rattle.rk_build.proofs.CheckLemmas.{both-cut}
+use Rattle.rk_build.proofs.PushedLemmas.{pushed-spoken}
 use Rattle.rk_build.specs.declared.work.Prepared.{Prepared}
 use Rattle.rk_build.specs.declared.stop.BuildErr.{BuildErr}
 use Rattle.rk_build.specs.declared.stop.BuildErr.TheVariants as stop
@@ -120,15 +122,15 @@ put-leaves first request told new b n text o m stop.NoMemory p same = inl same
 
 -- of the text that the run has over spoken records
 abbrev pub IsTextOf : (KeyValue → Says) → Request → RunText → Option Held → Text → Type 0
-IsTextOf first request text told it = IfSome told (λ held. Keeping (is_fresh request) held (λ entries kept. AreSpoken first kept → it ≡ text request kept (fresh_run first request entries)))
+IsTextOf first request text told it = IfSome told (λ held. Keeping (is_fresh request) held (λ entries kept. AreSpoken first (records kept) → it ≡ text request kept (fresh_run first request entries)))
 
-pub output-told : (first : KeyValue → Says) (request : Request) (told : Option Held) (before now : ℕ) (p : Prepared) → IfSome told (λ held. IsPrepared first request held before now p) → IsTextOf first request output_of told p.finished.world.out
+pub output-told : (first : KeyValue → Says) (request : Request) (told : Option Held) (before now : ℕ) (p : Prepared) → IfSome told (λ held. IsPrepared first request held before now p) → IsTextOf first request output_of told p.world.out
 output-told first request None before now p is = tt
 output-told first request (Some held) before now p is = record { plain = is.plain; rows = is.rows; old = is.old; kept = is.kept; so = λ spoken. is.out ∙ sym (ap (output_of request is.old) (is.run.ends spoken).1) }
 
 pub error_text-told : (first : KeyValue → Says) (request : Request) (told : Option Held) (before now : ℕ) (p : Prepared) → IfSome told (λ held. IsPrepared first request held before now p) → IsTextOf first request error_text_of told p.error_text
 error_text-told first request None before now p is = tt
-error_text-told first request (Some held) before now p is = record { plain = is.plain; rows = is.rows; old = is.old; kept = is.kept; so = λ spoken. is.text ∙ ap (λ (ran : List Ran). is.world.err ++ explanation request ran (length p.finished.built.table)) is.replay.ran ∙ sym (ap (error_text_of request is.old) (is.run.ends spoken).1) }
+error_text-told first request (Some held) before now p is = record { plain = is.plain; rows = is.rows; old = is.old; kept = is.kept; so = λ spoken. is.text ∙ ap (λ (ran : List Ran). is.world.err ++ explanation request ran (length is.built.table)) is.replay.ran ∙ sym (ap (error_text_of request is.old) (is.run.ends spoken).1) }
 
 -- of a text that is the same
 pub text-told : (first : KeyValue → Says) (request : Request) (text : RunText) (told : Option Held) (it out : Text) → it ≡ out → IsTextOf first request text told out → IsTextOf first request text told it
@@ -189,12 +191,12 @@ put-ticked request before now text old new stop.ReadFault p most = most
 put-ticked request before now text old new stop.WriteFault p most = most
 put-ticked request before now text old new stop.NoMemory p most = most
 
-pub left : (first : KeyValue → Says) (request : Request) (held : Held) (before now : ℕ) (p : Prepared) → (is : IsPrepared first request held before now p) → AreSpoken first is.old → IsLeft (fresh_run first request (with_rows (snapshot_of held) is.rows)) is.world p.finished.built.table
+pub left : (first : KeyValue → Says) (request : Request) (held : Held) (before now : ℕ) (p : Prepared) → (is : IsPrepared first request held before now p) → AreSpoken first (records is.old) → IsLeft (fresh_run first request (with_rows (snapshot_of held) is.rows)) is.world is.built.table
 left first request held before now p is spoken =
-    subst (λ (r : Run World). IsLeft r is.world p.finished.built.table) (sym (is.run.ends spoken).1) (refl, refl)
+    subst (λ (r : Run World). IsLeft r is.world is.built.table) (sym (is.run.ends spoken).1) (refl, refl)
 
 -- so many commands ran
-ran-so : (first : KeyValue → Says) (request : Request) (told : Option Held) (before now : ℕ) (p : Prepared) → IfSome told (λ held. IsPrepared first request held before now p) → RanSo first request told (length p.finished.built.ran)
+ran-so : (first : KeyValue → Says) (request : Request) (told : Option Held) (before now : ℕ) (p : Prepared) → IfSome told (λ held. IsPrepared first request held before now p) → RanSo first request told (length p.ended.ran)
 ran-so first request None before now p is = tt
 ran-so first request (Some held) before now p is = record {
   plain = is.plain;
@@ -203,27 +205,27 @@ ran-so first request (Some held) before now p is = record {
   kept = is.kept;
   so = record {
     world = is.world;
-    table = p.finished.built.table;
+    table = is.built.table;
     is_left = λ spoken. left first request held before now p is spoken;
-    count = ap (λ (ran : List Ran). length ran) is.replay.ran;
+    count = ap (λ (e : Ended). length e.ran) is.ended ∙ ap (λ (ran : List Ran). length ran) is.replay.ran;
   };
 }
 
-pub put-starts : (first : KeyValue → Says) (request : Request) (told : Option Held) (live late before now : ℕ) (p : Prepared) (text : Text) (old new : SinkState) (e : BuildErr) → IfSome told (λ held. IsPrepared first request held live late p) → PutsOutput {T = Unit {0}} text old new (Err e) → length p.finished.built.ran ≤ turns request + 1 → StartsBoth request told before now (length p.finished.built.ran) → StartsSo {T = Ended} (λ e. length e.ran) first request told before now (Err e)
+pub put-starts : (first : KeyValue → Says) (request : Request) (told : Option Held) (live late before now : ℕ) (p : Prepared) (text : Text) (old new : SinkState) (e : BuildErr) → IfSome told (λ held. IsPrepared first request held live late p) → PutsOutput {T = Unit {0}} text old new (Err e) → length p.ended.ran ≤ turns request + 1 → StartsBoth request told before now (length p.ended.ran) → StartsSo {T = Ended} (λ e. length e.ran) first request told before now (Err e)
 put-starts first request told live late before now p text old new (stop.Refused refusal) is put few starts = absurd put
 put-starts first request told live late before now p text old new (stop.Forged rec step) is put few starts = absurd put
 put-starts first request told live late before now p text old new stop.Spent is put few starts = absurd put
 put-starts first request told live late before now p text old new stop.ReadFault is put few starts = absurd put
-put-starts first request told live late before now p text old new stop.WriteFault is put few starts = (length p.finished.built.ran, (ran-so first request told live late p is, starts))
-put-starts first request told live late before now p text old new stop.NoMemory is put few starts = both-cut request told before now (length p.finished.built.ran) starts few
+put-starts first request told live late before now p text old new stop.WriteFault is put few starts = (length p.ended.ran, (ran-so first request told live late p is, starts))
+put-starts first request told live late before now p text old new stop.NoMemory is put few starts = both-cut request told before now (length p.ended.ran) starts few
 
-pub install-starts : (first : KeyValue → Says) (request : Request) (told h k : Option Held) (plan : Plan) (live late before now : ℕ) (p : Prepared) (e : BuildErr) → IfSome told (λ held. IsPrepared first request held live late p) → InstallsSo {T = Unit {0}} plan h k (Err e) → length p.finished.built.ran ≤ turns request + 1 → StartsBoth request told before now (length p.finished.built.ran) → StartsSo {T = Ended} (λ e. length e.ran) first request told before now (Err e)
+pub install-starts : (first : KeyValue → Says) (request : Request) (told h k : Option Held) (plan : Plan) (live late before now : ℕ) (p : Prepared) (e : BuildErr) → IfSome told (λ held. IsPrepared first request held live late p) → InstallsSo {T = Unit {0}} plan h k (Err e) → length p.ended.ran ≤ turns request + 1 → StartsBoth request told before now (length p.ended.ran) → StartsSo {T = Ended} (λ e. length e.ran) first request told before now (Err e)
 install-starts first request told h k plan live late before now p (stop.Refused refusal) is part few starts = absurd part
 install-starts first request told h k plan live late before now p (stop.Forged rec step) is part few starts = absurd part
 install-starts first request told h k plan live late before now p stop.Spent is part few starts = absurd part
 install-starts first request told h k plan live late before now p stop.ReadFault is part few starts = absurd part
-install-starts first request told h k plan live late before now p stop.WriteFault is part few starts = (length p.finished.built.ran, (ran-so first request told live late p is, starts))
-install-starts first request told h k plan live late before now p stop.NoMemory is part few starts = both-cut request told before now (length p.finished.built.ran) starts few
+install-starts first request told h k plan live late before now p stop.WriteFault is part few starts = (length p.ended.ran, (ran-so first request told live late p is, starts))
+install-starts first request told h k plan live late before now p stop.NoMemory is part few starts = both-cut request told before now (length p.ended.ran) starts few
 
 -- A call of the installation failed.
 
@@ -241,8 +243,10 @@ partly first request (Some held) new before now p e is stops clean = record {
   kept = is.kept;
   so = record {
     world = is.world;
-    table = p.finished.built.table;
+    table = is.built.table;
     is_left = λ spoken. left first request held before now p is spoken;
+    kept = is.left;
+    pushed = is.pushed;
     readable = is.readable;
     plan = p.plan;
     is_plan = is.plan;
@@ -320,40 +324,42 @@ install-ticked request h k plan before now stop.NoMemory part most = most
 
 -- All went well.
 
-ended : (first : KeyValue → Says) (request : Request) (held : Held) (before now : ℕ) (p : Prepared) (new : Option Held) → (is : IsPrepared first request held before now p) → new ≡ Some (carried p.plan held) → AreSpoken first is.old → EndsSo first (fresh_run first request (with_rows (snapshot_of held) is.rows)) held new
+ended : (first : KeyValue → Says) (request : Request) (held : Held) (before now : ℕ) (p : Prepared) (new : Option Held) → (is : IsPrepared first request held before now p) → new ≡ Some (carried p.plan held) → AreSpoken first (records is.old) → EndsSo first (fresh_run first request (with_rows (snapshot_of held) is.rows)) is.old held new
 ended first request held before now p new is same spoken =
-    subst (λ (r : Run World). EndsSo first r held new) (sym (is.run.ends spoken).1)
-    (record { spoken = is.run.spoken spoken; fits = is.fits spoken; installed = record { after = carried p.plan held; told = same; is_after = is.leads; readable = is.readable }; next = is.next spoken })
+    subst (λ (r : Run World). EndsSo first r is.old held new) (sym (is.run.ends spoken).1)
+    (record { kept = is.left; pushed = is.pushed; spoken = pushed-spoken first is.built.table is.old is.left is.pushed (is.run.spoken spoken) spoken; fits = is.fits spoken; installed = record { after = carried p.plan held; told = same; is_after = is.leads; readable = is.readable }; next = is.next spoken })
 
 pub end-leaves : (first : KeyValue → Says) (request : Request) (told new : Option Held) (before now : ℕ) (b n : FolderCounts) (p : Prepared) (status launched ran : ℕ) → IfSome told (λ held. IsPrepared first request held before now p) → new ≡ option_map (carried p.plan) told → Leaves first request told new b n (out.Ended status launched ran)
 end-leaves first request None new before now b n p status launched ran is same = tt
 end-leaves first request (Some held) new before now b n p status launched ran is same =
     record { plain = is.plain; rows = is.rows; old = is.old; kept = is.kept; so = λ spoken. ended first request held before now p new is same spoken }
 
-pub end-status : (first : KeyValue → Says) (request : Request) (told : Option Held) (before now : ℕ) (p : Prepared) → IfSome told (λ held. IsPrepared first request held before now p) → HasStatus first request told p.finished.built.status
+pub end-status : (first : KeyValue → Says) (request : Request) (told : Option Held) (before now : ℕ) (p : Prepared) → IfSome told (λ held. IsPrepared first request held before now p) → HasStatus first request told p.ended.status
 end-status first request None before now p is = tt
 end-status first request (Some held) before now p is =
-    record { plain = is.plain; rows = is.rows; old = is.old; kept = is.kept; so = λ spoken. subst (λ (r : Run World). EndsWith r p.finished.built.status) (sym (is.run.ends spoken).1) refl }
+    record { plain = is.plain; rows = is.rows; old = is.old; kept = is.kept; so = λ spoken. subst (λ (r : Run World). EndsWith r p.ended.status) (sym (is.run.ends spoken).1) (ap (λ (e : Ended). e.status) is.ended) }
 
 -- where every record was to be checked, each is spoken
 pub end-checked : (first : KeyValue → Says) (request : Request) (told : Option Held) (before now : ℕ) (p : Prepared) → IfSome told (λ held. IsPrepared first request held before now p) → Checked first request told
 end-checked first request None before now p is = tt
 end-checked first request (Some held) before now p is = record { plain = is.plain; rows = is.rows; old = is.old; kept = is.kept; so = is.checked }
 
-pub end-tally : (first : KeyValue → Says) (request : Request) (told new : Option Held) (before now : ℕ) (p : Prepared) (launched : ℕ) → IfSome told (λ held. IsPrepared first request held before now p) → new ≡ option_map (carried p.plan) told → launched ≡ length p.finished.built.table → Tallies first request told new before now launched (length p.finished.built.ran)
-end-tally first request None new before now p launched is same number = tt
-end-tally first request (Some held) new before now p launched is same number = record {
+pub end-tally : (first : KeyValue → Says) (request : Request) (told new : Option Held) (before now : ℕ) (p : Prepared) → IfSome told (λ held. IsPrepared first request held before now p) → new ≡ option_map (carried p.plan) told → Tallies first request told new before now p.ended.launched (length p.ended.ran)
+end-tally first request None new before now p is same = tt
+end-tally first request (Some held) new before now p is same = record {
   plain = is.plain;
   rows = is.rows;
   old = is.old;
   kept = is.kept;
   so = record {
     world = is.world;
-    table = p.finished.built.table;
+    table = is.built.table;
     is_left = λ spoken. left first request held before now p is spoken;
+    kept = is.left;
+    pushed = is.pushed;
     installed = record { after = carried p.plan held; told = same; is_after = is.leads; readable = is.readable };
-    launched = number;
-    ran = ap (λ (ran : List Ran). length ran) is.replay.ran;
+    launched = ap (λ (e : Ended). e.launched) is.ended;
+    ran = ap (λ (e : Ended). length e.ran) is.ended ∙ ap (λ (ran : List Ran). length ran) is.replay.ran;
     paid = is.replay.ticked;
   };
 }
@@ -389,7 +395,7 @@ damaged-first first request told new b n out.ReadFault l = tt
 damaged-first first request told new b n out.WriteFault l = tt
 damaged-first first request told new b n out.NoMemory l = tt
 
-pub forged-so : (first : KeyValue → Says) (request : Request) (told new : Option Held) (b n : FolderCounts) (outcome : Outcome) → Leaves first request told new b n outcome → IfForged outcome (λ rec step. IfSome told (λ held. Keeping (is_fresh request) held (λ entries old. TellsForged first request old rec step)))
+pub forged-so : (first : KeyValue → Says) (request : Request) (told new : Option Held) (b n : FolderCounts) (outcome : Outcome) → Leaves first request told new b n outcome → IfForged outcome (λ rec step. IfSome told (λ held. Keeping (is_fresh request) held (λ entries old. TellsForged first request (records old) rec step)))
 forged-so first request told new b n (out.Forged rec step) l = l.1
 forged-so first request told new b n (out.Ended status launched ran) l = tt
 forged-so first request told new b n out.Usage l = tt

@@ -7,7 +7,7 @@ use Rattle.rk_folder.specs.Told.{Held}
 use Rattle.rk_request.specs.declared.requests.Request.{Request}
 use Rattle.rk_build.specs.Stages.{StartsSo}
 use Rattle.rk_build.specs.Texts.{IsNoFault as IsNoStop}
-use Rattle.rk_build.specs.declared.build.Ended.{Ended}
+use Rattle.rk_build.specs.declared.work.Ended.{Ended}
 use Rattle.rk_build.specs.declared.outcome.Outcome.TheVariants as out
 use Rattle.rk_build.specs.declared.stop.Refusal.TheVariants as refusal
 use Rattle.rk_build.specs.declared.stop.BuildErr.{BuildErr}

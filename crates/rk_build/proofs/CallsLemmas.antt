@@ -33,8 +33,10 @@ asks-all first request reach (Some held) live late p before on now is looked mad
   kept = is.kept;
   so = record {
     world = is.world;
-    table = p.finished.built.table;
+    table = is.built.table;
     is_left = λ spoken. left first request held live late p is spoken;
+    kept = is.left;
+    pushed = is.pushed;
     plan = p.plan;
     is_plan = is.plan;
     calls = (on, looked, made);

@@ -147,11 +147,11 @@ module _ (told : Told) where
   attrs-full : (snapshot : Entries) → attrs_of (full_entries told snapshot) ≡ attrs_of snapshot
   attrs-full snapshot = ap (filter_map attr_row) (rows-full told snapshot) ∙ mapped (entries snapshot)
 
-  -- the rows of attributes and the records are the same
-  pub held_after-full : (world : World) (table : List Record) → held_after (full_world told world) table ≡ full_holding told (held_after world table)
-  held_after-full world table =
-      ap (λ (s : Entries). record { entries = s; rkr = true; state = record { db = (held_after world table).state.db; attrs = attrs_bytes (attrs_of s); install = None; fresh_list = false } }) (entries-full world)
-      ∙ ap (λ (rows : List (Text × AttrRow)). record { entries = full_entries told (entries_of world.tree); rkr = true; state = record { db = (held_after world table).state.db; attrs = attrs_bytes rows; install = None; fresh_list = false } }) (attrs-full (entries_of world.tree))
+  -- the rows of attributes and the tables are the same
+  pub held_after-full : (world : World) (kept : List (List Record)) → held_after (full_world told world) kept ≡ full_holding told (held_after world kept)
+  held_after-full world kept =
+      ap (λ (s : Entries). record { entries = s; rkr = true; state = record { db = (held_after world kept).state.db; attrs = attrs_bytes (attrs_of s); install = None; fresh_list = false } }) (entries-full world)
+      ∙ ap (λ (rows : List (Text × AttrRow)). record { entries = full_entries told (entries_of world.tree); rkr = true; state = record { db = (held_after world kept).state.db; attrs = attrs_bytes rows; install = None; fresh_list = false } }) (attrs-full (entries_of world.tree))
 
   pub whole-left : (world : World) → IsWholeSnapshot (entries_of world.tree) → IsWholeSnapshot (entries_of (full_world told world).tree)
   whole-left world whole = subst IsWholeSnapshot (sym (entries-full world)) (whole-full told (entries_of world.tree) whole)

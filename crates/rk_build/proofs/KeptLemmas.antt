@@ -7,11 +7,10 @@ use Rattle.rk_base.proofs.CanonicalLemmas.{both, either}
 use Rattle.rk_base.proofs.WithinLemmas.{same_is}
 use Rattle.tr_record.specs.declared.records.Record.{Record}
 use Rattle.rk_attrs.specs.Rows.{are_rows}
-use Rattle.tr_codec.specs.Fits.{Fits}
-use Rattle.tr_codec.specs.Spelling.{db_spelling}
+use Rattle.tr_kept.specs.KeptSpelling.{FitsKept, kept_spelling}
 use Rattle.rk_attrs.specs.declared.rows.AttrRow.{AttrRow}
 use Rattle.tr_attrs.proofs.RowLemmas.{one_attrs}
-use Rattle.tr_codec.proofs.SealLemmas.{one_table}
+use Rattle.tr_kept.proofs.KeptSealLemmas.{one_kept}
 use Rattle.rk_tree.specs.Copies.{snapshot_of as entries_of}
 use Rattle.rk_tree.specs.Entries.{IsWholeSnapshot}
 use Rattle.rk_tree.specs.Node.{Node}
@@ -34,7 +33,7 @@ use Rattle.rk_changes.proofs.AttributesLemmas.{attrs_are, built-held}
 use Rattle.rk_changes.proofs.HiddenLemmas.{install_hidden, install_state}
 use Rattle.rk_changes.proofs.SeenLemmas.{odd-within}
 use Rattle.rk_build.specs.Fresh.{AreInMemory, IsInMemory, attrs_bytes, held_after}
-use Rattle.rk_build.specs.Kept.{AreRows, IsTable, state_in}
+use Rattle.rk_build.specs.Kept.{AreRows, AreTables, state_in}
 use Rattle.rk_build.specs.Laws.{KeepsLeft}
 use Rattle.rk_build.specs.Outcomes.{IsNext}
 
@@ -145,22 +144,22 @@ rows-kept : (rows : List (Text × AttrRow)) → are_rows rows ≡ true → IsInM
 rows-kept [] are small = (refl, λ other spells. sym spells)
 rows-kept (row ∷ rows) are small = ((are, refl), λ other spells. one_attrs (row ∷ rows) other are spells.0 small spells.1)
 
-table-kept : (table : List Record) → Fits table → IsInMemory (Some (db_spelling table)) → IsTable (Some (db_spelling table)) table
-table-kept table fits small = (inl (fits, refl), λ other spells. one_table (db_spelling table) table other small (inl (fits, refl)) spells)
+tables-kept : (kept : List (List Record)) → FitsKept kept → IsInMemory (Some (kept_spelling kept)) → AreTables (Some (kept_spelling kept)) kept
+tables-kept kept fits small = (inl (fits, refl), λ other spells. one_kept (kept_spelling kept) kept other small (inl (fits, refl)) spells)
 
-pub finds-next : (held after : Held) (world : World) (table : List Record) → IsWhole held → first_special held ≡ None → IsAfter held after (held_after world table) → IsWholeSnapshot (entries_of world.tree) → Fits table → AreInMemory world table → KeepsLeft world table after
-finds-next held after world table whole plain is entries fits small =
+pub finds-next : (held after : Held) (world : World) (kept : List (List Record)) → IsWhole held → first_special held ≡ None → IsAfter held after (held_after world kept) → IsWholeSnapshot (entries_of world.tree) → FitsKept kept → AreInMemory world kept → KeepsLeft world kept after
+finds-next held after world kept whole plain is entries fits small =
     let rows = attrs_of (entries_of world.tree) in
     let attrs : (state_in after).attrs ≡ attrs_bytes rows = ap bytes_in is.holds.attrs ∙ bytes_held (attrs_bytes rows) in
-    let db : (state_in after).db ≡ Some (db_spelling table) = ap bytes_in is.holds.db ∙ bytes_held (Some (db_spelling table)) in
+    let db : (state_in after).db ≡ Some (kept_spelling kept) = ap bytes_in is.holds.db ∙ bytes_held (Some (kept_spelling kept)) in
     record {
-      plain = after-plain held after (held_after world table) whole plain is refl;
+      plain = after-plain held after (held_after world kept) whole plain is refl;
       rows = rows;
-      old = table;
-      kept = (subst (λ (o : Option Text). AreRows o rows) (sym attrs) (rows-kept rows (attrs_are (entries_of world.tree) entries) small.0), subst (λ (o : Option Text). IsTable o table) (sym db) (table-kept table fits small.1));
-      so = (built-held after (held_after world table) is.holds entries, refl);
+      old = kept;
+      kept = (subst (λ (o : Option Text). AreRows o rows) (sym attrs) (rows-kept rows (attrs_are (entries_of world.tree) entries) small.0), subst (λ (o : Option Text). AreTables o kept) (sym db) (tables-kept kept fits small.1));
+      so = (built-held after (held_after world kept) is.holds entries, refl);
     }
 
 -- of a world in full it is the very tree
-pub next-in-full : (told : Told) (world : World) (table : List Record) (after : Held) → KeepsLeft (full_world told world) table after → IsNext (full_world told world) table after
-next-in-full told world table after left = record { plain = left.plain; rows = left.rows; old = left.old; kept = left.kept; so = (left.so.0 ∙ entries-own told world, left.so.1) }
+pub next-in-full : (told : Told) (world : World) (kept : List (List Record)) (after : Held) → KeepsLeft (full_world told world) kept after → IsNext (full_world told world) kept after
+next-in-full told world kept after left = record { plain = left.plain; rows = left.rows; old = left.old; kept = left.kept; so = (left.so.0 ∙ entries-own told world, left.so.1) }

@@ -7,6 +7,7 @@ pub mod FullLemmas
 pub mod InstalledLemmas
 pub mod KeptLemmas
 pub mod PrepareLemmas
+pub mod PushedLemmas
 pub mod ReadBackLemmas
 pub mod RunLemmas
 pub mod SessionLemmas

@@ -1,6 +1,7 @@
 -- What a folder holds calls for one outcome alone.
 use Rattle.std.proofs.Common.{◌≡◌, ◌≢◌, ◌<◌, ◌≤◌, ◌-◌, ◌^◌, ℕ, List, length, Option, Some, None, IfSome, refl, sym, ap, subst, ◌∙◌, inl, inr, arith}
 use Rattle.rk_base.specs.Text.{Text}
+use Rattle.tr_record.specs.Generations.{records}
 use Rattle.tr_record.specs.declared.records.Record.{Record}
 use Rattle.tr_parts.specs.Reads.{IsDamage}
 use Rattle.rk_attrs.specs.declared.rows.AttrRow.{AttrRow}
@@ -20,7 +21,7 @@ use Rattle.rk_traces.specs.Spoken.{AreSpoken}
 use Rattle.rk_tree.specs.Entries.{Entries}
 use Rattle.rk_request.specs.Asked.{is_fresh}
 use Rattle.rk_request.specs.declared.requests.Request.{Request}
-use Rattle.rk_build.specs.Kept.{AreRows, IsTable, IsKept, IsDamagedAttrs, IsDamagedDb, IsDamaged, state_in, Keeping, Refuses, decoded}
+use Rattle.rk_build.specs.Kept.{AreRows, AreTables, IsKept, IsDamagedAttrs, IsDamagedDb, IsDamaged, state_in, Keeping, Refuses, decoded}
 use Rattle.rk_build.specs.Checks.{IsForged, TellsForged}
 use Rattle.rk_build.specs.Run.{fresh_run}
 use Rattle.rk_build.specs.Outcomes.{EndsWith, HasStatus, IfEnded, Leaves, FolderCounts, Counts, Counted, Settles, outcome_of_refusal}
@@ -38,19 +39,19 @@ attrs-clash : (o : Option Text) (rows : List (Text × AttrRow)) (d : Damage) →
 attrs-clash None rows d a h = h
 attrs-clash (Some bytes) rows d a h = h.1 rows a.0.0 a.0.1
 
-db-clash : (o : Option Text) (table : List Record) (d : Damage) → IsTable o table → IsDamagedDb o d → ⊥
-db-clash None table d t h = h
-db-clash (Some bytes) table d t h = h.1 table t.0
+pub db-clash : (o : Option Text) (kept : List (List Record)) (d : Damage) → AreTables o kept → IsDamagedDb o d → ⊥
+db-clash None kept d t h = h
+db-clash (Some bytes) kept d t h = h.1 kept t.0
 
-kept-clash : (state : State) (rows : List (Text × AttrRow)) (table : List Record) (f : StateFile) (d : Damage) → IsKept state rows table → IsDamaged state f d → ⊥
-kept-clash state rows table file.Attrs d k h = attrs-clash state.attrs rows d k.0 h
-kept-clash state rows table file.Db d k h = db-clash state.db table d k.1 h.1
-kept-clash state rows table file.Install d k h = h
+kept-clash : (state : State) (rows : List (Text × AttrRow)) (kept : List (List Record)) (f : StateFile) (d : Damage) → IsKept state rows kept → IsDamaged state f d → ⊥
+kept-clash state rows kept file.Attrs d k h = attrs-clash state.attrs rows d k.0 h
+kept-clash state rows kept file.Db d k h = db-clash state.db kept d k.1 h.1
+kept-clash state rows kept file.Install d k h = h
 
 none-some : (o : Option Text) (path : Text) → o ≡ None → o ≡ Some path → ⊥
 none-some o path none some = cc
 
-pub refused-kept : (request : Request) (held : Held) (r : Refusal) (P : Entries → List Record → Type 0) → Refuses (is_fresh request) held r → Keeping (is_fresh request) held P → ⊥
+pub refused-kept : (request : Request) (held : Held) (r : Refusal) (P : Entries → List (List Record) → Type 0) → Refuses (is_fresh request) held r → Keeping (is_fresh request) held P → ⊥
 refused-kept request held (refusal.Special path) P r k = none-some _ path k.plain r
 refused-kept request held (refusal.Damaged f d) P r k = kept-clash (decoded (is_fresh request) (state_in held)) k.rows k.old f d k.kept r.1
 
@@ -115,8 +116,8 @@ forged-clash first table rec step spoken f =
     never-first_wrong first table rec step spoken
     (record { here = f.0; wrong = f.1; before = λ i h. spoken i (let here : rec < length table = f.0 in omega arith) })
 
-one-table : (o : Option Text) (a b : List Record) → IsTable o a → IsTable o b → a ≡ b
-one-table o a b h g = h.1 b g.0
+one-kept : (o : Option Text) (a b : List (List Record)) → AreTables o a → AreTables o b → a ≡ b
+one-kept o a b h g = h.1 b g.0
 
 one-rows : (o : Option Text) (a b : List (Text × AttrRow)) → AreRows o a → AreRows o b → a ≡ b
 one-rows o a b h g = h.1 b g.0
@@ -132,23 +133,23 @@ no_memory : (r : Run World) → Answers r out.NoMemory
 no_memory (Done world exit left table) = tt
 no_memory Spent = tt
 
--- what is so of what a folder keeps is so of its entries and its records
-same-kept : (first : KeyValue → Says) (request : Request) (held : Held) (it : Entries) (P : Entries → List Record → Type 0) (k : KeepsSpoken first request held it) → Keeping (is_fresh request) held P → P it k.old
+-- what is so of what a folder keeps is so of its entries and its tables
+same-kept : (first : KeyValue → Says) (request : Request) (held : Held) (it : Entries) (P : Entries → List (List Record) → Type 0) (k : KeepsSpoken first request held it) → Keeping (is_fresh request) held P → P it k.old
 same-kept first request held it P k s =
-    let table : s.old ≡ k.old = one-table (decoded (is_fresh request) (state_in held)).db s.old k.old s.kept.1 k.kept.1 in
+    let tables : s.old ≡ k.old = one-kept (decoded (is_fresh request) (state_in held)).db s.old k.old s.kept.1 k.kept.1 in
     let rows : s.rows ≡ k.rows = one-rows (decoded (is_fresh request) (state_in held)).attrs s.rows k.rows s.kept.0 k.kept.0 in
     let entries : with_rows (snapshot_of held) s.rows ≡ it = ap (with_rows (snapshot_of held)) rows ∙ k.so.0 in
-    subst (λ (e : Entries). P e k.old) entries (subst (λ (t : List Record). P (with_rows (snapshot_of held) s.rows) t) table s.so)
+    subst (λ (e : Entries). P e k.old) entries (subst (λ (t : List (List Record)). P (with_rows (snapshot_of held) s.rows) t) tables s.so)
 
 pub spoken-settle : (first : KeyValue → Says) (request : Request) (held : Held) (it : Entries) (outcome : Outcome) → KeepsSpoken first request held it → Settles first request held outcome → Answers (fresh_run first request it) outcome
 spoken-settle first request held it (out.Ended status launched ran) k s =
-    ends-with (fresh_run first request it) status launched ran (same-kept first request held it (λ entries old. AreSpoken first old → EndsWith (fresh_run first request entries) status) k s k.so.1)
+    ends-with (fresh_run first request it) status launched ran (same-kept first request held it (λ entries old. AreSpoken first (records old) → EndsWith (fresh_run first request entries) status) k s k.so.1)
 spoken-settle first request held it out.Usage k s = absurd s
 spoken-settle first request held it (out.Said status) k s = absurd s
-spoken-settle first request held it (out.Special path) k s = absurd (refused-kept request held (refusal.Special path) (λ entries old. (entries ≡ it) × AreSpoken first old) s k)
-spoken-settle first request held it (out.Damaged f d) k s = absurd (refused-kept request held (refusal.Damaged f d) (λ entries old. (entries ≡ it) × AreSpoken first old) s k)
-spoken-settle first request held it (out.Forged rec step) k s = absurd (forged-clash first k.old rec step k.so.1 (same-kept first request held it (λ entries old. TellsForged first request old rec step) k s).wrong)
-spoken-settle first request held it out.Spent k s = spent-answers (fresh_run first request it) (same-kept first request held it (λ entries old. AreSpoken first old × (fresh_run first request entries ≡ Spent)) k s).1
+spoken-settle first request held it (out.Special path) k s = absurd (refused-kept request held (refusal.Special path) (λ entries old. (entries ≡ it) × AreSpoken first (records old)) s k)
+spoken-settle first request held it (out.Damaged f d) k s = absurd (refused-kept request held (refusal.Damaged f d) (λ entries old. (entries ≡ it) × AreSpoken first (records old)) s k)
+spoken-settle first request held it (out.Forged rec step) k s = absurd (forged-clash first (records k.old) rec step k.so.1 (same-kept first request held it (λ entries old. TellsForged first request (records old) rec step) k s).wrong)
+spoken-settle first request held it out.Spent k s = spent-answers (fresh_run first request it) (same-kept first request held it (λ entries old. AreSpoken first (records old) × (fresh_run first request entries ≡ Spent)) k s).1
 spoken-settle first request held it out.ReadFault k s = absurd s
 spoken-settle first request held it out.WriteFault k s = absurd s
 spoken-settle first request held it out.NoMemory k s = no_memory (fresh_run first request it)
@@ -165,8 +166,8 @@ settles first request told new b n c d out.Usage held l s counted asked is r w o
 settles first request told new b n c d (out.Said status) held l s counted asked is r w o x = absurd l
 settles first request told new b n c d (out.Special path) held l s counted asked is r w o x = subst (λ (t : Option Held). IfSome t (λ held. Refuses (is_fresh request) held (refusal.Special path))) is l.1
 settles first request told new b n c d (out.Damaged f damage) held l s counted asked is r w o x = subst (λ (t : Option Held). IfSome t (λ held. Refuses (is_fresh request) held (refusal.Damaged f damage))) is l.1
-settles first request told new b n c d (out.Forged rec step) held l s counted asked is r w o x = subst (λ (t : Option Held). IfSome t (λ held. Keeping (is_fresh request) held (λ entries old. TellsForged first request old rec step))) is l.1
-settles first request told new b n c d out.Spent held l s counted asked is r w o x = subst (λ (t : Option Held). IfSome t (λ held. Keeping (is_fresh request) held (λ entries old. AreSpoken first old × (fresh_run first request entries ≡ Spent)))) is l.1
+settles first request told new b n c d (out.Forged rec step) held l s counted asked is r w o x = subst (λ (t : Option Held). IfSome t (λ held. Keeping (is_fresh request) held (λ entries old. TellsForged first request (records old) rec step))) is l.1
+settles first request told new b n c d out.Spent held l s counted asked is r w o x = subst (λ (t : Option Held). IfSome t (λ held. Keeping (is_fresh request) held (λ entries old. AreSpoken first (records old) × (fresh_run first request entries ≡ Spent)))) is l.1
 settles first request told new b n c d out.ReadFault held l s counted asked is r w o x = absurd (never-rose c.reads d.reads counted.0 r)
 settles first request told new b n c d out.WriteFault held l s counted asked is r w o x = absurd (elim counted.1 [
   | inl writes ↦ never-rose c.writes d.writes writes w

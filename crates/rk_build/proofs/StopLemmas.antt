@@ -37,7 +37,7 @@ stops-by held new after ops fresh (Some list) whole few listed may leads (inr st
 pub stop-sealed : StopsSealed
 stop-sealed first request entries old held new e whole plain it tree few =
     let before : Holding = holding_of (is_fresh request) held in
-    let after : Holding = held_after it.world it.table in
+    let after : Holding = held_after it.world it.kept in
     let built : IsBuilt after = record { entries = tree; rkr = refl; db = refl } in
     let becomes : MayBecome held before after = may_become-imported held whole plain (is_fresh request) after built in
     let places : HasPlaces held before = has_places-imported held whole plain (is_fresh request) in

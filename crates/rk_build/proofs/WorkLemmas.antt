@@ -1,9 +1,9 @@
 -- The run of what was found, and the plan of what it left.
-use Rattle.std.proofs.Common.{◌≡◌, ◌+◌, ◌≤◌, ℕ, Bool, true, List, length, Option, IfSome, Err, sym, subst, ◌∙◌, arith}
+use Rattle.std.proofs.Common.{◌≡◌, ◌+◌, ◌++◌, ◌≤◌, ℕ, Bool, true, List, length, Option, IfSome, Err, sym, subst, ◌∙◌, arith}
 use Rattle.rk_calls.specs.Keys.{KeyValue}
 use Rattle.rk_calls.specs.Talk.{Says}
 use Rattle.rk_tree.specs.Counts.{Rose}
-use Rattle.rk_tree.specs.Entries.{Entries}
+use Rattle.rk_tree.specs.Entries.{Entries, IsWholeSnapshot}
 use Rattle.rk_tree.specs.Fetched.{Counted, IsNoFailure}
 use Rattle.rk_tree.specs.Full.{Told, AreFrom, EntriesFrom}
 use Rattle.rk_tree.specs.declared.fetch.FetchErr.{FetchErr}
@@ -13,15 +13,19 @@ use Rattle.rk_kernel.specs.World.{World}
 use Rattle.rk_changes.specs.Holdings.{full_holding}
 use Rattle.rk_changes.specs.Planned.{IsPlan}
 use Rattle.rk_changes.specs.declared.holding.Holding.{Holding}
-use Rattle.rk_seal.specs.declared.plan.Plan.{Plan}
+use Rattle.rk_replay.specs.declared.build.Built.{Built}
 use Rattle.rk_replay.specs.Starts.{StartsUpTo}
 use Rattle.rk_traces.specs.Started.{started}
+use Rattle.tr_record.specs.Generations.{IsPushed}
 use Rattle.tr_record.specs.declared.records.Record.{Record}
 use Rattle.rk_request.specs.Asked.{turns}
 use Rattle.rk_request.specs.declared.requests.Request.{Request}
-use Rattle.rk_build.specs.Fresh.{held_after}
+use Rattle.rk_build.specs.Explained.{explanation}
+use Rattle.rk_build.specs.Fresh.{IsReadable, held_after}
 use Rattle.rk_build.specs.Run.{StartsRun, StopsRun}
-use Rattle.rk_build.specs.Stages.{ReadsCounted, stop_of_fetch}
+use Rattle.rk_build.specs.Stages.{IsPlanned, MayFit, ReadsCounted, ended_of, stop_of_fetch}
+use Rattle.rk_build.specs.declared.found.Found.{Found}
+use Rattle.rk_build.specs.declared.work.Prepared.{Prepared}
 use Rattle.rk_build.specs.Texts.{IsNoFault}
 
 -- where bytes are told that are told still
@@ -29,14 +33,22 @@ pub found-from : (o now : Option Told) (snapshot : Entries) → now ≡ o → En
 found-from o now snapshot same all = subst (λ (o : Option Told). EntriesFrom o snapshot) (sym same) all
 
 -- what the run left can be read
-pub left-from : (o : Option Told) (left : World) (table : List Record) (after : Holding) → after ≡ held_after left table → AreFrom o left.tree → EntriesFrom o after.entries
-left-from o left table after is all = subst (λ (h : Holding). EntriesFrom o h.entries) (sym is) (snapshot-from o left.tree all)
+pub left-from : (o : Option Told) (left : World) (kept : List (List Record)) (after : Holding) → after ≡ held_after left kept → AreFrom o left.tree → EntriesFrom o after.entries
+left-from o left kept after is all = subst (λ (h : Holding). EntriesFrom o h.entries) (sym is) (snapshot-from o left.tree all)
 
--- the plan between what was found and what is left
-pub planned-left : (o mid : Option Told) (left : World) (table : List Record) (before after : Holding) (plan : Plan) → mid ≡ o → after ≡ held_after left table → IfSome mid (λ t. IsPlan (full_holding t before) (full_holding t after) plan) → IfSome o (λ t. IsPlan (full_holding t before) (full_holding t (held_after left table)) plan)
-planned-left o mid left table before after plan same is planned =
-    subst (λ (o : Option Told). IfSome o (λ t. IsPlan (full_holding t before) (full_holding t (held_after left table)) plan)) same
-    (subst (λ (h : Holding). IfSome mid (λ t. IsPlan (full_holding t before) (full_holding t h) plan)) is planned)
+-- what is kept, and the plan between what was found and what is left
+pub is_planned : (request : Request) (o : Option Told) (found : Found) (built : Built) (p : Prepared) (kept : List (List Record)) (after : Holding) → p.ended ≡ ended_of built → IsPushed built.table found.old kept → MayFit kept → p.error_text ≡ p.world.err ++ explanation request built.ran (length built.table)
+    → after ≡ held_after p.world kept → IsWholeSnapshot after.entries → IsReadable after.state.attrs × IsReadable after.state.db → IfSome o (λ t. IsPlan (full_holding t found.holding) (full_holding t after) p.plan) → IsPlanned request o found built p
+is_planned request o found built p kept after ended pushed fits text is whole readable plan = record {
+  ended = ended;
+  kept = kept;
+  pushed = pushed;
+  fits = fits;
+  text = text;
+  whole = subst (λ (h : Holding). IsWholeSnapshot h.entries) is whole;
+  readable = subst (λ (h : Holding). IsReadable h.state.attrs × IsReadable h.state.db) is readable;
+  plan = subst (λ (h : Holding). IfSome o (λ t. IsPlan (full_holding t found.holding) (full_holding t h) p.plan)) is plan;
+}
 
 -- A run that ended, and then no memory, or a read that failed.
 

@@ -10,6 +10,7 @@ use Rattle.rk_folder.specs.declared.folder.FolderCall.{FolderCall}
 use Rattle.rk_kernel.specs.World.{World}
 use Rattle.rk_traces.specs.Spoken.{AreSpoken}
 use Rattle.rk_tree.specs.Entries.{Entries}
+use Rattle.tr_record.specs.Generations.{IsPushed, records}
 use Rattle.tr_record.specs.declared.records.Record.{Record}
 use Rattle.rk_request.specs.Asked.{is_fresh}
 use Rattle.rk_request.specs.declared.requests.Request.{Request}
@@ -33,12 +34,14 @@ LooksThenReads held all before now = (on : Option Schedule) × MakesCalls all be
 -- Whatever the records: the calls of a look at it, each once at most and in this order; then reads of files that are
 -- listed, while the script ran and what it left was compared; and then the calls of the install of what leads to what a run left, each once at most, in this
 -- order, and no other. Over spoken records that is what the fresh run leaves.
-pub record AsksPlan (first : KeyValue → Says) (request : Request) (reach : ℕ) (entries : Entries) (old : List Record) (held : Held) (before now : Option Schedule) : Type 0 where
+pub record AsksPlan (first : KeyValue → Says) (request : Request) (reach : ℕ) (entries : Entries) (old : List (List Record)) (held : Held) (before now : Option Schedule) : Type 0 where
   pub world : World
   pub table : List Record
-  pub is_left : AreSpoken first old → IsLeft (fresh_run first request entries) world table
+  pub is_left : AreSpoken first (records old) → IsLeft (fresh_run first request entries) world table
+  pub kept : List (List Record)
+  pub pushed : IsPushed table old kept
   pub plan : Plan
-  pub is_plan : IsPlan (holding_of (is_fresh request) held) (held_after world table) plan
+  pub is_plan : IsPlan (holding_of (is_fresh request) held) (held_after world kept) plan
   pub calls : (on : Option Schedule) × LooksThenReads held (looks (is_fresh request) reach held) before on × MakesCalls (plan_calls plan) on now
 
 abbrev pub AsksAll : (KeyValue → Says) → Request → ℕ → Option Held → Option Schedule → Option Schedule → Type 0

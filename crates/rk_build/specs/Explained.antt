@@ -5,8 +5,8 @@ use Rattle.rk_base.specs.Text.{Text}
 use Rattle.rk_show.specs.Ran.{ran_line, launched_line}
 use Rattle.rk_show.specs.declared.ran.Why.{Why}
 use Rattle.rk_show.specs.declared.ran.Why.TheVariants as why
-use Rattle.rk_replay.specs.declared.ran.Cause.{Cause}
-use Rattle.rk_replay.specs.declared.ran.Cause.TheVariants.{NoRecord, Differs}
+use Rattle.tr_matching.specs.declared.cause.Cause.{Cause}
+use Rattle.tr_matching.specs.declared.cause.Cause.TheVariants.{NoRecord, Differs}
 use Rattle.rk_replay.specs.declared.ran.Ran.{Ran}
 use Rattle.rk_request.specs.Asked.{explains}
 use Rattle.rk_request.specs.declared.requests.Request.{Request}

@@ -5,7 +5,7 @@ use Rattle.tr_record.specs.declared.records.Record.{Record}
 use Rattle.rk_attrs.specs.Rows.{are_rows}
 use Rattle.tr_attrs.specs.Attrs.{attrs_spelling}
 use Rattle.tr_parts.specs.Reads.{IsDamage}
-use Rattle.tr_codec.specs.Spelt.{IsSpelling}
+use Rattle.tr_kept.specs.KeptSpelling.{IsKeptSpelling}
 use Rattle.tr_parts.specs.declared.fault.Damage.{Damage}
 use Rattle.rk_attrs.specs.declared.rows.AttrRow.{AttrRow}
 use Rattle.rk_folder.specs.Told.{Held}
@@ -31,18 +31,18 @@ SpellsRows (Some bytes) rows = (are_rows rows ≡ true) × (bytes ≡ attrs_spel
 abbrev pub AreRows : Option Text → List (Text × AttrRow) → Type 0
 AreRows attrs rows = SpellsRows attrs rows × ((other : List (Text × AttrRow)) → SpellsRows attrs other → rows ≡ other)
 
--- these are the records that the database spells, by the version that is written or the one before; where it doesn't stand there are none
-abbrev pub Spells : Option Text → List Record → Type 0
-Spells None table = table ≡ []
-Spells (Some bytes) table = IsSpelling bytes table
+-- these are the tables that the database spells, by the version that is written or one before it; where it doesn't stand there are none
+abbrev pub Spells : Option Text → List (List Record) → Type 0
+Spells None kept = kept ≡ []
+Spells (Some bytes) kept = IsKeptSpelling bytes kept
 
 -- and no others are
-abbrev pub IsTable : Option Text → List Record → Type 0
-IsTable db table = Spells db table × ((other : List Record) → Spells db other → table ≡ other)
+abbrev pub AreTables : Option Text → List (List Record) → Type 0
+AreTables db kept = Spells db kept × ((other : List (List Record)) → Spells db other → kept ≡ other)
 
--- both state files are well, and these are the rows and the records that they keep
-abbrev pub IsKept : State → List (Text × AttrRow) → List Record → Type 0
-IsKept state rows table = AreRows state.attrs rows × IsTable state.db table
+-- both state files are well, and these are the rows and the tables of records that they keep
+abbrev pub IsKept : State → List (Text × AttrRow) → List (List Record) → Type 0
+IsKept state rows kept = AreRows state.attrs rows × AreTables state.db kept
 
 -- attrs stands, and is no spelling
 abbrev pub IsDamagedAttrs : Option Text → Damage → Type 0
@@ -52,7 +52,7 @@ IsDamagedAttrs (Some bytes) damage = IsDamage 44 bytes damage × ((rows : List (
 -- the database stands, and is no spelling
 abbrev pub IsDamagedDb : Option Text → Damage → Type 0
 IsDamagedDb None damage = ⊥
-IsDamagedDb (Some bytes) damage = IsDamage 52 bytes damage × ((table : List Record) → IsSpelling bytes table → ⊥)
+IsDamagedDb (Some bytes) damage = IsDamage 52 bytes damage × ((kept : List (List Record)) → IsKeptSpelling bytes kept → ⊥)
 
 -- this state file is damaged so; attrs comes before the database (a build doesn't look into a list of calls)
 abbrev pub IsDamaged : State → StateFile → Damage → Type 0
@@ -69,11 +69,11 @@ abbrev pub decoded : Bool → State → State
 decoded fresh state = read_state fresh state
 
 -- Nothing of the folder is special, its state files are well, and this is so of its entries with the rows of attributes and
--- of the records.
-pub record Keeping (fresh : Bool) (held : Held) (P : Entries → List Record → Type 0) : Type 0 where
+-- of the tables of records that are kept, the newest first.
+pub record Keeping (fresh : Bool) (held : Held) (P : Entries → List (List Record) → Type 0) : Type 0 where
   pub plain : first_special held ≡ None
   pub rows : List (Text × AttrRow)
-  pub old : List Record
+  pub old : List (List Record)
   pub kept : IsKept (decoded fresh (state_in held)) rows old
   pub so : P (with_rows (snapshot_of held) rows) old
 
@@ -96,8 +96,8 @@ ReadsAttrs attrs (Err stop.ReadFault) = ⊥
 ReadsAttrs attrs (Err stop.WriteFault) = ⊥
 ReadsAttrs attrs (Err stop.NoMemory) = Unit {0}
 
-abbrev pub ReadsDb : Option Text → Result (List Record) BuildErr → Type 0
-ReadsDb db (Ok table) = IsTable db table
+abbrev pub ReadsDb : Option Text → Result (List (List Record)) BuildErr → Type 0
+ReadsDb db (Ok kept) = AreTables db kept
 ReadsDb db (Err (stop.Refused (refusal.Special path))) = ⊥
 ReadsDb db (Err (stop.Refused (refusal.Damaged file.Attrs damage))) = ⊥
 ReadsDb db (Err (stop.Refused (refusal.Damaged file.Db damage))) = IsDamagedDb db damage

@@ -2,8 +2,9 @@
 use Rattle.std.specs.Prelude.{◌≡◌, ◌⊎◌, ℕ, List, None, false}
 use Rattle.rk_calls.specs.Keys.{KeyValue}
 use Rattle.rk_calls.specs.Talk.{Says}
+use Rattle.tr_record.specs.Generations.{records}
 use Rattle.tr_record.specs.declared.records.Record.{Record}
-use Rattle.tr_codec.specs.Fits.{Fits}
+use Rattle.tr_kept.specs.KeptSpelling.{FitsKept}
 use Rattle.rk_tree.specs.Copies.{snapshot_of as entries_of}
 use Rattle.rk_tree.specs.Entries.{Entries, IsWholeSnapshot}
 use Rattle.rk_tree.specs.Full.{own}
@@ -42,22 +43,22 @@ Answers run other = ⊥
 
 -- the folder is well, has these entries with its rows, and keeps spoken records or none
 abbrev pub KeepsSpoken : (KeyValue → Says) → Request → Held → Entries → Type 0
-KeepsSpoken first request held it = Keeping (is_fresh request) held (λ entries old. (entries ≡ it) × AreSpoken first old)
+KeepsSpoken first request held it = Keeping (is_fresh request) held (λ entries old. (entries ≡ it) × AreSpoken first (records old))
 
 -- a folder that keeps spoken records calls for what its fresh run comes to
 abbrev pub SpokenSettle : Type 0
 SpokenSettle = (first : KeyValue → Says) (request : Request) (held : Held) (entries : Entries) (outcome : Outcome) → KeepsSpoken first request held entries → Settles first request held outcome → Answers (fresh_run first request entries) outcome
 
 -- a folder that holds what a run leaves has, with the rows of its attributes, the very entries that the run left, each file with
--- its bytes, and keeps its records
-abbrev pub KeepsLeft : World → List Record → Held → Type 0
-KeepsLeft world table after = Keeping false after (λ entries old. (entries ≡ own (entries_of world.tree)) × (old ≡ table))
+-- its bytes, and keeps these tables
+abbrev pub KeepsLeft : World → List (List Record) → Held → Type 0
+KeepsLeft world kept after = Keeping false after (λ entries old. (entries ≡ own (entries_of world.tree)) × (old ≡ kept))
 
 -- (where both state files have fewer than 2^64 bytes, as all bytes in memory do)
 abbrev pub FindsNext : Type 0
-FindsNext = (held after : Held) (world : World) (table : List Record) → IsWhole held → first_special held ≡ None → IsAfter held after (held_after world table)
-    → IsWholeSnapshot (entries_of world.tree) → Fits table → AreInMemory world table
-    → KeepsLeft world table after
+FindsNext = (held after : Held) (world : World) (kept : List (List Record)) → IsWhole held → first_special held ≡ None → IsAfter held after (held_after world kept)
+    → IsWholeSnapshot (entries_of world.tree) → FitsKept kept → AreInMemory world kept
+    → KeepsLeft world kept after
 
 -- each record of a fresh run is what its command says, where fewer turns only cut what commands say
 abbrev pub FreshSpoken : Type 0

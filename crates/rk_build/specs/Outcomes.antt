@@ -13,8 +13,9 @@ use Rattle.rk_changes.specs.Holdings.{IsAfter}
 use Rattle.rk_changes.specs.Imported.{holding_of}
 use Rattle.rk_changes.specs.Planned.{IsPlan}
 use Rattle.rk_seal.specs.declared.plan.Plan.{Plan}
-use Rattle.tr_codec.specs.Fits.{Fits}
+use Rattle.tr_kept.specs.KeptSpelling.{FitsKept}
 use Rattle.tr_parts.specs.declared.fault.Damage.{Damage}
+use Rattle.tr_record.specs.Generations.{IsPushed, records}
 use Rattle.tr_record.specs.declared.records.Record.{Record}
 use Rattle.rk_tree.specs.Copies.{snapshot_of as entries_of}
 use Rattle.rk_tree.specs.Entries.{Entries}
@@ -30,7 +31,7 @@ use Rattle.rk_build.specs.Kept.{Keeping, Refuses}
 use Rattle.rk_build.specs.Checks.{ChecksWhole, TellsForged, checked_count}
 use Rattle.rk_build.specs.Run.{fresh_run, ran_count}
 use Rattle.rk_build.specs.Telling.{SinkState, IsPut, PutsLine, Put}
-use Rattle.rk_build.specs.declared.build.Ended.{Ended}
+use Rattle.rk_build.specs.declared.work.Ended.{Ended}
 use Rattle.rk_build.specs.declared.outcome.StateFile.{StateFile}
 use Rattle.rk_build.specs.declared.stop.Refusal.{Refusal}
 use Rattle.rk_build.specs.declared.stop.Refusal.TheVariants as refusal
@@ -82,28 +83,30 @@ pub record Counts : Type 0 where
 
 -- The folder.
 
--- it holds what the run leaves, its trace included, and all else as before
-pub record Installed (world : World) (table : List Record) (held : Held) (new : Option Held) : Type 0 where
+-- it holds what the run leaves, with the tables that are kept from then on, and all else as before
+pub record Installed (world : World) (kept : List (List Record)) (held : Held) (new : Option Held) : Type 0 where
   pub after : Held
   pub told : new ≡ Some after
-  pub is_after : IsAfter held after (held_after world table)
+  pub is_after : IsAfter held after (held_after world kept)
   -- a state file that no build would read again isn't written
-  pub readable : AreReadable world table
+  pub readable : AreReadable world kept
 
--- a build that finds it begins with the very tree that the run left, and with its records
-abbrev pub IsNext : World → List Record → Held → Type 0
-IsNext world table after = Keeping false after (λ entries old. (entries ≡ entries_of world.tree) × (old ≡ table))
+-- a build that finds it begins with the very tree that the run left, and with these tables
+abbrev pub IsNext : World → List (List Record) → Held → Type 0
+IsNext world kept after = Keeping false after (λ entries old. (entries ≡ entries_of world.tree) × (old ≡ kept))
 
--- what was installed, of which the records are spoken and can be read back
-pub record LeavesRun (first : KeyValue → Says) (world : World) (table : List Record) (held : Held) (new : Option Held) : Type 0 where
-  pub spoken : AreSpoken first table
-  pub fits : Fits table
-  pub installed : Installed world table held new
-  pub next : IsNext world table installed.after
+-- What was installed: the run's records come first among at most eight tables, of which all records are spoken and can be read back.
+pub record LeavesRun (first : KeyValue → Says) (world : World) (table : List Record) (old : List (List Record)) (held : Held) (new : Option Held) : Type 0 where
+  pub kept : List (List Record)
+  pub pushed : IsPushed table old kept
+  pub spoken : AreSpoken first (records kept)
+  pub fits : FitsKept kept
+  pub installed : Installed world kept held new
+  pub next : IsNext world kept installed.after
 
-abbrev pub EndsSo : (KeyValue → Says) → Run World → Held → Option Held → Type 0
-EndsSo first (Done world exit left table) held new = LeavesRun first world table held new
-EndsSo first Spent held new = ⊥
+abbrev pub EndsSo : (KeyValue → Says) → Run World → List (List Record) → Held → Option Held → Type 0
+EndsSo first (Done world exit left table) old held new = LeavesRun first world table old held new
+EndsSo first Spent old held new = ⊥
 
 -- what a run leaves
 abbrev pub IsLeft : Run World → World → List Record → Type 0
@@ -111,13 +114,15 @@ IsLeft (Done world status left table) w t = (w ≡ world) × (t ≡ table)
 IsLeft Spent w t = ⊥
 
 -- The install of what leads to what is to be left stopped; over spoken records that is what the fresh run leaves.
-pub record PartlyInstalled (first : KeyValue → Says) (request : Request) (entries : Entries) (old : List Record) (held : Held) (new : Option Held) (e : InstallErr) : Type 0 where
+pub record PartlyInstalled (first : KeyValue → Says) (request : Request) (entries : Entries) (old : List (List Record)) (held : Held) (new : Option Held) (e : InstallErr) : Type 0 where
   pub world : World
   pub table : List Record
-  pub is_left : AreSpoken first old → IsLeft (fresh_run first request entries) world table
-  pub readable : AreReadable world table
+  pub is_left : AreSpoken first (records old) → IsLeft (fresh_run first request entries) world table
+  pub kept : List (List Record)
+  pub pushed : IsPushed table old kept
+  pub readable : AreReadable world kept
   pub plan : Plan
-  pub is_plan : IsPlan (holding_of (is_fresh request) held) (held_after world table) plan
+  pub is_plan : IsPlan (holding_of (is_fresh request) held) (held_after world kept) plan
   pub stops : StopsPlan plan held new
   -- a call that had no memory did nothing
   pub clean : e ≡ install.NoMemory → IsMomentOf plan held new
@@ -133,11 +138,11 @@ pub record FolderCounts : Type 0 where
   pub memory : ℕ
 
 abbrev pub Leaves : (KeyValue → Says) → Request → Option Held → Option Held → FolderCounts → FolderCounts → Outcome → Type 0
-Leaves first request told new before now (out.Ended status launched ran) = IfSome told (λ held. Keeping (is_fresh request) held (λ entries old. AreSpoken first old → EndsSo first (fresh_run first request entries) held new))
+Leaves first request told new before now (out.Ended status launched ran) = IfSome told (λ held. Keeping (is_fresh request) held (λ entries old. AreSpoken first (records old) → EndsSo first (fresh_run first request entries) old held new))
 Leaves first request told new before now (out.Special path) = (new ≡ told) × IfSome told (λ held. Refuses (is_fresh request) held (refusal.Special path))
 Leaves first request told new before now (out.Damaged file damage) = (new ≡ told) × IfSome told (λ held. Refuses (is_fresh request) held (refusal.Damaged file damage))
-Leaves first request told new before now (out.Forged rec step) = (new ≡ told) × IfSome told (λ held. Keeping (is_fresh request) held (λ entries old. TellsForged first request old rec step))
-Leaves first request told new before now out.Spent = (new ≡ told) × IfSome told (λ held. Keeping (is_fresh request) held (λ entries old. AreSpoken first old × (fresh_run first request entries ≡ Spent)))
+Leaves first request told new before now (out.Forged rec step) = (new ≡ told) × IfSome told (λ held. Keeping (is_fresh request) held (λ entries old. TellsForged first request (records old) rec step))
+Leaves first request told new before now out.Spent = (new ≡ told) × IfSome told (λ held. Keeping (is_fresh request) held (λ entries old. AreSpoken first (records old) × (fresh_run first request entries ≡ Spent)))
 Leaves first request told new before now (out.Said status) = ⊥
 Leaves first request told new before now out.WriteFault = StoppedAt first request told new before.writes now.writes install.WriteFault
 Leaves first request told new before now out.NoMemory = StoppedAt first request told new before.memory now.memory install.NoMemory
@@ -153,18 +158,20 @@ EndsWith Spent status = ⊥
 -- the status is the fresh run's, over records that are spoken
 abbrev pub HasStatus : (KeyValue → Says) → Request → Option Held → ℕ → Type 0
 HasStatus first request told status =
-    IfSome told (λ held. Keeping (is_fresh request) held (λ entries old. AreSpoken first old → EndsWith (fresh_run first request entries) status))
+    IfSome told (λ held. Keeping (is_fresh request) held (λ entries old. AreSpoken first (records old) → EndsWith (fresh_run first request entries) status))
 
--- Whatever the records: what was installed has so many records, and so many of them ran over those that were kept, which
--- paid so many turns. Over spoken ones it is what the fresh run leaves.
-pub record IsTally (first : KeyValue → Says) (request : Request) (entries : Entries) (old : List Record) (held : Held) (new : Option Held) (all some before now : ℕ) : Type 0 where
+-- Whatever the records: what the run leaves has so many records, and so many of them ran over those that were kept, which paid so
+-- many turns; and it is the first that is kept from then on. Over spoken ones it is what the fresh run leaves.
+pub record IsTally (first : KeyValue → Says) (request : Request) (entries : Entries) (old : List (List Record)) (held : Held) (new : Option Held) (all some before now : ℕ) : Type 0 where
   pub world : World
   pub table : List Record
-  pub is_left : AreSpoken first old → IsLeft (fresh_run first request entries) world table
-  pub installed : Installed world table held new
+  pub is_left : AreSpoken first (records old) → IsLeft (fresh_run first request entries) world table
+  pub kept : List (List Record)
+  pub pushed : IsPushed table old kept
+  pub installed : Installed world kept held new
   pub launched : all ≡ length table
-  pub ran : some ≡ ran_count old table
-  pub paid : now ≡ before + ran_total old table
+  pub ran : some ≡ ran_count (records old) table
+  pub paid : now ≡ before + ran_total (records old) table
 
 abbrev pub Tallies : (KeyValue → Says) → Request → Option Held → Option Held → ℕ → ℕ → ℕ → ℕ → Type 0
 Tallies first request told new before now launched ran =
@@ -174,9 +181,9 @@ Tallies first request told new before now launched ran =
 -- nothing over the others.
 
 -- over spoken records it is the fresh run's text, of which all went out, or a front where the put failed or had no memory
-pub record IsTried (first : KeyValue → Says) (request : Request) (text : RunText) (entries : Entries) (kept : List Record) (old new : SinkState) : Type 0 where
+pub record IsTried (first : KeyValue → Says) (request : Request) (text : RunText) (entries : Entries) (kept : List (List Record)) (old new : SinkState) : Type 0 where
   pub it : Text
-  pub is_text : AreSpoken first kept → it ≡ text request kept (fresh_run first request entries)
+  pub is_text : AreSpoken first (records kept) → it ≡ text request kept (fresh_run first request entries)
   pub put : PutsLine it old new
 
 -- such a text was put
@@ -191,12 +198,12 @@ Halts first request text told old new = (new ≡ old) ⊎ Tried first request te
 -- over spoken records all of the fresh run's text went out
 abbrev pub GainsAll : (KeyValue → Says) → Request → RunText → Option Held → SinkState → SinkState → Type 0
 GainsAll first request text told old new =
-    IfSome told (λ held. Keeping (is_fresh request) held (λ entries kept. AreSpoken first kept → IsPut (text request kept (fresh_run first request entries)) old new))
+    IfSome told (λ held. Keeping (is_fresh request) held (λ entries kept. AreSpoken first (records kept) → IsPut (text request kept (fresh_run first request entries)) old new))
 
 -- whatever the records, all of such a text went out
-pub record IsOut (first : KeyValue → Says) (request : Request) (text : RunText) (entries : Entries) (kept : List Record) (old new : SinkState) : Type 0 where
+pub record IsOut (first : KeyValue → Says) (request : Request) (text : RunText) (entries : Entries) (kept : List (List Record)) (old new : SinkState) : Type 0 where
   pub it : Text
-  pub is_text : AreSpoken first kept → it ≡ text request kept (fresh_run first request entries)
+  pub is_text : AreSpoken first (records kept) → it ≡ text request kept (fresh_run first request entries)
   pub put : IsPut it old new
 
 abbrev pub WentOut : (KeyValue → Says) → Request → RunText → Option Held → SinkState → SinkState → Type 0
@@ -286,24 +293,24 @@ Ticked request before now other = now ≤ before + turns request
 -- so many records are checked: none where that isn't asked for
 abbrev pub ChecksMany : Request → Option Held → ℕ → Type 0
 ChecksMany request told many =
-    (checks request ≡ false → many ≡ 0) × IfSome told (λ held. Keeping (is_fresh request) held (λ entries old. many ≡ checked_count (checks request) old))
+    (checks request ≡ false → many ≡ 0) × IfSome told (λ held. Keeping (is_fresh request) held (λ entries old. many ≡ checked_count (checks request) (records old)))
 
 abbrev pub StartsBoth : Request → Option Held → ℕ → ℕ → ℕ → Type 0
 StartsBoth request told before now ran = (many : ℕ) × (ChecksMany request told many × (now ≡ started ran (started many before)))
 
 -- whatever the records: so many commands of a run ran over those that were kept; over spoken ones it is the fresh run
-pub record HasRan (first : KeyValue → Says) (request : Request) (entries : Entries) (old : List Record) (ran : ℕ) : Type 0 where
+pub record HasRan (first : KeyValue → Says) (request : Request) (entries : Entries) (old : List (List Record)) (ran : ℕ) : Type 0 where
   pub world : World
   pub table : List Record
-  pub is_left : AreSpoken first old → IsLeft (fresh_run first request entries) world table
-  pub count : ran ≡ ran_count old table
+  pub is_left : AreSpoken first (records old) → IsLeft (fresh_run first request entries) world table
+  pub count : ran ≡ ran_count (records old) table
 
 abbrev pub RanSo : (KeyValue → Says) → Request → Option Held → ℕ → Type 0
 RanSo first request told ran = IfSome told (λ held. Keeping (is_fresh request) held (λ entries old. HasRan first request entries old ran))
 
 -- so many records are kept
 abbrev pub KeepsMany : Request → Option Held → ℕ → Type 0
-KeepsMany request told many = IfSome told (λ held. Keeping (is_fresh request) held (λ entries old. many ≡ length old))
+KeepsMany request told many = IfSome told (λ held. Keeping (is_fresh request) held (λ entries old. many ≡ length (records old)))
 
 -- Where the run is spent: one for each record that is checked; one for each command that ran, which are no more than the
 -- turns, beside the script; and one for each record that is kept, since each was looked at.
@@ -333,14 +340,14 @@ Started first request told before now (out.Said status) = ⊥
 
 -- where every record is to be checked, each is spoken
 abbrev pub Checked : (KeyValue → Says) → Request → Option Held → Type 0
-Checked first request told = IfSome told (λ held. Keeping (is_fresh request) held (λ entries old. ChecksWhole first (checks request) old))
+Checked first request told = IfSome told (λ held. Keeping (is_fresh request) held (λ entries old. ChecksWhole first (checks request) (records old)))
 
 -- an outcome that what a folder holds calls for, or want of memory (`Laws.antt` has that it calls for one alone)
 abbrev pub Settles : (KeyValue → Says) → Request → Held → Outcome → Type 0
-Settles first request held (out.Ended status launched ran) = Keeping (is_fresh request) held (λ entries old. AreSpoken first old → EndsWith (fresh_run first request entries) status)
+Settles first request held (out.Ended status launched ran) = Keeping (is_fresh request) held (λ entries old. AreSpoken first (records old) → EndsWith (fresh_run first request entries) status)
 Settles first request held (out.Special path) = Refuses (is_fresh request) held (refusal.Special path)
 Settles first request held (out.Damaged file damage) = Refuses (is_fresh request) held (refusal.Damaged file damage)
-Settles first request held (out.Forged rec step) = Keeping (is_fresh request) held (λ entries old. TellsForged first request old rec step)
-Settles first request held out.Spent = Keeping (is_fresh request) held (λ entries old. AreSpoken first old × (fresh_run first request entries ≡ Spent))
+Settles first request held (out.Forged rec step) = Keeping (is_fresh request) held (λ entries old. TellsForged first request (records old) rec step)
+Settles first request held out.Spent = Keeping (is_fresh request) held (λ entries old. AreSpoken first (records old) × (fresh_run first request entries ≡ Spent))
 Settles first request held out.NoMemory = Unit {0}
 Settles first request held other = ⊥

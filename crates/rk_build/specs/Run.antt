@@ -1,5 +1,5 @@
 -- The run of a folder's script.
-use Rattle.std.specs.Prelude.{◌≡◌, ℕ, ◌+◌, ◌≤◌, List, length, Option, IfSome, Result, Ok, Err}
+use Rattle.std.specs.Prelude.{◌≡◌, ◌≢◌, true, [], ℕ, ◌+◌, ◌≤◌, List, length, Option, IfSome, Result, Ok, Err}
 use Rattle.rk_calls.specs.Refs.{top_refs}
 use Rattle.rk_calls.specs.Keys.{KeyValue}
 use Rattle.rk_calls.specs.Talk.{Says}
@@ -15,7 +15,7 @@ use Rattle.tr_codec.specs.Sound.{IsSound}
 use Rattle.std.specs.List.{AllByRecursion}
 use Rattle.rk_request.specs.Asked.{turns}
 use Rattle.rk_request.specs.declared.requests.Request.{Request}
-use Rattle.rk_replay.specs.Ran.{ran_of, ran_total}
+use Rattle.rk_replay.specs.Ran.{AreStill, ran_of, ran_total}
 use Rattle.rk_replay.specs.Script.{script_key}
 use Rattle.rk_replay.specs.Starts.{StartsRan, StartsUpTo}
 use Rattle.rk_replay.specs.declared.build.Built.{Built}
@@ -29,13 +29,15 @@ use Rattle.rk_build.specs.declared.stop.BuildErr.TheVariants as stop
 unfoldable pub fresh_run : (KeyValue → Says) → Request → Entries → Outcome World
 fresh_run first request entries = fresh (environment first answered) (turns request) script_key top_refs (fresh_world entries)
 
--- how many commands of a table ran, over the records of an old one: those whose steps aren't recorded there
--- under their key and ordinal
+-- how many commands of a table ran, over these old records: those whose talk equals no old record of their key
 abbrev pub ran_count : List Record → List Record → ℕ
 ran_count old table = length (ran_of old table)
 
--- Whatever the records: which commands ran over those of an old table, and why; and the turns that these paid.
+-- Whatever the records: which commands ran over the old ones, and why; and the turns that these paid. At the least the script was
+-- launched; and each record is the old one of its number, where that is told.
 pub record IsReplay (old : List Record) (before now : ℕ) (b : Built) : Type 0 where
+  pub some : b.table ≢ []
+  pub still : b.still ≡ true → AreStill old b.table
   pub ran : b.ran ≡ ran_of old b.table
   pub ticked : now ≡ before + ran_total old b.table
 
@@ -57,7 +59,7 @@ StopsRun first request told entries old stop.ReadFault = Unit {0}
 StopsRun first request told entries old stop.NoMemory = Unit {0}
 StopsRun first request told entries old other = ⊥
 
--- What a run made over the records of an old table tells, and the world that it left.
+-- What a run made over old records tells, and the world that it left.
 abbrev pub Runs : (KeyValue → Says) → Request → Option Told → Entries → List Record → ℕ → ℕ → World → Result Built BuildErr → Type 0
 Runs first request told entries old before now world (Ok b) = IsReplay old before now b × IsRunInFull first request told entries old world b
 Runs first request told entries old before now world (Err e) = StopsRun first request told entries old e

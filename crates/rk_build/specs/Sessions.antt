@@ -3,8 +3,9 @@ use Rattle.std.specs.Prelude.{◌≡◌, List, [], ◌∷◌, true, None, false}
 use Rattle.rk_base.specs.Text.{Text, is_within}
 use Rattle.rk_calls.specs.Keys.{KeyValue}
 use Rattle.rk_calls.specs.Talk.{Says}
+use Rattle.tr_record.specs.Generations.{IsPushed, records}
 use Rattle.tr_record.specs.declared.records.Record.{Record}
-use Rattle.tr_codec.specs.Fits.{Fits}
+use Rattle.tr_kept.specs.KeptSpelling.{FitsKept}
 use Rattle.rk_folder.specs.Hidden.{hidden_dir}
 use Rattle.rk_folder.specs.Specials.{first_special}
 use Rattle.rk_folder.specs.Told.{Held, standing}
@@ -32,22 +33,24 @@ pub record Edits (held to : Held) : Type 0 where
   pub hidden : (path : Text) → is_within hidden_dir path ≡ true → standing to path ≡ standing held path
   pub plain : first_special to ≡ None
 
--- The folder goes to what the run leaves, its trace included: a whole snapshot, records that have a spelling, and state
--- files of fewer than 2^64 bytes, as each build that ends leaves them.
-pub record GoesTo (world : World) (table : List Record) (held to : Held) : Type 0 where
-  pub is_after : IsAfter held to (held_after world table)
+-- The folder goes to what the run leaves, its trace first among those that are kept: a whole snapshot, tables that have a spelling,
+-- and state files of fewer than 2^64 bytes, as each build that ends leaves them.
+pub record GoesTo (world : World) (table : List Record) (old : List (List Record)) (held to : Held) : Type 0 where
+  pub kept : List (List Record)
+  pub pushed : IsPushed table old kept
+  pub is_after : IsAfter held to (held_after world kept)
   pub entries : IsWholeSnapshot (entries_of world.tree)
-  pub fits : Fits table
-  pub memory : AreInMemory world table
+  pub fits : FitsKept kept
+  pub memory : AreInMemory world kept
 
 -- a build goes to what the fresh run leaves, and where that is spent leaves the folder as it is
-abbrev pub Builds : Run World → Held → Held → Type 0
-Builds (Done world status left table) held to = GoesTo world table held to
-Builds Spent held to = to ≡ held
+abbrev pub Builds : Run World → List (List Record) → Held → Held → Type 0
+Builds (Done world status left table) old held to = GoesTo world table old held to
+Builds Spent old held to = to ≡ held
 
 abbrev pub Becomes : (KeyValue → Says) → Held → Item → Held → Type 0
 Becomes first held (Edit it) to = (to ≡ it) × Edits held it
-Becomes first held (Build request) to = Keeping (is_fresh request) held (λ entries old. Builds (fresh_run first request entries) held to)
+Becomes first held (Build request) to = Keeping (is_fresh request) held (λ entries old. Builds (fresh_run first request entries) old held to)
 
 -- the folder goes through these items to the last; each folder on the way is whole, as every folder is
 abbrev pub Session : (KeyValue → Says) → Held → List Item → Held → Type 0
@@ -56,7 +59,7 @@ Session first held (item ∷ items) last = (next : Held) × (Becomes first held 
 
 -- nothing is special, the state files are well, and the database is absent or spoken
 abbrev pub IsWell : (KeyValue → Says) → Held → Type 0
-IsWell first held = Keeping false held (λ entries old. AreSpoken first old)
+IsWell first held = Keeping false held (λ entries old. AreSpoken first (records old))
 
 -- a session that begins so is so at every item (each front of its items is a session)
 abbrev pub StaysWell : Type 0

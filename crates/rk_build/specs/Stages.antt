@@ -18,6 +18,7 @@ use Rattle.rk_changes.specs.declared.holding.Holding.{Holding}
 use Rattle.std.specs.List.{AllByRecursion}
 use Rattle.tr_codec.specs.Fits.{Fits}
 use Rattle.tr_codec.specs.Sound.{IsSound}
+use Rattle.tr_kept.specs.KeptSpelling.{FitsKept}
 use Rattle.rk_kernel.specs.World.{World}
 use Rattle.rk_kernel.specs.declared.answer_err.AnswerErr.{AnswerErr}
 use Rattle.rk_kernel.specs.declared.answer_err.AnswerErr.TheVariants as answer
@@ -27,7 +28,9 @@ use Rattle.rk_tree.specs.Full.{Told}
 use Rattle.rk_tree.specs.declared.fetch.FetchErr.{FetchErr}
 use Rattle.rk_tree.specs.declared.fetch.FetchErr.TheVariants as fetch
 use Rattle.rk_attrs.specs.declared.rows.AttrRow.{AttrRow}
+use Rattle.tr_record.specs.Generations.{AreGenerations, IsPushed, records}
 use Rattle.tr_record.specs.declared.records.Record.{Record}
+use Rattle.rk_replay.specs.declared.build.Built.{Built}
 use Rattle.rk_base.specs.Text.{Text}
 use Rattle.rk_traces.specs.Run.{Spent}
 use Rattle.rk_traces.specs.Spoken.{AreSpoken}
@@ -42,7 +45,8 @@ use Rattle.rk_build.specs.Outcomes.{IsNext, Started, StartsBoth, outcome_of_stop
 use Rattle.rk_build.specs.Texts.{IsNoFault}
 use Rattle.rk_build.specs.declared.stop.Refusal.TheVariants as refusal
 use Rattle.rk_build.specs.declared.found.Found.{Found}
-use Rattle.rk_build.specs.declared.after.Finished.{Finished}
+use Rattle.rk_build.specs.declared.work.Ended.{Ended}
+use Rattle.rk_build.specs.declared.work.Finished.{Finished}
 use Rattle.rk_build.specs.declared.work.Prepared.{Prepared}
 use Rattle.rk_build.specs.declared.stop.BuildErr.{BuildErr}
 use Rattle.rk_build.specs.declared.stop.BuildErr.TheVariants as stop
@@ -77,7 +81,7 @@ ReadsCounted before now other = now ≡ before
 abbrev pub Steadily : {T : Type 0} → Bool → Bool → Result T BuildErr → Type 0
 Steadily before now result = (now ≡ before) × (before ≡ true → IsNoFault result)
 
--- nothing is special, this is what the folder holds, as it is listed, and these are the records and the rows that it keeps; or why
+-- nothing is special, this is what the folder holds, as it is listed, and these are the tables and the rows that it keeps; or why
 -- it is refused
 abbrev pub FindsSo : Request → Option Held → Result Found BuildErr → Type 0
 FindsSo request told (Ok found) = IfSome told (λ held. (first_special held ≡ None) × (found.holding ≡ listed_holding (is_fresh request) held) × IsKept (decoded (is_fresh request) (state_in held)) found.attrs found.old)
@@ -109,55 +113,72 @@ MemoryRose old new before now other = now ≡ before
 
 -- What the run on what was found has come to, over the records that were found.
 pub record HasRun (first : KeyValue → Says) (request : Request) (told : Option Told) (found : Found) (before now : ℕ) (f : Finished) : Type 0 where
-  pub replay : IsReplay found.old before now f.built
-  pub run : IsRunInFull first request told (found_entries found) found.old f.world f.built
+  pub replay : IsReplay (records found.old) before now f.built
+  pub run : IsRunInFull first request told (found_entries found) (records found.old) f.world f.built
 
 abbrev pub FinishesSo : (KeyValue → Says) → Request → Option Told → Found → ℕ → ℕ → Result Finished BuildErr → Type 0
 FinishesSo first request told found before now (Ok f) = HasRun first request told found before now f
-FinishesSo first request told found before now (Err e) = StopsRun first request told (found_entries found) found.old e
+FinishesSo first request told found before now (Err e) = StopsRun first request told (found_entries found) (records found.old) e
 
--- What it left has a spelling, where each answer fits its call; and the plan leads from what was found to what is to be held,
--- both in full, where the bytes of files are told.
-pub record IsPlanned (request : Request) (told : Option Told) (found : Found) (p : Prepared) : Type 0 where
-  pub text : p.error_text ≡ p.finished.world.err ++ explanation request p.finished.built.ran (length p.finished.built.table)
-  pub whole : IsWholeSnapshot (entries_of p.finished.world.tree)
-  pub readable : AreReadable p.finished.world p.finished.built.table
-  pub fits : AllByRecursion IsSound p.finished.built.table → Fits p.finished.built.table
-  pub plan : IfSome told (λ t. IsPlan (full_holding t found.holding) (full_holding t (held_after p.finished.world p.finished.built.table)) p.plan)
+-- how a run ended: its status, how many commands were launched, and those of them that ran
+abbrev pub ended_of : Built → Ended
+ended_of built = record { status = built.status; launched = length built.table; ran = built.ran }
+
+-- these tables may be kept, and each has a spelling, where in each of its records the answers fit the calls
+pub record MayFit (kept : List (List Record)) : Type 0 where
+  pub are : AreGenerations kept
+  pub fits : AllByRecursion (λ table. AllByRecursion IsSound table → Fits table) kept
+
+-- What the run left is pushed to what was kept, which has a spelling then, where each answer fits its call; and the plan leads from
+-- what was found to what is to be held, both in full, where the bytes of files are told.
+pub record IsPlanned (request : Request) (told : Option Told) (found : Found) (built : Built) (p : Prepared) : Type 0 where
+  pub ended : p.ended ≡ ended_of built
+  pub kept : List (List Record)
+  pub pushed : IsPushed built.table found.old kept
+  pub fits : MayFit kept
+  pub text : p.error_text ≡ p.world.err ++ explanation request built.ran (length built.table)
+  pub whole : IsWholeSnapshot (entries_of p.world.tree)
+  pub readable : AreReadable p.world kept
+  pub plan : IfSome told (λ t. IsPlan (full_holding t found.holding) (full_holding t (held_after p.world kept)) p.plan)
 
 pub record IsWork (first : KeyValue → Says) (request : Request) (told : Option Told) (found : Found) (before now : ℕ) (p : Prepared) : Type 0 where
-  pub ran : HasRun first request told found before now p.finished
-  pub planned : IsPlanned request told found p
+  pub built : Built
+  pub ran : HasRun first request told found before now (record { world = p.world; built = built })
+  pub planned : IsPlanned request told found built p
 
 abbrev pub WorksSo : (KeyValue → Says) → Request → Option Told → Found → ℕ → ℕ → Result Prepared BuildErr → Type 0
 WorksSo first request told found before now (Ok p) = IsWork first request told found before now p
-WorksSo first request told found before now (Err e) = StopsRun first request told (found_entries found) found.old e
+WorksSo first request told found before now (Err e) = StopsRun first request told (found_entries found) (records found.old) e
 
 -- The run on what the folder holds with its rows, over the records that it keeps, has ended so, and the plan leads to what
--- it leaves, each file with its bytes; over spoken records what it leaves has a spelling, and the next build finds just that.
+-- it leaves, each file with its bytes; over spoken records what is kept then has a spelling, and the next build finds just that.
 pub record IsPrepared (first : KeyValue → Says) (request : Request) (held : Held) (before now : ℕ) (p : Prepared) : Type 0 where
   pub plain : first_special held ≡ None
   pub rows : List (Text × AttrRow)
-  pub old : List Record
+  pub old : List (List Record)
   pub kept : IsKept (decoded (is_fresh request) (state_in held)) rows old
-  pub checked : ChecksWhole first (checks request) old
-  pub replay : IsReplay old before now p.finished.built
+  pub checked : ChecksWhole first (checks request) (records old)
+  pub built : Built
+  pub ended : p.ended ≡ ended_of built
+  pub replay : IsReplay (records old) before now built
   pub world : World
-  pub out : p.finished.world.out ≡ world.out
-  pub run : IsRun first request (with_rows (snapshot_of held) rows) old world p.finished.built
-  pub text : p.error_text ≡ world.err ++ explanation request p.finished.built.ran (length p.finished.built.table)
-  pub plan : IsPlan (holding_of (is_fresh request) held) (held_after world p.finished.built.table) p.plan
+  pub out : p.world.out ≡ world.out
+  pub run : IsRun first request (with_rows (snapshot_of held) rows) (records old) world built
+  pub text : p.error_text ≡ world.err ++ explanation request built.ran (length built.table)
+  pub left : List (List Record)
+  pub pushed : IsPushed built.table old left
+  pub plan : IsPlan (holding_of (is_fresh request) held) (held_after world left) p.plan
   pub allowed : AllowsPlan p.plan held
-  pub leads : IsAfter held (carried p.plan held) (held_after world p.finished.built.table)
-  pub readable : AreReadable world p.finished.built.table
-  pub fits : AreSpoken first old → Fits p.finished.built.table
-  pub next : AreSpoken first old → IsNext world p.finished.built.table (carried p.plan held)
+  pub leads : IsAfter held (carried p.plan held) (held_after world left)
+  pub readable : AreReadable world left
+  pub fits : AreSpoken first (records old) → FitsKept left
+  pub next : AreSpoken first (records old) → IsNext world left (carried p.plan held)
 
 abbrev pub PreparesSo : (KeyValue → Says) → Request → Option Held → ℕ → ℕ → Result Prepared BuildErr → Type 0
 PreparesSo first request told before now (Ok p) = IfSome told (λ held. IsPrepared first request held before now p) × (now ≤ before + turns request)
 PreparesSo first request told before now (Err (stop.Refused refusal)) = IfSome told (λ held. Refuses (is_fresh request) held refusal) × (now ≡ before)
-PreparesSo first request told before now (Err (stop.Forged rec step)) = IfSome told (λ held. Keeping (is_fresh request) held (λ entries old. TellsForged first request old rec step)) × (now ≤ before + turns request) × (checks request ≡ true → now ≡ before)
-PreparesSo first request told before now (Err stop.Spent) = IfSome told (λ held. Keeping (is_fresh request) held (λ entries old. AreSpoken first old × (fresh_run first request entries ≡ Spent))) × (now ≤ before + turns request)
+PreparesSo first request told before now (Err (stop.Forged rec step)) = IfSome told (λ held. Keeping (is_fresh request) held (λ entries old. TellsForged first request (records old) rec step)) × (now ≤ before + turns request) × (checks request ≡ true → now ≡ before)
+PreparesSo first request told before now (Err stop.Spent) = IfSome told (λ held. Keeping (is_fresh request) held (λ entries old. AreSpoken first (records old) × (fresh_run first request entries ≡ Spent))) × (now ≤ before + turns request)
 PreparesSo first request told before now (Err stop.ReadFault) = now ≤ before + turns request
 PreparesSo first request told before now (Err stop.NoMemory) = now ≤ before + turns request
 PreparesSo first request told before now (Err stop.WriteFault) = ⊥

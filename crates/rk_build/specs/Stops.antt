@@ -40,8 +40,8 @@ FewBytes (Some ops) = length (install_spelling ops) < 2 ^ 64
 
 -- an install that stopped left all as before, or what leads on
 abbrev pub StopsSealed : Type 0
-StopsSealed = (first : KeyValue → Says) (request : Request) (entries : Entries) (old : List Record) (held new : Held) (e : InstallErr) → IsWhole held → first_special held ≡ None → (it : PartlyInstalled first request entries old held (Some new) e) → IsWholeSnapshot (entries_of it.world.tree) → FewBytes it.plan.calls
-    → LeavesUnsealed it.plan.calls held new ⊎ LeadsOn held (held_after it.world it.table) new
+StopsSealed = (first : KeyValue → Says) (request : Request) (entries : Entries) (old : List (List Record)) (held new : Held) (e : InstallErr) → IsWhole held → first_special held ≡ None → (it : PartlyInstalled first request entries old held (Some new) e) → IsWholeSnapshot (entries_of it.world.tree) → FewBytes it.plan.calls
+    → LeavesUnsealed it.plan.calls held new ⊎ LeadsOn held (held_after it.world it.kept) new
 
 -- finished, that is what the build was to leave
 abbrev pub FinishesAfter : Type 0

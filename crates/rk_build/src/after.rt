@@ -1,35 +1,23 @@
 // What the folder is to hold.
-ghost use Rattle.std.specs.Prelude.{◌≡◌, ◌≤◌, IfOk, OnOk, length};
+ghost use Rattle.std.specs.Prelude.{◌≡◌, ◌≢◌, ◌<◌, ◌≤◌, [], IfOk, IsTrue, OnOk, length};
 ghost use Rattle.rk_folder.specs.Told.{longest_file};
 ghost use Rattle.rk_tree.specs.Entries.{IsWholeSnapshot};
 ghost use Rattle.rk_changes.specs.Attributes.{attrs_of};
-ghost use Rattle.std.specs.List.{AllByRecursion};
-ghost use Rattle.tr_codec.specs.Fits.{Fits};
-ghost use Rattle.tr_codec.specs.Sound.{IsSound};
-ghost use Rattle.tr_codec.specs.Spelling.{db_spelling};
-ghost use Rattle.tr_codec.specs.Spelt.{IsSpelling};
-ghost use Rattle.rk_replay.specs.Ran.{AreKept, ran_of};
+ghost use Rattle.tr_kept.specs.KeptSpelling.{kept_spelling, IsKeptSpelling};
+ghost use Rattle.tr_record.specs.Generations.{IsPushed, table_at};
 ghost use Rattle.rk_build.specs.Fresh.{IsReadable, attrs_bytes, held_after};
 ghost use Rattle.rk_build.specs.Kept.{Spells};
+ghost use Rattle.rk_build.specs.Stages.{MayFit};
 
 use rk_base::{Bytes, NoMemory};
 use rk_changes::{Holding, attrs_of};
 use rk_folder::{LONGEST_FILE, State};
 use rk_kernel::World;
-use rk_replay::{Built, is_as_found};
 use rk_tree::Snapshot;
 use std::alloc::Global;
 use tr_attrs::write_attrs;
-use tr_codec::{is_current, write_db};
-use tr_record::Table;
-
-/// A run that ended: the world that it left, and the script's status, the records of its commands, and those of them that ran,
-/// each with why.
-#[derive(Drop)]
-pub(crate) struct Finished {
-    pub world: World,
-    pub built: Built,
-}
+use tr_kept::{is_latest, write_kept};
+use tr_record::{Kept, Table};
 
 // A state file that no build would read again isn't made.
 fn readable(bytes: Bytes) -> Result<Bytes, NoMemory>
@@ -58,67 +46,71 @@ fn attrs_bytes(alloc: Global, entries: &Snapshot) -> Result<Option<Bytes>, NoMem
     }
 }
 
-// The spelling of the records that a run leaves, where these bytes spell the old ones: the very bytes, where it leaves those and
-// they are of the version that is written.
-fn kept_bytes(
-    alloc: Global,
-    finished: &Finished,
-    old: &Table,
-    was: &Bytes,
-) -> Result<Bytes, NoMemory>
-    requires spells { IsSpelling was.now old.now }
-    requires kept { AreKept old.now finished.now.built.table }
-    requires ran { finished.now.built.ran ≡ ran_of old.now finished.now.built.table }
-    ensures bytes { IfOk result (λ bytes. bytes ≡ db_spelling finished.now.built.table) }
-    ensures fits { OnOk result (AllByRecursion IsSound finished.now.built.table → Fits finished.now.built.table) }
+/// What is kept once a run has ended that left this table: it comes first among the tables that were kept, and where it is as found,
+/// it does so already.
+pub(crate) fn keep(old: Kept, table: Table, as_found: bool) -> Result<Kept, NoMemory>
+    requires some { table ≢ [] }
+    requires found { IsTrue as_found → (0 < length old) × (table_at 0 old ≡ table) }
+    ensures pushed { IfOk result (λ kept. IsPushed table old kept) }
+    ensures same { IfOk result (λ kept. IsTrue as_found → kept ≡ old) }
 {
-    if is_current(was.as_slice()) {
-        if is_as_found(old, &finished.built.table, &finished.built.ran) {
-            return was.copy();
-        }
+    let mut kept = old;
+    if !as_found {
+        kept.push(table)?;
     }
-    write_db(alloc, &finished.built.table)
+    Ok(kept)
 }
 
-// db as it is to stand, where these were its bytes, and they spell the old records.
+// The spelling of the tables that are kept, which these bytes spell: the very bytes, where they are of the version that is written.
+fn same_bytes(alloc: Global, kept: &Kept, was: &Bytes) -> Result<Bytes, NoMemory>
+    requires { IsKeptSpelling was.now kept.now }
+    ensures bytes { IfOk result (λ bytes. bytes ≡ kept_spelling kept.now) }
+    ensures fits { OnOk result (MayFit kept.now) }
+{
+    if is_latest(was.as_slice()) {
+        return was.copy();
+    }
+    write_kept(alloc, kept)
+}
+
+// db as it is to stand. Where the tables are as found, these bytes spell them.
 fn db_bytes(
     alloc: Global,
-    finished: &Finished,
-    old: &Table,
+    kept: &Kept,
     was: &Option<Bytes>,
+    as_found: bool,
 ) -> Result<Bytes, NoMemory>
-    requires spells { Spells was.now old.now }
-    requires kept { AreKept old.now finished.now.built.table }
-    requires ran { finished.now.built.ran ≡ ran_of old.now finished.now.built.table }
-    ensures bytes { IfOk result (λ bytes. bytes ≡ db_spelling finished.now.built.table) }
-    ensures fits { OnOk result (AllByRecursion IsSound finished.now.built.table → Fits finished.now.built.table) }
+    requires spells { IsTrue as_found → Spells was.now kept.now }
+    ensures bytes { IfOk result (λ bytes. bytes ≡ kept_spelling kept.now) }
+    ensures fits { OnOk result (MayFit kept.now) }
     ensures readable { IfOk result (λ bytes. length bytes ≤ longest_file) }
 {
     let bytes = match was {
-        None => write_db(alloc, &finished.built.table)?,
-        Some(was) => kept_bytes(alloc, finished, old, was)?,
+        Some(was) if as_found => same_bytes(alloc, kept, was)?,
+        _ => write_kept(alloc, kept)?,
     };
     readable(bytes)
 }
 
-/// What the folder is to hold after the run, where these were the bytes of the database, and they spell the old records.
+/// What the folder is to hold after a run that left this world, where these tables are kept from then on. Where they are as found,
+/// these bytes of the database spell them.
 pub(crate) fn held_after(
     alloc: Global,
-    finished: &Finished,
-    old: &Table,
+    world: &World,
+    kept: Kept,
     was: &Option<Bytes>,
+    as_found: bool,
 ) -> Result<Holding, NoMemory>
-    requires spells { Spells was.now old.now }
-    requires kept { AreKept old.now finished.now.built.table }
-    requires ran { finished.now.built.ran ≡ ran_of old.now finished.now.built.table }
-    ensures holding { IfOk result (λ holding. holding ≡ held_after finished.now.world finished.now.built.table) }
+    requires spells { IsTrue as_found → Spells was.now kept }
+    ensures holding { IfOk result (λ holding. holding ≡ held_after world.now kept) }
     ensures whole { IfOk result (λ holding. IsWholeSnapshot holding.entries) }
     ensures readable { IfOk result (λ holding. IsReadable holding.state.attrs × IsReadable holding.state.db) }
-    ensures fits { OnOk result (AllByRecursion IsSound finished.now.built.table → Fits finished.now.built.table) }
+    ensures fits { OnOk result (MayFit kept) }
 {
-    // What the spelling of the database takes is given back before the entries are made.
-    let db = db_bytes(alloc, finished, old, was)?;
-    let entries = finished.world.snapshot()?;
+    // The tables, and what the spelling of the database takes, are given back before the entries are made.
+    let db = db_bytes(alloc, &kept, was, as_found)?;
+    drop(kept);
+    let entries = world.snapshot()?;
     let attrs = attrs_bytes(alloc, &entries)?;
     Ok(Holding {
         entries,

@@ -9,28 +9,18 @@ ghost use Rattle.rk_build.specs.Outcomes.{Checked, outcome_of, Leaves, HasStatus
 ghost use Rattle.rk_build.specs.Stages.{StartsSo, InstallsSo, WritesCounted, MemoryRose, Steadily};
 ghost use Rattle.rk_build.specs.Texts.{IsNoFault};
 
-use crate::after::Finished;
 use crate::prepare::prepare;
 use crate::stop::BuildErr;
 use crate::texts::put_texts;
-use crate::work::Prepared;
+use crate::work::{Ended, Prepared};
 use rk_base::Steps;
 use rk_calls::Maker;
 use rk_folder::{Folder, Sink};
 use rk_install::{InstallErr, install};
-use rk_replay::RanList;
 use rk_request::Request;
 use rk_seal::Plan;
 use std::alloc::Global;
 use std::sync::ledger::Ledger;
-
-/// A build that ended: the script's status, how many commands were launched, and those of them that ran, with why.
-#[derive(Debug, Drop)]
-pub(crate) struct Ended {
-    pub status: u8,
-    pub launched: u64,
-    pub ran: RanList,
-}
 
 // Installs the plan.
 fn carry_out<F: Folder>(alloc: Global, folder: &mut F, plan: Plan) -> Result<(), BuildErr>
@@ -78,17 +68,12 @@ pub(crate) fn build<M: Maker, F: Folder, O: Sink, E: Sink, L: Ledger>(
     ensures starts { StartsSo (λ e. length e.ran) M.first request.now (F.told folder.old) (M.starts maker.old) (M.starts maker.new) result }
 {
     let Prepared {
-        finished,
+        ended,
+        world,
         plan,
         error_text,
     } = prepare(alloc, maker, request, folder, live)?;
-    put_texts(out, err, finished.world.out(), error_text.as_slice())?;
+    put_texts(out, err, world.out(), error_text.as_slice())?;
     carry_out(alloc, folder, plan)?;
-    let Finished { built, .. } = finished;
-    let launched = built.table.len() as u64;
-    Ok(Ended {
-        status: built.status,
-        launched,
-        ran: built.ran,
-    })
+    Ok(ended)
 }

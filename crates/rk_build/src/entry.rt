@@ -11,10 +11,12 @@ ghost use Rattle.rk_build.specs.Kept.{decoded, state_in, IsDamaged, Keeping};
 ghost use Rattle.rk_build.specs.Checks.{TellsForged};
 ghost use Rattle.rk_build.specs.Run.{fresh_run};
 ghost use Rattle.rk_request.specs.Asked.{is_fresh, turns};
+ghost use Rattle.tr_record.specs.Generations.{records};
 
 use crate::Outcome;
-use crate::build::{Ended, build};
+use crate::build::build;
 use crate::stop::{BuildErr, Refusal};
+use crate::work::Ended;
 use rk_base::Steps;
 use rk_calls::Maker;
 use rk_folder::{Folder, Sink};
@@ -106,8 +108,8 @@ pub fn build_in<M: Maker, F: Folder, O: Sink, E: Sink, L: Ledger>(
     ensures asked { result ≢ Outcome.Usage }
     ensures special { IfSpecial result (λ path. IfSome (F.told folder.old) (λ held. first_special held ≡ Some path)) }
     ensures damaged { IfDamaged result (λ file damage. IfSome (F.told folder.old) (λ held. (first_special held ≡ None) × IsDamaged (decoded (is_fresh request.now) (state_in held)) file damage)) }
-    ensures forged { IfForged result (λ rec step. IfSome (F.told folder.old) (λ held. Keeping (is_fresh request.now) held (λ entries old. TellsForged M.first request.now old rec step))) }
-    ensures spent { result ≡ Outcome.Spent → IfSome (F.told folder.old) (λ held. Keeping (is_fresh request.now) held (λ entries old. AreSpoken M.first old × (fresh_run M.first request.now entries ≡ Spent))) }
+    ensures forged { IfForged result (λ rec step. IfSome (F.told folder.old) (λ held. Keeping (is_fresh request.now) held (λ entries old. TellsForged M.first request.now (records old) rec step))) }
+    ensures spent { result ≡ Outcome.Spent → IfSome (F.told folder.old) (λ held. Keeping (is_fresh request.now) held (λ entries old. AreSpoken M.first (records old) × (fresh_run M.first request.now entries ≡ Spent))) }
 
     // A fault is told only where a count for it rose in this call, and none over what is steady.
     ensures counts { Counted (record { reads = F.read_faults folder.old; writes = F.write_faults folder.old; puts = O.faults out.old; error_puts = E.faults err.old })

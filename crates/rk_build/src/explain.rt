@@ -3,8 +3,8 @@ ghost use Rattle.std.specs.Prelude.{◌≡◌, ◌++◌, IfOk, OnOk, length};
 ghost use Rattle.std.specs.List.{flat_map};
 ghost use Rattle.rk_build.specs.Explained.{explained, explanation, line_of_ran, why_of};
 
-use crate::after::Finished;
 use crate::options::explains;
+use crate::work::Finished;
 use rk_base::{Bytes, NoMemory};
 use rk_replay::{Cause, Ran, RanList};
 use rk_request::Request;

@@ -3,6 +3,7 @@ ghost use Rattle.std.specs.Prelude.{◌≡◌, IfOk, OnOk};
 ghost use Rattle.rk_folder.specs.Looks.{LooksInOrder, looks};
 ghost use Rattle.rk_tree.specs.Entries.{IsWholeSnapshot};
 ghost use Rattle.tr_record.specs.Contents.{AreContents};
+ghost use Rattle.tr_record.specs.Generations.{records};
 ghost use Rattle.rk_request.specs.Asked.{is_fresh};
 ghost use Rattle.rk_build.specs.Kept.{Spells};
 ghost use Rattle.rk_build.specs.Stages.{FindsSo, ReadsCounted, Steadily};
@@ -16,20 +17,20 @@ use rk_changes::Holding;
 use rk_folder::Folder;
 use rk_request::Request;
 use std::alloc::Global;
-use tr_record::{RecordedContents, Table};
+use tr_record::{Kept, RecordedContents};
 
-/// What the folder holds, and the rows of attributes and the records that its state files keep, with the contents that the
+/// What the folder holds, and the rows of attributes and the tables of records that its state files keep, with the contents that the
 /// answers of these are.
 #[derive(Drop)]
 pub(crate) struct Found {
     pub holding: Holding,
     pub attrs: Attrs,
-    pub old: Table,
+    pub old: Kept,
     pub contents: RecordedContents,
 }
 
 /// Lists the folder, and reads what its state files keep; of a build that begins afresh the database is passed
-/// over, and there are no records.
+/// over, and no tables are kept.
 pub(crate) fn find<F: Folder>(
     alloc: Global,
     request: &Request,
@@ -43,9 +44,9 @@ pub(crate) fn find<F: Folder>(
     ensures steady { Steadily (F.steady folder.old) (F.steady folder.new) result }
     ensures finds { FindsSo request.now (F.told folder.old) result }
     ensures whole { IfOk result (λ found. IsWholeSnapshot found.holding.entries) }
-    // The bytes that were read are the spelling of the records.
+    // The bytes that were read are the spelling of the tables.
     ensures spells { IfOk result (λ found. Spells found.holding.state.db found.old) }
-    ensures contents { IfOk result (λ found. AreContents found.contents found.old) }
+    ensures contents { IfOk result (λ found. AreContents found.contents (records found.old)) }
 {
     let holding = look(alloc, folder, is_fresh(request))?;
     let KeptState {

@@ -22,7 +22,7 @@ mod work;
 
 pub use entry::build_in;
 pub use exits::exit_code;
-pub use kept::table_in;
+pub use kept::tables_in;
 pub use laws::{finds_next, fresh_spoken, refused_settle, spoken_settle, stays_well, stops_finish};
 pub use lines::tell;
 pub use outcome::{Outcome, StateFile};

@@ -8,7 +8,7 @@ use rk_base::{Bytes, NoMemory, Path};
 use rk_folder::Sink;
 use rk_show::shown;
 use std::alloc::Global;
-use tr_codec::Damage;
+use tr_parts::Damage;
 
 fn special_line(alloc: Global, path: &Path) -> Result<Bytes, NoMemory>
     ensures { IfOk result (λ b. b ≡ special_line path.now) }

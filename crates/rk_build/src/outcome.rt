@@ -1,6 +1,6 @@
 // How a call of `rkr` ends.
 use rk_base::Path;
-use tr_codec::Damage;
+use tr_parts::Damage;
 
 /// A file in `.rkr` that is read: by a build attrs and the database, and before it a sealed list of calls that is finished.
 #[derive(Clone, Copy, Debug, PartialEq, Eq)]

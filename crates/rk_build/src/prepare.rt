@@ -6,6 +6,7 @@ ghost use Rattle.rk_request.specs.Asked.{turns};
 ghost use Rattle.rk_tree.specs.Entries.{IsWholeSnapshot};
 ghost use Rattle.rk_tree.specs.Full.{EntriesFrom};
 ghost use Rattle.tr_record.specs.Contents.{AreContents};
+ghost use Rattle.tr_record.specs.Generations.{records};
 ghost use Rattle.rk_build.specs.Calls.{PreparesCalls};
 ghost use Rattle.rk_build.specs.Kept.{Spells};
 ghost use Rattle.rk_build.specs.Run.{StartsRun};
@@ -28,18 +29,18 @@ fn work_by<'a, M: Maker, F: Folder, L: Ledger>(
     maker: &mut M,
     request: &Request,
     fetch: &mut ByFolder<'a, F>,
-    found: &Found,
+    found: Found,
     live: &mut Steps<L>,
 ) -> Result<Prepared, BuildErr>
     requires some { 0 < turns request.now }
-    requires contents { AreContents found.now.contents found.now.old }
-    requires spells { Spells found.now.holding.state.db found.now.old }
-    requires whole { IsWholeSnapshot found.now.holding.entries }
-    requires from { EntriesFrom (option_map told_of (F.told fetch.old.folder.now)) found.now.holding.entries }
-    ensures works { WorksSo M.first request.now (option_map told_of (F.told fetch.old.folder.now)) found.now live.old live.new result }
+    requires contents { AreContents found.contents (records found.old) }
+    requires spells { Spells found.holding.state.db found.old }
+    requires whole { IsWholeSnapshot found.holding.entries }
+    requires from { EntriesFrom (option_map told_of (F.told fetch.old.folder.now)) found.holding.entries }
+    ensures works { WorksSo M.first request.now (option_map told_of (F.told fetch.old.folder.now)) found live.old live.new result }
     ensures at_least { live.old ≤ live.new }
     ensures at_most { live.new ≤ live.old + turns request.now }
-    ensures starts { StartsRun (λ p. length p.finished.built.ran) request.now found.now.old (M.starts maker.old) (M.starts maker.new) result }
+    ensures starts { StartsRun (λ p. length p.ended.ran) request.now (records found.old) (M.starts maker.old) (M.starts maker.new) result }
     ensures same { fetch.new.folder.ghost_name ≡ fetch.old.folder.ghost_name }
     ensures keeps { KeptFolder (record { told = F.told fetch.old.folder.now; writes = F.write_faults fetch.old.folder.now; reach = F.reach fetch.old.folder.now }) (record { told = F.told fetch.new.folder.now; writes = F.write_faults fetch.new.folder.now; reach = F.reach fetch.new.folder.now }) (F.memory_failures fetch.old.folder.now) (F.memory_failures fetch.new.folder.now) (F.schedule fetch.old.folder.now) (F.schedule fetch.new.folder.now) }
     ensures memory { OnOk result (F.memory_failures fetch.new.folder.now ≡ F.memory_failures fetch.old.folder.now) }
@@ -55,18 +56,18 @@ fn work_in<M: Maker, F: Folder, L: Ledger>(
     maker: &mut M,
     request: &Request,
     folder: &mut F,
-    found: &Found,
+    found: Found,
     live: &mut Steps<L>,
 ) -> Result<Prepared, BuildErr>
     requires some { 0 < turns request.now }
-    requires contents { AreContents found.now.contents found.now.old }
-    requires spells { Spells found.now.holding.state.db found.now.old }
-    requires whole { IsWholeSnapshot found.now.holding.entries }
-    requires from { EntriesFrom (option_map told_of (F.told folder.old)) found.now.holding.entries }
-    ensures works { WorksSo M.first request.now (option_map told_of (F.told folder.old)) found.now live.old live.new result }
+    requires contents { AreContents found.contents (records found.old) }
+    requires spells { Spells found.holding.state.db found.old }
+    requires whole { IsWholeSnapshot found.holding.entries }
+    requires from { EntriesFrom (option_map told_of (F.told folder.old)) found.holding.entries }
+    ensures works { WorksSo M.first request.now (option_map told_of (F.told folder.old)) found live.old live.new result }
     ensures at_least { live.old ≤ live.new }
     ensures at_most { live.new ≤ live.old + turns request.now }
-    ensures starts { StartsRun (λ p. length p.finished.built.ran) request.now found.now.old (M.starts maker.old) (M.starts maker.new) result }
+    ensures starts { StartsRun (λ p. length p.ended.ran) request.now (records found.old) (M.starts maker.old) (M.starts maker.new) result }
     ensures keeps { KeptFolder (record { told = F.told folder.old; writes = F.write_faults folder.old; reach = F.reach folder.old }) (record { told = F.told folder.new; writes = F.write_faults folder.new; reach = F.reach folder.new }) (F.memory_failures folder.old) (F.memory_failures folder.new) (F.schedule folder.old) (F.schedule folder.new) }
     ensures memory { OnOk result (F.memory_failures folder.new ≡ F.memory_failures folder.old) }
     ensures reads { ReadsCounted (F.read_faults folder.old) (F.read_faults folder.new) result }
@@ -95,10 +96,10 @@ pub(crate) fn prepare<M: Maker, F: Folder, L: Ledger>(
     ensures steady { Steadily (F.steady folder.old) (F.steady folder.new) result }
     ensures prepares { PreparesSo M.first request.now (F.told folder.old) live.old live.new result }
     ensures rises { live.old ≤ live.new }
-    ensures few { IfOk result (λ p. length p.finished.built.ran ≤ turns request.now + 1) }
-    ensures starts { StartsSo (λ p. length p.finished.built.ran) M.first request.now (F.told folder.old) (M.starts maker.old) (M.starts maker.new) result }
+    ensures few { IfOk result (λ p. length p.ended.ran ≤ turns request.now + 1) }
+    ensures starts { StartsSo (λ p. length p.ended.ran) M.first request.now (F.told folder.old) (M.starts maker.old) (M.starts maker.new) result }
 {
     let found = find(alloc, request, folder)?;
     check_old(maker, request, &found.old)?;
-    work_in(alloc, maker, request, folder, &found, live)
+    work_in(alloc, maker, request, folder, found, live)
 }

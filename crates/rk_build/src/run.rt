@@ -5,7 +5,7 @@ ghost use Rattle.rk_kernel.specs.World.{fresh_world};
 ghost use Rattle.rk_request.specs.Asked.{turns};
 ghost use Rattle.rk_tree.specs.Full.{AreFrom};
 ghost use Rattle.tr_record.specs.Contents.{AreContents};
-ghost use Rattle.rk_replay.specs.Ran.{AreKept};
+ghost use Rattle.tr_record.specs.Generations.{records};
 ghost use Rattle.rk_build.specs.Run.{Runs, StartsRun};
 ghost use Rattle.rk_build.specs.Stages.{ReadsCounted, found_entries};
 ghost use Rattle.rk_build.specs.Texts.{IsNoFault};
@@ -43,14 +43,13 @@ fn run_fetching<'a, M: Maker, G: Fetch, L: Ledger>(
     live: &mut Steps<L>,
 ) -> Result<Built, BuildErr>
     requires some { 0 < turns request.now }
-    requires contents { AreContents found.now.contents found.now.old }
+    requires contents { AreContents found.now.contents (records found.now.old) }
     requires fresh { fetching.old.world.now.world ≡ fresh_world (found_entries found.now) }
     requires from { AreFrom (G.told fetching.old.fetch.now) fetching.old.world.now.world.tree }
-    ensures runs { Runs M.first request.now (G.told fetching.old.fetch.now) (found_entries found.now) found.now.old live.old live.new fetching.new.world.now.world result }
-    ensures kept { IfOk result (λ b. AreKept found.now.old b.table) }
+    ensures runs { Runs M.first request.now (G.told fetching.old.fetch.now) (found_entries found.now) (records found.now.old) live.old live.new fetching.new.world.now.world result }
     ensures at_least { live.old ≤ live.new }
     ensures at_most { live.new ≤ live.old + turns request.now }
-    ensures starts { StartsRun (λ b. length b.ran) request.now found.now.old (M.starts maker.old) (M.starts maker.new) result }
+    ensures starts { StartsRun (λ b. length b.ran) request.now (records found.now.old) (M.starts maker.old) (M.starts maker.new) result }
     ensures same_world { fetching.new.world.ghost_name ≡ fetching.old.world.ghost_name }
     ensures same_fetch { fetching.new.fetch.ghost_name ≡ fetching.old.fetch.ghost_name }
     ensures keeps { Kept (G.told fetching.old.fetch.now) (G.told fetching.new.fetch.now) (G.steady fetching.old.fetch.now) (G.steady fetching.new.fetch.now) (G.Keeps fetching.old.fetch.now fetching.new.fetch.now) }
@@ -79,7 +78,7 @@ fn run_fetching<'a, M: Maker, G: Fetch, L: Ledger>(
 }
 
 /// Runs the script, by the machines of the maker, on the world of what was found, within the turns that are asked for. The
-/// commands of the old table whose answers still hold don't run. A file is fetched when a call first looks at its bytes.
+/// commands whose kept records' answers still hold don't run. A file is fetched when a call first looks at its bytes.
 pub(crate) fn run<M: Maker, G: Fetch, L: Ledger>(
     alloc: Global,
     maker: &mut M,
@@ -90,14 +89,13 @@ pub(crate) fn run<M: Maker, G: Fetch, L: Ledger>(
     live: &mut Steps<L>,
 ) -> Result<Built, BuildErr>
     requires some { 0 < turns request.now }
-    requires contents { AreContents found.now.contents found.now.old }
+    requires contents { AreContents found.now.contents (records found.now.old) }
     requires fresh { world.old.world ≡ fresh_world (found_entries found.now) }
     requires from { AreFrom (G.told fetch.old) world.old.world.tree }
-    ensures runs { Runs M.first request.now (G.told fetch.old) (found_entries found.now) found.now.old live.old live.new world.new.world result }
-    ensures kept { IfOk result (λ b. AreKept found.now.old b.table) }
+    ensures runs { Runs M.first request.now (G.told fetch.old) (found_entries found.now) (records found.now.old) live.old live.new world.new.world result }
     ensures at_least { live.old ≤ live.new }
     ensures at_most { live.new ≤ live.old + turns request.now }
-    ensures starts { StartsRun (λ b. length b.ran) request.now found.now.old (M.starts maker.old) (M.starts maker.new) result }
+    ensures starts { StartsRun (λ b. length b.ran) request.now (records found.now.old) (M.starts maker.old) (M.starts maker.new) result }
     ensures keeps { Kept (G.told fetch.old) (G.told fetch.new) (G.steady fetch.old) (G.steady fetch.new) (G.Keeps fetch.old fetch.new) }
     ensures stays { OnOk result (G.Stays fetch.old fetch.new) }
     ensures from { OnOk result (AreFrom (G.told fetch.new) world.new.world.tree) }

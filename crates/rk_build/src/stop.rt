@@ -6,7 +6,7 @@ use crate::outcome::StateFile;
 use rk_base::{NoMemory, Path};
 use rk_kernel::AnswerErr;
 use rk_tree::FetchErr;
-use tr_codec::Damage;
+use tr_parts::Damage;
 
 /// Why a folder is refused as it stands.
 #[derive(Debug, Drop)]

@@ -1,5 +1,5 @@
 // The work of a build: the run of the script, and the plan of what it leaves.
-ghost use Rattle.std.specs.Prelude.{◌≡◌, ◌+◌, ◌<◌, ◌≤◌, IfOk, OnOk, length, true};
+ghost use Rattle.std.specs.Prelude.{◌≡◌, ◌≢◌, ◌+◌, ◌<◌, ◌≤◌, [], IfOk, IsTrue, OnOk, length, true};
 ghost use Rattle.rk_changes.specs.Fetched.{WhereTold};
 ghost use Rattle.rk_changes.specs.Holdings.{full_holding};
 ghost use Rattle.rk_changes.specs.Planned.{IsPlan};
@@ -9,14 +9,15 @@ ghost use Rattle.rk_request.specs.Asked.{turns};
 ghost use Rattle.rk_tree.specs.Entries.{IsWholeSnapshot};
 ghost use Rattle.rk_tree.specs.Fetched.{Counted, Steadily as Steady};
 ghost use Rattle.rk_tree.specs.Full.{AreFrom, EntriesFrom};
-ghost use Rattle.rk_replay.specs.Ran.{AreKept, ran_of};
+ghost use Rattle.rk_replay.specs.Ran.{AreStill};
 ghost use Rattle.tr_record.specs.Contents.{AreContents};
+ghost use Rattle.tr_record.specs.Generations.{records};
 ghost use Rattle.rk_build.specs.Kept.{Spells};
 ghost use Rattle.rk_build.specs.Run.{StartsRun};
 ghost use Rattle.rk_build.specs.Stages.{FinishesSo, IsPlanned, ReadsCounted, Steadily, WorksSo, found_entries};
 ghost use Rattle.rk_build.specs.Texts.{IsNoFault};
 
-use crate::after::{Finished, held_after};
+use crate::after::{held_after, keep};
 use crate::explain::error_text;
 use crate::found::Found;
 use crate::run::run;
@@ -25,17 +26,35 @@ use rk_base::{Bytes, NoMemory, Steps};
 use rk_calls::Maker;
 use rk_changes::{Holding, plan};
 use rk_folder::tree_of;
-use rk_kernel::NumberedWorld;
+use rk_kernel::{NumberedWorld, World};
+use rk_replay::{Built, RanList, is_as_found};
 use rk_request::Request;
 use rk_seal::Plan;
 use rk_tree::{Fetch, FetchErr};
 use std::alloc::Global;
 use std::sync::ledger::Ledger;
 
-/// A run that ended, and the calls that lead the folder to what it leaves.
+/// A run that ended: the world that it left, and the script's status, the records of its commands, and those of them that ran,
+/// each with why.
+#[derive(Drop)]
+pub(crate) struct Finished {
+    pub world: World,
+    pub built: Built,
+}
+
+/// How a run ended: the script's status, how many commands were launched, and those of them that ran, with why.
+#[derive(Debug, Drop)]
+pub(crate) struct Ended {
+    pub status: u8,
+    pub launched: u64,
+    pub ran: RanList,
+}
+
+/// A run that ended, the world that it left, and the calls that lead the folder to what it leaves.
 #[derive(Drop)]
 pub(crate) struct Prepared {
-    pub finished: Finished,
+    pub ended: Ended,
+    pub world: World,
     pub plan: Plan,
     /// The run's error text and, where they are asked for, the lines of what ran and why.
     pub error_text: Bytes,
@@ -86,14 +105,13 @@ fn run_script<M: Maker, G: Fetch, L: Ledger>(
     live: &mut Steps<L>,
 ) -> Result<Finished, BuildErr>
     requires some { 0 < turns request.now }
-    requires contents { AreContents found.now.contents found.now.old }
+    requires contents { AreContents found.now.contents (records found.now.old) }
     requires whole { IsWholeSnapshot found.now.holding.entries }
     requires from { EntriesFrom (G.told fetch.old) found.now.holding.entries }
     ensures finishes { FinishesSo M.first request.now (G.told fetch.old) found.now live.old live.new result }
-    ensures kept { IfOk result (λ f. AreKept found.now.old f.built.table) }
     ensures at_least { live.old ≤ live.new }
     ensures at_most { live.new ≤ live.old + turns request.now }
-    ensures starts { StartsRun (λ f. length f.built.ran) request.now found.now.old (M.starts maker.old) (M.starts maker.new) result }
+    ensures starts { StartsRun (λ f. length f.built.ran) request.now (records found.now.old) (M.starts maker.old) (M.starts maker.new) result }
     ensures keeps { Kept (G.told fetch.old) (G.told fetch.new) (G.steady fetch.old) (G.steady fetch.new) (G.Keeps fetch.old fetch.new) }
     ensures stays { OnOk result (G.Stays fetch.old fetch.new) }
     ensures from { IfOk result (λ f. AreFrom (G.told fetch.new) f.world.tree) }
@@ -108,22 +126,22 @@ fn run_script<M: Maker, G: Fetch, L: Ledger>(
     })
 }
 
-// Plans what leads to what a run left, and makes its error text.
+// Plans what leads to what a run left, with its records first among those that are kept, and makes its error text.
 fn plan_left<G: Fetch>(
     alloc: Global,
     request: &Request,
     fetch: &mut G,
-    found: &Found,
+    found: Found,
     finished: Finished,
 ) -> Result<Prepared, FetchErr>
-    requires spells { Spells found.now.holding.state.db found.now.old }
-    requires whole { IsWholeSnapshot found.now.holding.entries }
-    requires from { EntriesFrom (G.told fetch.old) found.now.holding.entries }
+    requires spells { Spells found.holding.state.db found.old }
+    requires whole { IsWholeSnapshot found.holding.entries }
+    requires from { EntriesFrom (G.told fetch.old) found.holding.entries }
     requires left { AreFrom (G.told fetch.old) finished.world.tree }
-    requires kept { AreKept found.now.old finished.built.table }
-    requires ran { finished.built.ran ≡ ran_of found.now.old finished.built.table }
-    ensures finished { IfOk result (λ p. p.finished ≡ finished) }
-    ensures planned { IfOk result (λ p. IsPlanned request.now (G.told fetch.old) found.now p) }
+    requires some { finished.built.table ≢ [] }
+    requires still { IsTrue finished.built.still → AreStill (records found.old) finished.built.table }
+    ensures world { IfOk result (λ p. p.world ≡ finished.world) }
+    ensures planned { IfOk result (λ p. IsPlanned request.now (G.told fetch.old) found finished.built p) }
     ensures told { G.told fetch.new ≡ G.told fetch.old }
     ensures keeps { G.Keeps fetch.old fetch.new }
     ensures stays { OnOk result (G.Stays fetch.old fetch.new) }
@@ -131,10 +149,26 @@ fn plan_left<G: Fetch>(
     ensures counted { Counted (G.faults fetch.old) (G.faults fetch.new) result }
 {
     let error_text = error_text(alloc, request, &finished)?;
-    let after = held_after(alloc, &finished, &found.old, &found.holding.state.db)?;
-    let plan = planned(alloc, fetch, &found.holding, &after)?;
+    let Finished { world, built } = finished;
+    let Built {
+        status,
+        table,
+        ran,
+        still,
+    } = built;
+    let launched = table.len() as u64;
+    let Found { holding, old, .. } = found;
+    let as_found = is_as_found(&old, &table, still);
+    let kept = keep(old, table, as_found)?;
+    let after = held_after(alloc, &world, kept, &holding.state.db, as_found)?;
+    let plan = planned(alloc, fetch, &holding, &after)?;
     Ok(Prepared {
-        finished,
+        ended: Ended {
+            status,
+            launched,
+            ran,
+        },
+        world,
         plan,
         error_text,
     })
@@ -147,24 +181,24 @@ pub(crate) fn work<M: Maker, G: Fetch, L: Ledger>(
     maker: &mut M,
     request: &Request,
     fetch: &mut G,
-    found: &Found,
+    found: Found,
     live: &mut Steps<L>,
 ) -> Result<Prepared, BuildErr>
     requires some { 0 < turns request.now }
-    requires contents { AreContents found.now.contents found.now.old }
-    requires spells { Spells found.now.holding.state.db found.now.old }
-    requires whole { IsWholeSnapshot found.now.holding.entries }
-    requires from { EntriesFrom (G.told fetch.old) found.now.holding.entries }
-    ensures works { WorksSo M.first request.now (G.told fetch.old) found.now live.old live.new result }
+    requires contents { AreContents found.contents (records found.old) }
+    requires spells { Spells found.holding.state.db found.old }
+    requires whole { IsWholeSnapshot found.holding.entries }
+    requires from { EntriesFrom (G.told fetch.old) found.holding.entries }
+    ensures works { WorksSo M.first request.now (G.told fetch.old) found live.old live.new result }
     ensures at_least { live.old ≤ live.new }
     ensures at_most { live.new ≤ live.old + turns request.now }
-    ensures starts { StartsRun (λ p. length p.finished.built.ran) request.now found.now.old (M.starts maker.old) (M.starts maker.new) result }
+    ensures starts { StartsRun (λ p. length p.ended.ran) request.now (records found.old) (M.starts maker.old) (M.starts maker.new) result }
     ensures keeps { Kept (G.told fetch.old) (G.told fetch.new) (G.steady fetch.old) (G.steady fetch.new) (G.Keeps fetch.old fetch.new) }
     ensures stays { OnOk result (G.Stays fetch.old fetch.new) }
     ensures reads { ReadsCounted (G.faults fetch.old) (G.faults fetch.new) result }
     ensures steady { Steadily (G.steady fetch.old) (G.steady fetch.new) result }
 {
-    let finished = run_script(alloc, maker, request, fetch, found, live)?;
+    let finished = run_script(alloc, maker, request, fetch, &found, live)?;
     let prepared = plan_left(alloc, request, fetch, found, finished)?;
     Ok(prepared)
 }

@@ -4,6 +4,7 @@ use Rattle.rk_base.specs.Text.{Text}
 use Rattle.rk_folder.specs.Sinks.{with_bytes}
 use Rattle.rk_folder.specs.Told.{Held}
 use Rattle.rk_traces.specs.Started.{started}
+use Rattle.tr_record.specs.Generations.{records}
 use Rattle.tr_record.specs.declared.records.Record.{Record}
 use Rattle.rk_database.specs.Texts.{Spells, StartsRecords, TextOf, no_trace}
 use Rattle.rk_database.specs.Answers.{Calls, Checks, FindsDb, FindsWhether, Forgets, Front, Halts, Holds, IsSomeOf, PutsNone, PutSo, SaysNone, Shows, db_in}
@@ -113,7 +114,7 @@ checks-cut told before now text old new stop.NoMemory put = tt
 
 pub checks-done : (told : Option Held) (before now : ℕ) (db text : Text) → FindsDb told (Ok (Some db)) → StartsRecords db before now (Ok text) → Checks told before now (Ok said.Done)
 checks-done told before now db text h so =
-    holds-more told (λ it. Some db ≡ it) (λ it. IsSomeOf it (λ db. (table : List Record) × (Spells db table × (now ≡ started (length table) before)))) (λ it e. subst (λ (o : Option Text). IsSomeOf o (λ db. (table : List Record) × (Spells db table × (now ≡ started (length table) before)))) e so) h
+    holds-more told (λ it. Some db ≡ it) (λ it. IsSomeOf it (λ db. (kept : List (List Record)) × (Spells db kept × (now ≡ started (length (records kept)) before)))) (λ it e. subst (λ (o : Option Text). IsSomeOf o (λ db. (kept : List (List Record)) × (Spells db kept × (now ≡ started (length (records kept)) before)))) e so) h
 
 -- Whether it stands.
 

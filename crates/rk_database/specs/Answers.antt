@@ -8,6 +8,7 @@ use Rattle.rk_folder.specs.Import.{state_of}
 use Rattle.rk_folder.specs.Sinks.{with_bytes}
 use Rattle.rk_folder.specs.Specials.{hidden_special}
 use Rattle.rk_folder.specs.Told.{Held, without}
+use Rattle.tr_record.specs.Generations.{records}
 use Rattle.tr_record.specs.declared.records.Record.{Record}
 use Rattle.rk_database.specs.Texts.{TextOf, Spells, no_trace}
 use Rattle.rk_database.specs.declared.stop.Said.{Said}
@@ -91,7 +92,7 @@ Shows Of Refuses told old new (Err stop.NoMemory) = Halts Of told old new
 
 -- Done only where the records that the database spells were started, each once
 abbrev pub Checks : Option Held → ℕ → ℕ → Result Said QueryErr → Type 0
-Checks told before now (Ok said.Done) = Holds told (λ it. IsSomeOf it (λ db. (table : List Record) × (Spells db table × (now ≡ started (length table) before))))
+Checks told before now (Ok said.Done) = Holds told (λ it. IsSomeOf it (λ db. (kept : List (List Record)) × (Spells db kept × (now ≡ started (length (records kept)) before))))
 Checks told before now (Err (stop.Forged rec step)) = now ≡ started (rec + 1) before
 Checks told before now (Err stop.WriteFault) = Unit {0}
 Checks told before now (Err stop.NoMemory) = Unit {0}

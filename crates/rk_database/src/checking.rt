@@ -6,14 +6,15 @@ ghost use Rattle.rk_folder.specs.Hidden.{db_file};
 ghost use Rattle.rk_folder.specs.Looks.{reads, state_listings};
 ghost use Rattle.rk_folder.specs.Schedule.{MakesCalls};
 
-use crate::database::{database, table_of};
+use crate::database::{database, kept_of};
 use crate::output::{put, say_none};
 use crate::stop::{QueryErr, Said};
 use rk_base::Bytes;
 use rk_calls::Maker;
 use rk_folder::{Folder, Sink};
+use rk_replay::{check_with, record_count};
 use rk_show::records_text;
-use rk_traces::{CheckErr, check_with};
+use rk_traces::CheckErr;
 use std::alloc::Global;
 
 // How many records a database's bytes spell, where each of them is spoken.
@@ -22,15 +23,15 @@ fn text_of<M: Maker>(alloc: Global, maker: &mut M, db: &[u8]) -> Result<Bytes, Q
     ensures refused { IfErr result (NoCheck M.first db.now) }
     ensures starts { StartsRecords db.now (M.starts maker.old) (M.starts maker.new) result }
 {
-    let table = table_of(alloc, db)?;
-    match check_with(maker, &table) {
-        Ok(()) => Ok(records_text(alloc, table.len() as u64)?),
+    let kept = kept_of(alloc, db)?;
+    match check_with(maker, &kept) {
+        Ok(()) => Ok(records_text(alloc, record_count(&kept)? as u64)?),
         Err(CheckErr::Forged { rec, step }) => Err(QueryErr::Forged { rec, step }),
         Err(CheckErr::NoMemory) => Err(QueryErr::NoMemory),
     }
 }
 
-/// Checks every record of the folder's database by the machines of a maker, and puts `records R` on the output where each is
+/// Checks every record that the folder's database keeps, those of its newest table first, by the machines of a maker, and puts `records R` on the output where each is
 /// spoken; or `no trace` where there is no database.
 ///
 /// The folder stays as it is. `.rkr` and its state files are looked at by the listings, and the database alone is read.

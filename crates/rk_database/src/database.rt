@@ -10,8 +10,9 @@ use crate::stop::QueryErr;
 use rk_base::Bytes;
 use rk_folder::{Folder, FolderErr, Got, ImportErr, db_file, has_database};
 use std::alloc::Global;
-use tr_codec::{CodecErr, read_db};
-use tr_record::Table;
+use tr_kept::read_kept;
+use tr_parts::CodecErr;
+use tr_record::Kept;
 
 // The bytes of the database, which is listed; nothing where it is gone since.
 fn read_listed<F: Folder>(alloc: Global, folder: &mut F) -> Result<Option<Bytes>, QueryErr>
@@ -69,13 +70,13 @@ pub(crate) fn database_stands<F: Folder>(alloc: Global, folder: &mut F) -> Resul
     }
 }
 
-/// The records that a database's bytes spell.
-pub(crate) fn table_of(alloc: Global, db: &[u8]) -> Result<Table, QueryErr>
-    ensures spelt { IfOk result (λ table. Spells db.now table) }
+/// The tables that a database's bytes spell, the newest first.
+pub(crate) fn kept_of(alloc: Global, db: &[u8]) -> Result<Kept, QueryErr>
+    ensures spelt { IfOk result (λ kept. Spells db.now kept) }
     ensures refused { IfErr result (NoTrace db.now) }
 {
-    match read_db(alloc, db) {
-        Ok(table) => Ok(table.into_table()),
+    match read_kept(alloc, db) {
+        Ok(kept) => Ok(kept.into_kept()),
         Err(CodecErr::Damaged(damage)) => Err(QueryErr::Damaged(damage)),
         Err(CodecErr::NoMemory) => Err(QueryErr::NoMemory),
     }

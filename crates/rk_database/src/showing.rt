@@ -7,39 +7,50 @@ ghost use Rattle.rk_database.specs.Texts.{IsTrace, NoTrace, shown_text};
 ghost use Rattle.rk_folder.specs.Hidden.{db_file};
 ghost use Rattle.rk_folder.specs.Looks.{reads, state_listings};
 ghost use Rattle.rk_folder.specs.Schedule.{MakesCalls};
+ghost use Rattle.tr_record.specs.Generations.{table_at};
 
-use crate::database::{database, table_of};
+use crate::database::{database, kept_of};
 use crate::output::{put, say_none};
 use crate::stop::{QueryErr, Said};
 use rk_base::{Bytes, NoMemory};
 use rk_folder::{Folder, Sink};
 use rk_show::{trace_json, trace_text};
 use std::alloc::Global;
-use tr_record::Table;
+use tr_record::{Kept, Record};
 
-// The records of a database, as JSON or as lines.
-fn shown(alloc: Global, table: &Table, db: &[u8], json: bool) -> Result<Bytes, NoMemory>
+// The records of the newest table; none where no table is kept.
+fn newest(kept: &Kept) -> &[Record]
+    ensures { result.now ≡ table_at 0 kept.now }
+{
+    match kept.table(0) {
+        Some(table) => table.as_slice(),
+        None => &[],
+    }
+}
+
+// Records, as JSON or as lines.
+fn shown(alloc: Global, table: &[Record], db: &[u8], json: bool) -> Result<Bytes, NoMemory>
     requires { AllByRecursion IsCounted table.now }
     ensures { IfOk result (λ text. text ≡ shown_text json table.now db.now) }
 {
     if json {
-        trace_json(alloc, table.as_slice())
+        trace_json(alloc, table)
     } else {
-        trace_text(alloc, table.as_slice(), db)
+        trace_text(alloc, table, db)
     }
 }
 
-// The text that shows the records which a database's bytes spell.
+// The text that shows the newest of the tables which a database's bytes spell.
 fn text_of(alloc: Global, db: &[u8], json: bool) -> Result<Bytes, QueryErr>
     ensures shown { IfOk result (λ text. IsTrace json db.now text) }
     ensures refused { IfErr result (NoTrace db.now) }
 {
-    let table = table_of(alloc, db)?;
-    let text = shown(alloc, &table, db, json)?;
+    let kept = kept_of(alloc, db)?;
+    let text = shown(alloc, newest(&kept), db, json)?;
     Ok(text)
 }
 
-/// Puts the records of the folder's database on the output, as lines or as JSON; or `no trace` where there is no database.
+/// Puts the newest table of the folder's database on the output, as lines or as JSON; or `no trace` where there is no database.
 ///
 /// The folder stays as it is. `.rkr` and its state files are looked at by the listings, and the database alone is read.
 pub fn trace<F: Folder, O: Sink>(

@@ -3,7 +3,7 @@ ghost use Rattle.std.specs.Prelude.{◌≡◌};
 ghost use Rattle.rk_database.specs.declared.stop.QueryErr.TheVariants as stop;
 
 use rk_base::{NoMemory, Path};
-use tr_codec::Damage;
+use tr_parts::Damage;
 
 /// How the work ended.
 #[derive(Clone, Copy, Debug, PartialEq, Eq)]

@@ -6,7 +6,7 @@ use rk_install::{InstallErr, RecoverErr, recover};
 use rk_seal::{InstallList, Op, encode};
 use rk_steps::{Subject, behind, path_of, plain, text, word};
 use std::alloc::Global;
-use tr_codec::Damage;
+use tr_parts::Damage;
 
 /// A folder, and calls that are put together.
 #[derive(Drop)]

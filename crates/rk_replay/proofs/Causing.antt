@@ -1,21 +1,11 @@
--- Why the command of a record ran, and the list of those that ran.
+-- The list of the commands that ran.
 use Rattle.std.proofs.Common.{◌≡◌, ℕ, ◌+◌, ◌<◌, List, [], ◌∷◌, ◌++◌, length, take, refl, sym, ◌∙◌, ap, Option, Some, None, get_or}
 use Rattle.std.specs.Prelude.{filter_map}
 use Rattle.std.specs.List.{cons_option}
 use Rattle.std.proofs.lemmas.List.{take_more}
 use Rattle.tr_record.specs.declared.records.Record.{Record}
-use Rattle.tr_record.specs.Rec.{found}
-use Rattle.rk_replay.specs.declared.ran.Cause.TheVariants.{NoRecord}
 use Rattle.rk_replay.specs.declared.ran.Ran.{Ran}
-use Rattle.rk_replay.specs.Ran.{cause_by, cause_of, ran_for, ran_of}
-
-pub cause-found : (old : List Record) (r x : Record) → found old r.key r.ordinal ≡ Some x → cause_of old r ≡ cause_by (let o : Option Record = Some x in o) r.steps
-unfolding cause_of
-cause-found old r x e = ap (λ o. cause_by o r.steps) e
-
-pub cause-missing : (old : List Record) (r : Record) → found old r.key r.ordinal ≡ None → cause_of old r ≡ Some NoRecord
-unfolding cause_of
-cause-missing old r e = ap (λ o. cause_by o r.steps) e
+use Rattle.rk_replay.specs.Ran.{cause_of, ran_for, ran_of}
 
 mapped-more : {X Y : Type 0} (f : X → Option Y) (xs : List X) (x : X) → filter_map f (xs ++ x ∷ []) ≡ filter_map f xs ++ cons_option (f x) []
 mapped-more f [] x = refl

@@ -15,24 +15,24 @@ use Rattle.rk_traces.specs.Run.{step}
 use Rattle.rk_traces.specs.Spoken.{step_at}
 use Rattle.rk_replay.specs.declared.activity.Activity.{Activity}
 use Rattle.rk_replay.specs.declared.activity.Activity.TheVariants.{Runs, Replays}
-use Rattle.rk_replay.specs.declared.ran.Cause.{Cause}
-use Rattle.rk_replay.specs.declared.ran.Cause.TheVariants.{Differs}
+use Rattle.tr_matching.specs.declared.cause.Cause.{Cause}
+use Rattle.tr_matching.specs.declared.cause.Cause.TheVariants.{Differs}
 use Rattle.rk_replay.specs.declared.ran.Ran.{Ran}
 use Rattle.rk_replay.specs.Activities.{IsLaunched, Takes}
 use Rattle.rk_replay.specs.Causes.{cause_at, AreCauses, launch_cause, noted}
 use Rattle.rk_replay.specs.Ran.{cause_of, ran_for, ran_of}
-use Rattle.rk_replay.proofs.Causing.{cause-missing, ran-more}
+use Rattle.rk_replay.proofs.Causing.{ran-more}
 use Rattle.rk_replay.specs.Links.{IsAsking}
-use Rattle.rk_replay.proofs.Linking.{replayed-cause, cause-stays, cause-other, cause-ended, as-recorded}
+use Rattle.rk_replay.proofs.Linking.{begins, cause-missing, replayed-cause, cause-stays, cause-other, cause-ended, matched-on}
 
 pub causes-none : (old t : List Record) (cs : List (Option Cause)) → t ≡ [] → cs ≡ [] → AreCauses old t cs
 causes-none old t cs et ec = rw (et, ec) (record { many = refl; each = λ i h. let lt : i < 0 = h in absurd (omega arith) })
 
 -- ---- a command is launched
 
-launched-cause : {S : Type 0} (old : List Record) (key : KeyValue) (ordinal : ℕ) (a : Activity S) → IsLaunched old key ordinal a → launch_cause a ≡ cause_of old (fresh_rec key ordinal)
-launched-cause old key ordinal (Runs m) l = sym (cause-missing old (fresh_rec key ordinal) l)
-launched-cause old key ordinal (Replays rec at node) l = sym (replayed-cause old (fresh_rec key ordinal) rec 0 l.2 refl)
+launched-cause : {S : Type 0} (old : List Record) (key : KeyValue) (ordinal : ℕ) (a : Activity S) → IsLaunched old key a → launch_cause a ≡ cause_of old (fresh_rec key ordinal)
+launched-cause old key ordinal (Runs m) l = sym (cause-missing old key ordinal l)
+launched-cause {S} old key ordinal (Replays seat) l = let b = begins {S = S} old key ordinal (Replays seat) l in sym (replayed-cause old (fresh_rec key ordinal) seat.rec seat.place.at b.linked)
 
 one-more : (old t : List Record) (cs : List (Option Cause)) (key : KeyValue) (o : Option Cause) → o ≡ cause_of old (fresh_rec key (count_of key t)) → AreCauses old t cs → AreCauses old (begun key t) (cs ++ o ∷ [])
 one-more old t cs key o is are =
@@ -50,7 +50,7 @@ one-more old t cs key o is are =
       ];
     }
 
-pub begun-causes : {S : Type 0} (old t : List Record) (cs : List (Option Cause)) (key : KeyValue) (a : Activity S) (t' : List Record) (cs' : List (Option Cause)) → IsLaunched old key (count_of key t) a → t' ≡ begun key t → AreCauses old t cs → cs' ≡ cs ++ launch_cause a ∷ [] → AreCauses old t' cs'
+pub begun-causes : {S : Type 0} (old t : List Record) (cs : List (Option Cause)) (key : KeyValue) (a : Activity S) (t' : List Record) (cs' : List (Option Cause)) → IsLaunched old key a → t' ≡ begun key t → AreCauses old t cs → cs' ≡ cs ++ launch_cause a ∷ [] → AreCauses old t' cs'
 begun-causes old t cs key a t' cs' l et are ec = rw (et, ec) (one-more old t cs key (launch_cause a) (launched-cause old key (count_of key t) a l) are)
 
 -- ---- a record changes
@@ -90,14 +90,14 @@ module _ (old t : List Record) (cs : List (Option Cause)) (are : AreCauses old t
 pub stepped-causes : {S : Type 0} (old t : List Record) (cs : List (Option Cause)) (place : ℕ) (call : Call) (c : ℕ) (a : Answer) (was now : Activity S) → place < length t → IsAsking old (rec_at place t) call c was → Takes old was a now → AreCauses old t cs → AreCauses old (stepped place (step c call a) t) (noted old place was a now cs)
 unfolding stepped
 stepped-causes old t cs place call c a (Runs m) now h l k are = unchanged old t cs are place h (with_step (rec_at place t) (step c call a)) (cause-stays old (rec_at place t) (step c call a) l.0 l.1 ∙ sym l.1)
-stepped-causes old t cs place call c a (Replays rec at node) (Runs m) h l k are =
-    let n : at + 1 ≡ 1 + at = omega arith in
-    changed old t cs are place h (with_step (rec_at place t) (step c call a)) (Some (Differs (at + 1) (step_at at (rec_at rec old).steps).answer a))
-    (ap (λ n. Some (Differs n (step_at at (rec_at rec old).steps).answer a)) n ∙ sym (cause-other old (rec_at place t) call c a rec at l.1 l.2 l.3 k))
-stepped-causes old t cs place call c a (Replays rec at node) (Replays rec' at' node') h l k are =
-    let was = replayed-cause old (rec_at place t) rec at l.2 l.3 in
-    let now = replayed-cause old (with_step (rec_at place t) (step c call a)) rec (at + 1) l.2 (as-recorded old (rec_at place t) call c a rec at l.1 l.2 l.3 l.4 l.5 k.2) in
-    unchanged old t cs are place h (with_step (rec_at place t) (step c call a)) (now ∙ sym was)
+stepped-causes old t cs place call c a (Replays seat) (Runs m) h l k are =
+    changed old t cs are place h (with_step (rec_at place t) (step c call a)) (Some (Differs (seat.place.at + 1) (step_at seat.place.at (rec_at seat.rec old).steps).answer a))
+    (sym (cause-other old (rec_at place t) call c a seat.rec seat.place.at l.0 l.1 k))
+stepped-causes old t cs place call c a (Replays seat) (Replays now) h l k are =
+    let was = replayed-cause old (rec_at place t) seat.rec seat.place.at l.0 in
+    let m' = matched-on old (rec_at place t) call c a seat.rec seat.place.at l.0 l.1 now.rec now.place.at k.others k.are k.at in
+    let is = replayed-cause old (with_step (rec_at place t) (step c call a)) now.rec now.place.at m' in
+    unchanged old t cs are place h (with_step (rec_at place t) (step c call a)) (is ∙ sym was)
 
 -- it exits
 pub ended-causes : (old t : List Record) (cs : List (Option Cause)) (place status c : ℕ) → place < length t → AreCauses old t cs → AreCauses old (ended place status c t) cs

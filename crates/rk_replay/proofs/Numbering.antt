@@ -13,7 +13,7 @@ use Rattle.tr_record.specs.Rec.{rec_at}
 use Rattle.tr_record.specs.declared.records.Record.{Record}
 use Rattle.tr_record.specs.declared.steps.Step.{Step}
 use Rattle.rk_traces.specs.Spoken.{no_step, step_at}
-use Rattle.rk_replay.specs.Activities.{IsLeft}
+use Rattle.tr_matching.specs.Earlier.{IsRest}
 
 content_there : (o : Option (Option ℕ)) (n : ℕ) → content_by o ≡ Some n → o ≡ Some (Some n)
 content_there None n e = cc
@@ -34,10 +34,10 @@ one_text a b e = cc
 -- two contents are one exactly where their numbers say so
 pub alike : (contents now : List Text) (it : Recorded) (node n id seen : ℕ) (text : Text) (b : Bool) → content_of it.contents node ≡ Some n → AreSteps it.nodes → slice_get it.texts n ≡ Some text → slice_get now id ≡ Some text → Keeps contents now
     → ((t o : Text) → slice_get now id ≡ Some t → slice_get now seen ≡ Some o → IsTrue b ↔ (t ≡ o))
-    → (old : List Record) (rec at : ℕ) (a : Answer) → AreContents it old → at < length (rec_at rec old).steps → IsLeft it.nodes old rec at node → IsContent contents seen a → IsTrue b ↔ ((step_at at (rec_at rec old).steps).answer ≡ a)
+    → (old : List Record) (rec at : ℕ) (a : Answer) → AreContents it old → at < length (rec_at rec old).steps → IsRest (record { records = old; contents = it }) rec at node → IsContent contents seen a → IsTrue b ↔ ((step_at at (rec_at rec old).steps).answer ≡ a)
 alike contents now it node n id seen text b number behind is here kept same old rec at a are in_rec left saw =
     let steps = (rec_at rec old).steps in
-    let r = answer_at it old node n (step_at at steps) (drop (at + 1) steps) are behind left.within (left.left ∙ drop_more steps at no_step in_rec) number in
+    let r = answer_at it old node n (step_at at steps) (drop (at + 1) steps) are behind left.within (left.rest ∙ drop_more steps at no_step in_rec) number in
     let e : r.0 ≡ text = let both : Some r.0 ≡ Some text = sym r.2 ∙ is in cc in
     let by = same text saw.0 here (kept seen saw.0 saw.2) in (
       λ t. r.1 ∙ ap (λ (x : Text). answer.Content x) (e ∙ by.0 t) ∙ sym saw.1,
@@ -57,7 +57,7 @@ known_text contents known texts n m text are at is = let k = are n m at in k.1 �
 
 -- what is told of a step is told of the command that waits for it
 pub alike_waits : (contents : List Text) (it : Recorded) (rec at node id : ℕ) (o : Option Bool)
-    → IfSome o (λ b. (old : List Record) (rec at : ℕ) (a : Answer) → AreContents it old → at < length (rec_at rec old).steps → IsLeft it.nodes old rec at node → IsContent contents id a → IsTrue b ↔ ((step_at at (rec_at rec old).steps).answer ≡ a))
-    → IfSome o (λ b. (old : List Record) (a : Answer) → AreContents it old → (rec < length old) × (at < length (rec_at rec old).steps) → IsLeft it.nodes old rec at node → IsContent contents id a → IsTrue b ↔ ((step_at at (rec_at rec old).steps).answer ≡ a))
+    → IfSome o (λ b. (old : List Record) (rec at : ℕ) (a : Answer) → AreContents it old → at < length (rec_at rec old).steps → IsRest (record { records = old; contents = it }) rec at node → IsContent contents id a → IsTrue b ↔ ((step_at at (rec_at rec old).steps).answer ≡ a))
+    → IfSome o (λ b. (old : List Record) (a : Answer) → AreContents it old → (rec < length old) × (at < length (rec_at rec old).steps) → IsRest (record { records = old; contents = it }) rec at node → IsContent contents id a → IsTrue b ↔ ((step_at at (rec_at rec old).steps).answer ≡ a))
 alike_waits contents it rec at node id None h = tt
 alike_waits contents it rec at node id (Some b) h = λ old a are waits left saw. h old rec at a are waits.1 left saw

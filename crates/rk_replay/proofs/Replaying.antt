@@ -22,12 +22,12 @@ use Rattle.rk_traces.specs.Run.{step}
 use Rattle.rk_traces.specs.Places.{length-begun, length-stepped, length-ended, rec-begun, rec-begun_last, rec-stepped, rec-stepped_same, rec-ended}
 use Rattle.rk_traces.specs.Totals.{total-begun, total-stepped, total-ended}
 use Rattle.rk_replay.specs.declared.activity.Activity.{Activity}
-use Rattle.rk_replay.specs.Activities.{IsReady, IsWaiting, IsLaunched, IsWhole, Speaks_on, Takes, made, given_up, counted, live_cost}
-use Rattle.rk_replay.specs.declared.ran.Cause.{Cause}
+use Rattle.rk_replay.specs.Activities.{IsWaiting, IsLaunched, IsWhole, Speaks_on, Takes, made, given_up, counted, live_cost}
+use Rattle.tr_matching.specs.declared.cause.Cause.{Cause}
 use Rattle.rk_replay.specs.Causes.{AreCauses, noted}
 use Rattle.rk_replay.specs.Ran.{ran_count, ran_total}
 use Rattle.rk_replay.specs.Links.{AllAsk, AllOver, IsAsking, IsLinked, Replaying, pend}
-use Rattle.rk_replay.proofs.Linking.{linked-ready, asking-waiting, asks, begins, steps, ends, whole}
+use Rattle.rk_replay.proofs.Linking.{asking-waiting, asks, begins, steps, ends, whole}
 use Rattle.rk_replay.proofs.Noting.{stepped-causes, ended-causes}
 use Rattle.rk_replay.proofs.Totalling.{ran_total-none, ran-within, Counts, stepped-counts, ended-counts, begun-counts}
 
@@ -63,11 +63,8 @@ pub record Pays (old t t' : List Record) (more count paid : ℕ) : Type 0 where
   pub counts : Counts old t t' more count
   pub total : total t' ≡ total t + paid
 
-pub ready : {S : Type 0} (old t : List Record) (m : Active (Activity S)) (fs : List (Frame (Activity S))) → Replaying old t m fs → IsReady old m.machine
-ready old t m fs i = linked-ready old (rec_at m.place t) m.machine i.linked
-
 -- a command is launched
-launched : {S : Type 0} (old t : List Record) (key : KeyValue) (child : Active (Activity S)) (fs : List (Frame (Activity S))) → IsLaunched old key (count_of key t) child.machine → child.place ≡ length t → AllAsk old (begun key t) (length t) fs → Replaying old (begun key t) child fs
+launched : {S : Type 0} (old t : List Record) (key : KeyValue) (child : Active (Activity S)) (fs : List (Frame (Activity S))) → IsLaunched old key child.machine → child.place ≡ length t → AllAsk old (begun key t) (length t) fs → Replaying old (begun key t) child fs
 launched old t key child fs l ep a =
     let b = begins old key (count_of key t) child.machine l in
     let last = rec-begun_last key t in
@@ -78,15 +75,15 @@ launched old t key child fs l ep a =
       asking = subst (λ n. AllAsk old (begun key t) n fs) (sym ep) a;
     }
 
-launch-pays : {S : Type 0} (old t : List Record) (key : KeyValue) (a : Activity S) → IsLaunched old key (count_of key t) a → Pays old t (begun key t) (made a) 0 0
+launch-pays : {S : Type 0} (old t : List Record) (key : KeyValue) (a : Activity S) → IsLaunched old key a → Pays old t (begun key t) (made a) 0 0
 launch-pays old t key a l =
     let b = begins old key (count_of key t) a l in
     record { counts = begun-counts old t key (made a) b.ran b.live; total = total-begun key t ∙ omega arith }
 
-pub Replaying-start : {S : Type 0} (old t0 t : List Record) (key : KeyValue) (child : Active (Activity S)) (fs : List (Frame (Activity S))) → t0 ≡ [] → fs ≡ [] → IsLaunched old key (count_of key t0) child.machine → child.place ≡ length t0 → t ≡ begun key t0 → Replaying old t child fs
+pub Replaying-start : {S : Type 0} (old t0 t : List Record) (key : KeyValue) (child : Active (Activity S)) (fs : List (Frame (Activity S))) → t0 ≡ [] → fs ≡ [] → IsLaunched old key child.machine → child.place ≡ length t0 → t ≡ begun key t0 → Replaying old t child fs
 Replaying-start old t0 t key child fs e0 ef l ep et = rw (et, ef) (launched old t0 key child [] l ep tt)
 
-pub Pays-start : {S : Type 0} (old t0 t : List Record) (key : KeyValue) (child : Activity S) → t0 ≡ [] → IsLaunched old key (count_of key t0) child → t ≡ begun key t0 → (ran_count old t ≡ made child) × (ran_total old t ≡ 0) × (total t ≡ 0)
+pub Pays-start : {S : Type 0} (old t0 t : List Record) (key : KeyValue) (child : Activity S) → t0 ≡ [] → IsLaunched old key child → t ≡ begun key t0 → (ran_count old t ≡ made child) × (ran_total old t ≡ 0) × (total t ≡ 0)
 Pays-start old t0 t key child e0 l et =
     let p = launch-pays old t0 key child l in
     let a : ran_count old (begun key t0) ≡ ran_count old t0 + made child = p.counts.ran in
@@ -136,7 +133,7 @@ module _ {S : Type 0} (old t : List Record) (m : Active (Activity S)) (fs : List
   pub Causes-ask : (call : Call) (n c : ℕ) (b : Answer) (t' : List Record) (next : Activity S) (cs cs' : List (Option Cause)) → s ≡ Calls call n → c ≡ n → t' ≡ stepped m.place (step c call b) t → Takes old now b next → AreCauses old t cs → cs' ≡ noted old m.place now b next cs → AreCauses old t' cs'
   Causes-ask call n c b t' next cs cs' es ec et k are en = rw (et, en) (stepped-causes old t cs m.place call c b now next i.here (asking call n c es ec) k are)
 
-  pub Replaying-launch : (call : Call) (key : KeyValue) (map : List (ℕ × ℕ)) (n c : ℕ) (child : Active (Activity S)) (t' : List Record) (fs' : List (Frame (Activity S))) → s ≡ Calls call n → c ≡ n → call ≡ Launch key map → IsLaunched old key (count_of key t) child.machine → child.place ≡ length t → t' ≡ begun key t → fs' ≡ fs ++ record { waiting = record { place = m.place; refs = m.refs; machine = now }; key = key; map = map; cost = c } ∷ [] → Replaying old t' child fs'
+  pub Replaying-launch : (call : Call) (key : KeyValue) (map : List (ℕ × ℕ)) (n c : ℕ) (child : Active (Activity S)) (t' : List Record) (fs' : List (Frame (Activity S))) → s ≡ Calls call n → c ≡ n → call ≡ Launch key map → IsLaunched old key child.machine → child.place ≡ length t → t' ≡ begun key t → fs' ≡ fs ++ record { waiting = record { place = m.place; refs = m.refs; machine = now }; key = key; map = map; cost = c } ∷ [] → Replaying old t' child fs'
   Replaying-launch call key map n c child t' fs' es ec ek l ep et ef =
       let f : Frame (Activity S) = record { waiting = record { place = m.place; refs = m.refs; machine = now }; key = key; map = map; cost = c } in
       let kept = rec-begun m.place key t i.here in
@@ -148,7 +145,7 @@ module _ {S : Type 0} (old t : List Record) (m : Active (Activity S)) (fs : List
       (subst (λ r. IsAsking old r (Launch key map) c now) (sym kept) a)
       (ap (λ (r : Record). r.exit_cost) kept ∙ i.unended) (omega arith) i.here))
 
-  pub Pays-launch : (key : KeyValue) (child : Activity S) (t' : List Record) → IsLaunched old key (count_of key t) child → t' ≡ begun key t → Pays old t t' (made child) 0 0
+  pub Pays-launch : (key : KeyValue) (child : Activity S) (t' : List Record) → IsLaunched old key child → t' ≡ begun key t → Pays old t t' (made child) 0 0
   Pays-launch key child t' l et = rw et (launch-pays old t key child l)
 
   pub Pays-end : (status n c : ℕ) (t' : List Record) → s ≡ Exits status n → t' ≡ ended m.place status c t → Pays old t t' 0 (live_cost now c) c

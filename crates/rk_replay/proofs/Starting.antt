@@ -14,11 +14,14 @@ use Rattle.rk_traces.specs.Own.{total}
 use Rattle.rk_traces.specs.Started.{started, StartsSome, StartsEach}
 use Rattle.rk_traces.specs.declared.check.CheckErr.{CheckErr}
 use Rattle.rk_traces.specs.declared.check.CheckErr.TheVariants as check
-use Rattle.rk_replay.specs.declared.ran.Cause.{Cause}
+use Rattle.tr_matching.specs.declared.cause.Cause.{Cause}
+use Rattle.rk_replay.specs.declared.activity.Activity.{Activity}
+use Rattle.rk_replay.specs.declared.activity.Activity.TheVariants.{Runs, Replays}
 use Rattle.rk_replay.specs.declared.stop.ReplayErr.{ReplayErr}
 use Rattle.rk_replay.specs.declared.stop.ReplayErr.TheVariants.{Spent, Forged, Stopped}
+use Rattle.rk_replay.specs.Activities.{made}
 use Rattle.rk_replay.specs.Ran.{cause_of, ran_count, ran_one}
-use Rattle.rk_replay.specs.Starts.{StartsFor, StartsRan, StartsUpTo, StartsStopped}
+use Rattle.rk_replay.specs.Starts.{StartsFor, StartsRan, StartsTold, StartsUpTo, StartsStopped}
 use Rattle.rk_replay.specs.Stops.{Stops, IsWant, IsHandedOn}
 
 -- no more of them ran than there are
@@ -41,6 +44,11 @@ for-none old before now e = record { many = 0; one = omega arith; of_old = omega
 -- it is launched, or there was no memory
 pub some-none : (most before now : ℕ) → now ≡ before → StartsSome most before now
 some-none most before now e = record { many = 0; few = omega arith; now_is = e }
+
+-- a machine was made, or there was no memory for its record
+pub some-made : {S : Type 0} (a : Activity S) (before now : ℕ) → now ≡ started (made a) before → StartsSome 1 before now
+some-made (Runs machine) before now e = record { many = 1; few = omega arith; now_is = e }
+some-made (Replays seat) before now e = record { many = 0; few = omega arith; now_is = e }
 
 -- so many ran before it stopped
 module _ (old : List Record) (paid n before then now : ℕ) (few : n ≤ paid + 1) (was : then ≡ started n before) where
@@ -74,6 +82,11 @@ module _ (old : List Record) (paid n before then now : ℕ) (few : n ≤ paid + 
     stopped-handed (check.Forged rec step) stop h s =
         subst (StartsStopped old paid before now) (sym h) (upto s.many (rec + 1) (let one : s.many ≤ 1 = s.one in omega arith) s.now_is)
     stopped-handed check.NoMemory stop h s = wanted stop h s.many s.of_old s.now_is
+
+    -- those that are left are torn, or there was no memory
+    pub stopped-told : (e : CheckErr) (stop : ReplayErr S) → IsHandedOn gives e stop → StartsTold old then now e → StartsStopped old paid before now stop
+    stopped-told (check.Forged rec step) stop h s = subst (StartsStopped old paid before now) (sym h) (upto s.many (rec + 1) s.few s.now_is)
+    stopped-told check.NoMemory stop h s = wanted stop h s.many s.few s.now_is
 
     -- each record was looked at, or those up to one that is forged
     pub stopped-checked : (e : CheckErr) (stop : ReplayErr S) → IsHandedOn gives e stop → StartsEach {T = Unit {0}} (length old) then now (Err e) → StartsStopped old paid before now stop

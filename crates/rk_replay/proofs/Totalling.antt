@@ -8,7 +8,7 @@ use Rattle.tr_record.specs.declared.records.Record.{Record}
 use Rattle.tr_record.specs.declared.steps.Step.{Step}
 use Rattle.tr_record.specs.Rec.{rec_at, begun, stepped, ended, fresh_rec, with_step, with_exit, no_key, count_of}
 use Rattle.rk_traces.specs.Own.{own, total}
-use Rattle.rk_replay.specs.declared.ran.Cause.{Cause}
+use Rattle.tr_matching.specs.declared.cause.Cause.{Cause}
 use Rattle.rk_replay.specs.Ran.{cause_of, own_for, ran_count, ran_for, ran_of, ran_one, ran_total}
 use Rattle.rk_replay.proofs.Linking.{Changes}
 

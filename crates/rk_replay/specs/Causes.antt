@@ -6,8 +6,8 @@ use Rattle.tr_record.specs.Rec.{rec_at}
 use Rattle.rk_traces.specs.Spoken.{step_at}
 use Rattle.rk_replay.specs.declared.activity.Activity.{Activity}
 use Rattle.rk_replay.specs.declared.activity.Activity.TheVariants.{Runs, Replays}
-use Rattle.rk_replay.specs.declared.ran.Cause.{Cause}
-use Rattle.rk_replay.specs.declared.ran.Cause.TheVariants.{NoRecord, Differs}
+use Rattle.tr_matching.specs.declared.cause.Cause.{Cause}
+use Rattle.tr_matching.specs.declared.cause.Cause.TheVariants.{NoRecord, Differs}
 use Rattle.rk_replay.specs.Ran.{cause_of}
 
 -- what is noted of the command at a place
@@ -19,16 +19,17 @@ pub record AreCauses (old table : List Record) (causes : List (Option Cause)) : 
   pub many : length causes ≡ length table
   pub each : (i : ℕ) → i < length table → cause_at i causes ≡ cause_of old (rec_at i table)
 
--- of a command that is launched: it has no record, or is replayed
+-- of a command that is launched: its key has no record, or it is replayed
 abbrev pub launch_cause : {S : Type 0} → Activity S → Option Cause
 launch_cause (Runs machine) = Some NoRecord
-launch_cause (Replays rec at node) = None
+launch_cause (Replays seat) = None
 
--- why a command's record is given up as it takes an answer, if it is: the step and both answers
+-- why the records of a command are given up as it takes an answer, if they are: the step and both answers, the first record's and the one
+-- that was seen
 abbrev pub cause_taken : {S : Type 0} → List Record → Activity S → Answer → Activity S → Option Cause
 cause_taken old (Runs machine) a now = None
-cause_taken old (Replays rec at node) a (Runs machine) = Some (Differs (at + 1) (step_at at (rec_at rec old).steps).answer a)
-cause_taken old (Replays rec at node) a (Replays rec' at' node') = None
+cause_taken old (Replays seat) a (Runs machine) = Some (Differs (seat.place.at + 1) (step_at seat.place.at (rec_at seat.rec old).steps).answer a)
+cause_taken old (Replays seat) a (Replays now) = None
 
 -- a cause is noted of the command at a place, if there is one
 abbrev pub with_cause : ℕ → Option Cause → List (Option Cause) → List (Option Cause)

@@ -1,10 +1,11 @@
 pub mod Activities
-pub mod Answers
 pub mod Causes
-pub mod Earlier
 pub mod Links
+pub mod Paying
 pub mod Ran
 pub mod Script
+pub mod Seats
 pub mod Starts
 pub mod Stops
+pub mod Taking
 pub mod UnderWay

@@ -11,7 +11,7 @@ use Rattle.rk_traces.specs.declared.check.CheckErr.TheVariants as check
 use Rattle.rk_replay.specs.declared.stop.ReplayErr.{ReplayErr}
 use Rattle.rk_replay.specs.declared.stop.ReplayErr.TheVariants.{Spent, Forged, Stopped}
 
--- The told step of the told record is wrong; where the budget is spent the table is spoken, and this holds of
+-- The told step of the told record is wrong; where the budget is spent the kept records are spoken, and this holds of
 -- the fresh run; and this holds of the reason for which the world stopped.
 abbrev pub Stops : {S : Type 0} → (KeyValue → Says) → List Record → Type 0 → (S → Type 0) → ReplayErr S → Type 0
 Stops first old spent stopped (Forged rec step) = (rec < length old) × IsWrongStep first (rec_at rec old) step

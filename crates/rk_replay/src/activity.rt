@@ -1,31 +1,33 @@
 // Commands that run or are replayed.
-ghost use Rattle.std.specs.Prelude.{◌≡◌, ◌↔◌, ◌≤◌, ◌<◌, length, take, IsTrue, IfOk, IfErr, IfSome, OnOk, OnErr};
+ghost use Rattle.std.specs.Prelude.{◌≡◌, ◌≤◌, ◌<◌, ℕ, length, take, IsTrue, IfOk, IfErr, IfSome, OnOk, OnErr};
 ghost use Rattle.rk_calls.specs.Starts.{one_more};
 ghost use Rattle.rk_calls.specs.declared.answer.Answer.{Answer};
 ghost use Rattle.tr_record.specs.Contents.{AreContents};
-ghost use Rattle.tr_record.specs.Rec.{rec_at};
+ghost use Rattle.tr_record.specs.Rec.{rec_at, with_exit};
+ghost use Rattle.tr_matching.specs.Groups.{Grows};
 ghost use Rattle.rk_traces.specs.Spoken.{Follows};
 ghost use Rattle.rk_traces.specs.Fed.{waits_at};
 ghost use Rattle.rk_traces.specs.Started.{started};
-ghost use Rattle.rk_replay.specs.Activities.{stands, waits, IsAlike, IsAt, IsWaiting, IsWhole, IsLaunched, made, Takes, given_up, live_cost};
+ghost use Rattle.rk_replay.specs.Activities.{stands, waits, IsAlike, IsSeated, IsWaiting, IsWhole, IsLaunched, KnowsNext, made, Takes, given_up, live_cost};
 ghost use Rattle.rk_replay.specs.Causes.{launch_cause, cause_taken};
+ghost use Rattle.rk_replay.specs.Seats.{AreTalks};
 ghost use Rattle.rk_replay.specs.Starts.{StartsFor};
 ghost use Rattle.rk_replay.specs.Stops.{IsForged};
 
-use crate::earlier::Earlier;
-use crate::ran::Cause;
+use crate::still::is_kept_at;
+use crate::talks::{Lead, Seat, Talks};
 use rk_base::NoMemory;
-use rk_calls::{Answer, Key, Machine, Maker, same_answer};
+use rk_calls::{Answer, Key, Machine, Maker};
 use rk_traces::{CheckErr, feed};
-use tr_record::Table;
+use tr_matching::{Cause, Earlier};
+use tr_record::{Record, Table};
 
 /// A command that runs by its machine, or that is replayed.
 #[derive(Drop)]
 pub enum Activity<M> {
     Runs(M),
-    /// The number of its record in the old table, how many steps of that were asked and answered as recorded, and the number
-    /// of those that are left, among the nodes of the old table.
-    Replays { rec: usize, at: usize, node: usize },
+    /// The kept records of its key that are left: those that were answered so far as it was.
+    Replays(Seat),
 }
 
 /// Makes the machine of a record and gives it the first `count` answers; it is yet to hear the last of them.
@@ -35,53 +37,41 @@ pub(crate) fn machine_of<K: Maker>(
     rec: usize,
     count: usize,
 ) -> Result<K::Made, CheckErr>
-    requires in_old { rec < length earlier.now.table }
-    requires in_rec { count ≤ length (rec_at rec earlier.now.table).steps }
+    requires in_old { rec < length earlier.now.records }
+    requires in_rec { count ≤ length (rec_at rec earlier.now.records).steps }
     ensures waits { IfOk result (λ m. 1 ≤ count → (a : Answer) →
-        K.Made.talk m a ≡ waits_at (K.first (rec_at rec earlier.now.table).key) (rec_at rec earlier.now.table).steps count a) }
-    ensures follows { IfOk result (λ _. Follows (K.first (rec_at rec earlier.now.table).key) (take count (rec_at rec earlier.now.table).steps)) }
+        K.Made.talk m a ≡ waits_at (K.first (rec_at rec earlier.now.records).key) (rec_at rec earlier.now.records).steps count a) }
+    ensures follows { IfOk result (λ _. Follows (K.first (rec_at rec earlier.now.records).key) (take count (rec_at rec earlier.now.records).steps)) }
     ensures starts { IfOk result (λ _. K.starts maker.new ≡ one_more (K.starts maker.old)) }
-    ensures started { OnErr result (StartsFor earlier.now.table (K.starts maker.old) (K.starts maker.new)) }
-    ensures forged { IfErr result (IsForged K.first earlier.now.table) }
+    ensures started { OnErr result (StartsFor earlier.now.records (K.starts maker.old) (K.starts maker.new)) }
+    ensures forged { IfErr result (IsForged K.first earlier.now.records) }
 {
-    match feed(maker, earlier.table().at(rec), count) {
+    match feed(maker, earlier.at(rec), count) {
         Ok(fed) => Ok(fed.machine),
         Err(err) => Err(err.of_record(rec as u64)),
     }
 }
 
-// Whether a step is answered as recorded, which may be told already.
-fn is_recorded(recorded: &Answer, answer: &Answer, alike: Option<bool>) -> bool
-    requires { IfSome alike (λ b. IsTrue b ↔ (recorded.now ≡ answer.now)) }
-    ensures { IsTrue result ↔ (recorded.now ≡ answer.now) }
-{
-    match alike {
-        Some(alike) => alike,
-        None => same_answer(recorded, answer),
-    }
-}
-
 impl<M: Machine> Activity<M> {
-    /// Replays the record of a command that is launched as the next of its key, after so many; or starts its machine where there
-    /// is none.
+    /// Replays the kept records of a command that is launched; or starts its machine where its key has none.
     pub(crate) fn launch<K: Maker<Made = M>>(
         maker: &mut K,
         earlier: &Earlier,
+        talks: &mut Talks,
         key: &Key,
-        ordinal: u64,
     ) -> Result<Activity<M>, NoMemory>
-        requires { AreContents earlier.now.contents earlier.now.table }
-        ensures says { IfOk result (λ a. stands M.talk K.first earlier.now.table a Answer.Go ≡ K.first key.now) }
-        ensures launched { IfOk result (λ a. IsLaunched earlier.now.table key.now ordinal a) }
+        requires contents { AreContents earlier.now.contents earlier.now.records }
+        requires talks { AreTalks earlier.now talks.old }
+        ensures says { IfOk result (λ a. stands M.talk K.first earlier.now.records a Answer.Go ≡ K.first key.now) }
+        ensures launched { IfOk result (IsLaunched earlier.now.records key.now) }
+        ensures seated { IfOk result (IsSeated earlier.now talks.new.groups.items) }
+        ensures talks { OnOk result (AreTalks earlier.now talks.new) }
+        ensures grows { OnOk result (Grows talks.old.groups.items talks.new.groups.items) }
         ensures starts { IfOk result (λ a. K.starts maker.new ≡ started (made a) (K.starts maker.old)) }
         ensures none { OnErr result (K.starts maker.new ≡ K.starts maker.old) }
-        ensures at { IfOk result (λ a. IsAt earlier.now.contents.nodes earlier.now.table a) }
     {
-        match earlier.table().place(key, ordinal) {
-            Some(rec) => {
-                let node = earlier.first_left(rec);
-                Ok(Activity::Replays { rec, at: 0, node })
-            }
+        match talks.launch(earlier, key)? {
+            Some(seat) => Ok(Activity::Replays(seat)),
             None => {
                 let machine = maker.start(key)?;
                 Ok(Activity::Runs(machine))
@@ -95,46 +85,48 @@ impl<M: Machine> Activity<M> {
     {
         match self {
             Activity::Runs(_) => Some(Cause::NoRecord),
-            Activity::Replays { .. } => None,
+            Activity::Replays(_) => None,
         }
     }
 
-    /// The command takes the answer of its step; whether it is the recorded one may be told already. A replayed one goes one step
-    /// further in its record, or gives it up for a machine: the answer says why.
+    /// The command takes the answer of its step; whether it is the one of the first record that is left may be told already. A
+    /// replayed one goes on with the records that were answered so; where none was, they are given up for a machine: the answer
+    /// says why.
     pub(crate) fn take<K: Maker<Made = M>>(
         &mut self,
         maker: &mut K,
         earlier: &Earlier,
+        talks: &mut Talks,
         answer: &Answer,
         alike: Option<bool>,
     ) -> Result<Option<Cause>, CheckErr>
-        requires waiting { IsWaiting earlier.now.table self.old }
-        requires at { IsAt earlier.now.contents.nodes earlier.now.table self.old }
-        requires alike { IfSome alike (λ b. IsAlike earlier.now.table self.old answer.now b) }
-        ensures state { OnOk result (stands M.talk K.first earlier.now.table self.new answer.now ≡ waits M.talk K.first earlier.now.table self.old answer.now) }
-        ensures takes { OnOk result (Takes earlier.now.table self.old answer.now self.new) }
-        ensures cause { IfOk result (λ cause. cause ≡ cause_taken earlier.now.table self.old answer.now self.new) }
-        ensures at { OnOk result (IsAt earlier.now.contents.nodes earlier.now.table self.new) }
+        requires waiting { IsWaiting earlier.now.records self.old }
+        requires talks { AreTalks earlier.now talks.old }
+        requires knows { KnowsNext earlier.now talks.old.groups.items self.old }
+        requires alike { IfSome alike (λ b. IsAlike earlier.now.records self.old answer.now b) }
+        ensures state { OnOk result (stands M.talk K.first earlier.now.records self.new answer.now ≡ waits M.talk K.first earlier.now.records self.old answer.now) }
+        ensures takes { OnOk result (Takes earlier.now.records self.old answer.now self.new) }
+        ensures cause { IfOk result (λ cause. cause ≡ cause_taken earlier.now.records self.old answer.now self.new) }
+        ensures seated { OnOk result (IsSeated earlier.now talks.new.groups.items self.new) }
+        ensures talks { OnOk result (AreTalks earlier.now talks.new) }
+        ensures grows { OnOk result (Grows talks.old.groups.items talks.new.groups.items) }
         ensures starts { OnOk result (K.starts maker.new ≡ started (given_up self.old self.new) (K.starts maker.old)) }
-        ensures started { OnErr result (StartsFor earlier.now.table (K.starts maker.old) (K.starts maker.new)) }
-        ensures forged { IfErr result (IsForged K.first earlier.now.table) }
+        ensures started { OnErr result (StartsFor earlier.now.records (K.starts maker.old) (K.starts maker.new)) }
+        ensures forged { IfErr result (IsForged K.first earlier.now.records) }
     {
         match self {
             Activity::Runs(_) => Ok(None),
-            Activity::Replays { rec, at, node } => {
-                let Some((step, rest)) = earlier.next_left(*rec, *at, *node) else {
-                    unreachable!()
-                };
-                if is_recorded(&step.answer, answer, alike) {
-                    *at += 1;
-                    *node = rest;
-                    return Ok(None);
+            Activity::Replays(seat) => match talks.take(earlier, *seat, answer, alike)? {
+                Lead::On(next) => {
+                    *seat = next;
+                    Ok(None)
                 }
-                let cause = Cause::differs(*at as u64 + 1, &step.answer, answer)?;
-                let machine = machine_of(maker, earlier, *rec, *at + 1)?;
-                *self = Activity::Runs(machine);
-                Ok(Some(cause))
-            }
+                Lead::GivenUp(cause) => {
+                    let machine = machine_of(maker, earlier, seat.rec, seat.place.at + 1)?;
+                    *self = Activity::Runs(machine);
+                    Ok(Some(cause))
+                }
+            },
         }
     }
 
@@ -144,20 +136,39 @@ impl<M: Machine> Activity<M> {
     {
         match self {
             Activity::Runs(_) => cost,
-            Activity::Replays { .. } => 0,
+            Activity::Replays(_) => 0,
         }
     }
 
-    /// The steps of a replayed command's record, all of which were asked, give way to the same ones of the old table. Where there
-    /// is no memory for that they stay.
+    /// Whether the record of a command that exits, which has this number, is the kept one of that number.
+    pub(crate) fn is_still(
+        &self,
+        earlier: &Earlier,
+        rec: &Record,
+        place: usize,
+        status: u8,
+        cost: u64,
+    ) -> bool
+        requires contents { AreContents earlier.now.contents earlier.now.records }
+        requires whole { IsWhole earlier.now.records rec.now self.now }
+        ensures { IsTrue result → (place < length earlier.now.records) × (with_exit rec.now status cost ≡ rec_at place earlier.now.records) }
+    {
+        match self {
+            Activity::Runs(_) => false,
+            Activity::Replays(seat) => is_kept_at(earlier, rec, seat.rec, place, status, cost),
+        }
+    }
+
+    /// The steps of a replayed command's record, all of which were asked, give way to the same ones of the first record that is
+    /// left. Where there is no memory for that they stay.
     pub(crate) fn hand_on(&self, earlier: &Earlier, table: &mut Table, place: usize)
         requires here { place < length table.old }
-        requires whole { IsWhole earlier.now.table (rec_at place table.old) self.now }
+        requires whole { IsWhole earlier.now.records (rec_at place table.old) self.now }
         ensures { table.new ≡ table.old }
     {
         match self {
             Activity::Runs(_) => {}
-            Activity::Replays { rec, .. } => match earlier.table().at(*rec).steps.share() {
+            Activity::Replays(seat) => match earlier.at(seat.rec).steps.share() {
                 Ok(steps) => table.hand_on(place, steps),
                 Err(_) => {}
             },

@@ -5,10 +5,11 @@ ghost use Rattle.tr_record.specs.declared.records.Record.{Record as Rec};
 ghost use Rattle.rk_replay.specs.Causes.{AreCauses, cause_at};
 ghost use Rattle.rk_replay.specs.Ran.{ran_for, ran_of};
 
-use crate::ran::{Cause, Ran, RanList};
+use crate::ran::{Ran, RanList};
 use rk_base::NoMemory;
 use std::alloc::Global;
 use std::marker::Model;
+use tr_matching::Cause;
 use tr_record::{Record, Table};
 
 /// Why each command that was launched ran, if it did, in launch order.
@@ -19,7 +20,7 @@ pub(crate) struct CauseList {
 
 impl Model for CauseList {
     ghost use Rattle.std.specs.Prelude.{List, Option};
-    ghost use Rattle.rk_replay.specs.declared.ran.Cause.{Cause};
+    ghost use Rattle.tr_matching.specs.declared.cause.Cause.{Cause};
 
     ghost Value = { List (Option Cause) };
 

@@ -5,8 +5,9 @@ ghost use Rattle.rk_content.specs.Contents.{AreKnown, IsContent, Keeps};
 ghost use Rattle.tr_record.specs.Contents.{AreContents};
 ghost use Rattle.tr_record.specs.Rec.{rec_at};
 ghost use Rattle.tr_record.specs.declared.records.Record.{Record};
+ghost use Rattle.tr_matching.specs.Earlier.{IsRest};
 ghost use Rattle.rk_traces.specs.Spoken.{step_at};
-ghost use Rattle.rk_replay.specs.Activities.{IsAlike, IsAt, IsLeft, IsWaiting};
+ghost use Rattle.rk_replay.specs.Activities.{IsAlike, IsAtRest, IsWaiting};
 
 use crate::activity::Activity;
 use rk_base::{Bytes, NoMemory};
@@ -81,7 +82,7 @@ fn is_alike_at<W: Numbering>(
     seen: ContentId,
 ) -> Result<Option<bool>, NoMemory>
     requires { AreKnown (W.contents world.old) known.old.items contents.now.texts }
-    ensures alike { IfOk result (λ it. IfSome it (λ alike. (old : List Record) (rec at : ℕ) (a : Answer) → AreContents contents.now old → at < length (rec_at rec old).steps → IsLeft contents.now.nodes old rec at node → IsContent (W.contents world.old) seen a → IsTrue alike ↔ ((step_at at (rec_at rec old).steps).answer ≡ a))) }
+    ensures alike { IfOk result (λ it. IfSome it (λ alike. (old : List Record) (rec at : ℕ) (a : Answer) → AreContents contents.now old → at < length (rec_at rec old).steps → IsRest (record { records = old; contents = contents.now }) rec at node → IsContent (W.contents world.old) seen a → IsTrue alike ↔ ((step_at at (rec_at rec old).steps).answer ≡ a))) }
     ensures known { OnOk result (AreKnown (W.contents world.new) known.new.items contents.now.texts) }
     ensures told { W.told world.new ≡ W.told world.old }
     ensures keeps { W.Keeps world.old world.new }
@@ -100,7 +101,7 @@ fn is_alike_at<W: Numbering>(
 }
 
 impl<M: Drop> Activity<M> {
-    /// Whether the step that the command waits for is answered as recorded, told by the numbers of both contents; `None` where
+    /// Whether the step that the command waits for is answered as the first record that is left says, told by the numbers of both contents; `None` where
     /// there are not two.
     pub(crate) fn is_alike<W: Numbering>(
         &self,
@@ -111,7 +112,7 @@ impl<M: Drop> Activity<M> {
     ) -> Result<Option<bool>, NoMemory>
         requires { AreKnown (W.contents world.old) known.old.items contents.now.texts }
         ensures alike { IfOk result (λ it. IfSome it (λ alike. (old : List Record) (a : Answer) →
-            AreContents contents.now old → IsWaiting old self.now → IsAt contents.now.nodes old self.now →
+            AreContents contents.now old → IsWaiting old self.now → IsAtRest (record { records = old; contents = contents.now }) self.now →
             IfSome seen (λ id. IsContent (W.contents world.old) id a) → IsAlike old self.now a alike)) }
         ensures known { OnOk result (AreKnown (W.contents world.new) known.new.items contents.now.texts) }
         ensures told { W.told world.new ≡ W.told world.old }
@@ -122,8 +123,8 @@ impl<M: Drop> Activity<M> {
             None => Ok(None),
             Some(seen) => match self {
                 Activity::Runs(_) => Ok(None),
-                Activity::Replays { node, .. } => {
-                    let alike = is_alike_at(world, contents, known, *node, seen)?;
+                Activity::Replays(seat) => {
+                    let alike = is_alike_at(world, contents, known, seat.place.rest, seen)?;
                     Ok(alike)
                 }
             },

@@ -1,53 +1,11 @@
-// Which commands ran, and why.
-ghost use Rattle.std.specs.Prelude.{◌≡◌, ◌++◌, ◌∷◌, [], IfOk, OnOk, OnErr, length};
-ghost use Rattle.rk_replay.specs.declared.ran.Cause.TheVariants.{Differs};
+// Which commands ran.
+ghost use Rattle.std.specs.Prelude.{◌≡◌, ◌++◌, ◌∷◌, [], OnOk, OnErr, length};
 
 use rk_base::NoMemory;
-use rk_calls::{Answer, Key};
+use rk_calls::Key;
 use std::alloc::Global;
 use std::marker::Model;
-
-/// Why a command ran.
-#[derive(Debug, Drop)]
-pub enum Cause {
-    /// The old table has no record under its key and ordinal.
-    NoRecord,
-    /// The first step, from 1 on, that was answered otherwise than the record says, with both answers.
-    Differs {
-        step: u64,
-        recorded: Answer,
-        seen: Answer,
-    },
-}
-
-impl Cause {
-    /// The step of this number was answered otherwise than recorded.
-    pub(crate) fn differs(step: u64, recorded: &Answer, seen: &Answer) -> Result<Cause, NoMemory>
-        ensures { IfOk result (λ c. c ≡ Differs step recorded.now seen.now) }
-    {
-        let recorded = recorded.copy()?;
-        let seen = seen.copy()?;
-        Ok(Cause::Differs {
-            step,
-            recorded,
-            seen,
-        })
-    }
-
-    /// A copy of the cause.
-    pub(crate) fn copy(&self) -> Result<Cause, NoMemory>
-        ensures { IfOk result (λ c. c ≡ self.now) }
-    {
-        match self {
-            Cause::NoRecord => Ok(Cause::NoRecord),
-            Cause::Differs {
-                step,
-                recorded,
-                seen,
-            } => Cause::differs(*step, recorded, seen),
-        }
-    }
-}
+use tr_matching::Cause;
 
 /// A command that ran, and why.
 #[derive(Debug, Drop)]

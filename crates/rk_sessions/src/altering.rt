@@ -3,8 +3,8 @@ use crate::numbers::{number, size, status};
 use crate::talks::{answer_of, call_of};
 use rk_base::{Bytes, NoMemory};
 use std::alloc::Global;
-use tr_codec::{read_db, write_db};
-use tr_record::{Record, Step, StepList, Table};
+use tr_kept::{read_kept, write_kept};
+use tr_record::{Kept, Record, Step, StepList, Table};
 
 /// The first bytes, so many of them.
 pub fn cut(alloc: Global, bytes: &[u8], most: usize) -> Result<Vec<u8>, NoMemory> {
@@ -38,8 +38,8 @@ pub fn bytes_of(alloc: Global, text: &str) -> Result<Vec<u8>, NoMemory> {
     Ok(bytes)
 }
 
-/// What is changed: a part of the step of this number, from 1 on, in the record of this number, from 0 on. A change of an exit
-/// has its value in the place of the step's number.
+/// What is changed: a part of the step of this number, from 1 on, in the record of this number, from 0 on over all tables. A
+/// change of an exit has its value in the place of the step's number.
 #[derive(Clone, Copy)]
 struct Change<'a> {
     record: usize,
@@ -115,9 +115,15 @@ fn push_as(table: &mut Table, record: &Record) -> Result<(), NoMemory> {
     table.push(record.key.copy()?, steps, record.exit, record.exit_cost)
 }
 
-fn table_with(alloc: Global, table: &Table, change: &Change<'_>) -> Result<Table, NoMemory> {
+// The records of a table of which the first has this number.
+fn table_with(
+    alloc: Global,
+    table: &Table,
+    first: usize,
+    change: &Change<'_>,
+) -> Result<Table, NoMemory> {
     let mut other = Table::new(alloc);
-    let mut number = 0usize;
+    let mut number = first;
     'records: for record in table.as_slice() {
         if number == change.record {
             push_with(alloc, &mut other, record, change)?;
@@ -129,13 +135,40 @@ fn table_with(alloc: Global, table: &Table, change: &Change<'_>) -> Result<Table
     Ok(other)
 }
 
+// How many records stand in the first tables, so many of them.
+fn count_before(tables: &Kept, most: usize) -> usize {
+    let mut count = 0usize;
+    'tables: for k in 0..most {
+        if let Some(table) = tables.table(k) {
+            count = count.saturating_add(table.len());
+        }
+    }
+    count
+}
+
+// The tables, each with the change where it has the record.
+fn tables_with(alloc: Global, tables: &Kept, change: &Change<'_>) -> Result<Kept, NoMemory> {
+    let mut others = Kept::new(alloc);
+    let mut left = tables.len();
+    'tables: for _k in 0..tables.len() {
+        left = left.saturating_sub(1);
+        if let Some(table) = tables.table(left) {
+            let other = table_with(alloc, table, count_before(tables, left), change)?;
+            if other.len() > 0 {
+                others.push(other)?;
+            }
+        }
+    }
+    Ok(others)
+}
+
 /// The database with the change that a line names, and its digest made anew. It is as before where it is damaged.
 pub fn altered(alloc: Global, db: &[u8], line: &str) -> Result<Bytes, NoMemory> {
-    match read_db(alloc, db) {
+    match read_kept(alloc, db) {
         Ok(read) => {
-            let table = read.into_table();
-            let other = table_with(alloc, &table, &change_of(line))?;
-            write_db(alloc, &other)
+            let tables = read.into_kept();
+            let others = tables_with(alloc, &tables, &change_of(line))?;
+            write_kept(alloc, &others)
         }
         Err(_) => Bytes::from_slice(alloc, db),
     }

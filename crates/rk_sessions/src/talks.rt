@@ -3,8 +3,8 @@ use crate::numbers::{number, status};
 use rk_base::{Bytes, Errno, FileType, Name, NameList, NoMemory, Path, VarList, WordList};
 use rk_calls::{Answer, Call, How, Key};
 use std::alloc::Global;
-use tr_codec::write_db;
-use tr_record::{Step, StepList, Table};
+use tr_kept::write_kept;
+use tr_record::{Kept, Step, StepList, Table};
 
 // The mode of octal digits.
 fn mode(text: &str) -> u16 {
@@ -181,5 +181,10 @@ fn table_of(alloc: Global, words: &str, text: &str) -> Result<Table, NoMemory> {
 
 /// The database of one record: a command's words, and lines of what it asks and is answered.
 pub fn db_of(alloc: Global, words: &str, text: &str) -> Result<Bytes, NoMemory> {
-    write_db(alloc, &table_of(alloc, words, text)?)
+    let table = table_of(alloc, words, text)?;
+    let mut tables = Kept::new(alloc);
+    if table.len() > 0 {
+        tables.push(table)?;
+    }
+    write_kept(alloc, &tables)
 }

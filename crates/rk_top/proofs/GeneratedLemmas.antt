@@ -1,8 +1,9 @@
 -- Sessions of made workloads.
-use Rattle.std.proofs.Common.{◌≡◌, ◌≢◌, ℕ, ◌+◌, ◌<◌, ◌≤◌, ◌^◌, List, [], length, Option, Some, Result, Ok, Err, IfOk, false, refl, sym, ap, subst, ◌∙◌, add-one, arith}
+use Rattle.std.proofs.Common.{◌≡◌, ◌≢◌, ℕ, ◌+◌, ◌<◌, ◌≤◌, ◌^◌, List, [], ◌∷◌, length, slice_get, inl, inr, Option, Some, None, Result, Ok, Err, IfOk, false, refl, sym, ap, subst, ◌∙◌, add-one, arith}
 use Rattle.rk_base.specs.Text.{Text}
 use Rattle.rk_calls.specs.Keys.{KeyValue}
 use Rattle.rk_calls.specs.Talk.{Says}
+use Rattle.tr_record.specs.Generations.{IsPushed, records, table_at}
 use Rattle.tr_record.specs.declared.records.Record.{Record}
 use Rattle.rk_attrs.specs.declared.rows.AttrRow.{AttrRow}
 use Rattle.rk_folder.specs.Attributes.{with_rows}
@@ -25,35 +26,43 @@ use Rattle.rk_traces.specs.Run.{Outcome as Run, Done, Spent}
 use Rattle.rk_traces.specs.Spoken.{AreSpoken}
 use Rattle.rk_tree.specs.Entries.{Entries}
 use Rattle.rk_build.specs.Fresh.{held_after}
-use Rattle.rk_top.specs.Generated.{ComesTo, Generates, IsBuilt, IsLine, KeepsTable, Reaches, Stage, edit_after, edited_stage, line_of_stage, plain_build, workload_after}
-use Rattle.rk_build.specs.Kept.{AreRows, IsTable, Keeping, state_in}
+use Rattle.rk_top.specs.Generated.{ComesTo, Generates, IsBuilt, IsLine, KeepsTables, Reaches, Stage, edit_after, edited_stage, line_of_stage, plain_build, workload_after}
+use Rattle.rk_build.specs.Kept.{AreRows, AreTables, Keeping, ReadsDb, state_in}
 use Rattle.rk_build.specs.Checks.{TellsForged}
 use Rattle.rk_build.specs.Outcomes.{EndsSo, FolderCounts, IsLeft, IsNext, IsNoFault, IsTally, Leaves}
 use Rattle.rk_build.specs.Run.{fresh_run, ran_count}
 use Rattle.rk_build.specs.Sessions.{IsWell}
 use Rattle.rk_build.specs.declared.outcome.Outcome.{Outcome}
 use Rattle.rk_build.specs.declared.outcome.Outcome.TheVariants as out
+use Rattle.rk_build.specs.declared.outcome.StateFile.TheVariants as file
+use Rattle.rk_build.specs.declared.stop.BuildErr.{BuildErr}
+use Rattle.rk_build.specs.declared.stop.BuildErr.TheVariants as stop
 use Rattle.rk_build.specs.declared.stop.Refusal.TheVariants as refusal
 use Rattle.rk_build.specs.Telling.{IsNamed, IsTold}
-use Rattle.rk_build.proofs.SettledLemmas.{forged-clash, refused-kept}
+use Rattle.rk_build.proofs.SettledLemmas.{db-clash, forged-clash, refused-kept}
 use Rattle.rk_build.proofs.TellLemmas.{as_told}
 
--- what is told twice of a folder is told of the same entries and records
-pub one-kept : (held : Held) (P Q : Entries → List Record → Type 0) (k : Keeping false held P) → Keeping false held Q → Q (with_rows (snapshot_of held) k.rows) k.old
+-- what is told twice of a folder is told of the same entries and tables
+pub one-kept : (held : Held) (P Q : Entries → List (List Record) → Type 0) (k : Keeping false held P) → Keeping false held Q → Q (with_rows (snapshot_of held) k.rows) k.old
 one-kept held P Q k s =
-    let table : s.old ≡ k.old = s.kept.1.1 k.old k.kept.1.0 in
+    let tables : s.old ≡ k.old = s.kept.1.1 k.old k.kept.1.0 in
     let rows : s.rows ≡ k.rows = s.kept.0.1 k.rows k.kept.0.0 in
-    subst (λ (r : List (Text × AttrRow)). Q (with_rows (snapshot_of held) r) k.old) rows (subst (λ (t : List Record). Q (with_rows (snapshot_of held) s.rows) t) table s.so)
+    subst (λ (r : List (Text × AttrRow)). Q (with_rows (snapshot_of held) r) k.old) rows (subst (λ (t : List (List Record)). Q (with_rows (snapshot_of held) s.rows) t) tables s.so)
+
+-- the table that was pushed is the newest
+newest : (table : List Record) (old new : List (List Record)) → IsPushed table old new → table_at 0 new ≡ table
+newest table old new (inl moved) = ap (table_at 0) moved.3
+newest table old new (inr added) = ap (table_at 0) added.1
 
 -- what the code reads before and after a build that ended, and adds
-pub record Adds (before after : Stage) (old table : List Record) (launched ran : ℕ) : Type 0 where
-  pub old_is : IsTable (state_in before.held).db old
-  pub table_is : IsTable (state_in after.held).db table
-  pub sums_are : after.sums ≡ added launched ran (ran_total old table) before.sums
+pub record Adds (before after : Stage) (old kept : List (List Record)) (launched ran : ℕ) : Type 0 where
+  pub old_is : AreTables (state_in before.held).db old
+  pub kept_is : AreTables (state_in after.held).db kept
+  pub sums_are : after.sums ≡ added launched ran (ran_total (records old) (table_at 0 kept)) before.sums
 
 -- what is so of it then
-pub record Goes (first : KeyValue → Says) (before after : Stage) (live now : ℕ) (r : Run World) (kept : List Record) : Type 0 where
-  pub comes : ComesTo r kept before after
+pub record Goes (first : KeyValue → Says) (before after : Stage) (live now : ℕ) (r : Run World) (old : List (List Record)) : Type 0 where
+  pub comes : ComesTo r old before after
   pub well : IsWell first after.held
   pub paid : now + before.sums.turns ≡ live + after.sums.turns
 
@@ -61,25 +70,30 @@ same-held : (a b : Held) → Some a ≡ Some b → b ≡ a
 same-held a b e = cc
 
 -- by cases on the fresh run
-goes : (first : KeyValue → Says) (before after : Stage) (r : Run World) (world : World) (left kept old table : List Record) (launched ran live now : ℕ) → EndsSo first r before.held (Some after.held) → IsLeft r world left → launched ≡ length left → ran ≡ ran_count kept left → now ≡ live + ran_total kept left → old ≡ kept → Adds before after old table launched ran → Goes first before after live now r kept
-goes first before after (Done end status rest trace) world left kept old table launched ran live now e is_left is_launched is_ran is_paid is_old adds =
+goes : (first : KeyValue → Says) (before after : Stage) (r : Run World) (world : World) (left : List Record) (was old kept : List (List Record)) (launched ran live now : ℕ) → EndsSo first r was before.held (Some after.held) → IsLeft r world left → launched ≡ length left → ran ≡ ran_count (records was) left → now ≡ live + ran_total (records was) left → old ≡ was
+    → Adds before after old kept launched ran → Goes first before after live now r was
+goes first before after (Done end status rest trace) world left was old kept launched ran live now e is_left is_launched is_ran is_paid is_old adds =
     let same : e.installed.after ≡ after.held = same-held after.held e.installed.after e.installed.told in
-    let next : IsNext end trace after.held = subst (IsNext end trace) same e.next in
-    let read : table ≡ trace = adds.table_is.1 next.old next.kept.1.0 ∙ next.so.1 in
+    let next : IsNext end e.kept after.held = subst (IsNext end e.kept) same e.next in
+    let read : kept ≡ e.kept = adds.kept_is.1 next.old next.kept.1.0 ∙ next.so.1 in
+    let first_is : table_at 0 kept ≡ trace = ap (table_at 0) read ∙ newest trace was e.kept e.pushed in
     let is_trace : left ≡ trace = is_left.1 in
     let all : launched ≡ length trace = is_launched ∙ ap length is_trace in
-    let some : ran ≡ ran_count kept trace = is_ran ∙ ap (ran_count kept) is_trace in
-    let turns : ran_total old table ≡ ran_total kept trace = ap (λ (o : List Record). ran_total o table) is_old ∙ ap (ran_total kept) read in
-    let sums : after.sums ≡ added (length trace) (ran_count kept trace) (ran_total kept trace) before.sums =
-    adds.sums_are ∙ ap (λ n. added n ran (ran_total old table) before.sums) all ∙ ap (λ n. added (length trace) n (ran_total old table) before.sums) some ∙ ap (λ n. added (length trace) (ran_count kept trace) n before.sums) turns in
-    let rose : now ≡ live + ran_total kept trace = is_paid ∙ ap (λ (t : List Record). live + ran_total kept t) is_trace in
-    let sum : after.sums.turns ≡ before.sums.turns + ran_total kept trace = ap (λ (s : Sums). s.turns) sums in
+    let some : ran ≡ ran_count (records was) trace = is_ran ∙ ap (ran_count (records was)) is_trace in
+    let turns : ran_total (records old) (table_at 0 kept) ≡ ran_total (records was) trace = ap (λ (o : List (List Record)). ran_total (records o) (table_at 0 kept)) is_old ∙ ap (ran_total (records was)) first_is in
+    let sums : after.sums ≡ added (length trace) (ran_count (records was) trace) (ran_total (records was) trace) before.sums =
+    adds.sums_are
+    ∙ ap (λ n. added n ran (ran_total (records old) (table_at 0 kept)) before.sums) all
+    ∙ ap (λ n. added (length trace) n (ran_total (records old) (table_at 0 kept)) before.sums) some
+    ∙ ap (λ n. added (length trace) (ran_count (records was) trace) n before.sums) turns in
+    let rose : now ≡ live + ran_total (records was) trace = is_paid ∙ ap (λ (t : List Record). live + ran_total (records was) t) is_trace in
+    let sum : after.sums.turns ≡ before.sums.turns + ran_total (records was) trace = ap (λ (s : Sums). s.turns) sums in
     record {
-      comes = record { is_after = subst (λ (h : Held). IsAfter before.held h (held_after end trace)) same e.installed.is_after; next = next; sums = sums };
-      well = record { plain = next.plain; rows = next.rows; old = next.old; kept = next.kept; so = subst (AreSpoken first) (sym next.so.1) e.spoken };
+      comes = record { kept = e.kept; pushed = e.pushed; is_after = subst (λ (h : Held). IsAfter before.held h (held_after end e.kept)) same e.installed.is_after; next = next; sums = sums };
+      well = record { plain = next.plain; rows = next.rows; old = next.old; kept = next.kept; so = subst (λ (k : List (List Record)). AreSpoken first (records k)) (sym next.so.1) e.spoken };
       paid = omega arith;
     }
-goes first before after Spent world left kept old table launched ran live now e is_left is_launched is_ran is_paid is_old adds = absurd e
+goes first before after Spent world left was old kept launched ran live now e is_left is_launched is_ran is_paid is_old adds = absurd e
 
 -- a build that ended or was spent, over a folder that is well
 pub record Built (first : KeyValue → Says) (before after : Stage) (live now : ℕ) : Type 0 where
@@ -89,30 +103,30 @@ pub record Built (first : KeyValue → Says) (before after : Stage) (live now : 
 
 -- what the inner call says of an end
 abbrev pub Leaving : (KeyValue → Says) → Held → Held → Type 0
-Leaving first held new = Keeping false held (λ entries old. AreSpoken first old → EndsSo first (fresh_run first plain_build entries) held (Some new))
+Leaving first held new = Keeping false held (λ entries old. AreSpoken first (records old) → EndsSo first (fresh_run first plain_build entries) old held (Some new))
 
 abbrev pub Tallied : (KeyValue → Says) → Held → Held → ℕ → ℕ → ℕ → ℕ → Type 0
 Tallied first held new launched ran live now = Keeping false held (λ entries old. IsTally first plain_build entries old held (Some new) launched ran live now)
 
-pub built : (first : KeyValue → Says) (before after : Stage) (old table : List Record) (launched ran live now : ℕ) → IsWell first before.held → Leaving first before.held after.held → Tallied first before.held after.held launched ran live now → Adds before after old table launched ran → Built first before after live now
-built first before after old table launched ran live now k l t adds =
+pub built : (first : KeyValue → Says) (before after : Stage) (old kept : List (List Record)) (launched ran live now : ℕ) → IsWell first before.held → Leaving first before.held after.held → Tallied first before.held after.held launched ran live now → Adds before after old kept launched ran → Built first before after live now
+built first before after old kept launched ran live now k l t adds =
     let ends = one-kept before.held _ _ k l k.so in
     let tally = one-kept before.held _ _ k t in
     let is_old : old ≡ k.old = adds.old_is.1 k.old k.kept.1.0 in
-    let g = goes first before after (fresh_run first plain_build (with_rows (snapshot_of before.held) k.rows)) tally.world tally.table k.old old table launched ran live now ends (tally.is_left k.so) tally.launched tally.ran tally.paid is_old adds in
+    let g = goes first before after (fresh_run first plain_build (with_rows (snapshot_of before.held) k.rows)) tally.world tally.table k.old old kept launched ran live now ends (tally.is_left k.so) tally.launched tally.ran tally.paid is_old adds in
     record { built = record { plain = k.plain; rows = k.rows; old = k.old; kept = k.kept; so = g.comes }; well = g.well; paid = omega (arith, g.paid) }
 
--- what a build that ended leaves keeps a table
-left-keeps : (first : KeyValue → Says) (held new : Held) (r : Run World) → EndsSo first r held (Some new) → KeepsTable new
-left-keeps first held new (Done world status left table) e =
+-- what a build that ended leaves keeps tables
+left-keeps : (first : KeyValue → Says) (held new : Held) (r : Run World) (old : List (List Record)) → EndsSo first r old held (Some new) → KeepsTables new
+left-keeps first held new (Done world status left table) old e =
     let same : e.installed.after ≡ new = same-held new e.installed.after e.installed.told in
-    let next : IsNext world table new = subst (IsNext world table) same e.next in
+    let next : IsNext world e.kept new = subst (IsNext world e.kept) same e.next in
     (next.old, next.kept.1)
-left-keeps first held new Spent e = absurd e
+left-keeps first held new Spent old e = absurd e
 
-pub ended-keeps : (first : KeyValue → Says) (held new : Held) → IsWell first held → Leaving first held new → KeepsTable new
+pub ended-keeps : (first : KeyValue → Says) (held new : Held) → IsWell first held → Leaving first held new → KeepsTables new
 ended-keeps first held new k l =
-    left-keeps first held new (fresh_run first plain_build (with_rows (snapshot_of held) k.rows)) (one-kept held _ _ k l k.so)
+    left-keeps first held new (fresh_run first plain_build (with_rows (snapshot_of held) k.rows)) k.old (one-kept held _ _ k l k.so)
 
 pub same-stage : (a b : Stage) → a.held ≡ b.held → a.sums ≡ b.sums → a ≡ b
 same-stage a b held sums = ap (λ (h : Held). record { held = h; sums = a.sums }) held ∙ ap (λ (s : Sums). record { held = b.held; sums = s }) sums
@@ -137,28 +151,29 @@ no-other first held new counts new_counts (out.Said status) k l usage fault ende
 no-other first held new counts new_counts (out.Special path) k l usage fault ended spent memory = refused-kept plain_build held (refusal.Special path) _ l.1 k
 no-other first held new counts new_counts (out.Damaged f d) k l usage fault ended spent memory = refused-kept plain_build held (refusal.Damaged f d) _ l.1 k
 no-other first held new counts new_counts (out.Forged rec step) k l usage fault ended spent memory =
-    let t = one-kept held (λ entries old. AreSpoken first old) (λ entries old. TellsForged first plain_build old rec step) k l.1 in
-    forged-clash first k.old rec step k.so t.wrong
+    let t = one-kept held (λ entries old. AreSpoken first (records old)) (λ entries old. TellsForged first plain_build (records old) rec step) k l.1 in
+    forged-clash first (records k.old) rec step k.so t.wrong
 no-other first held new counts new_counts out.Spent k l usage fault ended spent memory = spent refl
 no-other first held new counts new_counts out.ReadFault k l usage fault ended spent memory = fault
 no-other first held new counts new_counts out.WriteFault k l usage fault ended spent memory = fault
 no-other first held new counts new_counts out.NoMemory k l usage fault ended spent memory = memory refl
 
 -- the turns that were paid are few
-few : (first : KeyValue → Says) (held new : Held) (r : Run World) (world : World) (left kept old table : List Record) (live now : ℕ) → EndsSo first r held (Some new) → IsLeft r world left → now ≡ live + ran_total kept left → old ≡ kept → IsTable (state_in new).db table → now ≤ live + 1000000 → ran_total old table < 2 ^ 64
-few first held new (Done end status rest trace) world left kept old table live now e is_left is_paid is_old table_is ticked =
+few : (first : KeyValue → Says) (held new : Held) (r : Run World) (world : World) (left : List Record) (was old kept : List (List Record)) (live now : ℕ) → EndsSo first r was held (Some new) → IsLeft r world left → now ≡ live + ran_total (records was) left → old ≡ was → AreTables (state_in new).db kept → now ≤ live + 1000000 → ran_total (records old) (table_at 0 kept) < 2 ^ 64
+few first held new (Done end status rest trace) world left was old kept live now e is_left is_paid is_old kept_is ticked =
     let same : e.installed.after ≡ new = same-held new e.installed.after e.installed.told in
-    let next : IsNext end trace new = subst (IsNext end trace) same e.next in
-    let read : table ≡ trace = table_is.1 next.old next.kept.1.0 ∙ next.so.1 in
-    let turns : ran_total old table ≡ ran_total kept left = ap (λ (o : List Record). ran_total o table) is_old ∙ ap (ran_total kept) (read ∙ sym is_left.1) in
+    let next : IsNext end e.kept new = subst (IsNext end e.kept) same e.next in
+    let read : kept ≡ e.kept = kept_is.1 next.old next.kept.1.0 ∙ next.so.1 in
+    let first_is : table_at 0 kept ≡ left = ap (table_at 0) read ∙ newest trace was e.kept e.pushed ∙ sym is_left.1 in
+    let turns : ran_total (records old) (table_at 0 kept) ≡ ran_total (records was) left = ap (λ (o : List (List Record)). ran_total (records o) (table_at 0 kept)) is_old ∙ ap (ran_total (records was)) first_is in
     omega arith
-few first held new Spent world left kept old table live now e is_left is_paid is_old table_is ticked = absurd e
+few first held new Spent world left was old kept live now e is_left is_paid is_old kept_is ticked = absurd e
 
-pub few-turns : (first : KeyValue → Says) (held new : Held) (old table : List Record) (launched ran live now : ℕ) → IsWell first held → Leaving first held new → Tallied first held new launched ran live now → now ≤ live + 1000000 → IsTable (state_in held).db old → IsTable (state_in new).db table → ran_total old table < 2 ^ 64
-few-turns first held new old table launched ran live now k l t ticked old_is table_is =
+pub few-turns : (first : KeyValue → Says) (held new : Held) (old kept : List (List Record)) (launched ran live now : ℕ) → IsWell first held → Leaving first held new → Tallied first held new launched ran live now → now ≤ live + 1000000 → AreTables (state_in held).db old → AreTables (state_in new).db kept → ran_total (records old) (table_at 0 kept) < 2 ^ 64
+few-turns first held new old kept launched ran live now k l t ticked old_is kept_is =
     let ends = one-kept held _ _ k l k.so in
     let tally = one-kept held _ _ k t in
-    few first held new (fresh_run first plain_build (with_rows (snapshot_of held) k.rows)) tally.world tally.table k.old old table live now ends (tally.is_left k.so) tally.paid (old_is.1 k.old k.kept.1.0) table_is ticked
+    few first held new (fresh_run first plain_build (with_rows (snapshot_of held) k.rows)) tally.world tally.table k.old old kept live now ends (tally.is_left k.so) tally.paid (old_is.1 k.old k.kept.1.0) kept_is ticked
 
 -- Edits, and the start.
 
@@ -169,7 +184,7 @@ edited-well first made held k =
       plain = l.plain k.plain;
       rows = k.rows;
       old = k.old;
-      kept = (subst (λ (o : Option Standing). AreRows (bytes_in o) k.rows) (sym (l.hidden attrs_file attrs_hidden)) k.kept.0, subst (λ (o : Option Standing). IsTable (bytes_in o) k.old) (sym (l.hidden db_file db_hidden)) k.kept.1);
+      kept = (subst (λ (o : Option Standing). AreRows (bytes_in o) k.rows) (sym (l.hidden attrs_file attrs_hidden)) k.kept.0, subst (λ (o : Option Standing). AreTables (bytes_in o) k.old) (sym (l.hidden db_file db_hidden)) k.kept.1);
       so = k.so;
     }
 
@@ -180,7 +195,7 @@ start-well first seed =
       plain = s.plain;
       rows = [];
       old = [];
-      kept = (subst (λ (o : Option Standing). AreRows (bytes_in o) []) (sym (s.hidden attrs_file attrs_hidden)) (refl, λ other e. sym e), subst (λ (o : Option Standing). IsTable (bytes_in o) []) (sym (s.hidden db_file db_hidden)) (refl, λ other e. sym e));
+      kept = (subst (λ (o : Option Standing). AreRows (bytes_in o) []) (sym (s.hidden attrs_file attrs_hidden)) (refl, λ other e. sym e), subst (λ (o : Option Standing). AreTables (bytes_in o) []) (sym (s.hidden db_file db_hidden)) (refl, λ other e. sym e));
       so = λ i h. absurd (omega arith);
     }
 
@@ -239,3 +254,31 @@ unnamed-generates first seed before now old new out.NoMemory named h = absurd na
 
 pub line-generates : (first : KeyValue → Says) (seed before now : ℕ) (old new : Option Text) (outcome said : Outcome) → IsTold outcome said → Generates first seed before now old new outcome → Generates first seed before now old new said
 line-generates first seed before now old new outcome said told h = as_told (Generates first seed before now old new) outcome said told h (unnamed-generates first seed before now old new outcome)
+
+-- Reading the tables.
+
+-- what spells tables isn't damaged
+pub undamaged : (db : Option Text) (kept : List (List Record)) (e : BuildErr) → AreTables db kept → ReadsDb db (Err e) → e ≢ stop.NoMemory → ⊥
+undamaged db kept (stop.Refused (refusal.Special path)) are reads other = reads
+undamaged db kept (stop.Refused (refusal.Damaged file.Attrs damage)) are reads other = reads
+undamaged db kept (stop.Refused (refusal.Damaged file.Db damage)) are reads other = db-clash db kept damage are reads
+undamaged db kept (stop.Refused (refusal.Damaged file.Install damage)) are reads other = reads
+undamaged db kept (stop.Forged rec step) are reads other = reads
+undamaged db kept stop.Spent are reads other = reads
+undamaged db kept stop.ReadFault are reads other = reads
+undamaged db kept stop.WriteFault are reads other = reads
+undamaged db kept stop.NoMemory are reads other = other refl
+
+-- where there is no table, none ran
+pub none-ran : (old now : List (List Record)) → None ≡ slice_get now 0 → ran_total (records old) (table_at 0 now) ≡ 0
+unfolding ran_total
+none-ran old [] is = refl
+none-ran old (table ∷ now) is = absurd cc
+
+pub newest-paid : (old now : List (List Record)) (table : List Record) (paid : ℕ) → Some table ≡ slice_get now 0 → paid ≡ ran_total (records old) table → paid ≡ ran_total (records old) (table_at 0 now)
+newest-paid old [] table paid is e = absurd cc
+newest-paid old (it ∷ now) table paid is e = let same : table ≡ it = cc in e ∙ ap (ran_total (records old)) same
+
+pub newest-few : (old now : List (List Record)) (table : List Record) → Some table ≡ slice_get now 0 → ran_total (records old) (table_at 0 now) < 2 ^ 64 → ran_total (records old) table < 2 ^ 64
+newest-few old [] table is few = absurd cc
+newest-few old (it ∷ now) table is few = let same : it ≡ table = cc in subst (λ (t : List Record). ran_total (records old) t < 2 ^ 64) same few

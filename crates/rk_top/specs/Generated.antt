@@ -3,6 +3,7 @@ use Rattle.std.specs.Prelude.{◌≡◌, ◌⊎◌, ℕ, zero, suc, ◌+◌, ◌
 use Rattle.rk_base.specs.Text.{Text}
 use Rattle.rk_calls.specs.Keys.{KeyValue}
 use Rattle.rk_calls.specs.Talk.{Says}
+use Rattle.tr_record.specs.Generations.{IsPushed, records}
 use Rattle.tr_record.specs.declared.records.Record.{Record}
 use Rattle.rk_folder.specs.Memory.{held_by}
 use Rattle.rk_folder.specs.Sinks.{with_bytes}
@@ -19,7 +20,7 @@ use Rattle.rk_traces.specs.Run.{Outcome as Run, Done, Spent}
 use Rattle.rk_request.specs.declared.requests.Request.{Request}
 use Rattle.rk_request.specs.declared.requests.Request.TheVariants.{Build}
 use Rattle.rk_build.specs.Fresh.{held_after}
-use Rattle.rk_build.specs.Kept.{IsTable, Keeping, state_in}
+use Rattle.rk_build.specs.Kept.{AreTables, Keeping, state_in}
 use Rattle.rk_build.specs.Outcomes.{IsNext}
 use Rattle.rk_build.specs.Run.{fresh_run, ran_count}
 use Rattle.rk_build.specs.Texts.{Front}
@@ -27,9 +28,9 @@ use Rattle.rk_top.specs.declared.generate.Session.{Session}
 use Rattle.rk_build.specs.declared.outcome.Outcome.{Outcome}
 use Rattle.rk_build.specs.declared.outcome.Outcome.TheVariants as out
 
--- the database is absent or spells records
-abbrev pub KeepsTable : Held → Type 0
-KeepsTable held = (table : List Record) × IsTable (state_in held).db table
+-- the database is absent or spells tables of records
+abbrev pub KeepsTables : Held → Type 0
+KeepsTables held = (kept : List (List Record)) × AreTables (state_in held).db kept
 
 -- a build with the default budget, of which nothing else is asked
 abbrev pub plain_build : Request
@@ -43,15 +44,17 @@ pub record Stage : Type 0 where
 abbrev pub stage_of : Session → Stage
 stage_of session = record { held = held_by session.folder; sums = session.figures }
 
--- A build that ends: the folder holds what the fresh run leaves, the next build begins with just that, and its figures are
--- added.
-pub record Ends (world : World) (table old : List Record) (before after : Stage) : Type 0 where
-  pub is_after : IsAfter before.held after.held (held_after world table)
-  pub next : IsNext world table after.held
-  pub sums : after.sums ≡ added (length table) (ran_count old table) (ran_total old table) before.sums
+-- A build that ends: the folder holds what the fresh run leaves, its trace first among those that are kept, the next build begins
+-- with just that, and its figures are added.
+pub record Ends (world : World) (table : List Record) (old : List (List Record)) (before after : Stage) : Type 0 where
+  pub kept : List (List Record)
+  pub pushed : IsPushed table old kept
+  pub is_after : IsAfter before.held after.held (held_after world kept)
+  pub next : IsNext world kept after.held
+  pub sums : after.sums ≡ added (length table) (ran_count (records old) table) (ran_total (records old) table) before.sums
 
 -- where it is spent, all stays as it is
-abbrev pub ComesTo : Run World → List Record → Stage → Stage → Type 0
+abbrev pub ComesTo : Run World → List (List Record) → Stage → Stage → Type 0
 ComesTo (Done world status left table) old before after = Ends world table old before after
 ComesTo Spent old before after = after ≡ before
 

@@ -13,6 +13,7 @@ use Rattle.rk_request.specs.Asked.{IfBuild, IfGen, IfQuery, is_fresh, request_of
 use Rattle.rk_folder.specs.declared.folder.FolderCall.{FolderCall}
 use Rattle.rk_request.specs.declared.requests.Request.{Request}
 use Rattle.rk_request.specs.declared.requests.Request.TheVariants as asked
+use Rattle.tr_record.specs.Generations.{records}
 use Rattle.rk_build.specs.Calls.{AsksSo}
 use Rattle.rk_build.specs.Checks.{TellsForged}
 use Rattle.rk_build.specs.Kept.{IsDamaged, Keeping, decoded, state_in}
@@ -49,8 +50,8 @@ pub record Builds (request : Request) (before now : Outside) (outcome : Outcome)
   -- fresh run is spent.
   pub special : IfSpecial outcome (λ path. IfSome before.held (λ held. first_special held ≡ Some path))
   pub damaged : IfDamaged outcome (λ file damage. IfSome before.held (λ held. (first_special held ≡ None) × IsDamaged (decoded (is_fresh request) (state_in held)) file damage))
-  pub forged : IfForged outcome (λ rec step. IfSome before.held (λ held. Keeping (is_fresh request) held (λ entries old. TellsForged first_talk request old rec step)))
-  pub spent : outcome ≡ out.Spent → IfSome before.held (λ held. Keeping (is_fresh request) held (λ entries old. AreSpoken first_talk old × (fresh_run first_talk request entries ≡ Spent)))
+  pub forged : IfForged outcome (λ rec step. IfSome before.held (λ held. Keeping (is_fresh request) held (λ entries old. TellsForged first_talk request (records old) rec step)))
+  pub spent : outcome ≡ out.Spent → IfSome before.held (λ held. Keeping (is_fresh request) held (λ entries old. AreSpoken first_talk (records old) × (fresh_run first_talk request entries ≡ Spent)))
   -- With no count that rose, the outcome is the one that what the folder holds calls for.
   pub complete : (held : Held) → before.held ≡ Some held → Still before.reads now.reads → Still before.writes now.writes → Still before.out.faults now.out.faults → Still before.err.faults now.err.faults → Settles first_talk request held outcome
 

@@ -4,14 +4,16 @@ ghost use Rattle.rk_top.specs.First.{first_talk};
 ghost use Rattle.rk_folder.specs.Memory.{held_by, is_steady};
 ghost use Rattle.rk_folder.specs.Told.{bytes_in, standing};
 ghost use Rattle.rk_gen.specs.Edits.{edited};
-ghost use Rattle.rk_top.specs.Generated.{Generates, IsBuilt, IsLine, KeepsTable, Reaches, digest_of, edited_stage, last_digest, line_of_stage, stage_of};
-ghost use Rattle.rk_build.specs.Kept.{IsTable, state_in};
+ghost use Rattle.rk_top.specs.Generated.{Generates, IsBuilt, IsLine, KeepsTables, Reaches, digest_of, edited_stage, last_digest, line_of_stage, stage_of};
+ghost use Rattle.rk_build.specs.Kept.{AreTables, state_in};
 ghost use Rattle.rk_build.specs.Outcomes.{Counted, IsNoFault};
 ghost use Rattle.rk_build.specs.Sessions.{IsWell};
+ghost use Rattle.rk_replay.specs.Ran.{ran_total};
+ghost use Rattle.tr_record.specs.Generations.{records, table_at};
 
 use crate::commands::Commands;
 use rk_base::{Bytes, NoMemory, Path, Steps};
-use rk_build::{BuildErr, Outcome, build_in, table_in};
+use rk_build::{BuildErr, Outcome, build_in, tables_in};
 use rk_calls::Maker;
 use rk_folder::{MemFolder, MemSink, Sink, SinkErr, Standing, db_file};
 use rk_gen::{Figures, Start, Workload, change, generate, start_folder, summary};
@@ -19,7 +21,7 @@ use rk_replay::paid;
 use rk_request::{DEFAULT_STEPS, Request};
 use std::alloc::Global;
 use std::sync::ledger::Ledger;
-use tr_record::Table;
+use tr_record::Kept;
 
 /// How many edits there are, each before a build.
 const ROUNDS: u64 = 20;
@@ -62,16 +64,29 @@ fn db_of(alloc: Global, folder: &MemFolder) -> Result<Option<Bytes>, NoMemory>
     bytes_at(folder, &file)
 }
 
-// The records that the database spells.
-fn table_of(alloc: Global, folder: &MemFolder) -> Result<Table, NoMemory>
-    requires { KeepsTable (held_by folder.now) }
-    ensures { IfOk result (λ table. IsTable (state_in (held_by folder.now)).db table) }
+// The tables that the database spells.
+fn tables_of(alloc: Global, folder: &MemFolder) -> Result<Kept, NoMemory>
+    requires { KeepsTables (held_by folder.now) }
+    ensures { IfOk result (λ kept. AreTables (state_in (held_by folder.now)).db kept) }
 {
     let db = db_of(alloc, folder)?;
-    match table_in(alloc, &db) {
-        Ok(read) => Ok(read.into_table()),
-        Err(BuildErr::NoMemory) => Err(NoMemory),
-        Err(_) => unreachable!(),
+    match tables_in(alloc, &db) {
+        Ok(read) => Ok(read.into_kept()),
+        Err(stop) => match stop {
+            BuildErr::NoMemory => Err(NoMemory),
+            _ => unreachable!(),
+        },
+    }
+}
+
+// The turns that the commands of the newest table paid that ran over what was kept before.
+fn turns_of(old: &Kept, now: &Kept) -> u64
+    requires { ran_total (records old.now) (table_at 0 now.now) < 2 ^ 64 }
+    ensures { result ≡ ran_total (records old.now) (table_at 0 now.now) }
+{
+    match now.table(0) {
+        Some(table) => paid(old, table),
+        None => 0,
     }
 }
 
@@ -97,7 +112,7 @@ fn build_once<M: Maker, L: Ledger>(
         fresh: false,
         check: false,
     };
-    let old = table_of(alloc, &session.folder)?;
+    let old = tables_of(alloc, &session.folder)?;
     let mut out = MemSink::new(alloc);
     let mut err = MemSink::new(alloc);
     match build_in(
@@ -114,8 +129,8 @@ fn build_once<M: Maker, L: Ledger>(
             launched,
             ran,
         } => {
-            let table = table_of(alloc, &session.folder)?;
-            session.figures.add(launched, ran, paid(&old, &table));
+            let kept = tables_of(alloc, &session.folder)?;
+            session.figures.add(launched, ran, turns_of(&old, &kept));
             Ok(())
         }
         Outcome::Spent => Ok(()),

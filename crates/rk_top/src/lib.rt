@@ -19,4 +19,4 @@ pub use rk_build::{
 };
 pub use rk_request::{Request, RequestErr, request};
 pub use top::rkr;
-pub use tr_codec::Damage;
+pub use tr_parts::Damage;

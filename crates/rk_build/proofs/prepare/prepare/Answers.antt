@@ -1,5 +1,6 @@
 use Rattle.std.proofs.Common.{◌∙◌, ap, length, refl}
 use Rattle.std.proofs.lemmas.Result.{err_from_is_err_and}
+use Rattle.tr_record.specs.Generations.{records}
 use Rattle.rk_build.specs.declared.work.Prepared.{Prepared}
 use Rattle.rk_build.proofs.CheckLemmas.{check-no-fault, check-reads, check-starts, find-starts, work-starts}
 use Rattle.rk_folder.specs.Fetching.{Lasting}
@@ -19,7 +20,7 @@ returns-in_err-found-clause-looks g c =
 pub returns-in_err-found-clause-starts : goal.returns-in_err-found-clause-starts
 returns-in_err-found-clause-starts g c =
     let p = err_from_is_err_and c.from_residual.result c.from_residual.ensures.1 in
-    rw (p.1, p.2) (find-starts {T = Prepared} (λ (p : Prepared). length p.finished.built.ran) g.M.Maker.first c.args.request.now (g.F.Folder.told c.args.folder.now) _ _ c.in_err-found.ensures.finds)
+    rw (p.1, p.2) (find-starts {T = Prepared} (λ (p : Prepared). length p.ended.ran) g.M.Maker.first c.args.request.now (g.F.Folder.told c.args.folder.now) _ _ c.in_err-found.ensures.finds)
 
 pub returns-in_err-check_old-clause-prepares : goal.returns-in_err-check_old-clause-prepares
 returns-in_err-check_old-clause-prepares g c =
@@ -34,17 +35,17 @@ returns-in_err-check_old-clause-looks g c =
 pub returns-in_err-check_old-clause-reads : goal.returns-in_err-check_old-clause-reads
 returns-in_err-check_old-clause-reads g c =
     let p = err_from_is_err_and c.from_residual-in_err-check_old.result c.from_residual-in_err-check_old.ensures.1 in
-    rw (p.1, p.2) (check-reads Prepared g.M.Maker.first _ c.in_ok-found.found.old _ _ _ c.in_err-check_old.ensures.checked c.in_ok-found.ensures.reads)
+    rw (p.1, p.2) (check-reads Prepared g.M.Maker.first _ (records c.in_ok-found.found.old) _ _ _ c.in_err-check_old.ensures.checked c.in_ok-found.ensures.reads)
 
 pub returns-in_err-check_old-clause-steady : goal.returns-in_err-check_old-clause-steady
 returns-in_err-check_old-clause-steady g c =
     let p = err_from_is_err_and c.from_residual-in_err-check_old.result c.from_residual-in_err-check_old.ensures.1 in
-    rw (p.1, p.2) (c.in_ok-found.ensures.steady.0, λ steady. check-no-fault Prepared g.M.Maker.first _ c.in_ok-found.found.old _ c.in_err-check_old.ensures.checked)
+    rw (p.1, p.2) (c.in_ok-found.ensures.steady.0, λ steady. check-no-fault Prepared g.M.Maker.first _ (records c.in_ok-found.found.old) _ c.in_err-check_old.ensures.checked)
 
 pub returns-in_err-check_old-clause-starts : goal.returns-in_err-check_old-clause-starts
 returns-in_err-check_old-clause-starts g c =
     let p = err_from_is_err_and c.from_residual-in_err-check_old.result c.from_residual-in_err-check_old.ensures.1 in
-    rw (p.1, p.2) (check-starts {T = Prepared} (λ (p : Prepared). length p.finished.built.ran) g.M.Maker.first c.args.request.now (g.F.Folder.told c.args.folder.now) c.in_ok-found.found _ _ _ c.in_ok-found.ensures.finds c.in_err-check_old.ensures.checked c.in_err-check_old.ensures.starts)
+    rw (p.1, p.2) (check-starts {T = Prepared} (λ (p : Prepared). length p.ended.ran) g.M.Maker.first c.args.request.now (g.F.Folder.told c.args.folder.now) c.in_ok-found.found _ _ _ c.in_ok-found.ensures.finds c.in_err-check_old.ensures.checked c.in_err-check_old.ensures.starts)
 
 pub work_in-requires-clause-from : goal.work_in-requires-clause-from
 work_in-requires-clause-from g c = readable-found c.args.request.now _ _ c.in_ok-found.found c.find.ensures.held c.in_ok-found.ensures.finds

@@ -11,13 +11,10 @@ build_with-requires g c = c.requires.contents
 pub returns-in-Ok-clause-runs : goal.returns-in-Ok-clause-runs
 returns-in-Ok-clause-runs g c =
     let e = c.in-Ok.ensures in (
-      record { ran = e.ran; ticked = e.live },
+      record { some = e.some; still = e.still; ran = e.ran; ticked = e.live },
       run-in-full g.M.Maker.first c.args.request.now _ _ _ _ _ _ _ _ _ _ e.keeps.2.told c.budget-budget.ensures.limit c.budget-budget.ensures.used c.in_ok-key.ensures c.requires.fresh e.done e.spoken
           (λ spoken. sound g.M.Maker.first _ (λ key. talk-proper (g.M.Maker.first key) (g.met.M.Maker.command key)) spoken (small _ _ _ _ _ e.paid c.budget-budget.ensures.used e.within (e.limit ∙ c.budget-budget.ensures.limit) c.budget-budget.ensures.few)),
     )
-
-pub returns-in-Ok-clause-kept : goal.returns-in-Ok-clause-kept
-returns-in-Ok-clause-kept g c = c.in-Ok.ensures.kept
 
 pub returns-in-Err-Spent-clause-runs : goal.returns-in-Err-Spent-clause-runs
 returns-in-Err-Spent-clause-runs g c =

@@ -1,9 +1,9 @@
-use Rattle.std.proofs.Common.{length, arith, ◌≡◌}
-use Rattle.rk_replay.proofs.AsFound.{as-found}
+use Rattle.std.proofs.Common.{◌≡◌, ◌∙◌, length, true, ap, sym, rules, arith}
+use Rattle.std.proofs.lemmas.Bool.{eqb-true}
+use Rattle.std.specs.Option.{option_copied}
+use Rattle.rk_replay.proofs.FoundLemmas.{as-found}
 use Rattle.rk_replay.proofs.as_found.is_as_found.Goals as goal
 
-pub returns-then-len : goal.returns-then-len
-returns-then-len c = λ alike.
-    let none : length c.args.ran.now ≡ 0 = omega arith in
-    let long : length c.args.table.now ≡ length c.args.old.now = omega arith in
-    as-found c.args.old.now c.args.table.now c.args.ran.now c.requires.kept c.requires.ran none long (c.stand_alike.ensures alike)
+pub returns-in-Some : goal.returns-in-Some
+returns-in-Some c =
+    λ t. as-found c.args.kept.now c.args.table.now c.in-Some.newest.now (ap option_copied (sym c.in-Some.is) ∙ c.table.ensures) (c.requires (search rules)) (sym c.len.ensures ∙ eqb-true c.len.result c.len-in-Some.result t ∙ c.len-in-Some.ensures)

@@ -1,6 +1,7 @@
 use Rattle.std.proofs.Common.{◌≡◌, ◌+◌, ◌*◌, ◌≤◌, length}
 use Rattle.rk_calls.specs.Refs.{top_refs}
 use Rattle.rk_content.specs.Contents.{AreKnown}
+use Rattle.tr_record.specs.Generations.{records}
 use Rattle.rk_traces.specs.Started.{started}
 use Rattle.rk_traces.specs.Own.{total}
 use Rattle.rk_traces.specs.Purse.{left}
@@ -17,16 +18,16 @@ use Rattle.rk_replay.proofs.build.build_with.Given as goal
 abbrev pub invariant-turns : goal.invariant-turns
 invariant-turns g l =
     let a = environment g.K.Maker.first g.W.Answerer.given in
-    let old = l.replay.earlier.table in
+    let old = l.replay.earlier.records in
     record {
       under_way : IsUnderWay l.replay;
       goes : Told (g.W.Answerer.told l.fn.world) (g.W.Answerer.told l.world) (λ before now. Freshing (AreSpoken g.K.Maker.first old) (stands g.K.Made.Machine.talk g.K.Maker.first old) (waits g.K.Made.Machine.talk g.K.Maker.first old) a (fresh a (left l.fn.budget) l.fn.key top_refs before) (left l.budget) l.replay.top l.answer now l.replay.table l.replay.stack.items);
-      old : l.replay.earlier.table ≡ l.fn.old;
+      old : l.replay.earlier.records ≡ records l.fn.kept;
       kept : g.W.Numbering.Keeps l.fn.world l.world;
       stays : g.W.Numbering.Stays l.fn.world l.world;
       known : AreKnown (g.W.Numbering.contents l.world) l.replay.known.items l.replay.earlier.contents.texts;
-      starts : g.K.Maker.starts l.maker ≡ started (ran_count l.replay.earlier.table l.replay.table) (g.K.Maker.starts l.fn.maker);
-      live : l.live ≡ l.fn.live + ran_total l.replay.earlier.table l.replay.table;
+      starts : g.K.Maker.starts l.maker ≡ started (ran_count l.replay.earlier.records l.replay.table) (g.K.Maker.starts l.fn.maker);
+      live : l.live ≡ l.fn.live + ran_total l.replay.earlier.records l.replay.table;
       paid : l.budget.used ≡ l.fn.budget.used + (total l.replay.table + pend l.replay.stack.items);
       limit : l.budget.limit ≡ l.fn.budget.limit;
       few : l.live ≤ l.fn.live + left l.fn.budget;

@@ -5,37 +5,37 @@ use Rattle.rk_top.specs.Generated.{Stage}
 use Rattle.rk_top.proofs.GeneratedLemmas.{built, ended-keeps, few-turns, no-other, spent-built}
 use Rattle.rk_top.proofs.generate.build_once.Goals as goal
 
-pub paid-requires : goal.paid-requires
-paid-requires g c =
-    few-turns g.M.Maker.first (held_by c.args.session.now.folder) (held_by c.build_in.new.folder) c.in_ok-old.old c.in_ok-table-in-Ended.table c.in-Ended.launched c.in-Ended.ran c.args.live.now c.build_in.new.live
-    c.requires.well c.in-Ended.ensures.folder c.in-Ended.ensures.tally c.in-Ended.ensures.live c.in_ok-old.ensures c.in_ok-table-in-Ended.ensures
+pub turns_of-requires : goal.turns_of-requires
+turns_of-requires g c =
+    few-turns g.M.Maker.first (held_by c.args.session.now.folder) (held_by c.build_in.new.folder) c.in_ok-old.old c.in_ok-kept-in-Ended.kept c.in-Ended.launched c.in-Ended.ran c.args.live.now c.build_in.new.live
+    c.requires.well c.in-Ended.ensures.folder c.in-Ended.ensures.tally c.in-Ended.ensures.live c.in_ok-old.ensures c.in_ok-kept-in-Ended.ensures
 
-pub table_of-requires-in-Ended : goal.table_of-requires-in-Ended
-table_of-requires-in-Ended g c = ended-keeps g.M.Maker.first (held_by c.args.session.now.folder) (held_by c.build_in.new.folder) c.requires.well c.in-Ended.ensures.folder
+pub tables_of-requires-in-Ended : goal.tables_of-requires-in-Ended
+tables_of-requires-in-Ended g c = ended-keeps g.M.Maker.first (held_by c.args.session.now.folder) (held_by c.build_in.new.folder) c.requires.well c.in-Ended.ensures.folder
 
 pub returns-in-Ended-clause-built : goal.returns-in-Ended-clause-built
 returns-in-Ended-clause-built g c =
     let before : Stage = record { held = held_by c.args.session.now.folder; sums = c.args.session.now.figures } in
     let after : Stage = record { held = held_by c.build_in.new.folder; sums = c.add.new.self } in
-    (built g.M.Maker.first before after c.in_ok-old.old c.in_ok-table-in-Ended.table c.in-Ended.launched c.in-Ended.ran c.args.live.now c.build_in.new.live
+    (built g.M.Maker.first before after c.in_ok-old.old c.in_ok-kept-in-Ended.kept c.in-Ended.launched c.in-Ended.ran c.args.live.now c.build_in.new.live
     c.requires.well c.in-Ended.ensures.folder c.in-Ended.ensures.tally
-    (record { old_is = c.in_ok-old.ensures; table_is = c.in_ok-table-in-Ended.ensures; sums_are = c.add.ensures ∙ ap (λ (n : ℕ). added c.in-Ended.launched c.in-Ended.ran n c.args.session.now.figures) c.paid.ensures })).built
+    (record { old_is = c.in_ok-old.ensures; kept_is = c.in_ok-kept-in-Ended.ensures; sums_are = c.add.ensures ∙ ap (λ (n : ℕ). added c.in-Ended.launched c.in-Ended.ran n c.args.session.now.figures) c.turns_of.ensures })).built
 
 pub returns-in-Ended-clause-well : goal.returns-in-Ended-clause-well
 returns-in-Ended-clause-well g c =
     let before : Stage = record { held = held_by c.args.session.now.folder; sums = c.args.session.now.figures } in
     let after : Stage = record { held = held_by c.build_in.new.folder; sums = c.add.new.self } in
-    (built g.M.Maker.first before after c.in_ok-old.old c.in_ok-table-in-Ended.table c.in-Ended.launched c.in-Ended.ran c.args.live.now c.build_in.new.live
+    (built g.M.Maker.first before after c.in_ok-old.old c.in_ok-kept-in-Ended.kept c.in-Ended.launched c.in-Ended.ran c.args.live.now c.build_in.new.live
     c.requires.well c.in-Ended.ensures.folder c.in-Ended.ensures.tally
-    (record { old_is = c.in_ok-old.ensures; table_is = c.in_ok-table-in-Ended.ensures; sums_are = c.add.ensures ∙ ap (λ (n : ℕ). added c.in-Ended.launched c.in-Ended.ran n c.args.session.now.figures) c.paid.ensures })).well
+    (record { old_is = c.in_ok-old.ensures; kept_is = c.in_ok-kept-in-Ended.ensures; sums_are = c.add.ensures ∙ ap (λ (n : ℕ). added c.in-Ended.launched c.in-Ended.ran n c.args.session.now.figures) c.turns_of.ensures })).well
 
 pub returns-in-Ended-clause-paid : goal.returns-in-Ended-clause-paid
 returns-in-Ended-clause-paid g c =
     let before : Stage = record { held = held_by c.args.session.now.folder; sums = c.args.session.now.figures } in
     let after : Stage = record { held = held_by c.build_in.new.folder; sums = c.add.new.self } in
-    (built g.M.Maker.first before after c.in_ok-old.old c.in_ok-table-in-Ended.table c.in-Ended.launched c.in-Ended.ran c.args.live.now c.build_in.new.live
+    (built g.M.Maker.first before after c.in_ok-old.old c.in_ok-kept-in-Ended.kept c.in-Ended.launched c.in-Ended.ran c.args.live.now c.build_in.new.live
     c.requires.well c.in-Ended.ensures.folder c.in-Ended.ensures.tally
-    (record { old_is = c.in_ok-old.ensures; table_is = c.in_ok-table-in-Ended.ensures; sums_are = c.add.ensures ∙ ap (λ (n : ℕ). added c.in-Ended.launched c.in-Ended.ran n c.args.session.now.figures) c.paid.ensures })).paid
+    (record { old_is = c.in_ok-old.ensures; kept_is = c.in_ok-kept-in-Ended.ensures; sums_are = c.add.ensures ∙ ap (λ (n : ℕ). added c.in-Ended.launched c.in-Ended.ran n c.args.session.now.figures) c.turns_of.ensures })).paid
 
 pub returns-in-Spent-clause-built : goal.returns-in-Spent-clause-built
 returns-in-Spent-clause-built g c =

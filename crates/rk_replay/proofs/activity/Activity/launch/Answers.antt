@@ -1,11 +1,6 @@
-use Rattle.std.proofs.Common.{refl}
-use Rattle.rk_replay.proofs.Finding.{launched-some, launched-none}
+use Rattle.rk_replay.proofs.HearingLemmas.{first-says}
+use Rattle.rk_replay.proofs.Options.{of-some}
 use Rattle.rk_replay.proofs.activity.Activity.launch.Goals as goal
 
-pub returns-in-Some-clause-launched : goal.returns-in-Some-clause-launched
-returns-in-Some-clause-launched g c =
-    rw (← c.table.ensures)
-    (launched-some _ _ _ _ _ refl c.in-Some.ensures.some.0 c.in-Some.ensures.some.1 c.in-Some.ensures.some.2 c.in-Some.ensures.first)
-
-pub returns-in_ok-machine-in-None-clause-launched : goal.returns-in_ok-machine-in-None-clause-launched
-returns-in_ok-machine-in-None-clause-launched g c = rw (← c.table.ensures) (launched-none _ _ _ _ refl c.in-None.ensures.none)
+pub returns-in-Some-clause-says : goal.returns-in-Some-clause-says
+returns-in-Some-clause-says g c = first-says g.K.Maker.first c.args.earlier.now.records c.args.key.now c.in-Some.seat (of-some _ _ _ c.in-Some.is c.in_ok-seat.ensures.first)

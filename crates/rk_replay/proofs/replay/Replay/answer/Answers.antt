@@ -28,7 +28,7 @@ returns-clause-under_way g c =
     let o = c.in_ok-settle.ensures.others in
     under-answer c.args.self.now c.settle.new.self (ap (λ (r : Replay _). r.earlier) o) c.args.call c.args.cost c.in-Ok.given.0 c.requires.said
     (record { table = ap (λ (r : Replay _). r.table) o ∙ c.in-Ok.ensures.table; place = ap (λ (r : Replay _). r.top.place) o; stack = ap (λ (r : Replay _). r.stack.items) o })
-    c.in_ok-settle.ensures.takes (ap (λ (r : Replay _). r.causes) o) c.in_ok-settle.ensures.at
+    c.in_ok-settle.ensures.takes (ap (λ (r : Replay _). r.causes) o) (ap (λ (r : Replay _). r.still) o) c.in_ok-settle.ensures.talks c.in_ok-settle.ensures.grows c.in_ok-settle.ensures.seated
 
 pub returns-clause-counted : goal.returns-clause-counted
 returns-clause-counted g c =
