@@ -1,4 +1,4 @@
-// Steps of the table of records, and of its spelling.
+// Steps of the table of records, of the tables that are kept, and of their spelling.
 use crate::spelling::{Came, Spelt, bytes_step, came_of, chained, not_read, spelling_shown};
 use rk_base::{Bytes, NoMemory};
 use rk_calls::Key;
@@ -7,14 +7,16 @@ use rk_steps::{
     number_shown, plain, text,
 };
 use std::alloc::Global;
-use tr_codec::{CodecErr, read_back, read_db, write_db};
-use tr_record::{Record, Step, Table};
+use std::mem;
+use tr_kept::{CodecErr, kept_back, read_kept, write_kept};
+use tr_record::{Kept, Record, Step, Table};
 
-/// A table, the bytes that were last written or read, and the calls and answers of its steps.
+/// The table that is being made, those that are kept, the bytes that were last written or read, and the calls and answers of steps.
 #[derive(Drop)]
 pub(crate) struct Records {
     alloc: Global,
     table: Table,
+    kept: Kept,
     bytes: Bytes,
     seen: Seen,
 }
@@ -56,6 +58,42 @@ fn table_shown(alloc: Global, table: &Table) -> Result<String, NoMemory> {
         text.push_str("no records")?;
     }
     Ok(text)
+}
+
+fn kept_shown(alloc: Global, kept: &Kept) -> Result<String, NoMemory> {
+    let mut text = String::new(alloc);
+    'tables: for k in 0..kept.len() {
+        let Some(table) = kept.table(k) else {
+            break;
+        };
+        text.push_str(if text.is_empty() { "" } else { " || " })?;
+        text.push_str(table_shown(alloc, table)?.as_str())?;
+    }
+    if text.is_empty() {
+        text.push_str("no records")?;
+    }
+    Ok(text)
+}
+
+// The table goes first among those that are kept, where it has records, and another one is begun.
+fn keep(alloc: Global, table: &mut Table, kept: &mut Kept) -> Result<(), NoMemory> {
+    let made = mem::replace(table, Table::new(alloc));
+    if made.len() == 0 {
+        return Ok(());
+    }
+    kept.push(made)?;
+    Ok(())
+}
+
+// The table that is being made; where it has no records, the newest that is kept.
+fn newest<'a>(table: &'a Table, kept: &'a Kept) -> &'a Table {
+    if table.len() != 0 {
+        return table;
+    }
+    match kept.table(0) {
+        Some(newest) => newest,
+        None => table,
+    }
 }
 
 fn found(alloc: Global, record: Option<&Record>) -> Result<String, NoMemory> {
@@ -106,6 +144,7 @@ impl Records {
         Ok(Records {
             alloc,
             table: Table::new(alloc),
+            kept: Kept::new(alloc),
             bytes: Bytes::from_slice(alloc, b"")?,
             seen: Seen::new(alloc),
         })
@@ -150,11 +189,16 @@ impl Records {
         )
     }
 
+    fn newest(&self) -> &Table {
+        newest(&self.table, &self.kept)
+    }
+
     fn by_key(&self, what: &str, ordinal: u64, key: &Key) -> Result<String, NoMemory> {
         match what {
-            "count" => number_shown(self.alloc, Some(self.table.count(key))),
-            "place" => number_shown(self.alloc, self.table.place(key, ordinal)),
-            _ => found(self.alloc, self.table.find(key, ordinal)),
+            "count" => number_shown(self.alloc, Some(self.newest().count(key))),
+            "place" => number_shown(self.alloc, self.newest().place(key, ordinal)),
+            "candidate" => found(self.alloc, self.kept.candidate(key, ordinal)),
+            _ => found(self.alloc, self.newest().find(key, ordinal)),
         }
     }
 
@@ -165,25 +209,39 @@ impl Records {
         }
     }
 
+    // How many tables are kept with the one that was made.
+    fn push(&mut self) -> Result<String, NoMemory> {
+        keep(self.alloc, &mut self.table, &mut self.kept)?;
+        number_shown(self.alloc, Some(self.kept.len()))
+    }
+
     fn spell(&mut self) -> Result<String, NoMemory> {
-        self.bytes = write_db(self.alloc, &self.table)?;
+        keep(self.alloc, &mut self.table, &mut self.kept)?;
+        self.bytes = write_kept(self.alloc, &self.kept)?;
         spelling_shown(self.alloc, self.bytes.as_slice())
     }
 
-    // The table, as it is read from what it is written as.
-    fn back(&self) -> Result<String, NoMemory> {
-        match read_back(self.alloc, &self.table) {
-            Ok(table) => table_shown(self.alloc, &table),
+    // The tables, as they are read from what they are written as.
+    fn back(&mut self) -> Result<String, NoMemory> {
+        keep(self.alloc, &mut self.table, &mut self.kept)?;
+        match kept_back(self.alloc, &self.kept) {
+            Ok(kept) => kept_shown(self.alloc, &kept),
             Err(e) => not_read(self.alloc, e),
         }
     }
 
-    // How many records are read from the last bytes; steps speak of these then.
+    // Steps speak of these tables then.
+    fn hold(&mut self, kept: Kept) {
+        self.table = Table::new(self.alloc);
+        self.kept = kept;
+    }
+
+    // How many records the newest table has that is read from the last bytes.
     fn reread(&mut self) -> Result<String, NoMemory> {
-        match read_db(self.alloc, self.bytes.as_slice()) {
+        match read_kept(self.alloc, self.bytes.as_slice()) {
             Ok(read) => {
-                self.table = read.into_table();
-                number_shown(self.alloc, Some(self.table.len()))
+                self.hold(read.into_kept());
+                number_shown(self.alloc, Some(self.newest().len()))
             }
             Err(e) => not_read(self.alloc, e),
         }
@@ -194,7 +252,8 @@ impl Records {
     fn chain(&mut self, many: u64) -> Result<String, NoMemory> {
         self.bytes = Bytes::new(self.alloc, chained(self.alloc, many)?)?;
         let records = self.reread()?;
-        let last = self.table.get(self.table.len().saturating_sub(1));
+        let table = self.newest();
+        let last = table.get(table.len().saturating_sub(1));
         let steps = number_shown(self.alloc, last.map(|record| record.steps.len()))?;
         let text = format!(in self.alloc;
             "{} records, the last of {} steps",
@@ -206,8 +265,8 @@ impl Records {
 
     // What bytes are written as again.
     fn again(&self, bytes: &[u8]) -> Result<Bytes, CodecErr> {
-        let table = read_db(self.alloc, bytes)?.into_table();
-        match write_db(self.alloc, &table) {
+        let kept = read_kept(self.alloc, bytes)?.into_kept();
+        match write_kept(self.alloc, &kept) {
             Ok(again) => Ok(again),
             Err(NoMemory) => Err(CodecErr::NoMemory),
         }
@@ -219,13 +278,12 @@ impl Spelt for Records {
         self.bytes.as_slice()
     }
 
-    // The table that bytes spell is the one that steps speak of then.
     fn read(&mut self, bytes: Vec<u8>) -> Result<String, NoMemory> {
         self.bytes = Bytes::new(self.alloc, bytes)?;
-        match read_db(self.alloc, self.bytes.as_slice()) {
+        match read_kept(self.alloc, self.bytes.as_slice()) {
             Ok(read) => {
-                self.table = read.into_table();
-                table_shown(self.alloc, &self.table)
+                self.hold(read.into_kept());
+                kept_shown(self.alloc, &self.kept)
             }
             Err(e) => not_read(self.alloc, e),
         }
@@ -248,10 +306,12 @@ impl Subject for Records {
             "begin" => self.begin(behind(words)),
             "step" => self.add(behind(words)),
             "end" => self.end(behind(words)),
-            "len" => number_shown(alloc, Some(self.table.len())),
-            "get" => found(alloc, self.table.get(number(words, 1) as usize)),
-            "count" | "place" | "find" => self.keyed(words),
-            "table" => table_shown(alloc, &self.table),
+            "len" => number_shown(alloc, Some(self.newest().len())),
+            "get" => found(alloc, self.newest().get(number(words, 1) as usize)),
+            "count" | "place" | "find" | "candidate" => self.keyed(words),
+            "table" => table_shown(alloc, self.newest()),
+            "kept" => kept_shown(alloc, &self.kept),
+            "push" => self.push(),
             "spell" => self.spell(),
             "reread" => self.reread(),
             "chain" => self.chain(number(words, 1)),

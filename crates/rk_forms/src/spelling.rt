@@ -71,10 +71,10 @@ fn push_numbers(out: &mut Vec<u8>, numbers: &[u64]) -> Result<(), NoMemory> {
     Ok(())
 }
 
-/// A database of so many nodes, pipes at cost 1 of which each follows the one before, and as many records of `sh`, each with all
-/// of these steps.
+/// A database of one table, of so many nodes, pipes at cost 1 of which each follows the one before, and as many records of `sh`,
+/// each with all of these steps.
 pub(crate) fn chained(alloc: Global, many: u64) -> Result<Vec<u8>, NoMemory> {
-    let mut out = Vec::from_slice(alloc, b"RKR2")?;
+    let mut out = Vec::from_slice(alloc, b"RKR3")?;
     push_numbers(&mut out, &[2, 2])?;
     out.extend_from_slice(b"sh")?;
     push_numbers(&mut out, &[1])?;
@@ -84,7 +84,7 @@ pub(crate) fn chained(alloc: Global, many: u64) -> Result<Vec<u8>, NoMemory> {
         push_numbers(&mut out, &[next, 1])?;
         out.extend_from_slice(&[17, 1])?;
     }
-    push_numbers(&mut out, &[many])?;
+    push_numbers(&mut out, &[1, many])?;
     'records: for _ in 0..many {
         push_numbers(&mut out, &[1, 0, 1, 0, many])?;
         out.push(0)?;

@@ -4,9 +4,8 @@ use Rattle.std.specs.List.{flat_map}
 use Rattle.std.proofs.lemmas.List.{append-nil, length-map}
 use Rattle.rk_base.specs.Text.{Text}
 use Rattle.tr_nodes.specs.Nodes.{Node}
-use Rattle.tr_nodes.specs.Tails.{Tail, needed, node_in}
+use Rattle.tr_nodes.specs.Tails.{Tail, node_in}
 use Rattle.tr_nodes.proofs.ReadLemmas.{nodes_again}
-use Rattle.tr_record.specs.declared.records.Record.{Record}
 use Rattle.tr_record.specs.declared.steps.Step.{Step}
 use Rattle.tr_parts.specs.Piece.{Piece, plain, ◌⊕◌, each, counted, num, string, with_uses}
 use Rattle.tr_codec.specs.declared.node_pieces.NodeWriter.{NodeWriter}
@@ -14,7 +13,7 @@ use Rattle.tr_codec.specs.NodeKeys.{own_piece, key_of}
 use Rattle.tr_codec.specs.NodesPut.{Holds}
 use Rattle.tr_codec.specs.Puts.{Written, Puts, spelt_body}
 use Rattle.tr_codec.specs.Same.{same_step}
-use Rattle.tr_codec.specs.Spelling.{node_piece, record_piece, talks, table_piece, magic, body}
+use Rattle.tr_codec.specs.Spelling.{node_piece, body}
 use Rattle.tr_codec.proofs.PutsLemmas.{with_uses_adds, with_uses-append}
 use Rattle.tr_codec.proofs.SameLemmas.{step_decides}
 
@@ -75,7 +74,3 @@ module _ (tails : List (Tail Step)) (w : NodeWriter) (h : Holds tails w) where
     body_are =
         let rest : List Text → List ℕ = λ blobs. version ++ (num (length blobs) ++ (flat_map string blobs ++ (counted (node_piece tails) tails ⊕ last).spelt blobs)) in
         ap (λ l. version ++ (num (length new.blobs) ++ (flat_map string new.blobs ++ l))) spelt_are ∙ ap rest blobs_are
-
--- the body of a table, of the nodes that it needs
-pub table_put : (w : NodeWriter) (new : Written) (table : List Record) → Holds (needed same_step (talks table)) w → Puts (counted (record_piece (needed same_step (talks table))) table) w.writer new → spelt_body magic new w.nodes.keys ≡ body magic (table_piece table)
-table_put w new table h p = let tails = needed same_step (talks table) in body_are tails w h magic new (counted (record_piece tails) table) p

@@ -1,6 +1,5 @@
 -- What reading finds of a table, and how long its spelling is.
-use Rattle.std.proofs.Common.{◌≡◌, ℕ, ◌+◌, ◌^◌, ◌<◌, ◌≤◌, inl, inr, true, false, cond, List, [], ◌++◌, take, drop, length, Some, None, Result, Ok, Err, refl, sym, ap, subst, ◌∙◌, arith}
-use Rattle.std.specs.Prelude.{IfOk}
+use Rattle.std.proofs.Common.{◌≡◌, ℕ, ◌+◌, ◌^◌, ◌<◌, ◌≤◌, inl, inr, true, false, cond, List, [], ◌++◌, take, drop, length, Some, None, refl, sym, ap, subst, ◌∙◌, arith}
 use Rattle.std.specs.List.{flat_map}
 use Rattle.std.proofs.lemmas.List.{length-append}
 use Rattle.sha2.specs.Sha256.{sha256}
@@ -12,14 +11,11 @@ use Rattle.tr_nodes.specs.Tails.{needed}
 use Rattle.tr_codec.specs.Same.{same_step}
 use Rattle.tr_codec.specs.Spelling.{node_piece, record_piece, talks, table_piece, magic, body, sealed, db_spelling}
 use Rattle.tr_codec.specs.OldSpelling as old
-use Rattle.tr_codec.specs.OldSpelling.{FitsOld, old_spelling}
-use Rattle.tr_codec.specs.Fits.{Fits}
+use Rattle.tr_codec.specs.OldSpelling.{old_spelling}
 use Rattle.tr_codec.specs.Spelt.{IsSpelling, IsBody}
 use Rattle.tr_codec.specs.Reading.{table_at, body_at}
 use Rattle.tr_codec.specs.OldReading.{either_at}
 use Rattle.tr_codec.specs.OldReading as reading
-use Rattle.tr_parts.specs.declared.fault.PartErr.{PartErr}
-use Rattle.tr_parts.specs.Reads.{Gives, FindsPart}
 use Rattle.tr_codec.proofs.BodyLemmas.{body_again, body_exact}
 use Rattle.tr_codec.proofs.OldBodyLemmas as before
 use Rattle.tr_codec.proofs.ExactLemmas.{AreBytes, if_inv}
@@ -62,15 +58,6 @@ either_exact front table small h =
     (λ is e. inl (body_exact front table small (ap (λ b. cond b read None) is ∙ e)))
     (λ isnt e. inr (before.body_exact front table small e))
     h
-
--- what a reader of a body gives is the table that it spells
-pub found_of : (front : List ℕ) (result : Result (List Record) PartErr) → AreBytes front → Gives (λ x. x) result (either_at front) → IfOk result (λ table. IsBody front table)
-found_of front (Ok table) small h = either_exact front table small h
-found_of front (Err e) small h = tt
-
-pub finds_of : (front : List ℕ) (result : Result (List Record) PartErr) (table : List Record) → Gives (λ x. x) result (either_at front) → either_at front ≡ Some table → FindsPart result table
-finds_of front (Ok x) table h e = let one : Some x ≡ Some table = sym h ∙ e in cc
-finds_of front (Err fault) table h e = fails_finds fault (either_at front) table h e
 
 -- ---- lengths
 
@@ -148,18 +135,3 @@ versions_apart a b e =
     let same : body magic (table_piece a) ≡ body old.magic (old.table_piece b) = one_front (db_spelling a) (body magic (table_piece a)) (body old.magic (old.table_piece b)) refl e in
     let clash : true ≡ false = sym (new_magic (table_piece a)) ∙ ap (λ l. same_text (take 4 l) magic) same ∙ old_magic (old.table_piece b) in
     absurd cc
-
-old_begins : (piece : Piece) → take 4 (sealed (body old.magic piece)) ≡ old.magic
-unfolding body
-old_begins piece = refl
-
--- what begins with this version's magic is this version's spelling
-pub current : (bytes : List ℕ) (table : List Record) → take 4 bytes ≡ magic → IsSpelling bytes table → Fits table × (bytes ≡ db_spelling table)
-current bytes table begins is =
-    elim is [
-      | inl x ↦ x
-      | inr x ↦
-          let same : take 4 bytes ≡ old.magic = ap (λ (l : List ℕ). take 4 l) x.1 ∙ old_begins (old.table_piece table) in
-          let clash : true ≡ false = ap (λ l. same_text l magic) (sym begins ∙ same) in
-          absurd cc
-    ]

@@ -1,4 +1,4 @@
-//! Tables of records, as bytes: one spelling.
+//! Tables of records, as bytes: what is read of earlier versions, and the parts of what is written.
 #![tactic(auto)]
 
 mod answer_pieces;
@@ -21,17 +21,15 @@ mod records;
 mod rows;
 mod steps;
 mod writer;
-mod writing;
 
-pub use laws::{one_table, read_back};
+pub use laws::one_table;
 pub use node_bytes::NodeBytes;
 pub use node_pieces::NodeWriter;
 pub use nodes::{ReadNodes, nodes_of};
 pub use parts::fresh_blobs;
 pub use pieces::put_records;
 pub use read_table::{ReadTable, texts_of};
-pub use reading::{is_current, read_db, table_in};
+pub use reading::table_in;
 pub use records::{ReadRecords, Used, is_whole, so_many_records};
 pub use tr_parts::{CodecErr, Damage};
 pub use writer::Writer;
-pub use writing::write_db;

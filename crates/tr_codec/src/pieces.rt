@@ -1,40 +1,18 @@
 // The pieces of a table, put by a writer.
-ghost use Rattle.std.specs.Prelude.{◌≡◌, ◌<◌, List, [], IfOk, OnOk, length, map};
+ghost use Rattle.std.specs.Prelude.{◌≡◌, List, OnOk, length, map};
 ghost use Rattle.std.specs.List.{AllByRecursion};
-ghost use Rattle.tr_nodes.specs.Tails.{Tail, needed, head_in};
+ghost use Rattle.tr_nodes.specs.Tails.{Tail, head_in};
 ghost use Rattle.tr_record.specs.declared.steps.Step.{Step as OneStep};
 ghost use Rattle.tr_parts.specs.Piece.{◌⊕◌, byte, number, counted};
-ghost use Rattle.tr_codec.specs.Fits.{FitsKey};
-ghost use Rattle.tr_codec.specs.NodesPut.{Holds};
 ghost use Rattle.tr_codec.specs.Puts.{Puts};
 ghost use Rattle.tr_codec.specs.Same.{same_step};
-ghost use Rattle.tr_codec.specs.Sound.{IsTyped, TypedEnds, TypedSteps};
+ghost use Rattle.tr_codec.specs.Sound.{TypedEnds};
 ghost use Rattle.tr_codec.specs.Spelling.{key_piece, record_piece, talks};
 
 use crate::key_pieces::put_key;
-use crate::node_pieces::NodeWriter;
 use crate::writer::Writer;
 use rk_base::NoMemory;
-use std::alloc::Global;
 use tr_record::Record;
-
-/// The nodes that records need, and of each record the number of its steps.
-pub(crate) fn put_nodes(
-    alloc: Global,
-    records: &[Record],
-) -> Result<(NodeWriter, Vec<usize>), NoMemory>
-    ensures nodes { IfOk result (λ x. Holds (needed same_step (talks records.now)) x.0) }
-    ensures heads { IfOk result (λ x. x.1.items ≡ map (head_in same_step (needed same_step (talks records.now))) (talks records.now)) }
-    ensures typed { OnOk result (AllByRecursion TypedSteps records.now) }
-{
-    let mut nodes = NodeWriter::new(alloc);
-    let mut heads = Vec::new(alloc);
-    'records: for rec in records {
-        let head = nodes.put_talk(alloc, &rec.steps)?;
-        heads.push(head)?;
-    }
-    Ok((nodes, heads))
-}
 
 // A record whose steps have this number.
 fn put_record(w: &mut Writer, rec: &Record, head: usize) -> Result<(), NoMemory>

@@ -1,5 +1,5 @@
 // Tables that were read.
-ghost use Rattle.std.specs.Prelude.{◌≡◌, [], IfOk};
+ghost use Rattle.std.specs.Prelude.{◌≡◌, IfOk};
 ghost use Rattle.tr_record.specs.Contents.{AreContents};
 ghost use Rattle.tr_codec.specs.NodesRead.{AreTold};
 ghost use Rattle.tr_codec.specs.Rows.{AreHeads};
@@ -36,22 +36,6 @@ impl ReadTable {
         ensures { result ≡ table }
     {
         ReadTable { table, contents }
-    }
-
-    /// No records.
-    pub fn none(alloc: Global) -> Result<ReadTable, NoMemory>
-        ensures { IfOk result (λ it. it ≡ []) }
-    {
-        let contents = RecordedContents::none(alloc)?;
-        Ok(ReadTable::new(Table::new(alloc), contents))
-    }
-
-    /// The table.
-    pub fn into_table(self) -> Table
-        ensures { result ≡ self }
-    {
-        let ReadTable { table, .. } = self;
-        table
     }
 
     /// The table, and which contents its answers are.
