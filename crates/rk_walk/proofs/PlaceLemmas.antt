@@ -45,7 +45,7 @@ child-there tree whole dir name n = elim (is_name name) as (λ (b : Bool). cond 
 ]
 
 -- what a directory stands in is a directory
-parent-dir : (tree : Hierarchy) → IsWhole tree → (dir up : ℕ) → parent_of tree dir ≡ Some up → is_dir (node tree up) ≡ true
+pub parent-dir : (tree : Hierarchy) → IsWhole tree → (dir up : ℕ) → parent_of tree dir ≡ Some up → is_dir (node tree up) ≡ true
 unfolding parent_of
 parent-dir tree whole dir up = (elim (path_of tree dir) as (λ (o : Option Text). path_of tree dir ≡ o → option_and_then (λ path. number_at tree (parent path)) o ≡ Some up → is_dir (node tree up) ≡ true) [
   | None ↦ λ at h. absurd (none_is up h)

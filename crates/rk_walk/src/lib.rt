@@ -4,10 +4,12 @@
 mod label;
 mod marks;
 mod place;
+mod seen;
 mod step;
 mod text;
 mod walker;
 
 pub use label::Label;
 pub use place::{Here, Place};
-pub use walker::resolve;
+pub use seen::Seen;
+pub use walker::{Way, resolve, resolve_seeing};

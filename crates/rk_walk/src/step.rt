@@ -3,10 +3,12 @@ ghost use Rattle.std.specs.Prelude.{◌≡◌, List, ℕ, not, true, false, Some
 ghost use Rattle.rk_base.specs.Canonical.{is_empty, is_name};
 ghost use Rattle.rk_tree.specs.Entries.{is_dir};
 ghost use Rattle.rk_tree.specs.Hierarchy as hierarchy;
-ghost use Rattle.rk_walk.specs.Course.{step_means};
+ghost use Rattle.rk_walk.specs.Course.{step_means, step_sees};
 ghost use Rattle.rk_walk.specs.Walk.{Spot, as_spot, at_child, at_part};
+ghost use Rattle.rk_walk.specs.Way.{ends_seeing};
 ghost use Rattle.rk_walk.specs.declared.place.Here.{Here as Standing};
 ghost use Rattle.rk_walk.specs.declared.place.Place.TheVariants.{Found};
+ghost use Rattle.rk_walk.specs.declared.seen.Seen.{Seen};
 ghost use Rattle.rk_walk.specs.declared.step.WalkStep.TheVariants.{Ends};
 
 use crate::{Here, Label, Place};
@@ -62,7 +64,12 @@ fn at_name<'a>(
 ) -> WalkStep<'a>
     requires dir { is_dir (hierarchy.node tree.now at) ≡ true }
     requires name { is_name name.now ≡ true }
-    ensures { (again : List ℕ → List ℕ → Spot) (on : Standing → Spot) (after : List ℕ) → not (is_empty after) ≡ slash → at_child as_spot tree.now follow again on at (record { name = name.now; after = after }) last (hierarchy.child tree.now at name.now) ≡ step_means again on after result }
+    ensures leads { (again : List ℕ → List ℕ → Spot) (on : Standing → Spot) (after : List ℕ) → not (is_empty after) ≡ slash
+        → at_child as_spot tree.now follow again on at (record { name = name.now; after = after }) last (hierarchy.child tree.now at name.now)
+        ≡ step_means again on after result }
+    ensures sees { (again : List ℕ → List ℕ → List Seen) (on : Standing → List Seen) (after : List ℕ) → not (is_empty after) ≡ slash
+        → at_child ends_seeing tree.now follow again on at (record { name = name.now; after = after }) last (hierarchy.child tree.now at name.now)
+        ≡ step_sees again on after result }
 {
     let Some(n) = tree.child(at, name) else {
         return if last {
@@ -118,7 +125,10 @@ pub(crate) fn component<'a>(
     slash: bool,
     last: bool,
 ) -> WalkStep<'a>
-    ensures { (again : List ℕ → List ℕ → Spot) (on : Standing → Spot) (after : List ℕ) → not (is_empty after) ≡ slash → at_part as_spot tree.now follow again on at (record { name = name.now; after = after }) last ≡ step_means again on after result }
+    ensures leads { (again : List ℕ → List ℕ → Spot) (on : Standing → Spot) (after : List ℕ) → not (is_empty after) ≡ slash
+        → at_part as_spot tree.now follow again on at (record { name = name.now; after = after }) last ≡ step_means again on after result }
+    ensures sees { (again : List ℕ → List ℕ → List Seen) (on : Standing → List Seen) (after : List ℕ) → not (is_empty after) ≡ slash
+        → at_part ends_seeing tree.now follow again on at (record { name = name.now; after = after }) last ≡ step_sees again on after result }
 {
     if !tree.is_dir(at) {
         return WalkStep::Fails(Errno::NotDir);

@@ -1,21 +1,24 @@
 // The walk along a path.
-ghost use Rattle.std.specs.Prelude.{IfOk, ◌≡◌, ◌<◌, [], ◌∷◌, Ok, Err, MatchBool, MatchOption, not, ◌||◌, ◌&&◌, ◌^◌, ◌++◌, ◌-◌, length};
+ghost use Rattle.std.specs.Prelude.{IfOk, OnOk, ◌≡◌, ◌<◌, [], ◌∷◌, Ok, Err, MatchBool, MatchOption, not, ◌||◌, ◌&&◌, ◌^◌, ◌++◌, ◌-◌, length};
 ghost use Rattle.std.specs.List.{list_all};
 ghost use Rattle.rk_base.specs.Canonical.{has_nul, is_empty};
 ghost use Rattle.rk_tree.specs.Hierarchy.{top};
 ghost use Rattle.rk_tree.specs.Whole.{IsWhole};
-ghost use Rattle.rk_walk.specs.Course.{only_slashes, IsFirst, Advances, Course, IsCourse, marked};
+ghost use Rattle.rk_walk.specs.Course.{only_slashes, IsFirst, Advances, Course, IsCourse, looks_ahead, marked};
 ghost use Rattle.rk_walk.specs.Places.{IsPlaceOf};
 ghost use Rattle.rk_walk.specs.Walk.{as_spot, leads, resolve, start};
+ghost use Rattle.rk_walk.specs.Way.{leads_seeing, way};
 ghost use Rattle.rk_walk.specs.declared.place.Place.TheVariants.{Found};
 ghost use Rattle.rk_base.specs.declared.errno.Errno.TheVariants.{Loops};
 
 use crate::marks::{Marks, only_slashes};
+use crate::seen::look;
 use crate::step::{WalkStep, component};
 use crate::text::first_part;
-use crate::{Here, Label, Place};
-use rk_base::{Errno, has_nul};
+use crate::{Here, Label, Place, Seen};
+use rk_base::{Errno, NoMemory, has_nul};
 use rk_tree::{NodeId, Tree};
+use std::alloc::Global;
 use std::marker::Model;
 
 // Where the walk stands: here, with this text ahead, then the marks.
@@ -171,6 +174,19 @@ impl<'a> Walker<'a> {
         None
     }
 
+    // What the next component looks at is noted.
+    fn looks(&self, tree: &Tree, seen: &mut Vec<Seen>) -> Result<(), NoMemory>
+        ensures { OnOk result (seen.new.items ≡ seen.old.items ++ looks_ahead tree.now self.entry.now) }
+    {
+        match first_part(self.ahead()) {
+            None => Ok(()),
+            Some((name, _)) => {
+                look(tree, self.node(), name, seen)?;
+                Ok(())
+            }
+        }
+    }
+
     // A step of the walk.
     fn advance(&mut self, tree: &'a Tree, follow: bool) -> Option<Result<Place<'a>, Errno>>
         requires { IsCourse self.old }
@@ -189,6 +205,26 @@ impl<'a> Walker<'a> {
     }
 }
 
+/// Where a path leads, or what stands in its way, and what is looked at until it ends.
+#[derive(Debug, Drop)]
+pub struct Way<'a> {
+    pub seen: Vec<Seen>,
+    pub place: Result<Place<'a>, Errno>,
+}
+
+impl<'a> Way<'a> {
+    // Nothing is looked at.
+    fn refused(alloc: Global, e: Errno) -> Way<'a>
+        ensures seen { result.seen.items ≡ [] }
+        ensures place { result.place ≡ Err e }
+    {
+        Way {
+            seen: Vec::new(alloc),
+            place: Err(e),
+        }
+    }
+}
+
 pub(crate) fn leads<'a>(tree: &'a Tree, path: &'a [u8], follow: bool) -> Result<Place<'a>, Errno>
     ensures place { result ≡ leads as_spot 32 tree.now follow top path.now [] }
     ensures whole { IsWhole tree.now }
@@ -197,6 +233,27 @@ pub(crate) fn leads<'a>(tree: &'a Tree, path: &'a [u8], follow: bool) -> Result<
     loop {
         if let Some(end) = walker.advance(tree, follow) {
             return end;
+        }
+    }
+}
+
+// The same, with what is looked at.
+fn leads_seeing<'a>(
+    alloc: Global,
+    tree: &'a Tree,
+    path: &'a [u8],
+    follow: bool,
+) -> Result<Way<'a>, NoMemory>
+    ensures seen { IfOk result (λ w. w.seen.items ≡ leads_seeing 32 tree.now follow top path.now []) }
+    ensures place { IfOk result (λ w. w.place ≡ leads as_spot 32 tree.now follow top path.now []) }
+    ensures whole { IsWhole tree.now }
+{
+    let mut seen = Vec::new(alloc);
+    let mut walker = Walker::new(tree.root(), path);
+    'walk: loop {
+        walker.looks(tree, &mut seen)?;
+        if let Some(place) = walker.advance(tree, follow) {
+            return Ok(Way { seen, place });
         }
     }
 }
@@ -213,6 +270,30 @@ pub fn resolve<'a>(tree: &'a Tree, path: &'a [u8], follow: bool) -> Result<Place
                 Err(Errno::Invalid)
             } else {
                 leads(tree, path, follow)
+            }
+        }
+    }
+}
+
+/// Where a path leads, and what is looked at on the way, in the order of its components. It fails for want of memory alone.
+pub fn resolve_seeing<'a>(
+    alloc: Global,
+    tree: &'a Tree,
+    path: &'a [u8],
+    follow: bool,
+) -> Result<Way<'a>, NoMemory>
+    ensures seen { IfOk result (λ w. w.seen.items ≡ way tree.now path.now follow) }
+    ensures place { IfOk result (λ w. w.place ≡ resolve tree.now path.now follow) }
+    ensures stands { IfOk result (λ w. IfOk w.place (IsPlaceOf tree.now)) }
+{
+    match path {
+        [] => Ok(Way::refused(alloc, Errno::NoEntry)),
+        [first, ..] => {
+            if *first != b'/' || has_nul(path) {
+                Ok(Way::refused(alloc, Errno::Invalid))
+            } else {
+                let way = leads_seeing(alloc, tree, path, follow)?;
+                Ok(way)
             }
         }
     }
