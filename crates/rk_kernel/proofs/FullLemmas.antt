@@ -158,17 +158,17 @@ module _ (told : Told) (w : World) (refs : RefsHeld) where
   node_at-full (Found at) = node-full told w.tree at.node
   node_at-full (Absent dir name slash) = refl
 
-  dir_at-full : (place : Place) → dir_at (full_world told w) place ≡ dir_at w place
+  pub dir_at-full : (place : Place) → dir_at (full_world told w) place ≡ dir_at w place
   unfolding full_world
   dir_at-full (Found at) = dir-full told w.tree at.node
   dir_at-full (Absent dir name slash) = refl
 
-  mode_at-full : (place : Place) → mode_at (full_world told w) place ≡ mode_at w place
+  pub mode_at-full : (place : Place) → mode_at (full_world told w) place ≡ mode_at w place
   unfolding full_world
   mode_at-full (Found at) = mode-full told w.tree at.node
   mode_at-full (Absent dir name slash) = refl
 
-  names_stand-full : (place : Place) → names_stand_at (full_world told w) place ≡ names_stand_at w place
+  pub names_stand-full : (place : Place) → names_stand_at (full_world told w) place ≡ names_stand_at w place
   unfolding full_world
   names_stand-full (Found at) = has_names-full told w.tree at.node
   names_stand-full (Absent dir name slash) = refl
@@ -178,22 +178,22 @@ module _ (told : Told) (w : World) (refs : RefsHeld) where
   above-full None = refl
   above-full (Some up) = lacks-full told w.tree up.0
 
-  lacks_w-full : (place : Place) → lacks_w_at (full_world told w) place ≡ lacks_w_at w place
+  pub lacks_w-full : (place : Place) → lacks_w_at (full_world told w) place ≡ lacks_w_at w place
   lacks_w-full place = above-full (name_at place)
 
   tree-full : (full_world told w).tree ≡ full told w.tree
   unfolding full_world
   tree-full = refl
 
-  followed-full : (path : Text) → followed (full_world told w) path ≡ followed w path
+  pub followed-full : (path : Text) → followed (full_world told w) path ≡ followed w path
   unfolding full_world
   followed-full path = ap strict (place-found told w.tree path true)
 
-  itself-full : (path : Text) → itself (full_world told w) path ≡ itself w path
+  pub itself-full : (path : Text) → itself (full_world told w) path ≡ itself w path
   unfolding full_world
   itself-full path = ap strict (place-found told w.tree path false)
 
-  resolve-full : (path : Text) (follow : Bool) → resolve (full_world told w).tree path follow ≡ resolve w.tree path follow
+  pub resolve-full : (path : Text) (follow : Bool) → resolve (full_world told w).tree path follow ≡ resolve w.tree path follow
   unfolding full_world
   resolve-full path follow = place-found told w.tree path follow
 
@@ -276,7 +276,7 @@ module _ (told : Told) (w : World) (refs : RefsHeld) where
       (λ i. unless (full_world told w) refs ((is_absent place, NoEntry) ∷ (dir_at-full place i, IsDir) ∷ (lacks_w-full place i, Denied) ∷ []) (done (full_world told w) refs (removed_at (full_world told w).tree (name_at place))))
       ∙ unless-full (unlink_refusals w place) (done w refs (removed_at w.tree (name_at place))) _ (done-full _ _ (removed_at-full (name_at place)))
 
-  into-full : (from : Place) (to : Option (ℕ × Text)) → goes_into_itself (full_world told w) from to ≡ goes_into_itself w from to
+  pub into-full : (from : Place) (to : Option (ℕ × Text)) → goes_into_itself (full_world told w) from to ≡ goes_into_itself w from to
   unfolding full_world
   into-full (Found at) None = refl
   into-full (Found at) (Some up) = below-full told w.tree at.node up.0

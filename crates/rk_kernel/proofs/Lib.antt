@@ -1,8 +1,10 @@
 pub mod LookLemmas
 pub mod NumberLemmas
+pub mod FeetLemmas
 pub mod FileLemmas
 pub mod FoundLemmas
 pub mod FromLemmas
 pub mod FullLemmas
 pub mod PipeLemmas
 pub mod RowLemmas
+pub mod UpwardLemmas

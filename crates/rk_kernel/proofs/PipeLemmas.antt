@@ -1,5 +1,5 @@
 -- What a pipe holds.
-use Rattle.std.proofs.Common.{◌≡◌, ℕ, ◌+◌, ◌-◌, List, [], ◌++◌, length, refl, ◌∙◌, ap, arith}
+use Rattle.std.proofs.Common.{◌≡◌, ◌+◌, ◌-◌, ◌++◌, length, refl, ◌∙◌, ap, arith}
 use Rattle.std.specs.Prelude.{drop, replicate}
 use Rattle.std.proofs.lemmas.List.{append-nil, drop_all, take_at}
 use Rattle.rk_base.specs.Text.{Text, written}

@@ -1,8 +1,11 @@
 pub mod Fetching
 pub mod Causes
+pub mod Cell
 pub mod Changes
 pub mod Do
+pub mod Feet
 pub mod Fitting
+pub mod Foot
 pub mod Full
 pub mod Numbers
 pub mod Opening

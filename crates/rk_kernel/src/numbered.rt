@@ -6,11 +6,12 @@ ghost use Rattle.rk_tree.specs.Hierarchy.{file_bytes, node};
 ghost use Rattle.rk_tree.specs.Full.{AreFrom, is_known};
 ghost use Rattle.rk_kernel.specs.Causes.{Caused, Steadily};
 ghost use Rattle.rk_kernel.specs.Do.{answered};
+ghost use Rattle.rk_kernel.specs.Feet.{foot_by};
 ghost use Rattle.rk_kernel.specs.Full.{file_seen, full_world};
 ghost use Rattle.rk_kernel.specs.Numbers.{AreNumbered, IsFileContent, file_changed, file_read, without_number};
 ghost use Rattle.rk_kernel.specs.World.{fresh};
 
-use crate::{AnswerErr, World};
+use crate::{AnswerErr, Foot, World};
 use rk_base::{Bytes, NoMemory};
 use rk_calls::{Answer, Answerer, Call, Refs};
 use rk_content::{ContentId, Contents, Numbering};
@@ -82,16 +83,30 @@ fn put_number(
 }
 
 impl NumberedWorld {
+    /// This world, and no contents.
+    pub fn of(alloc: Global, world: World) -> NumberedWorld
+        ensures { result ≡ record { world = world; contents = [] } }
+    {
+        NumberedWorld {
+            world,
+            contents: Contents::new(alloc),
+            numbers: Vec::new(alloc),
+        }
+    }
+
     /// The world of a tree in which nothing has run, and no contents.
     pub fn new(alloc: Global, tree: Tree) -> Result<NumberedWorld, NoMemory>
         ensures { IfOk result (λ w. w ≡ record { world = fresh tree; contents = [] }) }
     {
         let world = World::new(alloc, tree)?;
-        Ok(NumberedWorld {
-            world,
-            contents: Contents::new(alloc),
-            numbers: Vec::new(alloc),
-        })
+        Ok(NumberedWorld::of(alloc, world))
+    }
+
+    /// The cells that a call reads and writes in the world, as `World::foot` tells them.
+    pub fn foot(&self, refs: &Refs, call: &Call) -> Result<Foot, NoMemory>
+        ensures foot { IfOk result (λ foot. foot ≡ foot_by self.now.world refs.now call.now) }
+    {
+        self.world.foot(refs, call)
     }
 
     /// The world alone.

@@ -1,7 +1,7 @@
 // Where a path led, with a name of its own: a place borrows the tree, which a call then changes.
 ghost use Rattle.std.specs.Prelude.{◌≡◌, IfOk, Ok};
 ghost use Rattle.rk_tree.specs.Hierarchy.{Hierarchy};
-ghost use Rattle.rk_walk.specs.Places.{IsFound};
+ghost use Rattle.rk_walk.specs.Places.{IsFound, IsPlaceOf};
 ghost use Rattle.rk_walk.specs.Walk.{resolve};
 ghost use Rattle.rk_walk.specs.declared.place.Place.TheVariants.{Found};
 ghost use Rattle.rk_kernel.specs.Rows.{strict};
@@ -34,17 +34,12 @@ fn found(alloc: Global, here: &Here<'_>) -> Result<Spot, NoMemory>
     }
 }
 
-// Where a path leads, with its last link followed or not.
-pub(crate) fn spot_at(
-    alloc: Global,
-    tree: &Tree,
-    path: &[u8],
-    follow: bool,
-) -> Result<Spot, NoMemory>
-    ensures means { IfOk result (λ s. spot_means s ≡ resolve tree.now path.now follow) }
-    ensures stands { IfOk result (IsSpotOf tree.now) }
+// Where a path led.
+pub(crate) fn spot_of(alloc: Global, place: Result<Place<'_>, Errno>) -> Result<Spot, NoMemory>
+    ensures means { IfOk result (λ s. spot_means s ≡ place.entry) }
+    ensures stands { IfOk result (λ s. (tree : Hierarchy) → IfOk place.entry (IsPlaceOf tree) → IsSpotOf tree s) }
 {
-    match rk_walk::resolve(tree, path, follow) {
+    match place {
         Err(e) => Ok(Spot::Fails(e)),
         Ok(place) => match place {
             Place::Found(here) => found(alloc, &here),
@@ -56,7 +51,22 @@ pub(crate) fn spot_at(
     }
 }
 
-fn without_slash(spot: Spot) -> Spot
+// Where a path leads, with its last link followed or not.
+pub(crate) fn spot_at(
+    alloc: Global,
+    tree: &Tree,
+    path: &[u8],
+    follow: bool,
+) -> Result<Spot, NoMemory>
+    ensures means { IfOk result (λ s. spot_means s ≡ resolve tree.now path.now follow) }
+    ensures stands { IfOk result (IsSpotOf tree.now) }
+{
+    let spot = spot_of(alloc, rk_walk::resolve(tree, path, follow))?;
+    Ok(spot)
+}
+
+// Where a path leads to, where an absent name with a slash after it is no entry.
+pub(crate) fn without_slash(spot: Spot) -> Spot
     ensures means { spot_means result ≡ strict (spot_means spot) }
     ensures stands { (tree : Hierarchy) → IsSpotOf tree spot → IsSpotOf tree result }
 {
@@ -73,7 +83,7 @@ fn without_slash(spot: Spot) -> Spot
     }
 }
 
-// Where a path leads to, where an absent name with a slash after it is no entry.
+// The same, where the path is resolved here.
 pub(crate) fn strict_spot_at(
     alloc: Global,
     tree: &Tree,

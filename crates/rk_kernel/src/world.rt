@@ -9,12 +9,16 @@ mod answering;
 mod asking;
 mod changing;
 mod files;
+mod footing;
 mod looking;
+mod moving;
 mod opening;
 mod piping;
 mod reading;
 mod renaming;
+mod touching;
 mod trees;
+mod upward;
 mod writing;
 
 use crate::Description;

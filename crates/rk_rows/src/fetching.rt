@@ -1,4 +1,5 @@
 // Steps of a world whose files are fetched when they are looked at.
+use crate::feet::foot_shown;
 use crate::tree::Grown;
 use crate::world::snapshot_shown;
 use rk_base::NoMemory;
@@ -85,6 +86,21 @@ impl Fetching {
         snapshot_shown(self.alloc, &world.into_world().snapshot()?)
     }
 
+    // What a call would read and write. It isn't asked, and nothing is fetched.
+    fn foot(&self, words: &[Vec<u8>]) -> Result<String, NoMemory> {
+        match call_of(self.alloc, words)? {
+            Some(call) => foot_shown(self.alloc, &self.world.foot(&self.refs, &call)?),
+            None => plain(self.alloc, "unknown step"),
+        }
+    }
+
+    // The world and no numbers of contents any more.
+    fn unnumbered(&mut self) -> Result<String, NoMemory> {
+        let world = mem::replace(&mut self.world, empty_world(self.alloc)?);
+        self.world = NumberedWorld::of(self.alloc, world.into_world());
+        plain(self.alloc, "unnumbered")
+    }
+
     // Calls, `then` between them: each is asked of the world as the one before left it, and what fetches is the same.
     fn calls(&mut self, words: &[Vec<u8>]) -> Result<String, NoMemory> {
         let mut asking = FetchingWorld::new(&mut self.world, &mut self.fetches);
@@ -106,6 +122,8 @@ impl Subject for Fetching {
             "tree" => self.grown.step(behind(words)),
             "begin" => self.begin(),
             "end" => self.end(),
+            "foot" => self.foot(behind(words)),
+            "unnumbered" => self.unnumbered(),
             _ => self.calls(words),
         }
     }

@@ -4,6 +4,7 @@
 
 mod arithmetic;
 mod expressions;
+mod feet;
 mod fetching;
 mod names;
 mod table;

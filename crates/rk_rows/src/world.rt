@@ -1,4 +1,5 @@
 // Steps of a world and of the descriptors of its commands.
+use crate::feet::foot_shown;
 use rk_base::{FileType, NoMemory};
 use rk_calls::{Answerer, Call, Key, Refs};
 use rk_kernel::World;
@@ -142,6 +143,14 @@ impl Asked {
         plain(self.alloc, "pushed")
     }
 
+    // What a call would read and write. It isn't asked.
+    fn foot(&self, words: &[Vec<u8>]) -> Result<String, NoMemory> {
+        match call_of(self.alloc, words)? {
+            Some(call) => foot_shown(self.alloc, &self.world.foot(&self.refs, &call)?),
+            None => plain(self.alloc, "unknown step"),
+        }
+    }
+
     fn call(&mut self, words: &[Vec<u8>]) -> Result<String, NoMemory> {
         match call_of(self.alloc, words)? {
             Some(call) => self.ask(&call),
@@ -161,6 +170,7 @@ impl Subject for Asked {
         match text(words, 0) {
             "call" => self.look(behind(words)),
             "answer" => self.look_answer(behind(words)),
+            "foot" => self.foot(behind(words)),
             "key" => key_step(alloc, key_of(alloc, behind(words))?),
             "parts" => key_step(alloc, key_of_parts(alloc, behind(words))?),
             "child" => self.launch(text(words, 1)),

@@ -14,7 +14,7 @@ use rk_base::{Bytes, Errno, Name, NoMemory};
 use rk_calls::{Answer, How, Refs};
 use rk_tree::{Content, Entry, NodeId, Refused, has_r, has_w};
 
-fn is_read(how: How) -> bool
+pub(super) fn is_read(how: How) -> bool
     ensures { result ≡ opening.is_read how }
 {
     match how {
@@ -24,7 +24,7 @@ fn is_read(how: How) -> bool
     }
 }
 
-fn lacks(how: How, mode: u16) -> bool
+pub(super) fn lacks(how: How, mode: u16) -> bool
     ensures { result ≡ opening.lacks how mode }
 {
     match how {

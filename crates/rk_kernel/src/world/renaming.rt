@@ -17,7 +17,8 @@ use rk_calls::{Answer, Refs};
 use rk_tree::{NodeId, has_w};
 
 impl World {
-    fn lacks_w(&self, dir: NodeId) -> bool
+    // Whether names can't be changed in a directory.
+    pub(super) fn lacks_w(&self, dir: NodeId) -> bool
         ensures { result ≡ lacks_w self.now.tree dir }
     {
         !has_w(self.tree.mode(dir))
