@@ -1,5 +1,5 @@
 -- Nodes of steps, as they are kept.
-use Rattle.std.proofs.Common.{◌≡◌, ◌∙◌, sym, ap, subst, ℕ, suc, ◌+◌, ◌-◌, ◌<◌, ◌≤◌, inl, inr, List, [], ◌∷◌, ◌++◌, Some, None, length, map, get_or, slice_get, arith}
+use Rattle.std.proofs.Common.{◌≡◌, ◌∙◌, sym, ap, subst, ℕ, suc, ◌+◌, ◌-◌, ◌<◌, ◌≤◌, inl, inr, List, [], ◌∷◌, ◌++◌, length, map, get_or, slice_get, arith}
 use Rattle.std.proofs.lemmas.List.{map-append, length-map, length-append}
 use Rattle.std.proofs.lemmas.List.Sums.{sum_by-cons}
 use Rattle.tr_nodes.specs.Nodes.{Node}
@@ -11,7 +11,7 @@ use Rattle.tr_nodes.proofs.PutLemmas.{tails_more}
 use Rattle.tr_record.specs.declared.steps.Step.{Step}
 use Rattle.tr_record.specs.declared.pool.StepNode.{StepNode}
 use Rattle.tr_record.specs.Costs.{steps_cost}
-use Rattle.tr_record.specs.Pool.{Pool, steps_under, next_by, next_of, content_by, content_of, node_of, content_at, AreSteps, IsNoted, AreNoted, IsUnder}
+use Rattle.tr_record.specs.Pool.{Pool, steps_under, node_of, content_at, AreSteps, IsNoted, AreNoted, IsUnder}
 
 -- ---- one node more
 

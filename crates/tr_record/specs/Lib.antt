@@ -4,6 +4,7 @@ pub mod Generations
 pub mod Keeping
 pub mod Known
 pub mod Lists
+pub mod PlaceLists
 pub mod Places
 pub mod Pool
 pub mod Rec

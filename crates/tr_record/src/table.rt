@@ -62,13 +62,12 @@ impl Table {
     {
         let alloc = *self.records.allocator();
         let i = self.records.len();
-        let ordinal = places(&self.index, &key).len() as u64;
         // Room is made first, so that nothing fails once the index has the number.
         self.records.reserve(1)?;
-        note(alloc, &mut self.index, &key, i)?;
+        let before = note(alloc, &mut self.index, &key, i)?;
         self.records.push(Record {
             key,
-            ordinal,
+            ordinal: before as u64,
             steps,
             exit,
             exit_cost,

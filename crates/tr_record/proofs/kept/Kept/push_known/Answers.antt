@@ -1,5 +1,5 @@
 use Rattle.std.proofs.Common.{◌≡◌, ◌∙◌, ℕ, suc, ◌+◌, ◌<◌, List, ◌∷◌, length, take, sym, ap, subst, arith, inl, inr}
-use Rattle.std.specs.Prelude.{insert, remove}
+use Rattle.std.specs.Prelude.{remove}
 use Rattle.tr_record.proofs.KeepingLemmas.{kept_moved, kept_first, tables_remove, tables_take}
 use Rattle.tr_record.specs.Generations.{table_at, IsNew}
 use Rattle.tr_record.specs.Keeping.{tables_in, IsKept}

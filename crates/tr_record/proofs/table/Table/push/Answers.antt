@@ -13,8 +13,8 @@ pub returns-clause-ok : goal.returns-clause-ok
 returns-clause-ok c =
     let t = c.self.inside.records.items in
     let key = c.args.key in
-    let ordinal = ap length (c.places.ensures ∙ c.self.invariant.places key) ∙ length-places_of key t in
-    c.in_ok-push.ensures.items ∙ ap (λ (l : List Record). l ++ made key (length c.places.result.now) c.args.steps c.args.exit c.args.exit_cost ∷ []) c.in_ok-reserve.ensures.items
+    let ordinal = c.in_ok-before.ensures.before ∙ ap length (c.self.invariant.places key) ∙ length-places_of key t in
+    c.in_ok-push.ensures.items ∙ ap (λ (l : List Record). l ++ made key c.in_ok-before.before c.args.steps c.args.exit c.args.exit_cost ∷ []) c.in_ok-reserve.ensures.items
     ∙ ap (λ (n : ℕ). t ++ made key n c.args.steps c.args.exit c.args.exit_cost ∷ []) ordinal
     ∙ ap (pushed key c.args.steps c.args.exit c.args.exit_cost) c.self.view_is
 
@@ -22,9 +22,9 @@ pub invariant_of-self-2 : goal.invariant_of-self-2
 invariant_of-self-2 c =
     let t = c.self.inside.records.items in
     let key = c.args.key in
-    let ordinal = ap length (c.places.ensures ∙ c.self.invariant.places key) ∙ length-places_of key t in
-    let items = c.in_ok-push.ensures.items ∙ ap (λ (l : List Record). l ++ made key (length c.places.result.now) c.args.steps c.args.exit c.args.exit_cost ∷ []) c.in_ok-reserve.ensures.items in
+    let ordinal = c.in_ok-before.ensures.before ∙ ap length (c.self.invariant.places key) ∙ length-places_of key t in
+    let items = c.in_ok-push.ensures.items ∙ ap (λ (l : List Record). l ++ made key c.in_ok-before.before c.args.steps c.args.exit c.args.exit_cost ∷ []) c.in_ok-reserve.ensures.items in
     let place : c.len-i.result ≡ length t = omega arith in
-    let adds = subst (λ (n : ℕ). Adds c.self.inside.index.entries c.note.new.index.entries key n) place c.in_ok-note.ensures.ok in
+    let adds = subst (λ (n : ℕ). Adds c.self.inside.index.entries c.note.new.index.entries key n) place c.in_ok-before.ensures.ok in
     subst (λ (l : List Record). IsIndexed c.note.new.index.entries l) (sym items)
-    (indexed_push c.self.inside.index.entries c.note.new.index.entries t (made key (length c.places.result.now) c.args.steps c.args.exit c.args.exit_cost) c.self.invariant adds ordinal)
+    (indexed_push c.self.inside.index.entries c.note.new.index.entries t (made key c.in_ok-before.before c.args.steps c.args.exit c.args.exit_cost) c.self.invariant adds ordinal)
