@@ -2,6 +2,7 @@ pub mod BodyLemmas
 pub mod ExactLemmas
 pub mod InUseLemmas
 pub mod KeyLemmas
+pub mod LentKeyLemmas
 pub mod LentLemmas
 pub mod NodesAgain
 pub mod NodesExact
@@ -12,6 +13,7 @@ pub mod OldRowLemmas
 pub mod PayLemmas
 pub mod PutTableLemmas
 pub mod PutsLemmas
+pub mod RecentLemmas
 pub mod RecordLemmas
 pub mod SameLemmas
 pub mod SealLemmas

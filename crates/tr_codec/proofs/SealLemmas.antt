@@ -1,5 +1,5 @@
 -- What reading finds of a table, and how long its spelling is.
-use Rattle.std.proofs.Common.{◌≡◌, ℕ, ◌+◌, ◌^◌, ◌<◌, ◌≤◌, inl, inr, true, false, cond, List, [], ◌++◌, take, drop, length, Some, None, refl, sym, ap, subst, ◌∙◌, arith}
+use Rattle.std.proofs.Common.{◌≡◌, ℕ, ◌+◌, ◌^◌, ◌<◌, ◌≤◌, inl, inr, false, cond, List, [], ◌++◌, take, drop, length, Some, None, refl, ap, subst, ◌∙◌, arith}
 use Rattle.std.specs.List.{flat_map}
 use Rattle.std.proofs.lemmas.List.{length-append}
 use Rattle.sha2.specs.Sha256.{sha256}
@@ -115,23 +115,3 @@ has_front bytes table is =
       | inl x ↦ (body magic (table_piece table), x.1, new_length bytes table x.1)
       | inr x ↦ (body old.magic (old.table_piece table), x.1, old_length bytes table x.1)
     ]
-
--- ---- no two tables have one spelling
-
-pub one_table : (bytes : List ℕ) (a b : List Record) → length bytes < 2 ^ 64 → IsSpelling bytes a → IsSpelling bytes b → a ≡ b
-one_table bytes a b small f g =
-    let front = has_front bytes a f in
-    let less : length front.0 < 2 ^ 64 = omega (arith, ap length front.1, length-append front.0 (sha256 front.0)) in
-    let x = parsed front.0 a less (is_body bytes front.0 a front.1 f) in
-    let y = parsed front.0 b less (is_body bytes front.0 b front.1 g) in
-    cc
-
-new_magic : (piece : Piece) → same_text (take 4 (body magic piece)) magic ≡ true
-unfolding body
-new_magic piece = refl
-
-pub versions_apart : (a b : List Record) → db_spelling a ≡ old_spelling b → ⊥
-versions_apart a b e =
-    let same : body magic (table_piece a) ≡ body old.magic (old.table_piece b) = one_front (db_spelling a) (body magic (table_piece a)) (body old.magic (old.table_piece b)) refl e in
-    let clash : true ≡ false = sym (new_magic (table_piece a)) ∙ ap (λ l. same_text (take 4 l) magic) same ∙ old_magic (old.table_piece b) in
-    absurd cc

@@ -1,5 +1,5 @@
 pub mod Fits
-pub mod Laws
+pub mod LentKeys
 pub mod NodeKeys
 pub mod NodesPut
 pub mod NodesRead

@@ -8,6 +8,7 @@ ghost use Rattle.tr_parts.specs.Reads.{Gives};
 
 use crate::keys::{key_of, map_of};
 use crate::parts::{blob_of, flag_of, permissions_of};
+use crate::recent::Recent;
 use rk_calls::{Call, How};
 use rk_content::Contents;
 use std::alloc::Global;
@@ -239,13 +240,14 @@ fn launch_of<'a>(
     alloc: Global,
     blobs: &Contents,
     used: &mut Option<usize>,
+    recent: &mut Recent,
     bytes: &'a [u8],
 ) -> Result<(Call, &'a [u8]), PartErr>
     ensures gives { Gives (λ x. (x.0, x.1.now)) result (launch_at blobs.now bytes.now) }
     ensures used { IfOk result (λ x. used.new ≡ call_used blobs.now used.old x.0) }
 {
-    let (key, rest) = key_of(alloc, blobs, used, bytes)?;
-    let (map, rest) = map_of(alloc, rest)?;
+    let (key, rest) = key_of(alloc, blobs, used, recent, bytes)?;
+    let (map, rest) = map_of(alloc, recent, rest)?;
     Ok((Call::Launch(key, map), rest))
 }
 
@@ -253,6 +255,7 @@ fn call_after<'a>(
     alloc: Global,
     blobs: &Contents,
     used: &mut Option<usize>,
+    recent: &mut Recent,
     kind: u8,
     bytes: &'a [u8],
 ) -> Result<(Call, &'a [u8]), PartErr>
@@ -277,7 +280,7 @@ fn call_after<'a>(
         15 => link_of(blobs, used, bytes),
         16 => chmod_of(blobs, used, bytes),
         17 => Ok((Call::Pipe, bytes)),
-        18 => launch_of(alloc, blobs, used, bytes),
+        18 => launch_of(alloc, blobs, used, recent, bytes),
         _ => Err(PartErr::Form),
     }
 }
@@ -287,12 +290,13 @@ pub(crate) fn call_of<'a>(
     alloc: Global,
     blobs: &Contents,
     used: &mut Option<usize>,
+    recent: &mut Recent,
     bytes: &'a [u8],
 ) -> Result<(Call, &'a [u8]), PartErr>
     ensures gives { Gives (λ x. (x.0, x.1.now)) result (call_at blobs.now bytes.now) }
     ensures used { IfOk result (λ x. used.new ≡ call_used blobs.now used.old x.0) }
 {
     let (kind, rest) = byte_of(bytes)?;
-    let (call, rest) = call_after(alloc, blobs, used, kind, rest)?;
+    let (call, rest) = call_after(alloc, blobs, used, recent, kind, rest)?;
     Ok((call, rest))
 }

@@ -8,6 +8,7 @@ ghost use Rattle.tr_codec.specs.Used.{used_by, var_used, key_used};
 ghost use Rattle.tr_parts.specs.Reads.{Gives};
 
 use crate::parts::{blob_of, blobs_of, path_from, room_for};
+use crate::recent::{Recent, mark_of, recent_key, recent_map};
 use rk_base::{Bytes, Path, Var, VarList, WordList};
 use rk_calls::{Key, RefMap};
 use rk_content::Contents;
@@ -103,8 +104,9 @@ fn key_from(alloc: Global, argv: Vec<Bytes>, wd: &Bytes, vars: Vec<Var>) -> Resu
     whole_key(alloc, argv, wd, vars)
 }
 
+// A key of its own, of the parts that stand there.
 #[tactic(auto, unfolding(crate::specs::Reading::key_at))]
-pub(crate) fn key_of<'a>(
+fn own_key<'a>(
     alloc: Global,
     blobs: &Contents,
     used: &mut Option<usize>,
@@ -120,8 +122,29 @@ pub(crate) fn key_of<'a>(
     Ok((key, rest))
 }
 
+/// The key that stands there: a copy of the one that was read before, where it was.
+pub(crate) fn key_of<'a>(
+    alloc: Global,
+    blobs: &Contents,
+    used: &mut Option<usize>,
+    recent: &mut Recent,
+    bytes: &'a [u8],
+) -> Result<(Key, &'a [u8]), PartErr>
+    ensures gives { Gives (λ x. (x.0, x.1.now)) result (key_at blobs.now bytes.now) }
+    ensures used { IfOk result (λ x. used.new ≡ key_used blobs.now used.old x.0) }
+{
+    let mark = mark_of(bytes);
+    let known = recent_key(recent.keys.get(&mark), blobs, used, bytes)?;
+    if let Some(known) = known {
+        return Ok(known);
+    }
+    let (key, rest) = own_key(alloc, blobs, used, bytes)?;
+    recent.keys.insert(mark, key.copy()?)?;
+    Ok((key, rest))
+}
+
 #[tactic(auto, unfolding(crate::specs::Reading::pair_at))]
-fn pair_of(bytes: &[u8]) -> Result<((u8, u64), &[u8]), PartErr>
+pub(crate) fn pair_of(bytes: &[u8]) -> Result<((u8, u64), &[u8]), PartErr>
     ensures { Gives (λ x. (x.0, x.1.now)) result (pair_at bytes.now) }
 {
     let (d, rest) = byte_of(bytes)?;
@@ -156,12 +179,30 @@ fn map_from(alloc: Global, pairs: Vec<(u8, u64)>) -> Result<RefMap, PartErr>
     }
 }
 
+// A map of its own, of the pairs that stand there.
 #[tactic(auto, unfolding(crate::specs::Reading::map_at))]
-pub(crate) fn map_of(alloc: Global, bytes: &[u8]) -> Result<(RefMap, &[u8]), PartErr>
+fn own_map(alloc: Global, bytes: &[u8]) -> Result<(RefMap, &[u8]), PartErr>
     ensures { Gives (λ x. (x.0, x.1.now)) result (map_at bytes.now) }
 {
     let (count, rest) = count_of(bytes)?;
     let (pairs, rest) = so_many_pairs(alloc, count, rest)?;
     let map = map_from(alloc, pairs)?;
+    Ok((map, rest))
+}
+
+/// The map of descriptors that stands there: a copy of the last one that was read, where it is equal to that.
+pub(crate) fn map_of<'a>(
+    alloc: Global,
+    recent: &mut Recent,
+    bytes: &'a [u8],
+) -> Result<(RefMap, &'a [u8]), PartErr>
+    ensures { Gives (λ x. (x.0, x.1.now)) result (map_at bytes.now) }
+{
+    let known = recent_map(&recent.map, bytes)?;
+    if let Some(known) = known {
+        return Ok(known);
+    }
+    let (map, rest) = own_map(alloc, bytes)?;
+    recent.map = Some(map.copy()?);
     Ok((map, rest))
 }

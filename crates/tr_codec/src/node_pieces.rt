@@ -50,14 +50,15 @@ fn lent<'a>(alloc: Global, steps: &'a StepList) -> Result<Vec<&'a Step>, NoMemor
 }
 
 impl NodeWriter {
-    /// No nodes.
-    pub fn new(alloc: Global) -> NodeWriter
-        ensures { Holds [] result }
+    /// No nodes, and room for so many.
+    pub fn with_room(alloc: Global, count: usize) -> Result<NodeWriter, NoMemory>
+        ensures { IfOk result (λ nodes. Holds [] nodes) }
     {
-        NodeWriter {
+        let nodes = IndexSet::with_capacity(alloc, count)?;
+        Ok(NodeWriter {
             writer: Writer::new(alloc),
-            nodes: IndexSet::new(alloc),
-        }
+            nodes,
+        })
     }
 
     /// A step in front of those of a number. It tells the number of them all; the node is added where it is new.

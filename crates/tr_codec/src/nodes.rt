@@ -1,15 +1,16 @@
 // Nodes that are read.
 ghost use Rattle.std.specs.Prelude.{◌≡◌, ◌-◌, ◌≤◌, List, [], take, not, length, OnOk, IfOk, IfErr};
 ghost use Rattle.rk_base.specs.Text.{Text};
-ghost use Rattle.tr_parts.specs.Piece.{has, with_use};
 ghost use Rattle.tr_parts.specs.Reads.{Gives, Fails};
 ghost use Rattle.tr_codec.specs.NodesRead.{AreRead, NodeRead, Adds, Refuses, tails_in};
 ghost use Rattle.tr_codec.specs.Reading.{node_at, many_at, counted_at};
 ghost use Rattle.tr_codec.specs.Used.{nodes_used};
 
+use crate::node_keys::NodeKeys;
 use crate::parts::room_for;
+use crate::recent::Recent;
 use crate::steps::step_of;
-use rk_base::{Bytes, NoMemory};
+use rk_base::NoMemory;
 use rk_content::Contents;
 use std::alloc::Global;
 use tr_parts::{PartErr, count_of, number_of};
@@ -17,9 +18,9 @@ use tr_record::{Step, StepPool};
 
 /// The nodes that were read so far, and the bytes of each, by which equal ones are told.
 #[derive(Drop)]
-pub struct ReadNodes {
+pub struct ReadNodes<'a> {
     pool: StepPool,
-    keys: Contents,
+    keys: NodeKeys<'a>,
 }
 
 // All but what is left of them.
@@ -31,35 +32,23 @@ fn front_of<'a>(bytes: &'a [u8], rest: &[u8]) -> &'a [u8]
     front
 }
 
-// Whether a key is none of those before, among which it stands then.
-fn is_fresh(keys: &mut Contents, key: &Bytes) -> Result<bool, NoMemory>
-    ensures fresh { IfOk result (λ fresh. fresh ≡ not (has keys.old key.now)) }
-    ensures keys { OnOk result (keys.new ≡ with_use keys.old key.now) }
-{
-    let before = keys.as_slice().len();
-    keys.put(key)?;
-    Ok(keys.as_slice().len() != before)
-}
-
 // A node has the numbers of its rest and of its cost, and a byte for each of its call and its answer.
 const LEAST: usize = 18;
 
-impl ReadNodes {
+impl<'a> ReadNodes<'a> {
     /// No nodes, and room for so many.
-    pub(crate) fn with_room(alloc: Global, count: usize) -> Result<ReadNodes, NoMemory>
+    pub(crate) fn with_room(alloc: Global, count: usize) -> Result<ReadNodes<'a>, NoMemory>
         ensures are { IfOk result (λ nodes. (blobs : List Text) → AreRead blobs nodes) }
         ensures none { IfOk result (λ nodes. tails_in nodes ≡ []) }
     {
         let pool = StepPool::with_room(alloc, count)?;
-        Ok(ReadNodes {
-            pool,
-            keys: Contents::new(alloc),
-        })
+        let keys = NodeKeys::with_room(alloc, count)?;
+        Ok(ReadNodes { pool, keys })
     }
 
     /// The nodes alone.
     pub fn into_pool(self) -> StepPool
-        ensures { result ≡ self.pool }
+        ensures { result ≡ self.entry.pool }
     {
         let ReadNodes { pool, .. } = self;
         pool
@@ -68,8 +57,7 @@ impl ReadNodes {
     // A node of these bytes, where it is none of those before.
     fn add(
         &mut self,
-        alloc: Global,
-        key: &[u8],
+        key: &'a [u8],
         next: usize,
         step: Step,
         told: Option<usize>,
@@ -78,8 +66,7 @@ impl ReadNodes {
         ensures ok { OnOk result (Adds self.old self.new key.now next step told) }
         ensures err { IfErr result (λ e. Refuses self.old key.now next step e) }
     {
-        let key = Bytes::from_slice(alloc, key)?;
-        if !is_fresh(&mut self.keys, &key)? {
+        if !self.keys.add(key)? {
             return Err(PartErr::Form);
         }
         match self.pool.push(next, step, told)? {
@@ -90,11 +77,12 @@ impl ReadNodes {
 
     // One node more, of the rest that its number says, where it is none of those before.
     #[tactic(auto, unfolding(crate::specs::Reading::node_at))]
-    fn node_of<'a>(
+    fn node_of(
         &mut self,
         alloc: Global,
         blobs: &Contents,
         used: &mut Option<usize>,
+        recent: &mut Recent,
         bytes: &'a [u8],
     ) -> Result<&'a [u8], PartErr>
         requires { AreRead blobs.now self.old }
@@ -108,8 +96,8 @@ impl ReadNodes {
         if self.pool.len() < next {
             return Err(PartErr::Form);
         }
-        let (step, told, end) = step_of(alloc, blobs, used, rest)?;
-        self.add(alloc, front_of(bytes, end), next, step, told)?;
+        let (step, told, end) = step_of(alloc, blobs, used, recent, rest)?;
+        self.add(front_of(bytes, end), next, step, told)?;
         Ok(end)
     }
 }
@@ -118,9 +106,10 @@ fn so_many_nodes<'a>(
     alloc: Global,
     blobs: &Contents,
     used: &mut Option<usize>,
+    recent: &mut Recent,
     count: u64,
     bytes: &'a [u8],
-) -> Result<(ReadNodes, &'a [u8]), PartErr>
+) -> Result<(ReadNodes<'a>, &'a [u8]), PartErr>
     ensures gives { Gives (λ x. (tails_in x.0, x.1.now)) result (many_at (node_at blobs.now) count [] bytes.now) }
     ensures are { IfOk result (λ x. AreRead blobs.now x.0) }
     ensures used { IfOk result (λ x. used.new ≡ nodes_used blobs.now used.old (tails_in x.0)) }
@@ -128,7 +117,7 @@ fn so_many_nodes<'a>(
     let mut nodes = ReadNodes::with_room(alloc, room_for(count, LEAST, bytes))?;
     let mut rest = bytes;
     'nodes: for _ in 0..count {
-        rest = nodes.node_of(alloc, blobs, used, rest)?;
+        rest = nodes.node_of(alloc, blobs, used, recent, rest)?;
     }
     Ok((nodes, rest))
 }
@@ -138,13 +127,14 @@ pub fn nodes_of<'a>(
     alloc: Global,
     blobs: &Contents,
     used: &mut Option<usize>,
+    recent: &mut Recent,
     bytes: &'a [u8],
-) -> Result<(ReadNodes, &'a [u8]), PartErr>
+) -> Result<(ReadNodes<'a>, &'a [u8]), PartErr>
     ensures gives { Gives (λ x. (tails_in x.0, x.1.now)) result (counted_at (node_at blobs.now) bytes.now) }
     ensures are { IfOk result (λ x. AreRead blobs.now x.0) }
     ensures used { IfOk result (λ x. used.new ≡ nodes_used blobs.now used.old (tails_in x.0)) }
 {
     let (count, rest) = count_of(bytes)?;
-    let (nodes, rest) = so_many_nodes(alloc, blobs, used, count, rest)?;
+    let (nodes, rest) = so_many_nodes(alloc, blobs, used, recent, count, rest)?;
     Ok((nodes, rest))
 }

@@ -17,6 +17,7 @@ ghost use Rattle.tr_parts.specs.declared.fault.PartErr.TheVariants as err;
 use crate::keys::key_of;
 use crate::parts::{all_read, fresh_blobs};
 use crate::read_table::{ReadTable, with_contents};
+use crate::recent::Recent;
 use crate::rows::{HeadedRow, push_row};
 use crate::steps::old_step_of;
 use rk_base::NoMemory;
@@ -32,6 +33,7 @@ fn so_many_steps<'a>(
     alloc: Global,
     blobs: &Contents,
     used: &mut Option<usize>,
+    recent: &mut Recent,
     count: u64,
     bytes: &'a [u8],
 ) -> Result<(Vec<(Step, Option<usize>)>, &'a [u8]), PartErr>
@@ -42,7 +44,7 @@ fn so_many_steps<'a>(
     let mut steps = Vec::new(alloc);
     let mut rest = bytes;
     'steps: for _ in 0..count {
-        let (step, number, after) = old_step_of(alloc, blobs, used, rest)?;
+        let (step, number, after) = old_step_of(alloc, blobs, used, recent, rest)?;
         steps.push((step, number))?;
         rest = after;
     }
@@ -53,6 +55,7 @@ fn steps_of<'a>(
     alloc: Global,
     blobs: &Contents,
     used: &mut Option<usize>,
+    recent: &mut Recent,
     bytes: &'a [u8],
 ) -> Result<(Vec<(Step, Option<usize>)>, &'a [u8]), PartErr>
     ensures gives { Gives (λ x. (map step_in x.0.items, x.1.now)) result (counted_at (λ before. step_at blobs.now) bytes.now) }
@@ -60,7 +63,7 @@ fn steps_of<'a>(
     ensures used { IfOk result (λ x. used.new ≡ fold (step_used blobs.now) used.old (map step_in x.0.items)) }
 {
     let (count, rest) = count_of(bytes)?;
-    let (steps, rest) = so_many_steps(alloc, blobs, used, count, rest)?;
+    let (steps, rest) = so_many_steps(alloc, blobs, used, recent, count, rest)?;
     Ok((steps, rest))
 }
 
@@ -110,6 +113,7 @@ fn row_of<'a>(
     alloc: Global,
     blobs: &Contents,
     used: &mut Option<usize>,
+    recent: &mut Recent,
     pool: &mut StepPool,
     bytes: &'a [u8],
 ) -> Result<(HeadedRow, &'a [u8]), PartErr>
@@ -119,8 +123,8 @@ fn row_of<'a>(
     ensures told { OnOk result (AreTold blobs.now pool.old → AreTold blobs.now pool.new) }
     ensures used { IfOk result (λ x. used.new ≡ row_used blobs.now used.old x.0.key (steps_under pool.new.nodes x.0.head)) }
 {
-    let (key, rest) = key_of(alloc, blobs, used, bytes)?;
-    let (steps, rest) = steps_of(alloc, blobs, used, rest)?;
+    let (key, rest) = key_of(alloc, blobs, used, recent, bytes)?;
+    let (steps, rest) = steps_of(alloc, blobs, used, recent, rest)?;
     let (exit, rest) = byte_of(rest)?;
     let (exit_cost, rest) = cost_of(rest)?;
     let exit_cost = u64::from(exit_cost);
@@ -140,6 +144,7 @@ fn so_many_rows<'a>(
     alloc: Global,
     blobs: &Contents,
     used: &mut Option<usize>,
+    recent: &mut Recent,
     pool: &mut StepPool,
     count: u64,
     bytes: &'a [u8],
@@ -152,7 +157,7 @@ fn so_many_rows<'a>(
     let mut rows = VecDeque::new(alloc);
     let mut rest = bytes;
     'rows: for _ in 0..count {
-        let (row, after) = row_of(alloc, blobs, used, pool, rest)?;
+        let (row, after) = row_of(alloc, blobs, used, recent, pool, rest)?;
         rows.push_back(row)?;
         rest = after;
     }
@@ -192,7 +197,8 @@ fn rows_of(
 {
     let (count, rest) = count_of(bytes)?;
     let mut used = Some(0);
-    let (rows, rest) = so_many_rows(alloc, blobs, &mut used, pool, count, rest)?;
+    let mut recent = Recent::new(alloc);
+    let (rows, rest) = so_many_rows(alloc, blobs, &mut used, &mut recent, pool, count, rest)?;
     if !all_read(used, blobs.as_slice().len(), rest) {
         return Err(PartErr::Form);
     }

@@ -12,6 +12,7 @@ use crate::linked::in_use_after;
 use crate::nodes::nodes_of;
 use crate::parts::{all_read, all_used, fresh_blobs};
 use crate::read_table::{ReadTable, with_contents};
+use crate::recent::Recent;
 use crate::rows::{HeadedRow, push_row};
 use rk_content::Contents;
 use std::alloc::Global;
@@ -48,6 +49,7 @@ fn row_of<'a>(
     alloc: Global,
     blobs: &Contents,
     used: &mut Option<usize>,
+    recent: &mut Recent,
     pool: &StepPool,
     bytes: &'a [u8],
 ) -> Result<(HeadedRow, &'a [u8]), PartErr>
@@ -55,7 +57,7 @@ fn row_of<'a>(
     ensures head { IfOk result (λ x. x.0.head ≤ length pool.now.nodes) }
     ensures used { IfOk result (λ x. used.new ≡ key_used blobs.now used.old x.0.key) }
 {
-    let (key, rest) = key_of(alloc, blobs, used, bytes)?;
+    let (key, rest) = key_of(alloc, blobs, used, recent, bytes)?;
     let (head, rest) = number_of(rest)?;
     let (exit, rest) = byte_of(rest)?;
     let (exit_cost, rest) = number_of(rest)?;
@@ -78,6 +80,7 @@ pub fn so_many_records<'a>(
     blobs: &Contents,
     pool: &Rc<StepPool>,
     used: &mut Used,
+    recent: &mut Recent,
     count: u64,
     bytes: &'a [u8],
 ) -> Result<(ReadRecords, &'a [u8]), PartErr>
@@ -90,7 +93,7 @@ pub fn so_many_records<'a>(
     let mut heads = Vec::new(alloc);
     let mut rest = bytes;
     'records: for _ in 0..count {
-        let (row, after) = row_of(alloc, blobs, &mut used.blobs, pool.as_ref(), rest)?;
+        let (row, after) = row_of(alloc, blobs, &mut used.blobs, recent, pool.as_ref(), rest)?;
         used.nodes = in_use_after(pool.as_ref(), used.nodes, row.head);
         push_row(&mut table, &mut heads, pool, row)?;
         rest = after;
@@ -111,6 +114,7 @@ fn records_of(
     blobs: &Contents,
     pool: &Rc<StepPool>,
     used: &mut Used,
+    recent: &mut Recent,
     bytes: &[u8],
 ) -> Result<ReadRecords, PartErr>
     requires nodes { AreNodes pool.now.value.nodes }
@@ -120,7 +124,7 @@ fn records_of(
     ensures heads { IfOk result (λ x. AreHeads pool.now.value.nodes x.heads.items x.table) }
 {
     let (count, rest) = count_of(bytes)?;
-    let (records, rest) = so_many_records(alloc, blobs, pool, used, count, rest)?;
+    let (records, rest) = so_many_records(alloc, blobs, pool, used, recent, count, rest)?;
     let nodes = pool.as_ref().len();
     if !is_whole(used, nodes, blobs.as_slice().len(), rest) {
         return Err(PartErr::Form);
@@ -136,13 +140,21 @@ pub(crate) fn table_of(alloc: Global, bytes: &[u8]) -> Result<ReadTable, PartErr
     let (count, rest) = count_of(bytes)?;
     let (blobs, rest) = fresh_blobs(alloc, count, rest)?;
     let mut in_use = Some(0);
-    let (nodes, rest) = nodes_of(alloc, &blobs, &mut in_use, rest)?;
+    let mut recent = Recent::new(alloc);
+    let (nodes, rest) = nodes_of(alloc, &blobs, &mut in_use, &mut recent, rest)?;
     let pool = Rc::new(alloc, nodes.into_pool())?;
     let mut used = Used {
         blobs: in_use,
         nodes: Some(0),
     };
-    let ReadRecords { table, heads } = records_of(alloc, &blobs, &pool, &mut used, rest)?;
+    let ReadRecords { table, heads } = records_of(
+        alloc,
+        &blobs,
+        &pool,
+        &mut used,
+        &mut recent,
+        rest,
+    )?;
     let table = with_contents(alloc, table, heads, pool, &blobs)?;
     Ok(table)
 }

@@ -8,6 +8,7 @@ ghost use Rattle.tr_parts.specs.Reads.{Gives};
 
 use crate::answers::answer_of;
 use crate::calls::call_of;
+use crate::recent::Recent;
 use rk_calls::Answer;
 use rk_content::Contents;
 use std::alloc::Global;
@@ -40,6 +41,7 @@ fn asked_of<'a>(
     alloc: Global,
     blobs: &Contents,
     used: &mut Option<usize>,
+    recent: &mut Recent,
     cost: u64,
     bytes: &'a [u8],
 ) -> Result<(Step, Option<usize>, &'a [u8]), PartErr>
@@ -47,7 +49,7 @@ fn asked_of<'a>(
     ensures told { IfOk result (λ x. IfSome x.1 (λ n. IsContent blobs.now n x.0.answer)) }
     ensures used { IfOk result (λ x. used.new ≡ step_used blobs.now used.old x.0) }
 {
-    let (call, rest) = call_of(alloc, blobs, used, bytes)?;
+    let (call, rest) = call_of(alloc, blobs, used, recent, bytes)?;
     let (answer, end) = answer_of(alloc, blobs, used, rest)?;
     let told = told_number(blobs, rest, &answer, end);
     Ok((Step { cost, call, answer }, told, end))
@@ -59,6 +61,7 @@ pub(crate) fn step_of<'a>(
     alloc: Global,
     blobs: &Contents,
     used: &mut Option<usize>,
+    recent: &mut Recent,
     bytes: &'a [u8],
 ) -> Result<(Step, Option<usize>, &'a [u8]), PartErr>
     ensures gives { Gives (λ x. (x.0, x.2.now)) result (step_at blobs.now bytes.now) }
@@ -66,7 +69,7 @@ pub(crate) fn step_of<'a>(
     ensures used { IfOk result (λ x. used.new ≡ step_used blobs.now used.old x.0) }
 {
     let (cost, rest) = number_of(bytes)?;
-    let (step, told, end) = asked_of(alloc, blobs, used, cost, rest)?;
+    let (step, told, end) = asked_of(alloc, blobs, used, recent, cost, rest)?;
     Ok((step, told, end))
 }
 
@@ -76,6 +79,7 @@ pub(crate) fn old_step_of<'a>(
     alloc: Global,
     blobs: &Contents,
     used: &mut Option<usize>,
+    recent: &mut Recent,
     bytes: &'a [u8],
 ) -> Result<(Step, Option<usize>, &'a [u8]), PartErr>
     ensures gives { Gives (λ x. (x.0, x.2.now)) result (old.step_at blobs.now bytes.now) }
@@ -83,6 +87,6 @@ pub(crate) fn old_step_of<'a>(
     ensures used { IfOk result (λ x. used.new ≡ step_used blobs.now used.old x.0) }
 {
     let (cost, rest) = cost_of(bytes)?;
-    let (step, told, end) = asked_of(alloc, blobs, used, u64::from(cost), rest)?;
+    let (step, told, end) = asked_of(alloc, blobs, used, recent, u64::from(cost), rest)?;
     Ok((step, told, end))
 }

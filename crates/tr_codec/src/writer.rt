@@ -92,6 +92,24 @@ fn number_in(
     Ok(n)
 }
 
+// How many bytes these texts have, each behind its length.
+fn room_for_texts(texts: &[Bytes]) -> usize {
+    let mut room: usize = 0;
+    for text in texts {
+        room = room.saturating_add(8).saturating_add(text.len());
+    }
+    room
+}
+
+// How many bytes these nodes have.
+fn room_for_nodes(nodes: &[NodeBytes]) -> usize {
+    let mut room: usize = 0;
+    for node in nodes {
+        room = room.saturating_add(node.as_slice().len());
+    }
+    room
+}
+
 fn push_strings(out: &mut Vec<u8>, texts: &[Bytes]) -> Result<(), NoMemory>
     ensures { OnOk result (out.new.items ≡ out.old.items ++ flat_map string texts.now) }
 {
@@ -198,13 +216,24 @@ impl Writer {
         Ok(bytes)
     }
 
+    // How many bytes a body has, with two numbers and the digest that comes behind it.
+    fn room(&self, magic: &[u8], nodes: &[NodeBytes]) -> usize {
+        magic
+            .len()
+            .saturating_add(16 + 32)
+            .saturating_add(room_for_texts(self.blobs.as_slice()))
+            .saturating_add(room_for_nodes(nodes))
+            .saturating_add(self.out.len())
+    }
+
     /// The magic, the blobs, the nodes, whose bytes these are, and what was put.
     pub fn body(&self, magic: &[u8], nodes: &[NodeBytes]) -> Result<Vec<u8>, NoMemory>
         ensures { IfOk result (λ out. out.items ≡ spelt_body magic.now self.now nodes.now) }
     {
         let alloc = *self.out.allocator();
-        let mut out = Vec::from_slice(alloc, magic)?;
         let blobs = self.blobs.as_slice();
+        let mut out = Vec::with_capacity(alloc, self.room(magic, nodes))?;
+        out.extend_from_slice(magic)?;
         push_number(&mut out, blobs.len() as u64)?;
         push_strings(&mut out, blobs)?;
         push_number(&mut out, nodes.len() as u64)?;

@@ -142,6 +142,12 @@ old_begins : (piece : Piece) → take 4 (sealed (body old.magic piece)) ≡ old.
 unfolding body
 old_begins piece = refl
 
+pub earlier_apart : (a b : List Record) → table.db_spelling a ≡ old.old_spelling b → ⊥
+earlier_apart a b e =
+    let same : table.magic ≡ old.magic = sym (table_begins (table.table_piece a)) ∙ ap (λ (l : List ℕ). take 4 l) e ∙ old_begins (old.table_piece b) in
+    let clash : true ≡ false = ap (λ l. same_text l table.magic) same in
+    absurd cc
+
 -- what begins with this version's magic is this version's spelling
 pub latest : (bytes : List ℕ) (kept : List (List Record)) → take 4 bytes ≡ magic → IsKeptSpelling bytes kept → FitsKept kept × (bytes ≡ kept_spelling kept)
 latest bytes kept begins is =

@@ -15,3 +15,7 @@ ApartFromTable = (kept : List (List Record)) (table : List Record) → kept_spel
 
 abbrev pub ApartFromOld : Type 0
 ApartFromOld = (kept : List (List Record)) (table : List Record) → kept_spelling kept ≡ old_spelling table → ⊥
+
+-- no bytes are spellings of a table by both earlier versions
+abbrev pub EarlierApart : Type 0
+EarlierApart = (a b : List Record) → db_spelling a ≡ old_spelling b → ⊥

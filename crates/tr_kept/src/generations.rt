@@ -15,7 +15,7 @@ use rk_base::NoMemory;
 use rk_content::Contents;
 use std::alloc::Global;
 use std::rc::Rc;
-use tr_codec::{ReadRecords, Used, fresh_blobs, is_whole, nodes_of, so_many_records};
+use tr_codec::{ReadRecords, Recent, Used, fresh_blobs, is_whole, nodes_of, so_many_records};
 use tr_parts::{PartErr, count_of};
 use tr_record::{Kept, KnownHeads, Record, StepPool, Table};
 
@@ -122,6 +122,7 @@ impl ReadTables {
         blobs: &Contents,
         pool: &Rc<StepPool>,
         used: &mut Used,
+        recent: &mut Recent,
         bytes: &'a [u8],
     ) -> Result<&'a [u8], PartErr>
         requires nodes { AreNodes pool.now.value.nodes }
@@ -133,7 +134,7 @@ impl ReadTables {
         ensures fails { IfErr result (λ e. Fails e (generation_at blobs.now (tails_of pool.now.value.nodes) self.old.kept bytes.now)) }
     {
         let (count, rest) = count_of(bytes)?;
-        let (records, rest) = so_many_records(alloc, blobs, pool, used, count, rest)?;
+        let (records, rest) = so_many_records(alloc, blobs, pool, used, recent, count, rest)?;
         if !self.is_generation(&records) {
             return Err(PartErr::Form);
         }
@@ -147,6 +148,7 @@ fn so_many_generations<'a>(
     blobs: &Contents,
     pool: &Rc<StepPool>,
     used: &mut Used,
+    recent: &mut Recent,
     count: u64,
     bytes: &'a [u8],
 ) -> Result<(ReadTables, &'a [u8]), PartErr>
@@ -160,7 +162,7 @@ fn so_many_generations<'a>(
     let mut tables = ReadTables::new(alloc);
     let mut rest = bytes;
     'generations: for _ in 0..count {
-        rest = tables.generation_of(alloc, blobs, pool, used, rest)?;
+        rest = tables.generation_of(alloc, blobs, pool, used, recent, rest)?;
     }
     Ok((tables, rest))
 }
@@ -171,6 +173,7 @@ fn generations_of(
     blobs: &Contents,
     pool: &Rc<StepPool>,
     used: &mut Used,
+    recent: &mut Recent,
     bytes: &[u8],
 ) -> Result<ReadTables, PartErr>
     requires nodes { AreNodes pool.now.value.nodes }
@@ -183,7 +186,7 @@ fn generations_of(
     if 8 < count {
         return Err(PartErr::Form);
     }
-    let (tables, rest) = so_many_generations(alloc, blobs, pool, used, count, rest)?;
+    let (tables, rest) = so_many_generations(alloc, blobs, pool, used, recent, count, rest)?;
     let nodes = pool.as_ref().len();
     if !is_whole(used, nodes, blobs.as_slice().len(), rest) {
         return Err(PartErr::Form);
@@ -199,13 +202,14 @@ pub(crate) fn kept_of(alloc: Global, bytes: &[u8]) -> Result<ReadKept, PartErr>
     let (count, rest) = count_of(bytes)?;
     let (blobs, rest) = fresh_blobs(alloc, count, rest)?;
     let mut in_use = Some(0);
-    let (nodes, rest) = nodes_of(alloc, &blobs, &mut in_use, rest)?;
+    let mut recent = Recent::new(alloc);
+    let (nodes, rest) = nodes_of(alloc, &blobs, &mut in_use, &mut recent, rest)?;
     let pool = Rc::new(alloc, nodes.into_pool())?;
     let mut used = Used {
         blobs: in_use,
         nodes: Some(0),
     };
-    let tables = generations_of(alloc, &blobs, &pool, &mut used, rest)?;
+    let tables = generations_of(alloc, &blobs, &pool, &mut used, &mut recent, rest)?;
     let kept = with_kept(alloc, tables, pool, &blobs)?;
     Ok(kept)
 }

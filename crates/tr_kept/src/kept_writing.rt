@@ -43,11 +43,20 @@ fn put_table_nodes(
     Ok(())
 }
 
+// How many nodes there may be: as many as those of the newest table's pool, and some more that a build added.
+fn expected(kept: &Kept) -> usize {
+    if kept.len() == 0 {
+        return 0;
+    }
+    let nodes = kept.known(0).pool().len();
+    nodes.saturating_add(nodes / 8)
+}
+
 // The nodes that the records of all tables need, and the numbers of their steps.
 fn put_all_nodes(alloc: Global, kept: &Kept) -> Result<(NodeWriter, Vec<usize>), NoMemory>
     ensures { IfOk result (λ x. RecordsPut (records kept.now) x.1.items x.0) }
 {
-    let mut nodes = NodeWriter::new(alloc);
+    let mut nodes = NodeWriter::with_room(alloc, expected(kept))?;
     let mut heads = Vec::new(alloc);
     'tables: for k in 0..kept.len() {
         let Some(table) = kept.table(k) else {

@@ -1,7 +1,7 @@
 // Laws of the spelling.
 ghost use Rattle.tr_parts.specs.Reads.{Finds};
 ghost use Rattle.tr_kept.specs.KeptSpelling.{FitsKept};
-ghost use Rattle.tr_kept.specs.Laws.{OneKept, ApartFromTable, ApartFromOld};
+ghost use Rattle.tr_kept.specs.Laws.{OneKept, ApartFromTable, ApartFromOld, EarlierApart};
 
 use crate::kept_reading::read_kept;
 use crate::kept_writing::write_kept;
@@ -14,6 +14,7 @@ pub fn one_kept()
     ensures one { OneKept }
     ensures table { ApartFromTable }
     ensures old { ApartFromOld }
+    ensures earlier { EarlierApart }
 {}
 
 /// What is kept is read back as it was written.

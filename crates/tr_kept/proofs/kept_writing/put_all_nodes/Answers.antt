@@ -10,7 +10,7 @@ use Rattle.tr_kept.proofs.KeptPutLemmas.{records_none, records_take}
 use Rattle.tr_kept.proofs.kept_writing.put_all_nodes.Goals as goal
 
 pub tables-init : goal.tables-init
-tables-init c = records_none c.new-nodes.result c.new-heads.result.items c.new-nodes.ensures c.new-heads.ensures.items
+tables-init c = records_none c.in_ok-nodes.nodes c.new-heads.result.items c.in_ok-nodes.ensures c.new-heads.ensures.items
 
 pub unreachable-requires : goal.unreachable-requires
 unreachable-requires c =
