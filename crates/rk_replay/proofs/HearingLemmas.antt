@@ -1,7 +1,6 @@
 -- What is told of the records that are left with a seat.
-use Rattle.std.proofs.Common.{◌≡◌, ℕ, ◌≤◌, ◌<◌, List, ◌∷◌, length, take, subst, ap, ◌∙◌, sym, arith}
+use Rattle.std.proofs.Common.{◌≡◌, ℕ, ◌≤◌, ◌<◌, List, ◌∷◌, length, take, subst, ap, ◌∙◌, arith}
 use Rattle.rk_calls.specs.declared.call.Call.{Call}
-use Rattle.rk_calls.specs.declared.drive.Spoke.{Spoke}
 use Rattle.rk_calls.specs.declared.drive.Spoke.TheVariants.{Call as Calls, Exit as Exits, Short}
 use Rattle.rk_calls.specs.Heard.{Goes}
 use Rattle.rk_calls.specs.Keys.{KeyValue}
@@ -11,7 +10,7 @@ use Rattle.tr_record.specs.declared.records.Record.{Record}
 use Rattle.tr_record.specs.Rec.{rec_at}
 use Rattle.tr_matching.specs.declared.group.Group.{Group}
 use Rattle.tr_matching.specs.declared.next.Next.{Next}
-use Rattle.tr_matching.specs.declared.next.Next.TheVariants.{Asks, Ends, Torn}
+use Rattle.tr_matching.specs.declared.next.Next.TheVariants.{Asks, Ends}
 use Rattle.tr_matching.specs.Earlier.{EarlierRecords}
 use Rattle.tr_matching.specs.Groups.{AreGroups, IsMember, group_at, numbers_of}
 use Rattle.tr_matching.specs.Matching.{AllSay}
@@ -24,9 +23,9 @@ use Rattle.rk_traces.specs.Spoken.{AreSpoken, follow, step_at}
 use Rattle.rk_replay.specs.declared.talks.Seat.{Seat}
 use Rattle.rk_replay.specs.Seats.{IsFirstSeat, IsSeat, left_with}
 use Rattle.rk_replay.proofs.KeyLemmas.{IsOf, places-in}
+use Rattle.rk_replay.proofs.SeatLemmas.{all-once}
 use Rattle.rk_replay.proofs.SeatedLemmas.{seat-first, seat-here}
 use Rattle.rk_replay.proofs.Standing.{Heard-goes, Spoken-call, Spoken-call_short, Spoken-exit, Spoken-exit_short}
-use Rattle.tr_record.specs.Places.{places_of}
 use Rattle.std.specs.List.{AllByRecursion as Each}
 
 -- a command says what its key's command says, as it is launched
@@ -45,10 +44,14 @@ module _ (e : EarlierRecords) (groups : List Group) (seat : Seat) (all : AreGrou
       (each-map (IsMember e (group_at seat.place.group groups).alike) (λ m. seat.place.at ≤ length (rec_at m.number e.records).steps) (λ m i. let x = i.within in let y = s.at.within in omega arith) (group_at seat.place.group groups).members c.members)))
 
   pub says-call : (n : Next) (call : Call) (cost : ℕ) → IsNext e.records seat.place.at (numbers_of (group_at seat.place.group groups)) n → n ≡ Asks call cost → AllSay e.records seat.place.at (Calls call cost) (left_with e.records seat.rec seat.place.at)
-  says-call n call cost next is = subst (AllSay e.records seat.place.at (Calls call cost)) s.are (subst (IsNext e.records seat.place.at (numbers_of (group_at seat.place.group groups))) is next).0
+  says-call n call cost next is =
+      all-once e.records seat.place.at (Calls call cost) (left_with e.records seat.rec seat.place.at) (numbers_of (group_at seat.place.group groups)) s.are
+      (subst (IsNext e.records seat.place.at (numbers_of (group_at seat.place.group groups))) is next).0
 
   pub says-exit : (n : Next) (status cost : ℕ) → IsNext e.records seat.place.at (numbers_of (group_at seat.place.group groups)) n → n ≡ Ends status cost → AllSay e.records seat.place.at (Exits status cost) (left_with e.records seat.rec seat.place.at)
-  says-exit n status cost next is = subst (AllSay e.records seat.place.at (Exits status cost)) s.are (subst (IsNext e.records seat.place.at (numbers_of (group_at seat.place.group groups))) is next).0
+  says-exit n status cost next is =
+      all-once e.records seat.place.at (Exits status cost) (left_with e.records seat.rec seat.place.at) (numbers_of (group_at seat.place.group groups)) s.are
+      (subst (IsNext e.records seat.place.at (numbers_of (group_at seat.place.group groups))) is next).0
 
   pub goes-call : (x : Says) (n : Next) (call : Call) (cost : ℕ) → IsNext e.records seat.place.at (numbers_of (group_at seat.place.group groups)) n → n ≡ Asks call cost → Goes (Calls call cost) x (goes_on (step_at seat.place.at (rec_at seat.rec e.records).steps).cost x)
   goes-call x n call cost next is = Heard-goes x e.records seat.rec seat.place.at (Calls call cost) (seat-first e groups seat all s) (says-call n call cost next is)

@@ -1,19 +1,25 @@
 -- What holds of commands once they have exited.
-use Rattle.std.proofs.Common.{◌≡◌, ◌≢◌, ℕ, ◌+◌, ◌<◌, inl, inr, Bool, IsTrue, List, [], ◌∷◌, ◌++◌, length, sym, ◌∙◌, ap, subst, arith}
+use Rattle.std.proofs.Common.{◌≡◌, ◌≢◌, ℕ, ◌+◌, ◌<◌, inl, inr, Bool, IsTrue, List, [], ◌∷◌, ◌++◌, length, take, Some, None, sym, ◌∙◌, ap, subst, arith}
 use Rattle.std.proofs.lemmas.Bool.{cases_eq, cases_lt}
 use Rattle.rk_calls.specs.declared.drive.Spoke.{Spoke}
 use Rattle.rk_calls.specs.declared.drive.Spoke.TheVariants.{Exit as Exits}
 use Rattle.rk_calls.specs.Keys.{KeyValue}
 use Rattle.tr_record.specs.declared.records.Record.{Record}
 use Rattle.tr_record.specs.declared.steps.Step.{Step}
-use Rattle.tr_record.specs.Rec.{rec_at, begun, stepped, ended, with_exit}
+use Rattle.tr_record.specs.Places.{places_of}
+use Rattle.tr_record.specs.Rec.{rec_at, begun, count_of, stepped, ended, with_exit}
+use Rattle.tr_record.proofs.PlacesLemmas.{found_place}
+use Rattle.tr_matching.proofs.CauseLemmas.{cause-same}
 use Rattle.rk_traces.specs.declared.active.Active.{Active}
 use Rattle.rk_traces.specs.declared.active.Frame.{Frame}
 use Rattle.rk_traces.specs.Places.{length-begun, length-stepped, length-ended, rec-begun, rec-stepped, rec-ended, rec-ended_same}
 use Rattle.rk_replay.specs.declared.activity.Activity.{Activity}
-use Rattle.rk_replay.specs.Activities.{Speaks_on}
+use Rattle.rk_replay.specs.declared.activity.Activity.TheVariants.{Runs, Replays}
+use Rattle.rk_replay.specs.declared.talks.Seat.{Seat}
+use Rattle.rk_replay.specs.Activities.{IsRunning, Speaks_on}
+use Rattle.rk_replay.specs.Ran.{cause_of}
 use Rattle.rk_replay.proofs.Linking.{ends-recorded}
-use Rattle.rk_replay.specs.Links.{IsApart, IsKept, IsStillAt, Keeps, Replaying}
+use Rattle.rk_replay.specs.Links.{AllAsk, IsApart, IsAsKept, IsKept, IsLinked, IsStillAt, Keeps, Replaying}
 
 apart-push : {S : Type 0} (i : ℕ) (fs : List (Frame S)) (f : Frame S) → IsApart i fs → i ≢ f.waiting.place → IsApart i (fs ++ f ∷ [])
 apart-push i [] f a h = (h, tt)
@@ -96,6 +102,64 @@ module _ {S : Type 0} (P : ℕ → Record → Type 0) (t : List Record) (m : Act
               subst (P j) (sym same) (exit-kept j lt (subst (IsApart j) (sym ef) (apart-push j fs' f apart other)));
         }
 
+-- ---- what is told of what held before
+
+-- the places of those that wait are below that of the command that goes on
+pub apart-below : {S : Type 0} (old t : List Record) (n : ℕ) (fs : List (Frame (Activity S))) → AllAsk old t n fs → IsApart n fs
+apart-below old t n [] all = tt
+apart-below old t n (f ∷ fs) all = (λ e. let below : f.waiting.place < n = all.2 in omega arith, apart-below old t n fs all.4)
+
+module _ {S : Type 0} (P : ℕ → Record → Type 0) (t : List Record) (m : Active S) (fs : List (Frame S)) where
+  -- before another command was launched
+  pub Kept-launch : (now : S) (key : KeyValue) (map : List (ℕ × ℕ)) (c : ℕ) (child : Active S) (t' : List Record) (fs' : List (Frame S)) → child.place ≡ length t → t' ≡ begun key t → fs' ≡ fs ++ record { waiting = record { place = m.place; refs = m.refs; machine = now }; key = key; map = map; cost = c } ∷ [] → Keeps P t' child fs' → Keeps P t m fs
+  Kept-launch now key map c child t' fs' ep et ef k =
+      let f : Frame S = record { waiting = record { place = m.place; refs = m.refs; machine = now }; key = key; map = map; cost = c } in
+      let long : length t' ≡ length t + 1 = ap length et ∙ length-begun key t in
+      record {
+        each = λ i h ne apart.
+            let same : rec_at i t' ≡ rec_at i t = ap (rec_at i) et ∙ rec-begun i key t h in
+            subst (P i) same (k.each i (omega arith) (λ e. let here : i ≡ length t = e ∙ ep in omega arith) (subst (IsApart i) (sym ef) (apart-push i fs f apart ne)));
+      }
+
+  -- before the command that goes on took an answer
+  pub Kept-ask : (st : Step) (t' : List Record) (next : Active S) → t' ≡ stepped m.place st t → next.place ≡ m.place → Keeps P t' next fs → Keeps P t m fs
+  Kept-ask st t' next et ep k =
+      let long : length t' ≡ length t = ap length et ∙ length-stepped m.place st t in
+      record {
+        each = λ i h ne apart.
+            let same : rec_at i t' ≡ rec_at i t = ap (rec_at i) et ∙ rec-stepped i m.place st t ne in
+            subst (P i) same (k.each i (omega arith) (λ e. ne (e ∙ ep)) apart);
+      }
+
+  module _ (here : m.place < length t) (status c : ℕ) (t' : List Record) (et : t' ≡ ended m.place status c t) where
+    long : length t' ≡ length t
+    long = ap length et ∙ length-ended m.place status c t
+
+    -- before the last one exited
+    pub Kept-all : ((j : ℕ) → j < length t' → P j (rec_at j t')) → Keeps P t m fs × P m.place (with_exit (rec_at m.place t) status c)
+    Kept-all all = (
+      record {
+        each = λ i h ne apart. subst (P i) (ap (rec_at i) et ∙ rec-ended i m.place status c t ne) (all i (omega (arith, long, h)));
+      },
+      subst (P m.place) (ap (rec_at m.place) et ∙ rec-ended_same m.place status c t here) (all m.place (omega (arith, long, here))),
+    )
+
+    -- before one exited for which another one waited
+    pub Kept-join : (fs' : List (Frame S)) (f : Frame S) → fs ≡ fs' ++ f ∷ [] → IsApart m.place fs → (st : Step) (t'' : List Record) (next : Active S) → t'' ≡ stepped f.waiting.place st t' → next.place ≡ f.waiting.place → Keeps P t'' next fs'
+        → Keeps P t m fs × P m.place (with_exit (rec_at m.place t) status c)
+    Kept-join fs' f ef apart_here st t'' next et' ep k =
+        let longer : length t'' ≡ length t' = ap length et' ∙ length-stepped f.waiting.place st t' in
+        let mine = apart-pop m.place fs' f (subst (IsApart m.place) ef apart_here) in (
+          record {
+            each = λ i h ne apart.
+                let a = apart-pop i fs' f (subst (IsApart i) ef apart) in
+                subst (P i) (ap (rec_at i) et' ∙ rec-stepped i f.waiting.place st t' a.0 ∙ ap (rec_at i) et ∙ rec-ended i m.place status c t ne)
+                (k.each i (omega (arith, long, longer, h)) (λ e. a.0 (e ∙ ep)) a.1);
+          },
+          subst (P m.place) (ap (rec_at m.place) et' ∙ rec-stepped m.place f.waiting.place st t' mine.0 ∙ ap (rec_at m.place) et ∙ rec-ended_same m.place status c t here)
+              (k.each m.place (omega (arith, long, longer, here)) (λ e. mine.0 (e ∙ ep)) mine.1),
+        )
+
 -- ---- what is kept
 
 -- the command that exits is recorded, if it didn't run
@@ -105,3 +169,23 @@ ended-kept old t m fs i now s on status n c es ec = ends-recorded old (rec_at m.
 -- the records that are told to be the kept ones of their numbers are so where less is told
 pub still-less : (still less : Bool) (old : List Record) → (IsTrue less → IsTrue still) → (i : ℕ) (r : Record) → IsStillAt still old i r → IsStillAt less old i r
 still-less still less old before i r h = λ t. h (before t)
+
+-- a record that is the kept one of its number wasn't given up
+pub ended-none : (old : List Record) (r : Record) (place status c : ℕ) → place < length old → with_exit r status c ≡ rec_at place old → cause_of old r ≡ None
+unfolding cause_of
+ended-none old r place status c here is =
+    let key : (rec_at place old).key ≡ r.key = ap (λ (x : Record). x.key) (sym is) in
+    cause-same old (places_of r.key old) r.steps (count_of r.key (take place old)) place (found_place r.key old place here key) (ap (λ (x : Record). x.steps) is)
+
+-- where its machine runs
+running-not : {S : Type 0} (a : Activity S) (seat : Seat) → IsRunning a → a ≡ Replays seat → ⊥
+running-not (Runs machine) seat r e = absurd cc
+running-not (Replays other) seat r e = r
+
+running-cause : {S : Type 0} (old : List Record) (r : Record) (was now : Activity S) (s : Spoke) → cause_of old r ≡ None → IsLinked old r was → Speaks_on old was now s → IsRunning now → ⊥
+running-cause old r (Runs machine) now s none l h runs = let z : None ≡ Some l.0 = sym none ∙ l.1 in absurd cc
+running-cause old r (Replays seat) now s none l h runs = running-not now seat runs h.0
+
+pub ended-running : {S : Type 0} (old t : List Record) (m : Active (Activity S)) (fs : List (Frame (Activity S))) → Replaying old t m fs → (now : Activity S) (s : Spoke) → Speaks_on old m.machine now s → IsRunning now → (status c : ℕ) → ¬ IsAsKept old m.place (with_exit (rec_at m.place t) status c)
+ended-running old t m fs i now s on runs status c kept =
+    running-cause old (rec_at m.place t) m.machine now s (ended-none old (rec_at m.place t) m.place status c kept.0 kept.1) i.linked on runs

@@ -1,7 +1,7 @@
 -- Commands and what stands in their records.
-use Rattle.std.proofs.Common.{◌≡◌, ◌≢◌, ℕ, zero, suc, ◌+◌, ◌≤◌, ◌<◌, List, [], ◌∷◌, ◌++◌, length, take, filter, refl, sym, ◌∙◌, ap, subst, arith, Option, Some, None, inl, inr, length-append}
+use Rattle.std.proofs.Common.{◌≡◌, ℕ, zero, suc, ◌+◌, ◌≤◌, ◌<◌, List, [], ◌∷◌, ◌++◌, length, take, filter, refl, sym, ◌∙◌, ap, subst, arith, Some, None, inl, inr, length-append}
 use Rattle.std.proofs.lemmas.Bool.{cases_lt}
-use Rattle.std.proofs.lemmas.List.{length-take-le, take_all}
+use Rattle.std.proofs.lemmas.List.{length-take-le}
 use Rattle.std.specs.List.{AllByRecursion as Each}
 use Rattle.rk_calls.specs.declared.call.Call.{Call}
 use Rattle.rk_calls.specs.declared.answer.Answer.{Answer}
@@ -29,11 +29,10 @@ use Rattle.rk_traces.specs.Spoken.{step_at}
 use Rattle.rk_traces.specs.Totals.{own-step, own-exit}
 use Rattle.rk_replay.specs.declared.activity.Activity.{Activity}
 use Rattle.rk_replay.specs.declared.activity.Activity.TheVariants.{Runs, Replays}
-use Rattle.rk_replay.specs.declared.talks.Seat.{Seat}
 use Rattle.rk_replay.specs.Links.{IsAsking, IsLinked, IsMatched}
 use Rattle.rk_replay.specs.Ran.{cause_of, own_for, ran_one, IsRecorded}
 use Rattle.rk_replay.specs.Activities.{IsWaiting, IsLaunched, IsRunning, IsNext, IsWhole, Speaks_on, Takes, made, given_up, counted, live_cost}
-use Rattle.rk_replay.specs.Seats.{GoesFurther, left_with}
+use Rattle.rk_replay.specs.Seats.{left_with}
 use Rattle.rk_replay.proofs.KeyLemmas.{IsOf, left-in}
 
 -- ---- records that are matched

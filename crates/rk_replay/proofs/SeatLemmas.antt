@@ -1,9 +1,10 @@
 -- Places of replayed commands.
-use Rattle.std.proofs.Common.{◌≡◌, ◌≢◌, ℕ, ◌+◌, ◌≤◌, ◌<◌, true, false, cond, List, [], ◌∷◌, ◌++◌, length, take, filter, Some, None, refl, sym, ◌∙◌, ap, subst, arith}
+use Rattle.std.proofs.Common.{◌≡◌, ◌≢◌, ℕ, ◌+◌, ◌≤◌, ◌<◌, true, false, cond, List, [], ◌∷◌, ◌++◌, length, take, drop, filter, Some, None, refl, sym, ◌∙◌, ap, subst, arith}
 use Rattle.std.proofs.lemmas.List.{length-map, length-take-le, take-take}
 use Rattle.std.specs.List.{AllByRecursion as Each}
 use Rattle.std.specs.Map.{lookup}
 use Rattle.rk_calls.specs.declared.answer.Answer.{Answer}
+use Rattle.rk_calls.specs.declared.drive.Spoke.{Spoke}
 use Rattle.rk_calls.specs.declared.drive.Spoke.TheVariants.{Call as Calls}
 use Rattle.rk_calls.specs.Keys.{KeyValue, same_key}
 use Rattle.tr_record.specs.declared.records.Record.{Record}
@@ -14,12 +15,12 @@ use Rattle.tr_record.proofs.KeyLemmas.{same_key-Decides}
 use Rattle.tr_matching.specs.declared.cause.Cause.TheVariants.{Differs}
 use Rattle.tr_matching.specs.declared.group.Group.{Group}
 use Rattle.tr_matching.specs.declared.place.Place.{Place}
-use Rattle.tr_matching.specs.declared.place.Taken.{Taken}
 use Rattle.tr_matching.specs.declared.place.Taken.TheVariants as taken
 use Rattle.tr_matching.specs.Earlier.{EarlierRecords, IsRest}
-use Rattle.tr_matching.specs.Groups.{AreGroups, BeginAlike, Grows, IsCommon, IsKnown, first_of, group_at, numbers_of}
-use Rattle.tr_matching.specs.Left.{is_answered, left, next_at}
-use Rattle.tr_matching.specs.Matching.{head_of}
+use Rattle.tr_matching.specs.Groups.{AreGroups, Grows, IsCommon, IsKnown, first_of, group_at, numbers_of}
+use Rattle.tr_matching.specs.Left.{AreTalkAlike, begins, is_answered, left, next_at, next_in}
+use Rattle.tr_matching.specs.Matching.{AllSay, head_of}
+use Rattle.tr_matching.specs.Once.{IsOnce}
 use Rattle.tr_matching.specs.Places.{IsAt, IsBegun, TakesOn}
 use Rattle.tr_matching.specs.Steps.{answer_at, answers_of, step, step_at}
 use Rattle.tr_matching.proofs.EachLemmas.{each-both, each-filter, each-map, each-passes, filter-true}
@@ -28,8 +29,8 @@ use Rattle.tr_matching.proofs.GroupLemmas.{calls-on, known-say}
 use Rattle.tr_matching.proofs.LeftLemmas.{answers-push, left-more}
 use Rattle.tr_matching.proofs.MemberLemmas.{some-numbers}
 use Rattle.tr_matching.proofs.NextLemmas.{next_step}
+use Rattle.tr_matching.proofs.OnceLemmas.{once-each, once-filter, once-first, once-none}
 use Rattle.rk_traces.specs.Following.{next-take}
-use Rattle.rk_replay.specs.declared.talks.Lead.{Lead}
 use Rattle.rk_replay.specs.declared.talks.Lead.TheVariants.{On, GivenUp}
 use Rattle.rk_replay.specs.declared.talks.Seat.{Seat}
 use Rattle.rk_replay.specs.declared.talks.Talks.{Talks}
@@ -42,12 +43,13 @@ head-cons (x ∷ xs) ne = (xs, refl)
 
 -- ---- a command is launched
 
-module _ (e : EarlierRecords) (groups : List Group) (key : KeyValue) (g : ℕ) (seat : Seat) (all : AreGroups e groups) (begun : IsBegun e groups g) (are : numbers_of (group_at g groups) ≡ places_of key e.records) (first : seat.rec ≡ first_of (group_at g groups))
+module _ (e : EarlierRecords) (groups : List Group) (key : KeyValue) (g : ℕ) (seat : Seat) (all : AreGroups e groups) (begun : IsBegun e groups g) (are : IsOnce e.records [] (places_of key e.records) (numbers_of (group_at g groups))) (first : seat.rec ≡ first_of (group_at g groups))
     (place : seat.place ≡ record { group = g; at = 0; rest = (group_at g groups).start }) where
   pub begins-first : IsFirstSeat e.records key seat
   begins-first =
       let some = head-cons (numbers_of (group_at g groups)) (some-numbers (group_at g groups).members (all g begun.0).common.some) in
-      (some.0, ap (λ (p : Place). p.at) place, sym are ∙ some.1 ∙ ap (λ i. i ∷ some.0) (sym first))
+      let f = once-first e.records (places_of key e.records) (numbers_of (group_at g groups)) (first_of (group_at g groups)) some.0 are some.1 in
+      (f.0, ap (λ (p : Place). p.at) place, f.1 ∙ ap (λ i. i ∷ f.0) (sym first))
 
   of-key : IsOf e.records key seat.rec
   of-key =
@@ -58,9 +60,9 @@ module _ (e : EarlierRecords) (groups : List Group) (key : KeyValue) (g : ℕ) (
   begins-seat = record {
     at = subst (IsAt e groups) (sym place) (record { here = begun.0; within = omega arith; rest = begun.1 });
     are =
-        ap (λ (p : Place). numbers_of (group_at p.group groups)) place ∙ are ∙ ap (λ k. places_of k e.records) (sym of-key.1)
-        ∙ sym (filter-true (places_of (rec_at seat.rec e.records).key e.records))
-        ∙ ap (λ (p : Place). left_with e.records seat.rec p.at) (sym place);
+        subst (λ (p : Place). IsOnce e.records [] (left_with e.records seat.rec p.at) (numbers_of (group_at p.group groups))) (sym place)
+        (subst (λ l. IsOnce e.records [] l (numbers_of (group_at g groups)))
+        (ap (λ k. places_of k e.records) (sym of-key.1) ∙ sym (filter-true (places_of (rec_at seat.rec e.records).key e.records))) are);
     first = ap (λ (p : Place). first_of (group_at p.group groups)) place ∙ sym first;
   }
 
@@ -76,7 +78,7 @@ seat-grows e before now seat w s =
         within = (let x = w.alike seat.place.group h in let y = s.at.within in omega arith);
         rest = subst (λ f. IsRest e f seat.place.at seat.place.rest) (sym (ap head_of same)) s.at.rest;
       };
-      are = same ∙ s.are;
+      are = subst (IsOnce e.records [] (left_with e.records seat.rec seat.place.at)) (sym same) s.are;
       first = ap head_of same ∙ s.first;
     }
 
@@ -88,10 +90,10 @@ begun-grows e before now g w b = (
 )
 
 abbrev IsKeys : EarlierRecords → List Group → KeyValue → ℕ → Type 0
-IsKeys e groups key g = IsBegun e groups g × (numbers_of (group_at g groups) ≡ places_of key e.records)
+IsKeys e groups key g = IsBegun e groups g × IsOnce e.records [] (places_of key e.records) (numbers_of (group_at g groups))
 
 keys-grows : (e : EarlierRecords) (before now : List Group) (key : KeyValue) (g : ℕ) → Grows before now → IsKeys e before key g → IsKeys e now key g
-keys-grows e before now key g w k = (begun-grows e before now g w k.0, w.same g k.0.0 ∙ k.1)
+keys-grows e before now key g w k = (begun-grows e before now g w k.0, subst (IsOnce e.records [] (places_of key e.records)) (sym (w.same g k.0.0)) k.1)
 
 -- no key more
 pub talks-same : (e : EarlierRecords) (was now : Talks) → AreTalks e was → now.firsts.entries ≡ was.firsts.entries → AreGroups e now.groups.items → Grows was.groups.items now.groups.items → AreTalks e now
@@ -109,7 +111,7 @@ talks-none e talks eg ef = record {
 
 -- one key more
 pub talks-more : (e : EarlierRecords) (was now : Talks) (key copy : KeyValue) (g : ℕ) → AreTalks e was → copy ≡ key → ((q : KeyValue) → lookup (same_key q) now.firsts.entries ≡ cond (same_key copy q) (Some g) (lookup (same_key q) was.firsts.entries))
-    → AreGroups e now.groups.items → Grows was.groups.items now.groups.items → IsBegun e now.groups.items g → numbers_of (group_at g now.groups.items) ≡ places_of key e.records → AreTalks e now
+    → AreGroups e now.groups.items → Grows was.groups.items now.groups.items → IsBegun e now.groups.items g → IsOnce e.records [] (places_of key e.records) (numbers_of (group_at g now.groups.items)) → AreTalks e now
 talks-more e was now key copy g t same puts all w begun are = record {
   groups = all;
   firsts = λ q h f.
@@ -117,7 +119,7 @@ talks-more e was now key copy g t same puts all w begun are = record {
         | true ↦ λ yes eq.
             let is : g ≡ h = cc in
             let q_is : key ≡ q = sym same ∙ (same_key-Decides copy q).0 yes in
-            subst (IsKeys e now.groups.items q) is (begun, are ∙ ap (λ k. places_of k e.records) q_is)
+            subst (IsKeys e now.groups.items q) is (begun, subst (λ k. IsOnce e.records [] (places_of k e.records) (numbers_of (group_at g now.groups.items))) q_is are)
         | false ↦ λ no eq. keys-grows e was.groups.items now.groups.items q h w (t.firsts q h eq)
       ]) refl (sym (puts q) ∙ f);
 }
@@ -133,9 +135,20 @@ step-is s t a e ea =
 take-less : (at n : ℕ) (xs ys : List Step) → at ≤ n → take n xs ≡ take n ys → take at xs ≡ take at ys
 take-less at n xs ys le e = sym (take-take at n xs le) ∙ ap (take at) e ∙ take-take at n ys le
 
+-- records that did the same are alike in what they have next
+next-alike : (at : ℕ) (a b : Record) → AreTalkAlike a b → next_at at a ≡ next_at at b
+next-alike at a b h = ap (λ n. next_in n a.exit_cost (drop at a.steps)) h.1 ∙ ap (λ n. next_in b.exit n (drop at a.steps)) h.2 ∙ ap (λ l. next_in b.exit b.exit_cost (drop at l)) h.0
+
+-- what all have next of which each talk counts once, all have
+pub all-once : (old : List Record) (at : ℕ) (s : Spoke) (numbers kept : List ℕ) → IsOnce old [] numbers kept → AllSay old at s kept → AllSay old at s numbers
+all-once old at s numbers kept o all = once-each old (λ i. next_at at (rec_at i old) ≡ s) numbers kept (λ j i h q. sym (next-alike at (rec_at j old) (rec_at i old) h) ∙ q) o all
+
 -- records of a group with this one's first steps and what it has next
 abbrev AreLike : List Record → ℕ → ℕ → ℕ → Type 0
 AreLike old at rec i = (take at (rec_at i old).steps ≡ take at (rec_at rec old).steps) × (next_at at (rec_at i old) ≡ next_at at (rec_at rec old))
+
+like-alike : (old : List Record) (at rec j i : ℕ) → AreTalkAlike (rec_at j old) (rec_at i old) → AreLike old at rec j → AreLike old at rec i
+like-alike old at rec j i h like = (ap (take at) (sym h.0) ∙ like.0, sym (next-alike at (rec_at j old) (rec_at i old) h) ∙ like.1)
 
 pub begin-like : (e : EarlierRecords) (it : Group) (at : ℕ) → IsCommon e it → at ≤ it.alike → Each (λ i. take at (rec_at i e.records).steps ≡ take at (rec_at (first_of it) e.records).steps) (numbers_of it)
 begin-like e it at c le =
@@ -153,9 +166,15 @@ module _ (e : EarlierRecords) (groups : List Group) (seat : Seat) (a : Answer) (
 
   like : Each (AreLike e.records seat.place.at seat.rec) (left_with e.records seat.rec seat.place.at)
   like =
-      subst (Each (AreLike e.records seat.place.at seat.rec)) s.are
+      once-each e.records (AreLike e.records seat.place.at seat.rec) (left_with e.records seat.rec seat.place.at) (numbers_of (group_at seat.place.group groups)) (like-alike e.records seat.place.at seat.rec) s.are
       (subst (λ f. Each (AreLike e.records seat.place.at f) (numbers_of (group_at seat.place.group groups))) s.first
       (all-like e (group_at seat.place.group groups) seat.place.at (all seat.place.group s.at.here).common s.at.within known))
+
+  -- those of the group that were answered so
+  answered-once : IsOnce e.records [] (answered_with e.records seat a) (filter (is_answered e.records seat.place.at a) (numbers_of (group_at seat.place.group groups)))
+  answered-once =
+      once-filter e.records (is_answered e.records seat.place.at a) (left_with e.records seat.rec seat.place.at) [] (numbers_of (group_at seat.place.group groups))
+      (λ j i h. ap (λ l. begins (a ∷ []) (drop seat.place.at l)) h.0) s.are
 
   -- what holds of each that was answered so
   abbrev IsFurther : ℕ → Type 0
@@ -212,18 +231,20 @@ module _ (e : EarlierRecords) (groups : List Group) (seat : Seat) (a : Answer) (
         → Leads e after seat a (On (record { rec = rec; place = place }))
     leads-on place rec t first =
         let some = head-cons (numbers_of (group_at place.group after)) (some-numbers (group_at place.group after).members (all_after place.group t.0.here).common.some) in
-        let is : answered_with e.records seat a ≡ rec ∷ some.0 = ap (filter (is_answered e.records seat.place.at a)) (sym s.are) ∙ sym t.2 ∙ some.1 ∙ ap (λ i. i ∷ some.0) (sym first) in
+        let once : IsOnce e.records [] (answered_with e.records seat a) (numbers_of (group_at place.group after)) = subst (IsOnce e.records [] (answered_with e.records seat a)) (sym t.2) answered-once in
+        let f = once-first e.records (answered_with e.records seat a) (numbers_of (group_at place.group after)) (first_of (group_at place.group after)) some.0 once some.1 in
+        let is : answered_with e.records seat a ≡ rec ∷ f.0 = f.1 ∙ ap (λ i. i ∷ f.0) (sym first) in
         let now : Seat = record { rec = rec; place = place } in (
           record {
             at = t.0;
-            are = t.2 ∙ ap (filter (is_answered e.records seat.place.at a)) s.are ∙ further-left now some.0 is t.1;
+            are = subst (λ l. IsOnce e.records [] l (numbers_of (group_at place.group after))) (further-left now f.0 is t.1) once;
             first = sym first;
           },
-          goes-further now some.0 is t.1,
+          goes-further now f.0 is t.1,
         )
 
     pub leads-off : (cause : _) → TakesOn e seat.place.at (numbers_of (group_at seat.place.group groups)) a after (taken.GivenUp cause) → Leads e after seat a (GivenUp cause)
     leads-off cause t = (
-      ap (filter (is_answered e.records seat.place.at a)) (sym s.are) ∙ t.0,
+      once-none e.records (answered_with e.records seat a) (filter (is_answered e.records seat.place.at a) (numbers_of (group_at seat.place.group groups))) answered-once t.0,
       t.1 ∙ ap (λ f. Differs (seat.place.at + 1) (answer_at e.records seat.place.at f) a) s.first,
     )

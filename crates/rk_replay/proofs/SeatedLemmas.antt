@@ -1,11 +1,11 @@
 -- Places of the commands under way, as more is known of the kept records.
-use Rattle.std.proofs.Common.{◌≡◌, ℕ, ◌≤◌, ◌<◌, List, [], ◌∷◌, ◌++◌, length, ◌∙◌, sym, subst, ap, arith}
-use Rattle.tr_record.specs.Rec.{rec_at}
+use Rattle.std.proofs.Common.{◌≡◌, ℕ, ◌<◌, List, [], ◌∷◌, ◌++◌, length, ◌∙◌, sym, subst, ap}
 use Rattle.tr_matching.specs.declared.group.Group.{Group}
 use Rattle.tr_matching.specs.Earlier.{EarlierRecords}
-use Rattle.tr_matching.specs.Groups.{AreGroups, Grows, group_at, numbers_of}
+use Rattle.tr_matching.specs.Groups.{AreGroups, Grows, first_of, group_at, numbers_of}
 use Rattle.tr_matching.proofs.GroupLemmas.{first-here}
 use Rattle.tr_matching.proofs.MemberLemmas.{some-numbers}
+use Rattle.tr_matching.proofs.OnceLemmas.{once-first}
 use Rattle.rk_traces.specs.declared.active.Frame.{Frame}
 use Rattle.rk_replay.specs.declared.activity.Activity.{Activity}
 use Rattle.rk_replay.specs.declared.activity.Activity.TheVariants.{Runs, Replays}
@@ -25,7 +25,8 @@ seat-here e groups seat all s = subst (λ i. i < length e.records) s.first (firs
 pub seat-first : (e : EarlierRecords) (groups : List Group) (seat : Seat) → AreGroups e groups → IsSeat e groups seat → (others : List ℕ) × (left_with e.records seat.rec seat.place.at ≡ seat.rec ∷ others)
 seat-first e groups seat all s =
     let some = head-cons (numbers_of (group_at seat.place.group groups)) (some-numbers (group_at seat.place.group groups).members (all seat.place.group s.at.here).common.some) in
-    (some.0, sym s.are ∙ some.1 ∙ ap (λ i. i ∷ some.0) s.first)
+    let f = once-first e.records (left_with e.records seat.rec seat.place.at) (numbers_of (group_at seat.place.group groups)) (first_of (group_at seat.place.group groups)) some.0 s.are some.1 in
+    (f.0, f.1 ∙ ap (λ i. i ∷ f.0) s.first)
 
 pub seat-rest : (e : EarlierRecords) (groups : List Group) (seat : Seat) → IsSeat e groups seat → IsRest e seat.rec seat.place.at seat.place.rest
 seat-rest e groups seat s = subst (λ f. IsRest e f seat.place.at seat.place.rest) s.first s.at.rest

@@ -1,5 +1,5 @@
 -- Records that are left and have no one next: one of them isn't what its command says.
-use Rattle.std.proofs.Common.{◌≡◌, ℕ, zero, suc, ◌+◌, ◌≤◌, ◌<◌, List, [], ◌∷◌, length, take, get_or, Err, refl, sym, ◌∙◌, ap, subst, arith, add-one, inl, inr}
+use Rattle.std.proofs.Common.{◌≡◌, ℕ, zero, suc, ◌+◌, ◌≤◌, ◌<◌, List, [], ◌∷◌, length, take, get_or, Err, refl, sym, ◌∙◌, ap, subst, arith, inl, inr}
 use Rattle.std.proofs.lemmas.Bool.{cases_lt}
 use Rattle.std.proofs.lemmas.List.{length-map, take-take, take_all}
 use Rattle.std.specs.List.{AllByRecursion as Each}
@@ -10,23 +10,28 @@ use Rattle.rk_calls.specs.Keys.{KeyValue}
 use Rattle.rk_calls.specs.Saying.{speaks}
 use Rattle.rk_calls.specs.Talk.{Says, Lasts}
 use Rattle.tr_record.specs.declared.records.Record.{Record}
+use Rattle.tr_record.specs.declared.steps.Step.{Step}
 use Rattle.tr_record.specs.Rec.{rec_at}
 use Rattle.tr_matching.specs.declared.group.Group.{Group}
 use Rattle.tr_matching.specs.declared.member.Member.{Member}
 use Rattle.tr_matching.specs.Earlier.{EarlierRecords}
 use Rattle.tr_matching.specs.Groups.{AreGroups, Grows, IsMember, group_at, numbers_in, numbers_of}
-use Rattle.tr_matching.specs.Left.{next_at}
-use Rattle.tr_matching.specs.Matching.{AreIn, AreTorn, IsDear, head_of}
+use Rattle.tr_matching.specs.Left.{AreTalkAlike, next_at}
+use Rattle.tr_matching.specs.Matching.{AreTorn, IsDear, head_of}
+use Rattle.tr_matching.specs.Once.{IsOnce}
 use Rattle.tr_matching.specs.Steps.{answers_of}
 use Rattle.tr_matching.proofs.EachLemmas.{each-at, each-both, each-map}
-use Rattle.tr_matching.proofs.MemberLemmas.{each-numbers, some-numbers}
+use Rattle.tr_matching.proofs.MemberLemmas.{each-numbers}
 use Rattle.tr_matching.proofs.NextLemmas.{next_end, next_step}
+use Rattle.tr_matching.proofs.OnceLemmas.{IsFirstNot, once-first_not, once-part}
 use Rattle.rk_traces.specs.Checked.{IsWrong, at_record}
 use Rattle.rk_traces.specs.Following.{Follows-last, Follows-take, next-take}
 use Rattle.rk_traces.specs.Lasting.{AllLast, asks-enough, ends-enough, Lasts-follow}
 use Rattle.rk_traces.specs.Running.{paid}
-use Rattle.rk_traces.specs.Spoken.{follow, Follows, step_at}
+use Rattle.rk_traces.specs.Spoken.{follow, Follows, IsSpoken, step_at}
 use Rattle.rk_traces.specs.Started.{started, StartsOne}
+use Rattle.rk_traces.specs.declared.check.CheckErr.{CheckErr}
+use Rattle.rk_traces.specs.declared.check.CheckErr.TheVariants.{Forged, NoMemory}
 use Rattle.rk_traces.specs.declared.feeding.FeedErr.{FeedErr}
 use Rattle.rk_traces.specs.declared.feeding.FeedErr.TheVariants.{Forged as ForgedStep, NoMemory as NoRoom}
 use Rattle.rk_replay.specs.declared.talks.Seat.{Seat}
@@ -34,7 +39,7 @@ use Rattle.rk_replay.specs.Seats.{IsSeat, left_with}
 use Rattle.rk_replay.specs.Starts.{StartsTold}
 use Rattle.rk_replay.specs.Stops.{IsForged}
 use Rattle.rk_replay.specs.Taking.{AreTornLeft, IsFirstForged, IsSpokenAt}
-use Rattle.rk_replay.proofs.KeyLemmas.{IsOf, ascends-zero, left-ascends, left-in}
+use Rattle.rk_replay.proofs.KeyLemmas.{IsOf, ascends-once, ascends-zero, left-ascends, left-in}
 use Rattle.rk_replay.proofs.SeatLemmas.{begin-like}
 
 -- ---- what is said once is said by every purse that meets it
@@ -163,7 +168,7 @@ seat-torn e groups now seat all all_now w s torn =
     let le : seat.place.at ≤ (group_at seat.place.group now).alike = (let x = w.alike seat.place.group s.at.here in let y = s.at.within in omega arith) in
     let c = (all_now seat.place.group h').common in
     let old = e.records in
-    let left : numbers_of (group_at seat.place.group now) ≡ left_with e.records seat.rec seat.place.at = same ∙ s.are in
+    let once : IsOnce e.records [] (left_with e.records seat.rec seat.place.at) (numbers_of (group_at seat.place.group now)) = subst (IsOnce e.records [] (left_with e.records seat.rec seat.place.at)) (sym same) s.are in
     let keys = left-in e.records (rec_at seat.rec e.records).key (answers_of (take seat.place.at (rec_at seat.rec e.records).steps)) in
     let first : head_of (numbers_of (group_at seat.place.group now)) ≡ seat.rec = ap head_of same ∙ s.first in
     record {
@@ -172,11 +177,71 @@ seat-torn e groups now seat all all_now w s torn =
           (each-map (IsMember e (group_at seat.place.group now).alike) (λ m. (m.number < length e.records) × (seat.place.at ≤ length (rec_at m.number e.records).steps)) (λ m i. (i.here, let x = i.within in omega arith)) (group_at seat.place.group now).members c.members);
       keys =
           subst (λ n. Each (λ i. (rec_at i e.records).key ≡ (rec_at n e.records).key) (numbers_of (group_at seat.place.group now))) (sym first)
-          (subst (Each (λ i. (rec_at i e.records).key ≡ (rec_at seat.rec e.records).key)) (sym left)
+          (once-part e.records (λ i. (rec_at i e.records).key ≡ (rec_at seat.rec e.records).key) (left_with e.records seat.rec seat.place.at) [] (numbers_of (group_at seat.place.group now)) once
           (each-map (IsOf e.records (rec_at seat.rec e.records).key) (λ i. (rec_at i e.records).key ≡ (rec_at seat.rec e.records).key) (λ i k. k.1) (left_with e.records seat.rec seat.place.at) keys));
       alike = begin-like e (group_at seat.place.group now) seat.place.at c le;
       ascend = λ k lt.
-          subst (λ l. k ≤ get_or l k 0) (sym left)
-          (ascends-zero (left_with e.records seat.rec seat.place.at) k (left-ascends e.records (rec_at seat.rec e.records).key (answers_of (take seat.place.at (rec_at seat.rec e.records).steps))) (subst (λ l. k < length l) left lt));
+          ascends-zero (numbers_of (group_at seat.place.group now)) k
+          (ascends-once e.records 0 (left_with e.records seat.rec seat.place.at) [] (numbers_of (group_at seat.place.group now))
+          (left-ascends e.records (rec_at seat.rec e.records).key (answers_of (take seat.place.at (rec_at seat.rec e.records).steps))) once) lt;
       torn = subst (AreTorn e.records seat.place.at) (sym same) torn;
     }
+
+-- ---- what is told of those of which each talk counts once
+
+module _ (first : KeyValue → Says) (at : ℕ) where
+  abbrev Ends : KeyValue → List Step → ℕ → ℕ → Type 0
+  Ends key steps exit cost = speaks cost (follow (first key) steps) ≡ Exits exit cost
+
+  -- a record that did the same is what its command says as well
+  module _ (a b : Record) (key : b.key ≡ a.key) (h : AreTalkAlike a b) where
+    same-key : (steps : List Step) → Follows (first a.key) steps → Follows (first b.key) steps
+    same-key steps f = subst (λ k. Follows (first k) steps) (sym key) f
+
+    same-steps : at < length b.steps → (at < length a.steps → Follows (first a.key) (take (at + 1) a.steps)) → Follows (first b.key) (take (at + 1) b.steps)
+    same-steps lt so = same-key (take (at + 1) b.steps) (subst (λ l. Follows (first a.key) (take (at + 1) l)) h.0 (so (subst (λ l. at < length l) (sym h.0) lt)))
+
+    same-whole : IsSpoken first a → IsSpoken first b
+    same-whole s = record {
+      follows = same-key b.steps (subst (Follows (first a.key)) h.0 s.follows);
+      ends =
+          subst (λ k. Ends k b.steps b.exit b.exit_cost) (sym key)
+          (subst (Ends a.key b.steps b.exit) h.2 (subst (λ n. Ends a.key b.steps n a.exit_cost) h.1 (subst (λ l. Ends a.key l a.exit a.exit_cost) h.0 s.ends)));
+    }
+
+    spoken-alike : IsSpokenAt first at a → IsSpokenAt first at b
+    spoken-alike so = (λ lt. same-steps lt so.0, λ q. same-whole (so.1 (q ∙ ap length (sym h.0))))
+
+each-take : (P : ℕ → Type 0) (k : ℕ) (xs : List ℕ) → Each P xs → Each P (take k xs)
+each-take P zero xs e = tt
+each-take P (suc k) [] e = tt
+each-take P (suc k) (x ∷ xs) e = (e.0, each-take P k xs e.1)
+
+module _ (first : KeyValue → Says) (old : List Record) (at rec : ℕ) (kept : List ℕ) (o : IsOnce old [] (left_with old rec at) kept) where
+  abbrev IsOfKey : ℕ → Type 0
+  IsOfKey i = (rec_at i old).key ≡ (rec_at rec old).key
+
+  abbrev IsSo : ℕ → Type 0
+  IsSo i = IsSpokenAt first at (rec_at i old)
+
+  keys : Each IsOfKey (left_with old rec at)
+  keys = each-map (IsOf old (rec_at rec old).key) IsOfKey (λ i k. k.1) (left_with old rec at) (left-in old (rec_at rec old).key (answers_of (take at (rec_at rec old).steps)))
+
+  -- the first of them that isn't what its command says is the first of all that are left
+  first-once : (i place : ℕ) → place < length kept → i ≡ get_or kept place 0 → Each IsSo (take place kept) → IsFirstNot (λ m. IsOfKey m × IsSo m) (left_with old rec at) i
+  first-once i place here is before =
+      once-first_not old (λ m. IsOfKey m × IsSo m) (left_with old rec at) kept i
+      (each-map IsOfKey (λ m. (j : ℕ) → AreTalkAlike (rec_at j old) (rec_at m old) → IsOfKey j × IsSo j → IsOfKey m × IsSo m)
+      (λ m k j h p. (k, spoken-alike first at (rec_at j old) (rec_at m old) (k ∙ sym p.0) h p.1)) (left_with old rec at) keys) o
+      (record {
+        place = place;
+        here = here;
+        is = is;
+        before = each-both IsOfKey IsSo (take place kept) (each-take IsOfKey place kept (once-part old IsOfKey (left_with old rec at) [] kept o keys)) before;
+      })
+
+  pub told-once : (told : CheckErr) → IsFirstForged first old at kept told → IsFirstForged first old at (left_with old rec at) told
+  told-once NoMemory f = tt
+  told-once (Forged i step) f =
+      let n = first-once i f.0 f.1 f.2 f.3 in
+      (n.place, n.here, n.is, each-map (λ m. IsOfKey m × IsSo m) IsSo (λ m p. p.1) (take n.place (left_with old rec at)) n.before)

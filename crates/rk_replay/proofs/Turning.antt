@@ -1,5 +1,5 @@
 -- What holds of a build under way holds after each turn, with what was counted and paid.
-use Rattle.std.proofs.Common.{◌≡◌, ℕ, ◌+◌, ◌≤◌, ◌<◌, List, [], ◌∷◌, ◌++◌, length, refl, ◌∙◌, ap, subst, arith, Bool, IsTrue}
+use Rattle.std.proofs.Common.{◌≡◌, ◌⊎◌, ℕ, ◌+◌, ◌≤◌, ◌<◌, List, [], ◌∷◌, ◌++◌, length, refl, sym, ◌∙◌, ap, subst, arith, inl, inr, Bool, true, false, IsFalse, IsTrue}
 use Rattle.rk_calls.specs.declared.answer.Answer.{Answer}
 use Rattle.rk_calls.specs.declared.answer.Answer.TheVariants.{Joined}
 use Rattle.rk_calls.specs.declared.call.Call.{Call}
@@ -19,13 +19,13 @@ use Rattle.rk_traces.specs.Started.{started}
 use Rattle.rk_replay.specs.declared.activity.Activity.{Activity}
 use Rattle.rk_replay.specs.declared.replay.Replay.{Replay}
 use Rattle.rk_replay.specs.declared.talks.Talks.{Talks}
-use Rattle.rk_replay.specs.Activities.{IsLaunched, IsSeated, IsWaiting, KnowsNext, Takes, counted, given_up, live_cost, made}
+use Rattle.rk_replay.specs.Activities.{IsLaunched, IsRunning, IsSeated, IsWaiting, KnowsNext, Takes, counted, given_up, live_cost, made}
 use Rattle.rk_replay.specs.Causes.{launch_cause, noted}
-use Rattle.rk_replay.specs.Links.{IsKept, IsStillAt, pend}
-use Rattle.rk_replay.specs.Ran.{ran_count, ran_total}
+use Rattle.rk_replay.specs.Links.{IsAsKept, IsKept, IsStillAt, Keeps, pend}
+use Rattle.rk_replay.specs.Ran.{HaveOneNumber, ran_count, ran_total}
 use Rattle.rk_replay.specs.Seats.{AreTalks}
 use Rattle.rk_replay.specs.UnderWay.{IsUnderWay, HasSaid, AreCounted, HasPaid, Launches, Answers, Joins, Ends, as_heard, with_machine}
-use Rattle.rk_replay.proofs.Keeping.{Keeps-start, Keeps-launch, Keeps-ask, Keeps-join, Keeps-less, all-keep, ended-kept, still-less}
+use Rattle.rk_replay.proofs.Keeping.{Keeps-start, Keeps-launch, Keeps-ask, Keeps-join, Keeps-less, Kept-all, Kept-ask, Kept-join, Kept-launch, all-keep, apart-below, ended-kept, ended-running, still-less}
 use Rattle.rk_replay.proofs.Noting.{causes-none, begun-causes}
 use Rattle.rk_replay.proofs.SeatedLemmas.{all-grow, knows-waiting, seated-grows, seated-join, seated-launch, seated-start}
 use Rattle.rk_replay.proofs.Replaying.{Pays, Replaying-start, Pays-start, Replaying-ask, Pays-ask, Causes-ask, Replaying-launch, Pays-launch, Pays-end, Causes-end, join-place, join-noted, Waiting-join, Replaying-join, Causes-join, Pays-join, pend-push, none-from_length}
@@ -42,8 +42,8 @@ module _ {S : Type 0} (was now : Replay S) (e : now.earlier ≡ was.earlier) (s 
 -- ---- the first command is launched
 
 pub under-start : {S : Type 0} (r : Replay S) (t0 : List Record) (key : KeyValue) → AreContents r.earlier.contents r.earlier.records → AreTalks r.earlier r.talks → t0 ≡ [] → IsLaunched r.earlier.records key r.top.machine → r.top.place ≡ length t0 → r.table ≡ begun key t0 → r.stack.items ≡ []
-    → r.causes ≡ launch_cause r.top.machine ∷ [] → IsSeated r.earlier r.talks.groups.items r.top.machine → IsUnderWay r
-under-start r t0 key are talks e0 l ep et ef noted seated =
+    → r.causes ≡ launch_cause r.top.machine ∷ [] → IsSeated r.earlier r.talks.groups.items r.top.machine → IsTrue r.still → IsUnderWay r
+under-start r t0 key are talks e0 l ep et ef noted seated begins =
     let p = Pays-start r.earlier.records t0 r.table key r.top.machine e0 l et in
     let none : length t0 ≡ 0 = ap length e0 in
     let one : length r.table ≡ length t0 + 1 = ap length et ∙ length-begun key t0 in
@@ -53,6 +53,7 @@ under-start r t0 key are talks e0 l ep et ef noted seated =
       replays = Replaying-start r.earlier.records t0 r.table key r.top r.stack.items e0 ef l ep et;
       keeps = Keeps-start (λ _. IsKept r.earlier.records) t0 r.table key r.top r.stack.items e0 ep et;
       still = Keeps-start (IsStillAt r.still r.earlier.records) t0 r.table key r.top r.stack.items e0 ep et;
+      told = λ one f. absurd (let z : false ≡ true = sym f ∙ begins in cc);
       seated = seated-start r.earlier r.talks.groups.items r.top.machine r.stack.items ef seated;
       causes = begun-causes r.earlier.records t0 [] key r.top.machine r.table r.causes l et (causes-none r.earlier.records t0 [] e0 refl) noted;
       records = omega (arith, one, none);
@@ -67,6 +68,7 @@ under-heard r m talks u are w = record {
   replays = u.replays;
   keeps = u.keeps;
   still = u.still;
+  told = u.told;
   seated = record { here = seated-grows r.earlier r.talks.groups.items talks.groups.items r.top.machine w u.seated.here; below = all-grow r.earlier r.talks.groups.items talks.groups.items r.stack.items w u.seated.below };
   causes = u.causes;
   records = u.records;
@@ -94,6 +96,7 @@ module _ {S : Type 0} (r now : Replay S) (e : now.earlier ≡ r.earlier) (key : 
         replays = rw e (Replaying-launch _ _ _ _ u.replays _ _ s.on (Launch key map) key map cost cost now.top now.table now.stack.items refl refl refl l k.place k.table k.stack);
         keeps = rw e (Keeps-launch _ _ _ _ u.keeps r.top.machine key map cost now.top now.table now.stack.items k.place k.table k.stack);
         still = rw (e, still) (Keeps-launch _ _ _ _ u.still r.top.machine key map cost now.top now.table now.stack.items k.place k.table k.stack);
+        told = rw (e, still) (λ one f kept. u.told one f (Kept-launch _ _ _ _ r.top.machine key map cost now.top now.table now.stack.items k.place k.table k.stack kept));
         seated = rw e (seated-launch _ _ _ _ _ _ _ grows u.seated.below s.knows seated k.stack);
         causes = rw e (begun-causes _ _ _ _ _ _ _ l k.table u.causes noted);
         records = omega (arith, long, same, dear, few, pend-is);
@@ -123,6 +126,7 @@ module _ {S : Type 0} (r now : Replay S) (e : now.earlier ≡ r.earlier) (call :
         replays = rw (e, k.stack) (Replaying-ask _ _ _ _ u.replays _ _ s.on call cost cost a now.table now.top refl refl k.table k.place takes);
         keeps = rw (e, k.stack) (Keeps-ask _ _ _ _ u.keeps (step cost call a) now.table now.top k.table k.place);
         still = rw (e, still, k.stack) (Keeps-ask _ _ _ _ u.still (step cost call a) now.table now.top k.table k.place);
+        told = rw (e, still, k.stack) (λ one f kept. u.told one f (Kept-ask _ _ _ _ (step cost call a) now.table now.top k.table k.place kept));
         seated = rw (e, k.stack) (record { here = seated; below = all-grow _ _ _ _ grows u.seated.below });
         causes = rw e (Causes-ask _ _ _ _ u.replays _ _ s.on call cost cost a now.table now.top.machine r.causes now.causes refl refl k.table takes u.causes noted);
         records = rw k.stack (omega (arith, long, more, few));
@@ -136,6 +140,10 @@ module _ {S : Type 0} (r now : Replay S) (e : now.earlier ≡ r.earlier) (call :
 
 -- ---- it exits
 
+is-told : (b : Bool) → (IsFalse b → ⊥) → IsTrue b
+is-told true h = refl
+is-told false h = absurd (h refl)
+
 module _ {S : Type 0} (r : Replay S) (status cost : ℕ) (s : HasSaid r (Exits status cost)) where
   exit-pays : (t : List Record) → t ≡ ended r.top.place status cost r.table → Pays r.earlier.records r.table t 0 (live_cost r.top.machine cost) cost
   exit-pays t et = Pays-end _ _ _ _ s.under_way.replays _ _ s.on status cost cost t refl et
@@ -147,10 +155,26 @@ module _ {S : Type 0} (r : Replay S) (status cost : ℕ) (s : HasSaid r (Exits s
   abbrev IsNoted : Bool → Type 0
   IsNoted still = IsTrue still → (r.top.place < length r.earlier.records) × (with_exit (rec_at r.top.place r.table) status cost ≡ rec_at r.top.place r.earlier.records)
 
+  -- and where it isn't, one of them isn't the kept one
+  abbrev IsMissed : Bool → Type 0
+  IsMissed still = HaveOneNumber r.earlier.contents r.earlier.records → IsFalse still → IsFalse r.still ⊎ (¬ IsAsKept r.earlier.records r.top.place (with_exit (rec_at r.top.place r.table) status cost))
+
+  -- since it isn't the kept one, or the last one isn't, whose machine doesn't run then
+  pub missed-by : (last : Bool) → (IsAsKept r.earlier.records r.top.place (with_exit (rec_at r.top.place r.table) status cost) → IsFalse last → IsRunning r.top.machine) → IsFalse r.still ⊎ IsFalse last
+      → IsFalse r.still ⊎ (¬ IsAsKept r.earlier.records r.top.place (with_exit (rec_at r.top.place r.table) status cost))
+  missed-by last runs (inl f) = inl f
+  missed-by last runs (inr f) = inr (λ kept. ended-running _ _ _ _ s.under_way.replays _ _ s.on (runs kept f) status cost kept)
+
+  missed : (still : Bool) → IsMissed still → HaveOneNumber r.earlier.contents r.earlier.records → IsFalse still → Keeps (IsAsKept r.earlier.records) r.table (with_machine s.was r).top r.stack.items × IsAsKept r.earlier.records r.top.place (with_exit (rec_at r.top.place r.table) status cost) → ⊥
+  missed still miss one f kept = elim (miss one f) [
+    | inl was ↦ s.under_way.told one was kept.0
+    | inr last ↦ last kept.1
+  ]
+
   -- and none waited for it
   module _ (now : Replay S) (e : now.earlier ≡ r.earlier) (et : now.table ≡ ended r.top.place status cost r.table) (none : length r.stack.items ≡ 0) where
-    pub ends-exit : now.stack.items ≡ r.stack.items → now.causes ≡ r.causes → (IsTrue now.still → IsTrue r.still) → IsNoted now.still → Ends status cost r now
-    ends-exit ef ec before is =
+    pub ends-exit : now.stack.items ≡ r.stack.items → now.causes ≡ r.causes → (IsTrue now.still → IsTrue r.still) → IsNoted now.still → IsMissed now.still → Ends status cost r now
+    ends-exit ef ec before is miss =
         let u = s.under_way in
         let kept = all-keep _ _ _ _ u.keeps u.replays.here status cost now.table et (ended-kept _ _ _ _ u.replays _ _ s.on status cost cost refl refl) none in
         let less = Keeps-less _ _ _ _ u.still (IsStillAt now.still r.earlier.records) (still-less r.still now.still r.earlier.records before) in
@@ -162,6 +186,7 @@ module _ {S : Type 0} (r : Replay S) (status cost : ℕ) (s : HasSaid r (Exits s
           some = λ z. let here : r.top.place < length r.table = u.replays.here in let long : length now.table ≡ length r.table = ap length et ∙ length-ended r.top.place status cost r.table in let zero : length now.table ≡ 0 = ap length z in omega arith;
           kept = rw e kept;
           still = rw e (λ t j h. still j h t);
+          told = rw e (λ one all. is-told now.still (λ f. missed now.still miss one f (Kept-all _ _ _ _ u.replays.here status cost now.table et all)));
           causes = rw (e, ec) (Causes-end _ _ _ _ u.replays _ _ s.on status cost now.table r.causes et u.causes);
         }
 
@@ -192,8 +217,9 @@ module _ {S : Type 0} (r now : Replay S) (e : now.earlier ≡ r.earlier) (status
 
   pub under-join : now.top.place ≡ f.waiting.place → now.causes ≡ noted r.earlier.records f.waiting.place f.waiting.machine (Joined status) now.top.machine r.causes → (IsTrue now.still → IsTrue r.still)
       → (IsTrue now.still → (r.top.place < length r.earlier.records) × (with_exit (rec_at r.top.place r.table) status cost ≡ rec_at r.top.place r.earlier.records))
+      → IsMissed r status cost s now.still
       → AreTalks r.earlier now.talks → Grows r.talks.groups.items now.talks.groups.items → IsSeated r.earlier now.talks.groups.items now.top.machine → IsUnderWay now
-  under-join place noted before is talks grows seated =
+  under-join place noted before is miss talks grows seated =
       let u = s.under_way in
       let t : List Record = ended r.top.place status cost r.table in
       let long : length now.table ≡ length r.table = ap length et ∙ length-stepped f.waiting.place (step f.cost (Launch f.key f.map) (Joined status)) t ∙ length-ended r.top.place status cost r.table in
@@ -206,6 +232,8 @@ module _ {S : Type 0} (r now : Replay S) (e : now.earlier ≡ r.earlier) (status
         replays = rw e (Replaying-join _ _ _ _ u.replays _ _ s.on status cost cost t now.stack.items f refl refl ef now.table now.top et place takes);
         keeps = rw e (Keeps-join _ _ _ _ u.keeps u.replays.here status cost t refl (ended-kept _ _ _ _ u.replays _ _ s.on status cost cost refl refl) now.stack.items f ef (step f.cost (Launch f.key f.map) (Joined status)) now.table now.top et place);
         still = rw e (Keeps-join _ _ _ _ less u.replays.here status cost t refl is now.stack.items f ef (step f.cost (Launch f.key f.map) (Joined status)) now.table now.top et place);
+        told = rw e (λ one n kept. missed r status cost s now.still miss one n
+            (Kept-join _ _ _ _ u.replays.here status cost t refl now.stack.items f ef (apart-below _ _ _ _ u.replays.asking) (step f.cost (Launch f.key f.map) (Joined status)) now.table now.top et place kept));
         seated = rw e (seated-join _ _ _ _ _ _ _ grows u.seated.below ef seated);
         causes = rw e (Causes-join _ _ _ _ u.replays _ _ s.on status cost cost t now.stack.items f refl refl ef now.table now.top.machine r.causes now.causes et takes u.causes noted);
         records = omega (arith, long, more, few, pend-was);

@@ -1,5 +1,5 @@
 -- Commands that run or are replayed.
-use Rattle.std.specs.Prelude.{◌≡◌, ◌↔◌, ℕ, ◌+◌, ◌≤◌, ◌<◌, Bool, IsTrue, List, [], length, take}
+use Rattle.std.specs.Prelude.{◌≡◌, ◌↔◌, ℕ, ◌<◌, Bool, IsTrue, List, [], length, take}
 use Rattle.rk_calls.specs.declared.answer.Answer.{Answer}
 use Rattle.rk_calls.specs.declared.drive.Spoke.{Spoke}
 use Rattle.rk_calls.specs.declared.drive.Spoke.TheVariants.{Call as Calls, Exit as Exits, Short}
@@ -17,7 +17,6 @@ use Rattle.tr_matching.specs.Matching.{AllSay}
 use Rattle.rk_traces.specs.Spoken.{follow, step_at}
 use Rattle.rk_replay.specs.declared.activity.Activity.{Activity}
 use Rattle.rk_replay.specs.declared.activity.Activity.TheVariants.{Runs, Replays}
-use Rattle.rk_replay.specs.declared.talks.Seat.{Seat}
 use Rattle.rk_replay.specs.Seats.{GoesFurther, IsFirstSeat, IsSeat, answered_with, left_with}
 
 -- what it says from here on, once it is given this answer: a replayed command stands where its machine would
@@ -29,7 +28,8 @@ stands talk first old (Replays seat) a = follow (first (rec_at seat.rec old).key
 abbrev pub waits : {S : Type 0} → (S → Answer → Says) → (KeyValue → Says) → List Record → Activity S → Answer → Says
 waits talk first old (Runs machine) a = talk machine a
 waits talk first old (Replays seat) a =
-    goes_on (step_at seat.place.at (rec_at seat.rec old).steps).cost (follow (first (rec_at seat.rec old).key) (take seat.place.at (rec_at seat.rec old).steps)) a
+    goes_on (step_at seat.place.at (rec_at seat.rec old).steps).cost
+    (follow (first (rec_at seat.rec old).key) (take seat.place.at (rec_at seat.rec old).steps)) a
 
 -- it waits for an answer
 abbrev pub IsWaiting : {S : Type 0} → List Record → Activity S → Type 0

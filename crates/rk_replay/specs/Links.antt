@@ -36,7 +36,8 @@ IsLinked old r (Replays seat) = IsMatched old r seat.rec seat.place.at
 -- the same while it waits for the answer to a call
 abbrev pub IsAsking : {S : Type 0} → List Record → Record → Call → ℕ → Activity S → Type 0
 IsAsking old r call cost (Runs m) = (c : Cause) × (cause_of old r ≡ Some c)
-IsAsking old r call cost (Replays seat) = IsMatched old r seat.rec seat.place.at × AllSay old seat.place.at (Calls call cost) (left_with old seat.rec seat.place.at)
+IsAsking old r call cost (Replays seat) =
+    IsMatched old r seat.rec seat.place.at × AllSay old seat.place.at (Calls call cost) (left_with old seat.rec seat.place.at)
 
 -- each of them stands above this place
 abbrev pub AllOver : {S : Type 0} → ℕ → List (Frame S) → Type 0
@@ -65,9 +66,13 @@ pend fs = sum_by (λ f. f.cost) fs
 abbrev pub IsKept : List Record → Record → Type 0
 IsKept old rec = cause_of old rec ≡ None → IsRecorded old rec
 
--- it is the kept record of its number, where this is told
+-- it is the kept record of its number
+abbrev pub IsAsKept : List Record → ℕ → Record → Type 0
+IsAsKept old i rec = (i < length old) × (rec ≡ rec_at i old)
+
+-- where this is told
 abbrev pub IsStillAt : Bool → List Record → ℕ → Record → Type 0
-IsStillAt still old i rec = IsTrue still → (i < length old) × (rec ≡ rec_at i old)
+IsStillAt still old i rec = IsTrue still → IsAsKept old i rec
 
 -- no waiting command stands at this place
 abbrev pub IsApart : {S : Type 0} → ℕ → List (Frame S) → Type 0

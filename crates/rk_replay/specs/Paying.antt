@@ -1,5 +1,5 @@
 -- Records compared with those of their key.
-use Rattle.std.specs.Prelude.{◌≡◌, ℕ, ◌<◌, List, length, Option, Some, None}
+use Rattle.std.specs.Prelude.{◌≡◌, ℕ, ◌<◌, List, length, None}
 use Rattle.tr_record.specs.declared.records.Record.{Record}
 use Rattle.tr_record.specs.Rec.{rec_at}
 use Rattle.tr_matching.specs.Causes.{first_difference}

@@ -1,6 +1,7 @@
 -- Which commands ran, and why.
-use Rattle.std.specs.Prelude.{◌≡◌, ℕ, ◌<◌, List, length, Option, Some, None, filter_map, sum_by}
+use Rattle.std.specs.Prelude.{◌≡◌, ℕ, ◌<◌, List, length, Option, Some, None, filter_map, slice_index, sum_by}
 use Rattle.tr_record.specs.declared.records.Record.{Record}
+use Rattle.tr_record.specs.Contents.{Recorded}
 use Rattle.tr_record.specs.Places.{places_of}
 use Rattle.tr_record.specs.Rec.{rec_at}
 use Rattle.tr_matching.specs.declared.cause.Cause.{Cause}
@@ -25,6 +26,12 @@ AreKept old table = (i : ℕ) → i < length table → cause_of old (rec_at i ta
 -- each record is the kept one of its number
 abbrev pub AreStill : List Record → List Record → Type 0
 AreStill old table = (i : ℕ) → i < length table → (i < length old) × (rec_at i table ≡ rec_at i old)
+
+-- records with the same steps have one number of their steps
+abbrev pub HaveOneNumber : Recorded → List Record → Type 0
+HaveOneNumber contents old =
+    (i j : ℕ) → i < length old → j < length old → (rec_at i old).steps ≡ (rec_at j old).steps
+    → slice_index contents.heads i ≡ slice_index contents.heads j
 
 abbrev pub ran_for : Record → Option Cause → Option Ran
 ran_for rec None = None

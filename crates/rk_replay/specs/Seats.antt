@@ -8,10 +8,10 @@ use Rattle.tr_record.specs.Places.{places_of}
 use Rattle.tr_record.specs.Rec.{rec_at}
 use Rattle.tr_matching.specs.declared.cause.Cause.TheVariants.{Differs}
 use Rattle.tr_matching.specs.declared.group.Group.{Group}
-use Rattle.tr_matching.specs.declared.place.Place.{Place}
 use Rattle.tr_matching.specs.Earlier.{EarlierRecords}
 use Rattle.tr_matching.specs.Groups.{AreGroups, first_of, group_at, numbers_of}
 use Rattle.tr_matching.specs.Left.{is_answered, left}
+use Rattle.tr_matching.specs.Once.{IsOnce}
 use Rattle.tr_matching.specs.Places.{IsAt, IsBegun}
 use Rattle.tr_matching.specs.Steps.{answer_at, answers_of, step, step_at}
 use Rattle.rk_replay.specs.declared.talks.Lead.{Lead}
@@ -23,16 +23,18 @@ use Rattle.rk_replay.specs.declared.talks.Talks.{Talks}
 abbrev pub left_with : List Record → ℕ → ℕ → List ℕ
 left_with old rec at = left old (answers_of (take at (rec_at rec old).steps)) (places_of (rec_at rec old).key old)
 
--- a command's place is that of the records that are left with one, which is the first of them
+-- a command's place is that of the records that are left with one, which is the first of them; those that did the same count once
 pub record IsSeat (e : EarlierRecords) (groups : List Group) (seat : Seat) : Type 0 where
   pub at : IsAt e groups seat.place
-  pub are : numbers_of (group_at seat.place.group groups) ≡ left_with e.records seat.rec seat.place.at
+  pub are : IsOnce e.records [] (left_with e.records seat.rec seat.place.at) (numbers_of (group_at seat.place.group groups))
   pub first : first_of (group_at seat.place.group groups) ≡ seat.rec
 
--- the group under each key that was launched has the records of that key
+-- the group under each key that was launched has the records of that key, where those that did the same count once
 pub record AreTalks (e : EarlierRecords) (talks : Talks) : Type 0 where
   pub groups : AreGroups e talks.groups.items
-  pub firsts : (key : KeyValue) (g : ℕ) → lookup (same_key key) talks.firsts.entries ≡ Some g → IsBegun e talks.groups.items g × (numbers_of (group_at g talks.groups.items) ≡ places_of key e.records)
+  pub firsts :
+      (key : KeyValue) (g : ℕ) → lookup (same_key key) talks.firsts.entries ≡ Some g
+      → IsBegun e talks.groups.items g × IsOnce e.records [] (places_of key e.records) (numbers_of (group_at g talks.groups.items))
 
 -- a command of a key begins before all records of the key
 abbrev pub IsFirstSeat : List Record → KeyValue → Seat → Type 0
@@ -56,4 +58,5 @@ pub record GoesFurther (old : List Record) (seat : Seat) (a : Answer) (now : Sea
 -- where an answer leads: on with those that were answered so; where none was, to the cause
 abbrev pub Leads : EarlierRecords → List Group → Seat → Answer → Lead → Type 0
 Leads e groups seat a (On now) = IsSeat e groups now × GoesFurther e.records seat a now
-Leads e groups seat a (GivenUp cause) = (answered_with e.records seat a ≡ []) × (cause ≡ Differs (seat.place.at + 1) (answer_at e.records seat.place.at seat.rec) a)
+Leads e groups seat a (GivenUp cause) =
+    (answered_with e.records seat a ≡ []) × (cause ≡ Differs (seat.place.at + 1) (answer_at e.records seat.place.at seat.rec) a)

@@ -1,5 +1,5 @@
 -- A build under way.
-use Rattle.std.specs.Prelude.{◌≡◌, ◌≢◌, ℕ, ◌+◌, ◌≤◌, IsTrue, List, [], ◌∷◌, ◌++◌, length}
+use Rattle.std.specs.Prelude.{◌≡◌, ◌≢◌, ℕ, ◌+◌, ◌≤◌, IsFalse, IsTrue, List, [], ◌∷◌, ◌++◌, length}
 use Rattle.rk_calls.specs.declared.answer.Answer.{Answer}
 use Rattle.rk_calls.specs.declared.answer.Answer.TheVariants.{Joined}
 use Rattle.rk_calls.specs.declared.call.Call.{Call}
@@ -20,8 +20,8 @@ use Rattle.rk_replay.specs.declared.replay.Replay.{Replay}
 use Rattle.rk_replay.specs.declared.talks.Talks.{Talks}
 use Rattle.rk_replay.specs.Activities.{KnowsNext, Speaks_on}
 use Rattle.rk_replay.specs.Causes.{AreCauses}
-use Rattle.rk_replay.specs.Links.{AreSeated, IsKept, IsStillAt, Keeps, Replaying, pend}
-use Rattle.rk_replay.specs.Ran.{AreKept, AreStill, ran_count, ran_total}
+use Rattle.rk_replay.specs.Links.{AreSeated, IsAsKept, IsKept, IsStillAt, Keeps, Replaying, pend}
+use Rattle.rk_replay.specs.Ran.{AreKept, AreStill, HaveOneNumber, ran_count, ran_total}
 use Rattle.rk_replay.specs.Seats.{AreTalks}
 
 -- The command that goes on, those that wait, and what stands in the table, before the next turn: each command under way is linked to
@@ -33,6 +33,7 @@ pub record IsUnderWay {S : Type 0} (r : Replay S) : Type 0 where
   pub replays : Replaying r.earlier.records r.table r.top r.stack.items
   pub keeps : Keeps (λ _. IsKept r.earlier.records) r.table r.top r.stack.items
   pub still : Keeps (IsStillAt r.still r.earlier.records) r.table r.top r.stack.items
+  pub told : HaveOneNumber r.earlier.contents r.earlier.records → IsFalse r.still → ¬ Keeps (IsAsKept r.earlier.records) r.table r.top r.stack.items
   pub seated : AreSeated r.earlier r.talks.groups.items r.top.machine r.stack.items
   pub causes : AreCauses r.earlier.records r.table r.causes
   pub records : length r.table ≤ total r.table + pend r.stack.items + 1
@@ -96,4 +97,5 @@ pub record Ends {S : Type 0} (status cost : ℕ) (was now : Replay S) : Type 0 w
   pub some : now.table ≢ []
   pub kept : AreKept now.earlier.records now.table
   pub still : IsTrue now.still → AreStill now.earlier.records now.table
+  pub told : HaveOneNumber now.earlier.contents now.earlier.records → AreStill now.earlier.records now.table → IsTrue now.still
   pub causes : AreCauses now.earlier.records now.table now.causes

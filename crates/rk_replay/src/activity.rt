@@ -1,5 +1,5 @@
 // Commands that run or are replayed.
-ghost use Rattle.std.specs.Prelude.{◌≡◌, ◌≤◌, ◌<◌, ℕ, length, take, IsTrue, IfOk, IfErr, IfSome, OnOk, OnErr};
+ghost use Rattle.std.specs.Prelude.{◌≡◌, ◌≤◌, ◌<◌, ℕ, length, take, IsFalse, IsTrue, IfOk, IfErr, IfSome, OnOk, OnErr};
 ghost use Rattle.rk_calls.specs.Starts.{one_more};
 ghost use Rattle.rk_calls.specs.declared.answer.Answer.{Answer};
 ghost use Rattle.tr_record.specs.Contents.{AreContents};
@@ -8,8 +8,11 @@ ghost use Rattle.tr_matching.specs.Groups.{Grows};
 ghost use Rattle.rk_traces.specs.Spoken.{Follows};
 ghost use Rattle.rk_traces.specs.Fed.{waits_at};
 ghost use Rattle.rk_traces.specs.Started.{started};
-ghost use Rattle.rk_replay.specs.Activities.{stands, waits, IsAlike, IsSeated, IsWaiting, IsWhole, IsLaunched, KnowsNext, made, Takes, given_up, live_cost};
+ghost use Rattle.rk_replay.specs.Activities.{stands, waits, IsAlike, IsRunning, IsSeated, IsWaiting, IsWhole, IsLaunched, KnowsNext};
+ghost use Rattle.rk_replay.specs.Activities.{made, Takes, given_up, live_cost};
 ghost use Rattle.rk_replay.specs.Causes.{launch_cause, cause_taken};
+ghost use Rattle.rk_replay.specs.Links.{IsAsKept};
+ghost use Rattle.rk_replay.specs.Ran.{HaveOneNumber};
 ghost use Rattle.rk_replay.specs.Seats.{AreTalks};
 ghost use Rattle.rk_replay.specs.Starts.{StartsFor};
 ghost use Rattle.rk_replay.specs.Stops.{IsForged};
@@ -104,7 +107,8 @@ impl<M: Machine> Activity<M> {
         requires talks { AreTalks earlier.now talks.old }
         requires knows { KnowsNext earlier.now talks.old.groups.items self.old }
         requires alike { IfSome alike (λ b. IsAlike earlier.now.records self.old answer.now b) }
-        ensures state { OnOk result (stands M.talk K.first earlier.now.records self.new answer.now ≡ waits M.talk K.first earlier.now.records self.old answer.now) }
+        ensures state { OnOk result (
+            stands M.talk K.first earlier.now.records self.new answer.now ≡ waits M.talk K.first earlier.now.records self.old answer.now) }
         ensures takes { OnOk result (Takes earlier.now.records self.old answer.now self.new) }
         ensures cause { IfOk result (λ cause. cause ≡ cause_taken earlier.now.records self.old answer.now self.new) }
         ensures seated { OnOk result (IsSeated earlier.now talks.new.groups.items self.new) }
@@ -151,7 +155,9 @@ impl<M: Machine> Activity<M> {
     ) -> bool
         requires contents { AreContents earlier.now.contents earlier.now.records }
         requires whole { IsWhole earlier.now.records rec.now self.now }
-        ensures { IsTrue result → (place < length earlier.now.records) × (with_exit rec.now status cost ≡ rec_at place earlier.now.records) }
+        ensures so { IsTrue result → IsAsKept earlier.now.records place (with_exit rec.now status cost) }
+        ensures told { HaveOneNumber earlier.now.contents earlier.now.records → IsAsKept earlier.now.records place (with_exit rec.now status cost) →
+            IsFalse result → IsRunning self.now }
     {
         match self {
             Activity::Runs(_) => false,

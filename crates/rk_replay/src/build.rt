@@ -9,7 +9,7 @@ ghost use Rattle.rk_traces.specs.Own.{total};
 ghost use Rattle.rk_traces.specs.Purse.{left};
 ghost use Rattle.rk_traces.specs.Run.{environment, fresh, Done, Spent};
 ghost use Rattle.rk_traces.specs.Spoken.{AreSpoken};
-ghost use Rattle.rk_replay.specs.Ran.{AreKept, AreStill, ran_of, ran_total};
+ghost use Rattle.rk_replay.specs.Ran.{AreKept, AreStill, HaveOneNumber, ran_of, ran_total};
 ghost use Rattle.rk_replay.specs.Starts.{StartsStopped};
 ghost use Rattle.rk_replay.specs.Stops.{Stops, StaysSo};
 
@@ -56,20 +56,25 @@ pub fn build_with<'a, K: Maker, W: Numbering, L: Ledger>(
 
     // Where the world tells what it means, it ends as the run in which nothing is recorded yet, and leaves the same
     // records.
-    ensures done { IfOk result (λ b. IfSome (W.told world.old) (λ before. IsSomeAnd (W.told world.new) (λ now. AreSpoken K.first (records kept.now) → fresh (environment K.first W.given) (left budget.old) key.now top_refs before ≡ Done now b.status (left budget.new) b.table))) }
+    ensures done { IfOk result (λ b. IfSome (W.told world.old) (λ before. IsSomeAnd (W.told world.new) (λ now.
+        AreSpoken K.first (records kept.now) →
+        fresh (environment K.first W.given) (left budget.old) key.now top_refs before ≡ Done now b.status (left budget.new) b.table))) }
     ensures spoken { IfOk result (λ b. IfSome (W.told world.old) (λ _. AreSpoken K.first (records kept.now) → AreSpoken K.first b.table)) }
-    ensures stops { IfErr result (Stops K.first (records kept.now) (IfSome (W.told world.old) (λ before. fresh (environment K.first W.given) (left budget.old) key.now top_refs before ≡ Spent)) (W.Fails world.old world.new)) }
+    ensures stops { IfErr result (Stops K.first (records kept.now)
+        (IfSome (W.told world.old) (λ before. fresh (environment K.first W.given) (left budget.old) key.now top_refs before ≡ Spent))
+        (W.Fails world.old world.new)) }
 
     // What no call of the world changes; and, unless it stops for a reason of the world's, what its answers leave as it was.
     ensures keeps { W.Keeps world.old world.new }
     ensures world { StaysSo (W.Stays world.old world.new) result }
 
     // Whatever the world and the kept tables: what ran, and why, and what didn't run is recorded; a machine was
-    // started for each that ran, and their costs were counted. Where it stops, no more machines were started than one for each command that ran so far, of which no more
-    // were launched than turns were paid, and one for each record that was looked at.
+    // started for each that ran, and their costs were counted. Where it stops, no more machines were started than one for each
+    // command that ran so far, of which no more were launched than turns were paid, and one for each record that was looked at.
     ensures ran { IfOk result (λ b. b.ran ≡ ran_of (records kept.now) b.table) }
     ensures kept { IfOk result (λ b. AreKept (records kept.now) b.table) }
     ensures still { IfOk result (λ b. IsTrue b.still → AreStill (records kept.now) b.table) }
+    ensures told { IfOk result (λ b. HaveOneNumber contents.now (records kept.now) → AreStill (records kept.now) b.table → IsTrue b.still) }
     ensures some { IfOk result (λ b. b.table ≢ []) }
     ensures starts { IfOk result (λ b. K.starts maker.new ≡ started (length b.ran) (K.starts maker.old)) }
     ensures launched { IfOk result (λ b. length b.table ≤ total b.table + 1) }

@@ -82,7 +82,10 @@ fn is_alike_at<W: Numbering>(
     seen: ContentId,
 ) -> Result<Option<bool>, NoMemory>
     requires { AreKnown (W.contents world.old) known.old.items contents.now.texts }
-    ensures alike { IfOk result (λ it. IfSome it (λ alike. (old : List Record) (rec at : ℕ) (a : Answer) → AreContents contents.now old → at < length (rec_at rec old).steps → IsRest (record { records = old; contents = contents.now }) rec at node → IsContent (W.contents world.old) seen a → IsTrue alike ↔ ((step_at at (rec_at rec old).steps).answer ≡ a))) }
+    ensures alike { IfOk result (λ it. IfSome it (λ alike. (old : List Record) (rec at : ℕ) (a : Answer) →
+        AreContents contents.now old → at < length (rec_at rec old).steps →
+        IsRest (record { records = old; contents = contents.now }) rec at node → IsContent (W.contents world.old) seen a →
+        IsTrue alike ↔ ((step_at at (rec_at rec old).steps).answer ≡ a))) }
     ensures known { OnOk result (AreKnown (W.contents world.new) known.new.items contents.now.texts) }
     ensures told { W.told world.new ≡ W.told world.old }
     ensures keeps { W.Keeps world.old world.new }
@@ -101,8 +104,8 @@ fn is_alike_at<W: Numbering>(
 }
 
 impl<M: Drop> Activity<M> {
-    /// Whether the step that the command waits for is answered as the first record that is left says, told by the numbers of both contents; `None` where
-    /// there are not two.
+    /// Whether the step that the command waits for is answered as the first record that is left says, told by the numbers of both
+    /// contents; `None` where there are not two.
     pub(crate) fn is_alike<W: Numbering>(
         &self,
         world: &mut W,

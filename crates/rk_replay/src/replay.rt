@@ -1,5 +1,6 @@
 // A build under way.
-ghost use Rattle.std.specs.Prelude.{◌≡◌, ◌+◌, ◌<◌, ◌++◌, ◌∷◌, [], true, length, IfOk, IfErr, OnErr, OnOk, IfNone, IfSome, IsTrue, OnSome};
+ghost use Rattle.std.specs.Prelude.{◌≡◌, ◌⊎◌, ◌+◌, ◌<◌, ◌++◌, ◌∷◌, [], true, length};
+ghost use Rattle.std.specs.Prelude.{IfOk, IfErr, OnErr, OnOk, IfNone, IfSome, IsFalse, IsTrue, OnSome};
 ghost use Rattle.std.specs.Option.{IsSomeAnd};
 ghost use Rattle.rk_calls.specs.Given.{Given};
 ghost use Rattle.rk_calls.specs.Heard.{IsPaid, Goes};
@@ -99,6 +100,7 @@ fn tick_steps<L: Ledger>(live: &mut Steps<L>, steps: &StepList)
 fn both(a: bool, b: bool) -> bool
     ensures first { IsTrue result → IsTrue a }
     ensures second { IsTrue result → IsTrue b }
+    ensures either { IsFalse result → IsFalse a ⊎ IsFalse b }
 {
     a && b
 }

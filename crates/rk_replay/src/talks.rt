@@ -6,6 +6,7 @@ ghost use Rattle.tr_record.specs.Contents.{AreContents};
 ghost use Rattle.tr_record.specs.Places.{places_of};
 ghost use Rattle.tr_record.specs.Rec.{rec_at};
 ghost use Rattle.tr_matching.specs.Groups.{Grows, IsKnown, first_of, group_at, numbers_of};
+ghost use Rattle.tr_matching.specs.Once.{IsOnce};
 ghost use Rattle.tr_matching.specs.Places.{IsBegun};
 ghost use Rattle.tr_matching.specs.Steps.{answer_at};
 ghost use Rattle.rk_replay.specs.Seats.{AreTalks, IsFirstSeat, IsSeat, Leads};
@@ -14,7 +15,9 @@ use indexmap::IndexMap;
 use rk_base::NoMemory;
 use rk_calls::{Answer, Key};
 use std::alloc::Global;
-use tr_matching::{Cause, Earlier, Group, Member, Place, Taken, first_group, first_place, take};
+use tr_matching::{
+    Cause, Earlier, Group, Member, Place, Taken, distinct_talks, first_group, first_place, take,
+};
 
 /// Where a replayed command is among the kept records of its key.
 #[derive(Clone, Copy, Debug)]
@@ -38,7 +41,7 @@ pub enum Lead {
 #[derive(Debug, Drop)]
 pub struct Talks {
     pub(crate) groups: Vec<Group>,
-    /// The group that has all records of a key.
+    /// The group that has the records of a key, of which those that did the same count once.
     pub(crate) firsts: IndexMap<Key, usize>,
 }
 
@@ -60,7 +63,8 @@ fn known(firsts: &IndexMap<Key, usize>, key: &Key) -> Option<usize>
 
 // The group of a key is this one.
 fn note(firsts: &mut IndexMap<Key, usize>, key: Key, g: usize) -> Result<(), NoMemory>
-    ensures { OnOk result ((q : KeyValue) → lookup (same_key q) firsts.new.entries ≡ (if same_key key q then Some g else lookup (same_key q) firsts.old.entries)) }
+    ensures { OnOk result ((q : KeyValue) → lookup (same_key q) firsts.new.entries
+        ≡ (if same_key key q then Some g else lookup (same_key q) firsts.old.entries)) }
 {
     firsts.insert(key, g)?;
     Ok(())
@@ -87,14 +91,15 @@ impl Talks {
         group.members.as_slice()
     }
 
-    // All records of a key are one group more; `None` where there are none.
+    // The records of a key, each talk once, are one group more; `None` where there are none.
     fn begin(&mut self, earlier: &Earlier, key: &Key) -> Result<Option<usize>, NoMemory>
         requires talks { AreTalks earlier.now self.old }
         requires contents { AreContents earlier.now.contents earlier.now.records }
         ensures talks { OnOk result (AreTalks earlier.now self.new) }
         ensures grows { OnOk result (Grows self.old.groups.items self.new.groups.items) }
         ensures begun { IfOk result (λ it. IfSome it (IsBegun earlier.now self.new.groups.items)) }
-        ensures are { IfOk result (λ it. IfSome it (λ g. numbers_of (group_at g self.new.groups.items) ≡ places_of key.now earlier.now.records)) }
+        ensures are { IfOk result (λ it. IfSome it (λ g. IsOnce earlier.now.records [] (places_of key.now earlier.now.records)
+            (numbers_of (group_at g self.new.groups.items)))) }
         ensures none { IfOk result (λ it. IfNone it (places_of key.now earlier.now.records ≡ [])) }
     {
         let alloc = *self.groups.allocator();
@@ -103,19 +108,21 @@ impl Talks {
             return Ok(None);
         }
         let key = key.copy()?;
+        let numbers = distinct_talks(alloc, earlier, numbers.as_slice())?;
         let g = first_group(alloc, earlier, &mut self.groups, numbers.as_slice())?;
         note(&mut self.firsts, key, g)?;
         Ok(Some(g))
     }
 
-    // The group that has all records of a key; `None` where there are none.
+    // The group that has the records of a key, each talk once; `None` where there are none.
     fn group(&mut self, earlier: &Earlier, key: &Key) -> Result<Option<usize>, NoMemory>
         requires talks { AreTalks earlier.now self.old }
         requires contents { AreContents earlier.now.contents earlier.now.records }
         ensures talks { OnOk result (AreTalks earlier.now self.new) }
         ensures grows { OnOk result (Grows self.old.groups.items self.new.groups.items) }
         ensures begun { IfOk result (λ it. IfSome it (IsBegun earlier.now self.new.groups.items)) }
-        ensures are { IfOk result (λ it. IfSome it (λ g. numbers_of (group_at g self.new.groups.items) ≡ places_of key.now earlier.now.records)) }
+        ensures are { IfOk result (λ it. IfSome it (λ g. IsOnce earlier.now.records [] (places_of key.now earlier.now.records)
+            (numbers_of (group_at g self.new.groups.items)))) }
         ensures none { IfOk result (λ it. IfNone it (places_of key.now earlier.now.records ≡ [])) }
     {
         match known(&self.firsts, key) {

@@ -1,5 +1,5 @@
 -- Laws of causes.
-use Rattle.std.proofs.Common.{◌≡◌, ℕ, zero, suc, ◌+◌, ◌≤◌, ◌<◌, ◌⊎◌, Bool, true, false, if◌then◌else◌, ltb, List, [], ◌∷◌, ◌++◌, length, take, drop, filter, Option, Some, None, refl, sym, ◌∙◌, ap, subst, arith, inl, inr}
+use Rattle.std.proofs.Common.{◌≡◌, ℕ, zero, suc, ◌+◌, ◌≤◌, ◌<◌, ◌⊎◌, Bool, true, false, if◌then◌else◌, ltb, List, [], ◌∷◌, ◌++◌, length, take, drop, filter, slice_get, Option, Some, None, refl, sym, ◌∙◌, ap, subst, arith, inl, inr, append-nil}
 use Rattle.std.specs.Prelude.{fold}
 use Rattle.std.specs.List.{AllByRecursion as Each}
 use Rattle.std.proofs.lemmas.Bool.{cond-true, cond-false, lt-ltb, le-ltb, cases_Bool, false_from_ne_true}
@@ -143,6 +143,21 @@ module _ (old : List Record) (steps : List Step) where
             let same : filter t numbers ≡ i ∷ rest = sym (cond-false (t j) (j ∷ filter t numbers) (filter t numbers) y) ∙ e in
             recorded (further best (differ j)) t numbers i rest same d
       ]
+
+  -- one of them has no difference
+  found : (best : Option Cause) (numbers : List ℕ) (k i : ℕ) → slice_get numbers k ≡ Some i → differ i ≡ None → furthest best numbers ≡ None
+  found best [] k i h d = absurd cc
+  found best (j ∷ numbers) zero i h d =
+      let e : j ≡ i = cc in
+      ap (λ b. furthest b numbers) (ap (further best) (subst (λ k. differ k ≡ None) (sym e) d) ∙ further-none best) ∙ none-stays numbers
+  found best (j ∷ numbers) (suc k) i h d = found (further best (differ j)) numbers k i h d
+
+-- a record with the very steps is kept
+pub cause-same : (old : List Record) (numbers : List ℕ) (steps : List Step) (k i : ℕ) → slice_get numbers k ≡ Some i → steps ≡ (rec_at i old).steps → cause_among old numbers steps ≡ None
+unfolding cause_among
+cause-same old numbers steps k i h e =
+    found old steps (Some NoRecord) numbers k i h
+    (ap (λ l. first_difference 1 l steps) (sym (append-nil steps ∙ e)) ∙ first_difference-prefix 1 steps [])
 
 -- ---- what a matching tells
 

@@ -1,4 +1,5 @@
 pub mod CauseLemmas
+pub mod DistinctLemmas
 pub mod EachLemmas
 pub mod FilterLemmas
 pub mod GroupLemmas

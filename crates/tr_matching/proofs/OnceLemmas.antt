@@ -1,11 +1,8 @@
 -- Records that count once tell the same cause as all of them.
-use Rattle.std.proofs.Common.{◌≡◌, ◌⊎◌, ℕ, zero, suc, ◌≤◌, ◌<◌, Bool, true, false, cond, ltb, List, [], ◌∷◌, ◌++◌, length, get_or, Option, Some, None, refl, length-append, sym, ◌∙◌, ap, subst, arith, inl, inr}
-use Rattle.std.specs.Prelude.{fold, nat_eq}
-use Rattle.std.specs.Map.{lookup}
+use Rattle.std.proofs.Common.{◌≡◌, ◌≢◌, ◌⊎◌, ℕ, zero, suc, ◌≤◌, ◌<◌, Bool, true, false, cond, ltb, List, [], ◌∷◌, ◌++◌, length, take, filter, get_or, Option, Some, None, refl, sym, ◌∙◌, ap, subst, arith, inl, inr}
+use Rattle.std.specs.Prelude.{fold}
 use Rattle.std.specs.List.{AllByRecursion as Each}
-use Rattle.std.proofs.Math.ListN.{get_or-append}
-use Rattle.std.proofs.Math.Seq.{get_or-append_seam}
-use Rattle.std.proofs.lemmas.Bool.{cond-true, cond-false, ltb-true, ltb-false, le-ltb, cases_Bool, eqb-true}
+use Rattle.std.proofs.lemmas.Bool.{cond-true, cond-false, ltb-true, ltb-false, le-ltb, cases_Bool}
 use Rattle.rk_calls.specs.declared.answer.Answer.{Answer}
 use Rattle.tr_record.specs.declared.records.Record.{Record}
 use Rattle.tr_record.specs.declared.steps.Step.{Step}
@@ -13,9 +10,8 @@ use Rattle.tr_record.specs.Rec.{rec_at}
 use Rattle.tr_matching.specs.declared.cause.Cause.{Cause}
 use Rattle.tr_matching.specs.declared.cause.Cause.TheVariants.{NoRecord, Differs}
 use Rattle.tr_matching.specs.Causes.{first_difference, further_of, further, cause_among}
-use Rattle.tr_matching.specs.Earlier.{EarlierRecords, IsRest}
 use Rattle.tr_matching.specs.Left.{AreTalkAlike}
-use Rattle.tr_matching.specs.Once.{AreNoted, Did, IsOnce}
+use Rattle.tr_matching.specs.Once.{Did, IsOnce}
 use Rattle.tr_matching.proofs.EachLemmas.{each-map}
 
 -- ---- the cause that goes further
@@ -136,41 +132,105 @@ once-left_out old (x ∷ numbers) before kept i (inl o) d = inl (o.0, o.1, once-
     among (inr d) = inr (inr d)
 once-left_out old (x ∷ numbers) before kept i (inr o) d = inr (o.0, once-left_out old numbers before kept i o.1 d)
 
--- one of them by its place
-pub did-at : (old : List Record) (numbers : List ℕ) (k i : ℕ) → k < length numbers → AreTalkAlike (rec_at (get_or numbers k 0) old) (rec_at i old) → Did old numbers i
-did-at old [] k i h alike = absurd (omega arith)
-did-at old (x ∷ numbers) zero i h alike = inl alike
-did-at old (x ∷ numbers) (suc k) i h alike = inr (did-at old numbers k i (omega arith) alike)
+-- ---- what holds of records that did the same
 
--- ---- what is noted of those that are kept
+-- it holds of one of which a kept one did the same
+did-so : (old : List Record) (P : ℕ → Type 0) (before : List ℕ) (i : ℕ) → Each P before → ((j : ℕ) → AreTalkAlike (rec_at j old) (rec_at i old) → P j → P i) → Did old before i → P i
+did-so old P [] i e h d = absurd d
+did-so old P (j ∷ before) i e h (inl alike) = h j alike e.0
+did-so old P (j ∷ before) i e h (inr d) = did-so old P before i e.1 h d
 
-longer-at : (kept : List ℕ) (number place : ℕ) → place < length kept → get_or (kept ++ number ∷ []) place 0 ≡ get_or kept place 0
-longer-at kept number place h = get_or-append kept (number ∷ []) 0 place h
+-- it holds of each where it holds of those that are kept
+once-all : (old : List Record) (P : ℕ → Type 0) (numbers before kept : List ℕ) → ((j i : ℕ) → AreTalkAlike (rec_at j old) (rec_at i old) → P j → P i) → IsOnce old before numbers kept → Each P before → Each P kept → Each P numbers
+once-all old P [] before kept h o b e = tt
+once-all old P (i ∷ numbers) before kept h (inl o) b e =
+    let f : Each P (i ∷ o.0) = subst (Each P) o.1 e in
+    (f.0, once-all old P numbers (i ∷ before) o.0 h o.2 (f.0, b) f.1)
+once-all old P (i ∷ numbers) before kept h (inr o) b e = (did-so old P before i b (λ j. h j i) o.0, once-all old P numbers before kept h o.1 b e)
 
--- one more is kept, and nothing more is noted
-pub noted-longer : (e : EarlierRecords) (noted : List (ℕ × ℕ)) (kept : List ℕ) (number : ℕ) → AreNoted e noted kept → AreNoted e noted (kept ++ number ∷ [])
-noted-longer e noted kept number are head place f =
-    let p = are head place f in
-    ((let x = p.0 in let y = length-append kept (number ∷ []) in omega arith), subst (λ i. IsRest e i 0 head) (sym (longer-at kept number place p.0)) p.1)
+pub once-each : (old : List Record) (P : ℕ → Type 0) (numbers kept : List ℕ) → ((j i : ℕ) → AreTalkAlike (rec_at j old) (rec_at i old) → P j → P i) → IsOnce old [] numbers kept → Each P kept → Each P numbers
+once-each old P numbers kept h o e = once-all old P numbers [] kept h o tt e
 
--- one more is kept, and noted under the number of its steps
-pub noted-more : (e : EarlierRecords) (noted more : List (ℕ × ℕ)) (kept : List ℕ) (number head : ℕ) → AreNoted e noted kept → IsRest e number 0 head
-    → ((q : ℕ) → lookup (nat_eq q) more ≡ cond (nat_eq head q) (Some (length kept)) (lookup (nat_eq q) noted)) → AreNoted e more (kept ++ number ∷ [])
-noted-more e noted more kept number head are rest new q place f = by (nat_eq head q) refl
-  where
-    by : (b : Bool) → nat_eq head q ≡ b → (place < length (kept ++ number ∷ [])) × IsRest e (get_or (kept ++ number ∷ []) place 0) 0 q
-    by true t =
-        let same : head ≡ q = eqb-true head q t in
-        let both : Some (length kept) ≡ Some place = sym (new q ∙ ap (λ b. cond b (Some (length kept)) (lookup (nat_eq q) noted)) t) ∙ f in
-        let here : length kept ≡ place = cc in (
-          (let y = length-append kept (number ∷ []) in omega arith),
-          subst (λ k. IsRest e (get_or (kept ++ number ∷ []) k 0) 0 q) here
-              (subst (λ i. IsRest e i 0 q) (sym (get_or-append_seam kept number [] 0)) (subst (IsRest e number 0) same rest)),
-        )
-    by false t = noted-longer e noted kept number are q place (sym (new q ∙ ap (λ b. cond b (Some (length kept)) (lookup (nat_eq q) noted)) t) ∙ f)
+-- what holds of each holds of those that are kept
+pub once-part : (old : List Record) (P : ℕ → Type 0) (numbers before kept : List ℕ) → IsOnce old before numbers kept → Each P numbers → Each P kept
+once-part old P [] before kept o e = subst (Each P) (sym o) tt
+once-part old P (i ∷ numbers) before kept (inl o) e = subst (Each P) (sym o.1) (e.0, once-part old P numbers (i ∷ before) o.0 o.2 e.1)
+once-part old P (i ∷ numbers) before kept (inr o) e = once-part old P numbers before kept o.1 e.1
 
--- one that is kept has the same number of steps, and exits alike
-pub noted-alike : (e : EarlierRecords) (kept : List ℕ) (place number head : ℕ) → place < length kept → IsRest e (get_or kept place 0) 0 head → IsRest e number 0 head
-    → ((rec_at (get_or kept place 0) e.records).exit ≡ (rec_at number e.records).exit) × ((rec_at (get_or kept place 0) e.records).exit_cost ≡ (rec_at number e.records).exit_cost)
-    → Did e.records kept number
-noted-alike e kept place number head h was now exits = did-at e.records kept place number h (sym was.rest ∙ now.rest, exits.0, exits.1)
+-- ---- the first of them
+
+-- none is kept where there are none, and only there
+pub once-some : (old : List Record) (numbers kept : List ℕ) → IsOnce old [] numbers kept → numbers ≢ [] → kept ≢ []
+once-some old [] kept o ne z = ne refl
+once-some old (i ∷ numbers) kept (inl o) ne z = absurd (let f : [] ≡ i ∷ o.0 = sym z ∙ o.1 in cc)
+once-some old (i ∷ numbers) kept (inr o) ne z = absurd o.0
+
+pub once-none : (old : List Record) (numbers kept : List ℕ) → IsOnce old [] numbers kept → kept ≡ [] → numbers ≡ []
+once-none old [] kept o z = refl
+once-none old (i ∷ numbers) kept (inl o) z = absurd (let f : [] ≡ i ∷ o.0 = sym z ∙ o.1 in cc)
+once-none old (i ∷ numbers) kept (inr o) z = absurd o.0
+
+-- the first that is kept is the first of all
+pub once-first : (old : List Record) (numbers kept : List ℕ) (i : ℕ) (more : List ℕ) → IsOnce old [] numbers kept → kept ≡ i ∷ more → (others : List ℕ) × (numbers ≡ i ∷ others)
+once-first old [] kept i more o z = absurd (let f : [] ≡ i ∷ more = sym o ∙ z in cc)
+once-first old (j ∷ numbers) kept i more (inl o) z =
+    let f : j ∷ o.0 ≡ i ∷ more = sym o.1 ∙ z in
+    (numbers, let e : j ≡ i = cc in ap (λ n. n ∷ numbers) e)
+once-first old (j ∷ numbers) kept i more (inr o) z = absurd o.0
+
+-- ---- those that pass a test
+
+keeps-did : (old : List Record) (t : ℕ → Bool) (before : List ℕ) (i : ℕ) → ((j i : ℕ) → AreTalkAlike (rec_at j old) (rec_at i old) → t j ≡ t i) → t i ≡ true → Did old before i → Did old (filter t before) i
+keeps-did old t [] i h passes d = d
+keeps-did old t (j ∷ before) i h passes (inl alike) = subst (λ b. Did old (cond b (j ∷ filter t before) (filter t before)) i) (sym (h j i alike ∙ passes)) (inl alike)
+keeps-did old t (j ∷ before) i h passes (inr d) =
+    elim (t j) as (λ b. Did old (cond b (j ∷ filter t before) (filter t before)) i) [
+      | true ↦ inr (keeps-did old t before i h passes d)
+      | false ↦ keeps-did old t before i h passes d
+    ]
+
+-- one that isn't kept
+filter-left_out : (old : List Record) (t : ℕ → Bool) (numbers before kept : List ℕ) (i : ℕ) (b : Bool) → (b ≡ true → Did old (filter t before) i) → IsOnce old (filter t before) (filter t numbers) (filter t kept)
+    → IsOnce old (filter t before) (cond b (i ∷ filter t numbers) (filter t numbers)) (filter t kept)
+filter-left_out old t numbers before kept i true d rest = inr (d refl, rest)
+filter-left_out old t numbers before kept i false d rest = rest
+
+-- a test that tells the same of records that did the same
+pub once-filter : (old : List Record) (t : ℕ → Bool) (numbers before kept : List ℕ) → ((j i : ℕ) → AreTalkAlike (rec_at j old) (rec_at i old) → t j ≡ t i) → IsOnce old before numbers kept → IsOnce old (filter t before) (filter t numbers) (filter t kept)
+once-filter old t [] before kept h o = ap (filter t) o
+once-filter old t (i ∷ numbers) before kept h (inl o) =
+    subst (λ l. IsOnce old (filter t before) (filter t (i ∷ numbers)) (filter t l)) (sym o.1)
+    ((elim (t i) as (λ b. IsOnce old (cond b (i ∷ filter t before) (filter t before)) (filter t numbers) (filter t o.0) → IsOnce old (filter t before) (cond b (i ∷ filter t numbers) (filter t numbers)) (cond b (i ∷ filter t o.0) (filter t o.0))) [
+      | true ↦ λ r. inl (filter t o.0, refl, r)
+      | false ↦ λ r. r
+    ]) (once-filter old t numbers (i ∷ before) o.0 h o.2))
+once-filter old t (i ∷ numbers) before kept h (inr o) =
+    filter-left_out old t numbers before kept i (t i) (λ passes. keeps-did old t before i h passes o.0) (once-filter old t numbers before kept h o.1)
+
+-- ---- the first of them of which something doesn't hold
+
+-- a place, and all before it hold
+pub record IsFirstNot (P : ℕ → Type 0) (numbers : List ℕ) (i : ℕ) : Type 0 where
+  pub place : ℕ
+  pub here : place < length numbers
+  pub is : i ≡ get_or numbers place 0
+  pub before : Each P (take place numbers)
+
+not-later : (P : ℕ → Type 0) (numbers : List ℕ) (m i : ℕ) → P m → IsFirstNot P numbers i → IsFirstNot P (m ∷ numbers) i
+not-later P numbers m i p n =
+    let lt : n.place < length numbers = n.here in
+    record { place = suc n.place; here = omega arith; is = n.is; before = (p, n.before) }
+
+not-at : (P : ℕ → Type 0) (numbers rest : List ℕ) (m i : ℕ) → (P m → IsFirstNot P rest i → IsFirstNot P (m ∷ numbers) i) → (k : ℕ) → k < length (m ∷ rest) → i ≡ get_or (m ∷ rest) k 0 → Each P (take k (m ∷ rest)) → IsFirstNot P (m ∷ numbers) i
+not-at P numbers rest m i later zero lt is all = record { place = 0; here = omega arith; is = is; before = tt }
+not-at P numbers rest m i later (suc k) lt is all = later all.0 (record { place = k; here = (let z : suc k < suc (length rest) = lt in omega arith); is = is; before = all.1 })
+
+first-not : (old : List Record) (P : ℕ → Type 0) (numbers before kept : List ℕ) (i : ℕ) → Each (λ m. (j : ℕ) → AreTalkAlike (rec_at j old) (rec_at m old) → P j → P m) numbers → IsOnce old before numbers kept → Each P before → IsFirstNot P kept i → IsFirstNot P numbers i
+first-not old P [] before kept i h o b f = absurd (let z : length kept ≡ 0 = ap length o in let x = f.here in omega arith)
+first-not old P (m ∷ numbers) before kept i h (inl o) b f =
+    not-at P numbers o.0 m i (λ p r. not-later P numbers m i p (first-not old P numbers (m ∷ before) o.0 i h.1 o.2 (p, b) r)) f.place (subst (λ l. f.place < length l) o.1 f.here)
+    (subst (λ l. i ≡ get_or l f.place 0) o.1 f.is) (subst (λ l. Each P (take f.place l)) o.1 f.before)
+first-not old P (m ∷ numbers) before kept i h (inr o) b f = not-later P numbers m i (did-so old P before m b h.0 o.0) (first-not old P numbers before kept i h.1 o.1 b f)
+
+pub once-first_not : (old : List Record) (P : ℕ → Type 0) (numbers kept : List ℕ) (i : ℕ) → Each (λ m. (j : ℕ) → AreTalkAlike (rec_at j old) (rec_at m old) → P j → P m) numbers → IsOnce old [] numbers kept → IsFirstNot P kept i → IsFirstNot P numbers i
+once-first_not old P numbers kept i h o f = first-not old P numbers [] kept i h o tt f

@@ -18,7 +18,13 @@ use Rattle.tr_matching.specs.Answers.{number_of, same_flag, same_kind, same_answ
 abbrev errno_of : ℕ → Errno
 errno_of n =
     if eqb n 0 then NoEntry
-    else if eqb n 1 then NotDir else if eqb n 2 then IsDir else if eqb n 3 then Exists else if eqb n 4 then Denied else if eqb n 5 then Loops else if eqb n 6 then NotEmpty else if eqb n 7 then BadRef else Invalid
+    else if eqb n 1 then NotDir
+    else if eqb n 2 then IsDir
+    else if eqb n 3 then Exists
+    else if eqb n 4 then Denied
+    else if eqb n 5 then Loops
+    else if eqb n 6 then NotEmpty
+    else if eqb n 7 then BadRef else Invalid
 
 numbered : (e : Errno) → errno_of (number_of e) ≡ e
 numbered NoEntry = refl

@@ -1,9 +1,10 @@
 -- Records that count once.
-use Rattle.std.specs.Prelude.{◌≡◌, ◌⊎◌, ℕ, ◌<◌, List, [], ◌∷◌, Some, length, nat_eq, slice_index}
-use Rattle.std.specs.Map.{lookup}
+use Rattle.std.specs.Prelude.{◌≡◌, ◌≢◌, ◌⊎◌, ℕ, List, [], ◌∷◌, slice_index}
+use Rattle.std.specs.List.{AllByRecursion as Each}
 use Rattle.tr_record.specs.declared.records.Record.{Record}
 use Rattle.tr_record.specs.Rec.{rec_at}
-use Rattle.tr_matching.specs.Earlier.{EarlierRecords, IsRest}
+use Rattle.tr_matching.specs.declared.distinct.TalkId.{TalkId}
+use Rattle.tr_matching.specs.Earlier.{EarlierRecords}
 use Rattle.tr_matching.specs.Left.{AreTalkAlike}
 
 -- one of these did what this record did
@@ -18,6 +19,11 @@ IsOnce old before (i ∷ numbers) kept =
     ((rest : List ℕ) × (kept ≡ i ∷ rest) × IsOnce old (i ∷ before) numbers rest)
     ⊎ (Did old before i × IsOnce old before numbers kept)
 
--- under a number of steps stands the place of a record that is kept and has these steps
-abbrev pub AreNoted : EarlierRecords → List (ℕ × ℕ) → List ℕ → Type 0
-AreNoted e noted kept = (head place : ℕ) → lookup (nat_eq head) noted ≡ Some place → (place < length kept) × IsRest e (slice_index kept place) 0 head
+-- what the command of a record did, by numbers: that of all its steps, and how it exits
+abbrev pub talk_of : EarlierRecords → ℕ → TalkId
+talk_of e i = record { head = slice_index e.contents.heads i; exit = (rec_at i e.records).exit; cost = (rec_at i e.records).exit_cost }
+
+-- no two of these did the same, by numbers
+abbrev pub AreApart : EarlierRecords → List ℕ → Type 0
+AreApart e [] = Unit {0}
+AreApart e (i ∷ numbers) = Each (λ j. talk_of e i ≢ talk_of e j) numbers × AreApart e numbers

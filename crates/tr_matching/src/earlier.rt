@@ -1,5 +1,5 @@
 // What is kept of earlier builds.
-ghost use Rattle.std.specs.Prelude.{◌≡◌, ◌+◌, ◌<◌, ◌≤◌, ◌^◌, IfOk, IfSome, IfNone, length};
+ghost use Rattle.std.specs.Prelude.{◌≡◌, ◌+◌, ◌<◌, ◌≤◌, ◌^◌, IfOk, IfSome, IfNone, length, slice_index};
 ghost use Rattle.tr_record.specs.Contents.{AreContents};
 ghost use Rattle.tr_record.specs.Generations.{records};
 ghost use Rattle.tr_record.specs.Places.{places_of};
@@ -65,7 +65,8 @@ impl<'a> Earlier<'a> {
     pub fn head(&self, rec: usize) -> usize
         requires contents { AreContents self.now.contents self.now.records }
         requires in_old { rec < length self.now.records }
-        ensures { IsRest self.now rec 0 result }
+        ensures rest { IsRest self.now rec 0 result }
+        ensures number { result ≡ slice_index self.now.contents.heads rec }
     {
         match self.contents.head(rec) {
             Some(head) => head,

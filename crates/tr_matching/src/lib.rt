@@ -4,6 +4,7 @@
 mod answer_key;
 mod cause;
 mod common;
+mod distinct;
 mod earlier;
 mod first;
 mod group;
@@ -17,6 +18,7 @@ mod place;
 mod talks;
 
 pub use cause::Cause;
+pub use distinct::distinct_talks;
 pub use earlier::Earlier;
 pub use first::{first_group, first_place};
 pub use group::Group;

@@ -27,6 +27,7 @@ turns-init g c =
       under_way = c.in_ok-replay.ensures.under_way;
       goes = told-start _ _ (λ before. Freshing-start _ _ _ _ _ _ _ _ _ _ _ _ _ refl c.in_ok-replay.ensures.place c.in_ok-replay.ensures.refs refl c.in_ok-replay.ensures.table c.in_ok-replay.ensures.says c.in_ok-replay.ensures.stack);
       old = ap (λ (e : EarlierRecords). e.records) (c.in_ok-replay.ensures.earlier ∙ c.new.ensures);
+      from = ap (λ (e : EarlierRecords). e.contents) (c.in_ok-replay.ensures.earlier ∙ c.new.ensures);
       kept = g.met.W.Numbering.keeps_itself _;
       stays = g.met.W.Numbering.stays_itself _;
       known = rw c.in_ok-replay.ensures.known (nothing_known _ _);
@@ -95,6 +96,7 @@ turns-preserved-in-Launch g c =
           l.refs refl (says-since c.turns.replay c.hear.new.self c.launch.new.self c.hear.new.self.top.machine c.hear.new.self.talks c.in_ok-call.ensures.others (λ old. stands g.K.Made.Machine.talk g.K.Maker.first old) _ _ _ c.in_ok-launch-in-Launch.ensures.says) l.place l.table
           l.stack));
       old = ap (λ (x : EarlierRecords). x.records) e ∙ c.turns.invariant.old;
+      from = ap (λ (x : EarlierRecords). x.contents) e ∙ c.turns.invariant.from;
       kept = c.turns.invariant.kept;
       stays = c.turns.invariant.stays;
       known = rw (c.in_ok-launch-in-Launch.ensures.known ∙ ap (λ (r : Replay _). r.known) c.in_ok-call.ensures.others, e) c.turns.invariant.known;
@@ -125,6 +127,7 @@ turns-preserved-in_default g c =
           c.in_default.not-Launch
           (given ∙ ap (λ refs. g.W.Answerer.given now refs c.in-Call.call) (ap (λ (r : Replay _). r.top.refs) c.in_ok-call.ensures.others)) l.table l.place refl (state-since c.turns.replay c.hear.new.self c.answer.new.self c.hear.new.self.top.machine c.hear.new.self.talks c.in_ok-call.ensures.others (λ old. stands g.K.Made.Machine.talk g.K.Maker.first old) (λ old. waits g.K.Made.Machine.talk g.K.Maker.first old) _ _ c.in_ok-answer-in_default.ensures.state)));
       old = ap (λ (x : EarlierRecords). x.records) e ∙ c.turns.invariant.old;
+      from = ap (λ (x : EarlierRecords). x.contents) e ∙ c.turns.invariant.from;
       kept = g.met.W.Numbering.keeps_on _ _ _ c.turns.invariant.kept c.in_ok-answer-in_default.ensures.keeps;
       stays = g.met.W.Numbering.stays_on _ _ _ c.turns.invariant.stays c.in_ok-answer-in_default.ensures.stays;
       known = c.in_ok-answer-in_default.ensures.known;
@@ -146,6 +149,7 @@ returns-in_err-answer-in_default g c =
       spoken = rw p.1 tt;
       kept = rw p.1 tt;
       still = rw p.1 tt;
+      told = rw p.1 tt;
       some = rw p.1 tt;
       stops = rw (p.1, p.2, ← old) (stops-since _ _ _ _ _ (λ reason h. g.met.W.Numbering.fails_on _ _ _ reason c.turns.invariant.stays h) _ c.in_err-answer-in_default.ensures.stops);
       ran = rw p.1 tt;
@@ -193,6 +197,7 @@ turns-preserved g c =
           _ _ _ _ _ _ _ _ _ c.in-Exit.is c.pay-cost-in-Exit.ensures.cost (omega arith) refl l.stack
           l.table l.place l.refs l.state));
       old = ap (λ (x : EarlierRecords). x.records) e ∙ c.turns.invariant.old;
+      from = ap (λ (x : EarlierRecords). x.contents) e ∙ c.turns.invariant.from;
       kept = c.turns.invariant.kept;
       stays = c.turns.invariant.stays;
       known = rw (c.in_ok-joined-in-Exit.ensures.known ∙ ap (λ (r : Replay _). r.known) c.in_ok-call.ensures.others, e) c.turns.invariant.known;
@@ -237,6 +242,13 @@ pub returns-in-None-clause-still : goal.returns-in-None-clause-still
 returns-in-None-clause-still g c =
     let old = ap (λ (x : EarlierRecords). x.records) (earlier-since c.turns.replay c.hear.new.self c.exit.new.self c.hear.new.self.top.machine c.hear.new.self.talks c.in_ok-call.ensures.others c.in_ok-joined-in-Exit.ensures.earlier) ∙ c.turns.invariant.old in
     rw (c.in_ok-table-in-None.ensures.table, c.in_ok-table-in-None.ensures.still, ← old) (of-none _ _ c.in-None.is c.in_ok-joined-in-Exit.ensures.ends).still
+
+pub returns-in-None-clause-told : goal.returns-in-None-clause-told
+returns-in-None-clause-told g c =
+    let e = earlier-since c.turns.replay c.hear.new.self c.exit.new.self c.hear.new.self.top.machine c.hear.new.self.talks c.in_ok-call.ensures.others c.in_ok-joined-in-Exit.ensures.earlier in
+    let old = ap (λ (x : EarlierRecords). x.records) e ∙ c.turns.invariant.old in
+    let from = ap (λ (x : EarlierRecords). x.contents) e ∙ c.turns.invariant.from in
+    rw (c.in_ok-table-in-None.ensures.table, c.in_ok-table-in-None.ensures.still, ← old, ← from) (of-none _ _ c.in-None.is c.in_ok-joined-in-Exit.ensures.ends).told
 
 pub returns-in-None-clause-some : goal.returns-in-None-clause-some
 returns-in-None-clause-some g c = rw c.in_ok-table-in-None.ensures.table (of-none _ _ c.in-None.is c.in_ok-joined-in-Exit.ensures.ends).some

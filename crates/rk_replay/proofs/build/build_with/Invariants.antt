@@ -23,6 +23,7 @@ invariant-turns g l =
       under_way : IsUnderWay l.replay;
       goes : Told (g.W.Answerer.told l.fn.world) (g.W.Answerer.told l.world) (λ before now. Freshing (AreSpoken g.K.Maker.first old) (stands g.K.Made.Machine.talk g.K.Maker.first old) (waits g.K.Made.Machine.talk g.K.Maker.first old) a (fresh a (left l.fn.budget) l.fn.key top_refs before) (left l.budget) l.replay.top l.answer now l.replay.table l.replay.stack.items);
       old : l.replay.earlier.records ≡ records l.fn.kept;
+      from : l.replay.earlier.contents ≡ l.fn.contents;
       kept : g.W.Numbering.Keeps l.fn.world l.world;
       stays : g.W.Numbering.Stays l.fn.world l.world;
       known : AreKnown (g.W.Numbering.contents l.world) l.replay.known.items l.replay.earlier.contents.texts;

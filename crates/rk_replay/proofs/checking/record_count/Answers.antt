@@ -1,4 +1,4 @@
-use Rattle.std.proofs.Common.{◌≡◌, ◌+◌, ◌<◌, ◌≤◌, ◌∙◌, length, Some, None, ap, sym, refl, arith}
+use Rattle.std.proofs.Common.{◌≡◌, ◌+◌, ◌∙◌, Some, None, ap, sym, arith}
 use Rattle.std.specs.Option.{option_copied}
 use Rattle.tr_nodes.proofs.GetLemmas.{get_some}
 use Rattle.rk_replay.proofs.PaidLemmas.{count-all, count-next}

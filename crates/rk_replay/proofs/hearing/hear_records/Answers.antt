@@ -3,9 +3,9 @@ use Rattle.tr_matching.specs.Groups.{numbers_in, numbers_of, group_at}
 use Rattle.tr_matching.specs.Places.{IsNext}
 use Rattle.rk_traces.specs.Lasting.{all-last}
 use Rattle.rk_replay.specs.Taking.{AreTornLeft, IsFirstForged}
-use Rattle.rk_replay.proofs.HearingLemmas.{heard-call, heard-call_short, heard-exit, heard-exit_short}
+use Rattle.rk_replay.proofs.HearingLemmas.{heard-call, heard-call_short, heard-exit, heard-exit_short, says-call, says-exit}
 use Rattle.rk_replay.proofs.SeatLemmas.{talks-same}
-use Rattle.rk_replay.proofs.TornLemmas.{seat-torn}
+use Rattle.rk_replay.proofs.TornLemmas.{seat-torn, told-once}
 use Rattle.rk_replay.proofs.hearing.hear_records.Goals as goal
 
 pub returns-then-cost-purse-clause-spoke : goal.returns-then-cost-purse-clause-spoke
@@ -52,5 +52,14 @@ torn-requires g c =
 
 pub returns-in-Torn-clause-first : goal.returns-in-Torn-clause-first
 returns-in-Torn-clause-first g c =
-    subst (λ l. IsFirstForged g.K.Maker.first c.args.earlier.now.records c.args.seat.place.at l c.torn.result)
-    (ap numbers_in c.members-members.ensures ∙ c.next_from.ensures.grows.same c.args.seat.place.group c.requires.seat.at.here ∙ c.requires.seat.are) c.torn.ensures.first
+    told-once g.K.Maker.first c.args.earlier.now.records c.args.seat.place.at c.args.seat.rec (numbers_of (group_at c.args.seat.place.group c.args.talks.now.groups.items)) c.requires.seat.are c.torn.result
+    (subst (λ l. IsFirstForged g.K.Maker.first c.args.earlier.now.records c.args.seat.place.at l c.torn.result)
+    (ap numbers_in c.members-members.ensures ∙ c.next_from.ensures.grows.same c.args.seat.place.group c.requires.seat.at.here) c.torn.ensures.first)
+
+pub returns-else-cost-purse-clause-next : goal.returns-else-cost-purse-clause-next
+returns-else-cost-purse-clause-next g c =
+    says-call c.args.earlier.now c.args.talks.now.groups.items c.args.seat c.requires.talks.groups c.requires.seat c.in_ok-call.field-0 c.in-Asks.call c.in-Asks.cost c.in_ok-call.ensures.next c.in-Asks.is
+
+pub returns-else-cost-purse-2-clause-next : goal.returns-else-cost-purse-2-clause-next
+returns-else-cost-purse-2-clause-next g c =
+    says-exit c.args.earlier.now c.args.talks.now.groups.items c.args.seat c.requires.talks.groups c.requires.seat c.in_ok-call.field-0 c.in-Ends.status c.in-Ends.cost c.in_ok-call.ensures.next c.in-Ends.is

@@ -1,9 +1,7 @@
-use Rattle.std.proofs.Common.{◌∙◌, ◌≡◌, ap, sym, subst}
+use Rattle.std.proofs.Common.{◌∙◌, ap, sym}
 use Rattle.tr_record.specs.declared.records.Record.{Record}
-use Rattle.tr_record.specs.Rec.{rec_at}
 use Rattle.tr_matching.proofs.NumberLemmas.{number-there}
 use Rattle.tr_matching.specs.Causes.{first_difference}
-use Rattle.rk_traces.specs.Differences.{AnswerAlike, IsFirstDifference}
 use Rattle.rk_replay.proofs.PaidLemmas.{first_difference-none, has-other, less-all, less-more, less-none}
 use Rattle.rk_replay.proofs.paying.all_differ.Goals as goal
 

@@ -1,5 +1,4 @@
-use Rattle.std.proofs.Common.{◌≡◌, ◌<◌, ◌≤◌, ◌∙◌, length, Some, None, IsTrue, ap, sym, arith, rules}
-use Rattle.std.specs.Prelude.{IsFalse}
+use Rattle.std.proofs.Common.{◌≡◌, ◌∙◌, Some, None, ap, sym, arith, rules}
 use Rattle.std.specs.Option.{option_copied}
 use Rattle.tr_nodes.proofs.GetLemmas.{get_some}
 use Rattle.tr_record.specs.Generations.{records}

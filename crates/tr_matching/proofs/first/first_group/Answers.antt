@@ -29,7 +29,7 @@ returns-clause-begun c =
     let it : Group = record { members = c.in_ok-members.members; alike = 0; agreed = false; start = c.head-start.result; from = 0; parted = false; parts = c.new-parts.result } in
     let here : c.len-g.result ≡ length c.args.groups.now.items = first_of (search rules, omega (arith, c.len-g.ensures, c.args.groups.now.ok.0)) in
     first-begun c.args.earlier.now c.args.groups.now.items c.push.new.self.items it c.len-g.result c.in_ok-push.ensures.items here
-    (subst (λ i. IsRest c.args.earlier.now i 0 c.head-start.result) c.first.ensures c.head-start.ensures)
+    (subst (λ i. IsRest c.args.earlier.now i 0 c.head-start.result) c.first.ensures c.head-start.ensures.rest)
 
 pub returns-clause-all : goal.returns-clause-all
 returns-clause-all c =

@@ -19,5 +19,5 @@ numbers-preserved c =
           ∙ sym (take_more c.args.numbers.now c.numbers.k 0 c.numbers-test.true);
       members =
           subst (AreMembers c.args.earlier.now 0) (sym c.in_ok-push.ensures)
-          (each-push (IsMember c.args.earlier.now 0) c.numbers.members m c.numbers.invariant.members (record { here = here; within = omega arith; rest = c.head-rest.ensures }));
+          (each-push (IsMember c.args.earlier.now 0) c.numbers.members m c.numbers.invariant.members (record { here = here; within = omega arith; rest = c.head-rest.ensures.rest }));
     }

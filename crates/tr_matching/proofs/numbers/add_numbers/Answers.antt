@@ -1,4 +1,4 @@
-use Rattle.std.proofs.Common.{◌≡◌, ◌≢◌, ℕ, ◌+◌, ◌++◌, ◌∷◌, [], ◌<◌, List, length, take, Some, refl, sym, ◌∙◌, ap, subst, append_assoc}
+use Rattle.std.proofs.Common.{ℕ, ◌++◌, ◌∷◌, [], List, take, sym, ◌∙◌, ap, append_assoc}
 use Rattle.tr_record.specs.Places.{places_from}
 use Rattle.tr_matching.proofs.NumberLemmas.{number-next, number-there, numbers-all}
 use Rattle.tr_matching.proofs.numbers.add_numbers.Goals as goal

@@ -1,5 +1,7 @@
-use Rattle.std.proofs.Common.{◌+◌, sym, ◌∙◌, ap, List}
+use Rattle.std.proofs.Common.{◌+◌, sym, ◌∙◌, ap, subst, List}
 use Rattle.std.proofs.lemmas.Result.{err_from_is_err_and}
+use Rattle.rk_content.specs.Contents.{AreKnown}
+use Rattle.tr_record.specs.Contents.{Recorded}
 use Rattle.tr_record.specs.declared.records.Record.{Record}
 use Rattle.tr_record.specs.Rec.{rec_at}
 use Rattle.rk_traces.specs.Places.{length-stepped}
@@ -45,3 +47,8 @@ returns-clause-paid g c =
     paid-answer c.args.self.now c.settle.new.self (ap (λ (r : Replay _). r.earlier) o) c.args.call c.args.cost c.in-Ok.given.0 c.requires.said
     (record { table = ap (λ (r : Replay _). r.table) o ∙ c.in-Ok.ensures.table; place = ap (λ (r : Replay _). r.top.place) o; stack = ap (λ (r : Replay _). r.stack.items) o })
     c.in_ok-settle.ensures.takes
+
+pub returns-clause-known : goal.returns-clause-known
+returns-clause-known g c =
+    subst (λ (r : Replay _). AreKnown (g.W.Numbering.contents c.is_alike.new.world) r.known.items r.earlier.contents.texts) (sym c.in_ok-settle.ensures.others)
+    (subst (λ (x : Recorded). AreKnown (g.W.Numbering.contents c.is_alike.new.world) c.is_alike.new.known.items x.texts) c.contents-contents.ensures c.in_ok-alike.ensures.known)

@@ -1,4 +1,4 @@
-use Rattle.std.proofs.Common.{◌≡◌, ◌+◌, ◌++◌, ◌∷◌, [], length, arith, refl, sym, ◌∙◌, ap, subst, append-nil, IsTrue}
+use Rattle.std.proofs.Common.{◌≡◌, ◌+◌, ◌++◌, ◌∷◌, [], length, arith, refl, sym, ◌∙◌, ap, subst, append-nil, IsFalse, IsTrue}
 use Rattle.rk_calls.specs.declared.answer.Answer.TheVariants.{Joined}
 use Rattle.rk_calls.specs.declared.call.Call.TheVariants.{Launch}
 use Rattle.tr_record.specs.declared.records.Record.{Record}
@@ -8,7 +8,7 @@ use Rattle.rk_replay.specs.declared.replay.Replay.{Replay}
 use Rattle.rk_replay.specs.Activities.{IsWhole}
 use Rattle.rk_replay.specs.Links.{pend}
 use Rattle.rk_replay.proofs.Replaying.{Whole-end}
-use Rattle.rk_replay.proofs.Turning.{exit-waiting, exit-knows, exit-place, exit-noted, ends-exit, counted-ends, exit-total, under-join, counted-join, paid-join}
+use Rattle.rk_replay.proofs.Turning.{exit-waiting, exit-knows, exit-place, exit-noted, ends-exit, counted-ends, exit-total, missed-by, under-join, counted-join, paid-join}
 use Rattle.rk_replay.proofs.replay.Replay.exit.Goals as goal
 
 pub is_still-still-requires-clause-contents : goal.is_still-still-requires-clause-contents
@@ -40,7 +40,8 @@ pub returns-in-None-clause-ends : goal.returns-in-None-clause-ends
 returns-in-None-clause-ends g c =
     let z : length c.args.self.now.stack.items ≡ 0 = omega (arith, c.in-None.ensures.cases.0, c.args.self.now.stack.ok.0) in
     ends-exit _ _ _ c.requires _ refl (c.end.ensures ∙ ap (λ t. ended c.args.self.now.top.place c.args.status c.args.cost t) c.hand_on.ensures) z (sym (c.in-None.ensures.items ∙ append-nil _)) refl c.both-self.ensures.first
-    (λ t. let h = c.is_still-still.ensures (c.both-self.ensures.second t) in (h.0, ap (λ (r : Record). with_exit r c.args.status c.args.cost) (sym c.at-rec.ensures) ∙ h.1))
+    (λ t. let h = c.is_still-still.ensures.so (c.both-self.ensures.second t) in (h.0, ap (λ (r : Record). with_exit r c.args.status c.args.cost) (sym c.at-rec.ensures) ∙ h.1))
+    (λ one f. missed-by c.args.self.now c.args.status c.args.cost c.requires c.is_still-still.result (λ k r. c.is_still-still.ensures.told one (k.0, ap (λ (r : Record). with_exit r c.args.status c.args.cost) c.at-rec.ensures ∙ k.1) r) (c.both-self.ensures.either f))
 
 pub returns-in-None-clause-counted : goal.returns-in-None-clause-counted
 returns-in-None-clause-counted g c =
@@ -64,7 +65,8 @@ returns-in_ok-join-in-Some-clause-under_way g c =
     (ap (λ (r : Replay _). r.table) o ∙ ap (stepped f.waiting.place (step f.cost (Launch f.key f.map) (Joined c.args.status))) et)
     c.in_ok-join-in-Some.ensures.takes (ap (λ (r : Replay _). r.top.place) o) (ap (λ (r : Replay _). r.causes) o)
     (λ t. c.both-self.ensures.first (subst (λ (r : Replay _). IsTrue r.still) o t))
-    (λ q. let t = subst (λ (r : Replay _). IsTrue r.still) o q in let h = c.is_still-still.ensures (c.both-self.ensures.second t) in (h.0, ap (λ (r : Record). with_exit r c.args.status c.args.cost) (sym c.at-rec.ensures) ∙ h.1)) c.in_ok-join-in-Some.ensures.talks c.in_ok-join-in-Some.ensures.grows c.in_ok-join-in-Some.ensures.seated
+    (λ q. let t = subst (λ (r : Replay _). IsTrue r.still) o q in let h = c.is_still-still.ensures.so (c.both-self.ensures.second t) in (h.0, ap (λ (r : Record). with_exit r c.args.status c.args.cost) (sym c.at-rec.ensures) ∙ h.1))
+    (λ one n. let f = subst (λ (r : Replay _). IsFalse r.still) o n in missed-by c.args.self.now c.args.status c.args.cost c.requires c.is_still-still.result (λ k r. c.is_still-still.ensures.told one (k.0, ap (λ (r : Record). with_exit r c.args.status c.args.cost) c.at-rec.ensures ∙ k.1) r) (c.both-self.ensures.either f)) c.in_ok-join-in-Some.ensures.talks c.in_ok-join-in-Some.ensures.grows c.in_ok-join-in-Some.ensures.seated
 
 pub returns-in_ok-join-in-Some-clause-counted : goal.returns-in_ok-join-in-Some-clause-counted
 returns-in_ok-join-in-Some-clause-counted g c =

@@ -1,4 +1,4 @@
-use Rattle.std.proofs.Common.{◌++◌, ◌∷◌, [], ◌∙◌, ap}
+use Rattle.std.proofs.Common.{◌++◌, ◌∷◌, [], ◌∙◌, ap, refl}
 use Rattle.rk_replay.specs.Causes.{launch_cause}
 use Rattle.rk_replay.proofs.Replaying.{Pays-start, starts-first}
 use Rattle.rk_replay.proofs.SeatLemmas.{talks-none}
@@ -19,7 +19,7 @@ returns-clause-says g c = rw c.in_ok-top.ensures.machine c.in_ok-machine.ensures
 pub returns-clause-under_way : goal.returns-clause-under_way
 returns-clause-under_way g c =
     under-start _ _ _ c.requires c.in_ok-machine.ensures.talks c.new-table.ensures (rw c.in_ok-top.ensures.machine c.in_ok-machine.ensures.launched) c.in_ok-top.ensures.place c.in_ok-top.ensures.table c.new-2.ensures.items
-    (rw c.in_ok-top.ensures.machine (c.in_ok-top.ensures.noted ∙ ap (λ cs. cs ++ launch_cause c.in_ok-machine.machine ∷ []) c.new-causes.ensures)) (rw c.in_ok-top.ensures.machine c.in_ok-machine.ensures.seated)
+    (rw c.in_ok-top.ensures.machine (c.in_ok-top.ensures.noted ∙ ap (λ cs. cs ++ launch_cause c.in_ok-machine.machine ∷ []) c.new-causes.ensures)) (rw c.in_ok-top.ensures.machine c.in_ok-machine.ensures.seated) refl
 
 pub returns-clause-starts : goal.returns-clause-starts
 returns-clause-starts g c = starts-first _ _ _ _ c.in_ok-machine.ensures.starts (Pays-start _ _ _ _ _ c.new-table.ensures c.in_ok-machine.ensures.launched c.in_ok-top.ensures.table).0
