@@ -4,10 +4,10 @@ use Rattle.std.specs.Prelude.{◌==◌}
 use Rattle.std.proofs.lemmas.Bool.Decides.{eqb_tells}
 use Rattle.rk_waves.specs.System.{System, IsLawful}
 use Rattle.rk_waves.specs.Goes.{Told, Goes}
-use Rattle.rk_waves.specs.Waves.{Move, Placed, Each, own, moves_in, moves_of, placed, InWaves}
+use Rattle.rk_waves.specs.Waves.{Move, Placed, Each, own, moves_in, moves_of, placed, InWaves, InWavesApart}
 use Rattle.rk_waves.proofs.Listing.{Rising, each-join, filter-here, filter-there}
 use Rattle.rk_waves.proofs.Sorting.{Waved, MayComeAfter, goes-sorted}
-use Rattle.rk_waves.proofs.PlacedLemmas.{waved-placed, all-from_one, tolds-placed}
+use Rattle.rk_waves.proofs.PlacedLemmas.{waved-apart, placed-apart, all-from_one, tolds-placed}
 use Rattle.rk_waves.proofs.Rounds.{rising-rounds, keeps-rounds}
 
 each-move : {T : Type 0} (P : ℕ → Type 0) (qs : List (Placed T)) → Each (λ q. P q.wave) qs → Each (λ m. P m.wave) (moves_of qs)
@@ -38,9 +38,14 @@ module _ {World Step Cell Value Answer : Type 0} (g : System World Step Cell Val
             | inr e ↦ subst (Each (λ n. m.wave ≤ n.wave)) (sym (filter-there (λ x. x.owner == m.owner) n ns e.0)) (own-later ns k.1)
           ]
 
+  pub in-waves-apart : InWavesApart g
+  in-waves-apart start end run order k apart ones most goes keeps =
+      let waved : Waved g (moves_of run) = waved-apart g run apart in
+      goes-sorted g law (moves_of run) _ start end waved (rising-rounds (moves_of run) order keeps k)
+      (keeps-rounds (moves_of run) order keeps (own-rising (moves_of run) waved) (each-move (λ n. 1 ≤ n) run ones) k (each-move (λ n. n ≤ k) run most))
+      goes
+
   pub in-waves : InWaves g
   in-waves start end run order k goes keeps most =
-      goes-sorted g law (moves_of (placed g run)) _ start end (waved-placed g run) (rising-rounds (moves_of (placed g run)) order keeps k)
-      (keeps-rounds (moves_of (placed g run)) order keeps (own-rising (moves_of (placed g run)) (waved-placed g run))
-      (each-move (λ n. 1 ≤ n) (placed g run) (all-from_one g [] run)) k (each-move (λ n. n ≤ k) (placed g run) most))
-      (subst (λ l. Goes g start l end) (sym (tolds-placed g [] run)) goes)
+      in-waves-apart start end (placed g run) order k (placed-apart g run) (all-from_one g [] run) most
+      (subst (λ l. Goes g start l end) (sym (tolds-placed g [] run)) goes) keeps

@@ -7,13 +7,13 @@ use Rattle.rk_waves.specs.Programs.{Cell, One, All, Update, Program, Reads, Ends
 use Rattle.rk_waves.specs.Programs.{end_of, gathers_all, by_cells}
 
 module _ {World Step Plain Group Value Answer : Type 0} (it : Programmed World Step Plain Group Value Answer) where
-  cell-is : (c d : Cell Plain Group) → is_cell it.cells c d ≡ true → c ≡ d
+  pub cell-is : (c d : Cell Plain Group) → is_cell it.cells c d ≡ true → c ≡ d
   cell-is (One p) (One q) e = ap One (it.cells.plain_is p q e)
   cell-is (One p) (All d) e = absurd (true≢false (sym e))
   cell-is (All c) (One q) e = absurd (true≢false (sym e))
   cell-is (All c) (All d) e = ap All (it.cells.group_is c d e)
 
-  cell-self : (c : Cell Plain Group) → is_cell it.cells c c ≡ true
+  pub cell-self : (c : Cell Plain Group) → is_cell it.cells c c ≡ true
   cell-self (One p) = it.cells.plain_self p
   cell-self (All d) = it.cells.group_self d
 

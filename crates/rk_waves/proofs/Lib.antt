@@ -9,3 +9,7 @@ pub mod GreatestLemmas
 pub mod LeastLemmas
 pub mod NotedLemmas
 pub mod NumberedLemmas
+pub mod CellLemmas
+pub mod PieceLemmas
+pub mod ListedLemmas
+pub mod CoverLemmas

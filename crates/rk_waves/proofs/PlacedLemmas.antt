@@ -4,7 +4,7 @@ use Rattle.std.proofs.lemmas.Bool.Decides.{eqb_tells}
 use Rattle.rk_waves.specs.System.{System, conflict}
 use Rattle.rk_waves.specs.Goes.{Told}
 use Rattle.rk_waves.specs.Waves.{Piece, Placed, Move, Follows, Each, steps_of, moves_in, moves_of, tolds, step_conflicts, steps_conflict, MayFollow, IsWave}
-use Rattle.rk_waves.specs.Waves.{bound, wave_of, placed_after}
+use Rattle.rk_waves.specs.Waves.{Apart, AreApart, bound, wave_of, placed_after}
 use Rattle.rk_waves.specs.Tests.{either, or-left, or-right}
 use Rattle.rk_waves.proofs.Listing.{In, each-in, each-join}
 use Rattle.rk_waves.proofs.Sorting.{MayComeAfter, Waved}
@@ -70,16 +70,9 @@ module _ {World Step Cell Value Answer : Type 0} (g : System World Step Cell Val
 
   -- Pieces one after another.
 
-  abbrev After : Placed (Told Step Cell Answer) → Placed (Told Step Cell Answer) → Type 0
-  After q r = MayFollow g r.piece r.wave q
-
-  abbrev AllAfter : List (Placed (Told Step Cell Answer)) → Type 0
-  AllAfter [] = Unit {0}
-  AllAfter (q ∷ qs) = Each (After q) qs × AllAfter qs
-
   later-follow :
       (earlier : List (Placed (Told Step Cell Answer))) (ps : List (Piece (Told Step Cell Answer))) (q : Placed (Told Step Cell Answer)) → In q earlier
-      → Each (After q) (placed_after g earlier ps)
+      → Each (Apart g q) (placed_after g earlier ps)
   unfolding placed_after
   later-follow earlier [] q i = tt
   later-follow earlier (p ∷ ps) q i = (
@@ -87,7 +80,7 @@ module _ {World Step Cell Value Answer : Type 0} (g : System World Step Cell Val
     later-follow (record { wave = wave_of g earlier p; piece = p } ∷ earlier) ps q (inr i),
   )
 
-  all-after : (earlier : List (Placed (Told Step Cell Answer))) (ps : List (Piece (Told Step Cell Answer))) → AllAfter (placed_after g earlier ps)
+  all-after : (earlier : List (Placed (Told Step Cell Answer))) (ps : List (Piece (Told Step Cell Answer))) → AreApart g (placed_after g earlier ps)
   unfolding placed_after
   all-after earlier [] = tt
   all-after earlier (p ∷ ps) =
@@ -126,7 +119,7 @@ module _ {World Step Cell Value Answer : Type 0} (g : System World Step Cell Val
   )
 
   across :
-      (q : Placed (Told Step Cell Answer)) (t : Told Step Cell Answer) (rs : List (Placed (Told Step Cell Answer))) → Each (After q) rs
+      (q : Placed (Told Step Cell Answer)) (t : Told Step Cell Answer) (rs : List (Placed (Told Step Cell Answer))) → Each (Apart g q) rs
       → ((us : List (Told Step Cell Answer)) → step_conflicts g t us ≡ true → steps_conflict g q.piece.steps us ≡ true)
       → Each (MayComeAfter g (record { wave = q.wave; owner = q.piece.owner; told = t })) (moves_of rs)
   across q t [] h k = tt
@@ -137,21 +130,21 @@ module _ {World Step Cell Value Answer : Type 0} (g : System World Step Cell Val
       (across q t rs h.1 k)
 
   all-across :
-      (q : Placed (Told Step Cell Answer)) (rs : List (Placed (Told Step Cell Answer))) → Each (After q) rs → (ts : List (Told Step Cell Answer))
+      (q : Placed (Told Step Cell Answer)) (rs : List (Placed (Told Step Cell Answer))) → Each (Apart g q) rs → (ts : List (Told Step Cell Answer))
       → ((us : List (Told Step Cell Answer)) → steps_conflict g ts us ≡ true → steps_conflict g q.piece.steps us ≡ true)
       → Each (λ m. Each (MayComeAfter g m) (moves_of rs)) (moves_in q.wave q.piece.owner ts)
   all-across q rs h [] k = tt
   all-across q rs h (t ∷ ts) k =
       (across q t rs h (λ us e. k us (or-left _ (steps_conflict g ts us) e)), all-across q rs h ts (λ us e. k us (or-right (step_conflicts g t us) _ e)))
 
-  waved-pieces : (qs : List (Placed (Told Step Cell Answer))) → AllAfter qs → Waved g (moves_of qs)
-  waved-pieces [] h = tt
-  waved-pieces (q ∷ qs) h =
-      waved-join (moves_in q.wave q.piece.owner q.piece.steps) (moves_of qs) (waved-piece q.wave q.piece.owner q.piece.steps) (waved-pieces qs h.1)
+  pub waved-apart : (qs : List (Placed (Told Step Cell Answer))) → AreApart g qs → Waved g (moves_of qs)
+  waved-apart [] h = tt
+  waved-apart (q ∷ qs) h =
+      waved-join (moves_in q.wave q.piece.owner q.piece.steps) (moves_of qs) (waved-piece q.wave q.piece.owner q.piece.steps) (waved-apart qs h.1)
       (all-across q qs h.0 q.piece.steps (λ us e. e))
 
-  pub waved-placed : (ps : List (Piece (Told Step Cell Answer))) → Waved g (moves_of (placed_after g [] ps))
-  waved-placed ps = waved-pieces (placed_after g [] ps) (all-after [] ps)
+  pub placed-apart : (ps : List (Piece (Told Step Cell Answer))) → AreApart g (placed_after g [] ps)
+  placed-apart ps = all-after [] ps
 
   -- they are the run's
   tolds-piece : (wave owner : ℕ) (ts : List (Told Step Cell Answer)) (ms : List (Move (Told Step Cell Answer)))

@@ -9,3 +9,6 @@ pub mod Table
 pub mod Tells
 pub mod Least
 pub mod Numbered
+pub mod CellPieces
+pub mod Grown
+pub mod Listed

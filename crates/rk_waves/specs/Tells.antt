@@ -48,6 +48,11 @@ abbrev pub AllFit : ℕ → ℕ → List Piece → Type 0
 AllFit commands cells [] = Unit {0}
 AllFit commands cells (p ∷ ps) = Fits commands cells p × AllFit commands cells ps
 
+-- all pieces are of commands with numbers below this one
+abbrev pub OwnersBelow : ℕ → List Piece → Type 0
+OwnersBelow n [] = Unit {0}
+OwnersBelow n (p ∷ ps) = (p.owner < n) × OwnersBelow n ps
+
 abbrev pub is_so : Option Bool → Bool
 is_so None = false
 is_so (Some b) = b

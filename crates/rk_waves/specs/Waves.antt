@@ -1,6 +1,6 @@
 -- Waves of pieces of commands.
 use Rattle.std.specs.Prelude.{◌≡◌, ◌≢◌, ℕ, zero, suc, ◌≤◌, ◌<◌, max, List, [], ◌∷◌, ◌++◌, Bool, true, false, ◌||◌, ◌==◌, if◌then◌else◌, filter}
-use Rattle.rk_waves.specs.System.{System, conflict}
+use Rattle.rk_waves.specs.System.{Foot, System, conflict, has}
 use Rattle.rk_waves.specs.Goes.{Told, Goes}
 
 -- steps of one command without a launch between them
@@ -112,3 +112,30 @@ module _ {World Step Cell Value Answer : Type 0} (g : System World Step Cell Val
       → ((n : ℕ) → KeepsOwn (order n) (in_wave n (moves_of (placed run))))
       → Each (λ p. p.wave ≤ k) (placed run)
       → Goes g start (tolds (one_by_one order k)) end
+
+  -- Pieces in any waves, as where more than their steps touch is told of them.
+
+  -- a later piece is in no earlier wave if it is of the same command, and in a later one if it conflicts with it
+  abbrev pub Apart : Placed (Told Step Cell Answer) → Placed (Told Step Cell Answer) → Type 0
+  Apart q r = Follows q.piece.owner q.wave r.piece.owner r.wave (steps_conflict q.piece.steps r.piece.steps)
+
+  abbrev pub AreApart : List (Placed (Told Step Cell Answer)) → Type 0
+  AreApart [] = Unit {0}
+  AreApart (q ∷ qs) = Each (Apart q) qs × AreApart qs
+
+  -- the same is so of any waves that keep pieces apart
+  abbrev pub InWavesApart : Type 0
+  InWavesApart =
+      (start end : World) (run : List (Placed (Told Step Cell Answer))) (order : ℕ → List (Move (Told Step Cell Answer))) (k : ℕ)
+      → AreApart run → Each (λ q. 1 ≤ q.wave) run → Each (λ q. q.wave ≤ k) run → Goes g start (tolds (moves_of run)) end
+      → ((n : ℕ) → KeepsOwn (order n) (in_wave n (moves_of run)))
+      → Goes g start (tolds (one_by_one order k)) end
+
+  -- one foot has all cells of another
+  pub record Covers (more less : Foot Cell) : Type 0 where
+    pub reads : (c : Cell) → has g less.reads c ≡ true → has g more.reads c ≡ true
+    pub writes : (c : Cell) → has g less.writes c ≡ true → has g more.writes c ≡ true
+
+  -- what conflicts by feet does so by feet that have all their cells
+  abbrev pub ConflictByMore : Type 0
+  ConflictByMore = (a b a' b' : Foot Cell) → Covers a' a → Covers b' b → conflict g a b ≡ true → conflict g a' b' ≡ true

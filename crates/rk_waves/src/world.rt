@@ -3,7 +3,7 @@ ghost use Rattle.std.specs.Prelude.{Bool, ℕ};
 ghost use Rattle.rk_waves.specs.Least.{AreLeast as AreLeastByNumbers};
 ghost use Rattle.rk_waves.specs.Numbered.{ByNumbers};
 ghost use Rattle.rk_waves.specs.Programs.{by_cells};
-ghost use Rattle.rk_waves.specs.Waves.{AreLeast, InWaves};
+ghost use Rattle.rk_waves.specs.Waves.{AreLeast, ConflictByMore, InWaves, InWavesApart};
 
 /// A world that is seen by its cells, whose steps are programs over them.
 pub trait ByCells {
@@ -34,6 +34,9 @@ pub trait ByCells {
 pub fn in_waves<W: ByCells>()
     ensures waves { InWaves (by_cells W.programmed) }
     ensures least { AreLeast (by_cells W.programmed) }
+    // Any other waves do that keep pieces apart, as those by feet that have more cells than the steps touch.
+    ensures apart { InWavesApart (by_cells W.programmed) }
+    ensures more { ConflictByMore (by_cells W.programmed) }
 {}
 
 /// A law that needs no run: a wave of pieces by the numbers of their cells is the least number that the two rules allow.
