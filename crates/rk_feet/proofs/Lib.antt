@@ -26,3 +26,10 @@ pub mod RenamingLemmas
 pub mod PlantingLemmas
 pub mod StartLemmas
 pub mod SnapshotLemmas
+pub mod ToldLemmas
+pub mod ToldUpward
+pub mod ToldQuestions
+pub mod ToldDescriptions
+pub mod ToldRename
+pub mod ToldChanges
+pub mod ToldSteps

@@ -10,9 +10,10 @@ use Rattle.rk_kernel.specs.Do.{answered}
 use Rattle.rk_kernel.specs.Rows.{giving}
 use Rattle.std.specs.Prelude.{if◌then◌else◌}
 use Rattle.rk_waves.specs.Programs.{Cell, One, Programmed, by_cells}
-use Rattle.rk_waves.proofs.Lawful.{programmed-lawful}
+use Rattle.rk_waves.proofs.Lawful.{cell-is, cell-self, programmed-lawful}
 use Rattle.rk_waves.specs.Goes.{Told, Goes, left_by}
-use Rattle.rk_waves.proofs.InWaves.{in-waves}
+use Rattle.rk_waves.proofs.CoverLemmas.{conflict-more}
+use Rattle.rk_waves.proofs.InWaves.{in-waves, in-waves-apart}
 use Rattle.rk_waves.proofs.PlacedLemmas.{wave_of-is}
 use Rattle.rk_feet.specs.Played.{refs_on, once_given, given_to, PlaysKernel}
 use Rattle.rk_feet.specs.Named.{Name, Plain, Used, Value, Flag, Does}
@@ -105,5 +106,7 @@ plays = record {
   lawful = programmed-lawful kernel_steps;
   waves = in-waves (by_cells kernel_steps) (programmed-lawful kernel_steps);
   least = wave_of-is (by_cells kernel_steps);
+  apart = in-waves-apart (by_cells kernel_steps) (programmed-lawful kernel_steps);
+  more = conflict-more (by_cells kernel_steps) (cell-is kernel_steps) (cell-self kernel_steps);
   seen = λ start end steps goes. alike-seen (left_by (by_cells kernel_steps) start steps) end (goes-alike start end steps goes);
 }

@@ -57,7 +57,7 @@ simulates-writes w refs d checks given x dir h =
 passed-on : (b : Bool) (e : Errno) (checks : List (Bool × Errno)) → b ≡ false → first_of ((b, e) ∷ checks) ≡ first_of checks
 passed-on b e checks h = ap (λ b. if b then Some e else first_of checks) h
 
-both-same : (a b p q : Bool) → a ≡ b → (b ≡ true → p ≡ q) → (a && p) ≡ (b && q)
+pub both-same : (a b p q : Bool) → a ≡ b → (b ≡ true → p ≡ q) → (a && p) ≡ (b && q)
 both-same a true p q e h = ap (λ c. c && p) e ∙ h refl
 both-same a false p q e h = ap (λ c. c && p) e
 

@@ -30,7 +30,7 @@ unfolding stands_within
 within-is tree n k = refl
 
 -- a directory below the root that stands somewhere has its place
-stands-in :
+pub stands-in :
     (w : World) (k : ℕ) → (k ≡ top_at → ⊥) → is_dir (node_at w.held.tree k) ≡ true → is_there (path_of w.held.tree k) ≡ true
     → (up : ℕ × Text) × (place_in (slice_get w.inodes k) ≡ Some up) × StandsIn w.held.tree k up.0 up.1
 stands-in w k below d stands =
@@ -45,7 +45,7 @@ stands-in w k below d stands =
     )
 
 -- and the cell says so
-above-read :
+pub above-read :
     (w : World) (k : ℕ) → (k == top_at) ≡ false → is_dir (node_at w.held.tree k) ≡ true → (up : ℕ × Text) → place_in (slice_get w.inodes k) ≡ Some up
     → at w (One (AboveOf (w.nodes.name_of k))) ≡ Above (Some (w.nodes.name_of up.0, up.1))
 above-read w k below d up is =
@@ -91,10 +91,10 @@ module _ (w : World) where
           ∙ within_up w.held.tree n k is.2 step.1 (whole w) d (λ same. clash (n == k) (eq-eqb n k (sym same)) e) is.3
           ∙ sym (within-is w.held.tree n k)
 
-  higher : (a b l : ℕ) → a < b → b ≤ suc l → a ≤ l
+  pub higher : (a b l : ℕ) → a < b → b ≤ suc l → a ≤ l
   higher a b l h k = omega arith
 
-  lowest : (path : ℕ) → path ≤ 0 → (a : ℕ) → a < path → ⊥
+  pub lowest : (path : ℕ) → path ≤ 0 → (a : ℕ) → a < path → ⊥
   lowest path h a k = omega arith
 
   -- where a directory stands no deeper than so many levels, what is made is made of its way

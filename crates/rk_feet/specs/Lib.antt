@@ -17,3 +17,4 @@ pub mod Laws
 pub mod Steps
 pub mod Played
 pub mod Snapshots
+pub mod Told

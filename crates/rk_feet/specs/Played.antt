@@ -11,7 +11,7 @@ use Rattle.rk_kernel.specs.Rows.{giving}
 use Rattle.rk_waves.specs.System.{IsLawful}
 use Rattle.rk_waves.specs.Goes.{Told, Goes, left_by}
 use Rattle.rk_waves.specs.Programs.{Cell, Programmed, by_cells}
-use Rattle.rk_waves.specs.Waves.{AreLeast, InWaves}
+use Rattle.rk_waves.specs.Waves.{AreLeast, ConflictByMore, InWaves, InWavesApart}
 use Rattle.rk_feet.specs.Named.{Name, Plain, Value}
 use Rattle.rk_feet.specs.Simulates.{number_on}
 use Rattle.rk_feet.specs.Steps.{Ask, Open, Read, ReadLine, Write, Stat, List as ListOf, ReadLink, Walk, Same, Mkdir, Rmdir, Unlink, Rename, Symlink, Link}
@@ -58,6 +58,9 @@ pub record PlaysKernel : Type 0 where
   pub lawful : IsLawful (by_cells it)
   pub waves : InWaves (by_cells it)
   pub least : AreLeast (by_cells it)
+  -- and in any waves that keep pieces apart, as those by feet that have more cells
+  pub apart : InWavesApart (by_cells it)
+  pub more : ConflictByMore (by_cells it)
   -- what steps leave that went so is seen as the end of the run
   pub seen :
       (start end : World) (steps : List (Told Step (Cell Plain Name) Answer)) → Goes (by_cells it) start steps end

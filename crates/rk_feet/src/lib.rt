@@ -6,6 +6,7 @@ ghost use Rattle.rk_feet.specs.Laws.{ChangesModes, Compares, LinksNames, Lists, 
 ghost use Rattle.rk_feet.specs.Laws.{ReadsLines, ReadsLinks, RemovesDirs, Renames, Stats, Unlinks, Walks, Writes};
 ghost use Rattle.rk_feet.specs.Played.{PlaysKernel};
 ghost use Rattle.rk_feet.specs.Snapshots.{AlikeSeenAsOne, StartsByPaths};
+ghost use Rattle.rk_feet.specs.Told.{TellsChanges, TellsDescriptions, TellsFeet, TellsQuestions};
 
 /// A law that needs no run: the program of a path reads cells by names, and ends as what is made of the place that the
 /// path leads to in the tree.
@@ -58,4 +59,27 @@ pub fn starts_by_paths()
 /// the bytes that are known.
 pub fn one_snapshot()
     ensures snapshot { AlikeSeenAsOne }
+{}
+
+/// A law that needs no run: what the world tells of the calls that change nothing has all that their programs read and write,
+/// by the names of its numbers.
+pub fn tells_questions()
+    ensures tells { TellsQuestions }
+{}
+
+/// A law that needs no run: what the world tells of the calls that open, read and write has all that their programs read and
+/// write, by the names of its numbers; what a step makes by the numbers that come next.
+pub fn tells_descriptions()
+    ensures tells { TellsDescriptions }
+{}
+
+/// A law that needs no run: what the world tells of the calls that change the tree has all that their programs read and write,
+/// by the names of its numbers; a new directory by the number that comes next.
+pub fn tells_changes()
+    ensures tells { TellsChanges }
+{}
+
+/// A law that needs no run: what the world tells of the call of a step has all that the step reads and writes.
+pub fn tells_feet()
+    ensures tells { TellsFeet }
 {}
