@@ -145,7 +145,7 @@ module _ (w : World) (d n : ℕ) (name : Text) (is : IsFreeName w.held.tree d na
 
   abbrev pub put-name : Becomes w (with_tree w.held now)
       (links (w.nodes.name_of d) name (record { name = w.nodes.name_of n; what = what_of (node_at w.held.tree n) }))
-  put-name = record { next = joined-next; is = refl; holds = joined-holds }
+  put-name = record { next = joined-next; is = refl; holds = joined-holds; lasts = record { nodes = λ x n e. e; opens = λ x n e. e; pipes = λ x n e. e } }
 
 -- From what was found to a second path.
 

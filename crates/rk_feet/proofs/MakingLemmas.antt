@@ -10,7 +10,7 @@ use Rattle.rk_kernel.specs.declared.description.Source.TheVariants as source
 use Rattle.rk_waves.specs.Programs.{One, Sets, written}
 use Rattle.rk_feet.specs.Named.{Made, Plain, EntryOf, AboveOf, ModeOf, BytesOf, OpenOf, PipeOf, OutputText, ErrorText, Used, Bytes, Opened, Flag}
 use Rattle.rk_feet.specs.Naming.{same_name, Naming, AreNamed, with_name}
-use Rattle.rk_feet.specs.NamingLemmas.{clash, both, equal, name-is, named-more, named-added}
+use Rattle.rk_feet.specs.NamingLemmas.{clash, both, equal, name-is, named-more, named-added, kept-more}
 use Rattle.rk_feet.specs.CellLemmas.{cells}
 use Rattle.rk_feet.specs.Opening.{uses}
 use Rattle.rk_feet.specs.World.{World, at, IsSource, IsOpen, opened_named, opened_in, pipe_in}
@@ -48,7 +48,7 @@ module _ (w : World) (r s : ℕ) where
       go false = refl
 
   abbrev pub mark : Becomes w w.held (uses r s ∷ [])
-  mark = record { next = mark-next; is = refl; holds = mark-holds }
+  mark = record { next = mark-next; is = refl; holds = mark-holds; lasts = record { nodes = λ x n e. e; opens = λ x n e. e; pipes = λ x n e. e } }
 
   pub marked : mark-next.used r s ≡ true
   marked = ap₂ (λ a b. (a && b) || w.used r s) (equal r) (equal s)
@@ -121,7 +121,12 @@ module _ (w : World) (r s p m : ℕ) (d : opening.Description) (mine : w.used r 
   open-holds (Used x y) = refl
 
   abbrev pub add-open : Becomes w (with_open w.held d) ((OpenOf (Made r s p m), Sets (Opened (opened_named w (Some d)))) ∷ [])
-  add-open = record { next = open-next; is = refl; holds = open-holds }
+  add-open = record {
+    next = open-next;
+    is = refl;
+    holds = open-holds;
+    lasts = record { nodes = λ x n e. e; opens = kept-more w.opens (length w.held.opens) (Made r s p m) free; pipes = λ x n e. e };
+  }
 
 -- A pipe more, which is empty.
 
@@ -186,4 +191,9 @@ module _ (w : World) (r s p m : ℕ) (mine : w.used r s ≡ true) (free : w.pipe
   pipe-more-holds (Used x y) = refl
 
   abbrev pub add-pipe : Becomes w (record w.held { pipes = w.held.pipes ++ [] ∷ [] }) []
-  add-pipe = record { next = pipe-more; is = refl; holds = pipe-more-holds }
+  add-pipe = record {
+    next = pipe-more;
+    is = refl;
+    holds = pipe-more-holds;
+    lasts = record { nodes = λ x n e. e; opens = λ x n e. e; pipes = kept-more w.pipes (length w.held.pipes) (Made r s p m) free };
+  }

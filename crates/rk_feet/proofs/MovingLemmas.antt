@@ -386,4 +386,4 @@ module _ (w : World) (dir n to : ℕ) (name new : Text) (over : Option ℕ) (nam
   moved-holds (Used x y) = sym (rest-skip (Used x y) _ (λ z. refl))
 
   abbrev pub move-name : Becomes w (with_tree w.held now) move-writes
-  move-name = record { next = moved-next; is = refl; holds = moved-holds }
+  move-name = record { next = moved-next; is = refl; holds = moved-holds; lasts = record { nodes = λ x n e. e; opens = λ x n e. e; pipes = λ x n e. e } }

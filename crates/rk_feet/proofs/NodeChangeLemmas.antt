@@ -102,7 +102,7 @@ module _ (w : World) (k : Name) (n : ℕ) (at_n : w.nodes.number_of k ≡ Some n
       ((it : TreeNode) → mode_of (Some (f it)) ≡ mode_of (Some it)) → (u : Update Value)
       → Bytes (file_bytes (option_map f (node_at w.held.tree n))) ≡ updated u (Bytes (file_bytes (node_at w.held.tree n)))
       → Becomes w (record w.held { tree = now }) ((BytesOf k, u) ∷ [])
-  set-bytes modes u says = record { next = next; is = refl; holds = holds }
+  set-bytes modes u says = record { next = next; is = refl; holds = holds; lasts = record { nodes = λ x n e. e; opens = λ x n e. e; pipes = λ x n e. e } }
     where
       choose : (q : Name) (b : Bool) → same_name k q ≡ b
           → (if b then Bytes (file_bytes (option_map f (node_at w.held.tree n))) else at w (One (BytesOf q)))
@@ -134,7 +134,7 @@ module _ (w : World) (k : Name) (n : ℕ) (at_n : w.nodes.number_of k ≡ Some n
       ((it : TreeNode) → file_bytes (Some (f it)) ≡ file_bytes (Some it)) → (u : Update Value)
       → Mode (mode_of (option_map f (node_at w.held.tree n))) ≡ updated u (Mode (mode_of (node_at w.held.tree n)))
       → Becomes w (record w.held { tree = now }) ((ModeOf k, u) ∷ [])
-  set-mode bytes u says = record { next = next; is = refl; holds = holds }
+  set-mode bytes u says = record { next = next; is = refl; holds = holds; lasts = record { nodes = λ x n e. e; opens = λ x n e. e; pipes = λ x n e. e } }
     where
       choose : (q : Name) (b : Bool) → same_name k q ≡ b
           → (if b then Mode (mode_of (option_map f (node_at w.held.tree n))) else at w (One (ModeOf q)))

@@ -27,7 +27,7 @@ use Rattle.rk_waves.specs.Programs.{One, Sets, Update, updated, written}
 use Rattle.rk_feet.specs.Named.{Name, Made, Of, Plain, EntryOf, AboveOf, ModeOf, BytesOf, OpenOf, PipeOf, OutputText, ErrorText, Used, Value, Entry, Above}
 use Rattle.rk_feet.specs.Named.{Mode, Bytes, Opened, given_mode, top}
 use Rattle.rk_feet.specs.Naming.{same_name, Naming, AreNamed, with_name}
-use Rattle.rk_feet.specs.NamingLemmas.{clash, both, equal, name-is, name-self, named-more, named-added}
+use Rattle.rk_feet.specs.NamingLemmas.{clash, both, equal, name-is, name-self, named-more, named-added, kept-more}
 use Rattle.rk_feet.specs.CellLemmas.{cells}
 use Rattle.rk_feet.specs.Course.{what_of}
 use Rattle.rk_feet.specs.Changing.{stands}
@@ -325,4 +325,9 @@ module _ (w : World) (r s p m : ℕ) (mine : w.used r s ≡ true) (free : w.node
       Becomes w (with_tree w.held now)
       ((EntryOf (w.nodes.name_of d) name, Sets (Entry (Some (record { name = Made r s p m; what = what_of (Some it) }))))
       ∷ stands (record { name = Made r s p m; what = what_of (Some it) }) (w.nodes.name_of d, name))
-  add-node = record { next = made-next; is = refl; holds = made-holds }
+  add-node = record {
+    next = made-next;
+    is = refl;
+    holds = made-holds;
+    lasts = record { nodes = kept-more w.nodes (length w.inodes) (Made r s p m) free; opens = λ x n e. e; pipes = λ x n e. e };
+  }

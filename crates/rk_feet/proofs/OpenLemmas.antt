@@ -70,7 +70,7 @@ module _ (w : World) (k : Name) (n : ℕ) (d : opening.Description) (offset : �
     offset-holds (Used r s) = refl
 
     abbrev pub set-offset : Becomes w (with_offset w.held n d offset) ((OpenOf k, Sets (Opened (opened_named w (Some (record d { offset = offset }))))) ∷ [])
-    set-offset = record { next = offset-next; is = refl; holds = offset-holds }
+    set-offset = record { next = offset-next; is = refl; holds = offset-holds; lasts = record { nodes = λ x n e. e; opens = λ x n e. e; pipes = λ x n e. e } }
 
 -- the bytes in a pipe
 module _ (w : World) (k : Name) (n : ℕ) (text : Text) (u : Update Value) (at_n : w.pipes.number_of k ≡ Some n)
@@ -110,11 +110,11 @@ module _ (w : World) (k : Name) (n : ℕ) (text : Text) (u : Update Value) (at_n
   pipe-holds (Used r s) = refl
 
   abbrev pub set-pipe : Becomes w (record w.held { pipes = slice_set w.held.pipes n text }) ((PipeOf k, u) ∷ [])
-  set-pipe = record { next = pipe-next; is = refl; holds = pipe-holds }
+  set-pipe = record { next = pipe-next; is = refl; holds = pipe-holds; lasts = record { nodes = λ x n e. e; opens = λ x n e. e; pipes = λ x n e. e } }
 
 abbrev pub set-out : (w : World) (text : Text) (u : Update Value) → Bytes text ≡ updated u (Bytes w.held.out)
     → Becomes w (record w.held { out = text }) ((OutputText, u) ∷ [])
-set-out w text u says = record { next = record w { held = record w.held { out = text } }; is = refl; holds = holds }
+set-out w text u says = record { next = record w { held = record w.held { out = text } }; is = refl; holds = holds; lasts = record { nodes = λ x n e. e; opens = λ x n e. e; pipes = λ x n e. e } }
   where
     holds : (p : Plain) → at (record w { held = record w.held { out = text } }) (One p) ≡ written cells ((OutputText, u) ∷ []) p (at w (One p))
     holds (EntryOf x y) = refl
@@ -129,7 +129,7 @@ set-out w text u says = record { next = record w { held = record w.held { out = 
 
 abbrev pub set-err : (w : World) (text : Text) (u : Update Value) → Bytes text ≡ updated u (Bytes w.held.err)
     → Becomes w (record w.held { err = text }) ((ErrorText, u) ∷ [])
-set-err w text u says = record { next = record w { held = record w.held { err = text } }; is = refl; holds = holds }
+set-err w text u says = record { next = record w { held = record w.held { err = text } }; is = refl; holds = holds; lasts = record { nodes = λ x n e. e; opens = λ x n e. e; pipes = λ x n e. e } }
   where
     holds : (p : Plain) → at (record w { held = record w.held { err = text } }) (One p) ≡ written cells ((ErrorText, u) ∷ []) p (at w (One p))
     holds (EntryOf x y) = refl

@@ -103,6 +103,7 @@ plays = record {
   says = λ s. refl;
   answers = λ s w. refl;
   becomes = λ s w. (simulated w s.command s.number s.ask).after.is;
+  lasts = λ s w. (simulated w s.command s.number s.ask).after.lasts;
   lawful = programmed-lawful kernel_steps;
   waves = in-waves (by_cells kernel_steps) (programmed-lawful kernel_steps);
   least = wave_of-is (by_cells kernel_steps);

@@ -213,7 +213,7 @@ module _ (w : World) (d n : ℕ) (name : Text) (dir : is_dir (node_at w.held.tre
 
   abbrev pub take-name : Becomes w (with_tree w.held now)
       (removes (w.nodes.name_of d) name (record { name = w.nodes.name_of n; what = what_of (node_at w.held.tree n) }))
-  take-name = record { next = left-next; is = refl; holds = left-holds }
+  take-name = record { next = left-next; is = refl; holds = left-holds; lasts = record { nodes = λ x n e. e; opens = λ x n e. e; pipes = λ x n e. e } }
 
 -- Unlink
 

@@ -16,7 +16,7 @@ use Rattle.rk_feet.specs.CellLemmas.{cells}
 
 -- nothing changes
 pub stays : (w : World) → Becomes w w.held []
-stays w = record { next = w; is = refl; holds = λ p. refl }
+stays w = record { next = w; is = refl; holds = λ p. refl; lasts = record { nodes = λ x n e. e; opens = λ x n e. e; pipes = λ x n e. e } }
 
 pub simulates-no : (w : World) (refs : RefsHeld) (e : Errno) → Simulates w (refused w.held refs e) (ends_in w (no e))
 simulates-no w refs e = record { answer = refl; after = stays w }
@@ -53,9 +53,14 @@ becomes-on w middle held us vs a b = record {
   next = b.next;
   is = b.is;
   holds = λ p. b.holds p ∙ ap (written cells vs p) (a.holds p) ∙ sym (written-on us vs p (at w (One p)));
+  lasts = record {
+    nodes = λ x n e. b.lasts.nodes x n (a.lasts.nodes x n e);
+    opens = λ x n e. b.lasts.opens x n (a.lasts.opens x n e);
+    pipes = λ x n e. b.lasts.pipes x n (a.lasts.pipes x n e);
+  };
 }
 
 -- the same writes, told in another way
 pub becomes-as : (w : World) (held : kernel.World) (us vs : Writes) → Becomes w held us
     → ((p : Plain) → written cells us p (at w (One p)) ≡ written cells vs p (at w (One p))) → Becomes w held vs
-becomes-as w held us vs a same = record { next = a.next; is = a.is; holds = λ p. a.holds p ∙ same p }
+becomes-as w held us vs a same = record { next = a.next; is = a.is; holds = λ p. a.holds p ∙ same p; lasts = a.lasts }

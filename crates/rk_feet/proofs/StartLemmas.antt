@@ -99,5 +99,5 @@ starts snapshot whole =
     let all = all-planted snapshot whole in (
       start (tree_of snapshot) all.0 all.1 (by_paths (tree_of snapshot)) (paths-named snapshot whole all.0 all.1)
           (top-named snapshot (subst IsWhole all.1.is all.1.kept.0)) (λ r s p m. refl),
-      record { fresh = refl; named = refl; nothing_made = λ r s. refl },
+      record { fresh = refl; named = refl; given = given-named.back; nothing_made = λ r s. refl },
     )

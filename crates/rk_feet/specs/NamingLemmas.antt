@@ -107,6 +107,15 @@ named-more count it named me free = record { back = back; there = there } where
       go true s e = here n e s
       go false s e = old (n == count) refl e
 
+-- what has a number keeps it
+pub kept-more : (it : Naming) (count : ℕ) (me : Name) → it.number_of me ≡ None → (x : Name) (n : ℕ) → it.number_of x ≡ Some n
+    → (with_name it count me).number_of x ≡ Some n
+kept-more it count me free x n e = go (same_name me x) refl
+  where
+    go : (b : Bool) → same_name me x ≡ b → (if b then Some count else it.number_of x) ≡ Some n
+    go true f = absurd (none-some n (sym free ∙ ap it.number_of (name-is me x f) ∙ e))
+    go false f = e
+
 -- what is seen by names, where a number more has a name
 pub named-added :
     {V : Type 0} (count : ℕ) (it : Naming) → AreNamed count it → (me : Name) → (old new : Option ℕ → V) (x : V)

@@ -13,7 +13,7 @@ use Rattle.rk_waves.specs.Goes.{Told, Goes, left_by}
 use Rattle.rk_waves.specs.Programs.{Cell, Programmed, by_cells}
 use Rattle.rk_waves.specs.Waves.{AreLeast, ConflictByMore, InWaves, InWavesApart}
 use Rattle.rk_feet.specs.Named.{Name, Plain, Value}
-use Rattle.rk_feet.specs.Simulates.{number_on}
+use Rattle.rk_feet.specs.Simulates.{Lasts, number_on}
 use Rattle.rk_feet.specs.Steps.{Ask, Open, Read, ReadLine, Write, Stat, List as ListOf, ReadLink, Walk, Same, Mkdir, Rmdir, Unlink, Rename, Symlink, Link}
 use Rattle.rk_feet.specs.Steps.{Chmod, Pipe, Launch, Step, program}
 use Rattle.rk_feet.specs.Snapshots.{IsSeenAs}
@@ -55,6 +55,7 @@ pub record PlaysKernel : Type 0 where
   pub says : (s : Step) → it.program s ≡ program s
   pub answers : (s : Step) (w : World) → it.answer s w ≡ (given_to w s.command s.number s.ask).answer
   pub becomes : (s : Step) (w : World) → (it.after s w).held ≡ (given_to w s.command s.number s.ask).world
+  pub lasts : (s : Step) (w : World) → Lasts w (it.after s w)
   pub lawful : IsLawful (by_cells it)
   pub waves : InWaves (by_cells it)
   pub least : AreLeast (by_cells it)

@@ -1,5 +1,5 @@
 -- Worlds at the start of a run, and at its end.
-use Rattle.std.specs.Prelude.{◌≡◌, ℕ, false, Option, Some, None}
+use Rattle.std.specs.Prelude.{◌≡◌, ℕ, ◌<◌, false, Option, Some, None}
 use Rattle.rk_base.specs.Text.{Text}
 use Rattle.rk_tree.specs.Copies.{snapshot_of, tree_of}
 use Rattle.rk_tree.specs.Entries.{Entries, IsWholeSnapshot}
@@ -30,6 +30,8 @@ by_paths tree = record { name_of = λ n. named_by (path_of tree n); number_of = 
 pub record IsStart (snapshot : Entries) (w : World) : Type 0 where
   pub fresh : w.held ≡ fresh_world snapshot
   pub named : w.nodes ≡ by_paths (tree_of snapshot)
+  -- the empty input, the output and the error text
+  pub given : (number : ℕ) → number < 3 → w.opens.number_of (Given number) ≡ Some number
   pub nothing_made : (command step : ℕ) → w.used command step ≡ false
 
 abbrev pub StartsByPaths : Type 0
