@@ -17,7 +17,7 @@ use Rattle.rk_waves.specs.Programs.{One, Reads}
 use Rattle.rk_feet.specs.Climbing.{Way, climb, climb_from}
 use Rattle.rk_feet.specs.Named.{AboveOf, Above, above, Does}
 use Rattle.rk_feet.specs.NamingLemmas.{clash}
-use Rattle.rk_feet.specs.Told.{Tells}
+use Rattle.rk_feet.specs.Told.{By, Later, Tells}
 use Rattle.rk_feet.specs.Ways.{is_top}
 use Rattle.rk_feet.specs.World.{World}
 use Rattle.rk_feet.proofs.LeadingLemmas.{IsNear}
@@ -41,46 +41,46 @@ upwards-step tree n up name whole s =
     one_more : (k : ℕ) → k + 1 ≡ suc k
     one_more k = omega arith
 
-module _ (w : World) where
+module _ (w : World) (l : Later w) where
   -- where a directory stands no deeper than so many levels, and what is made of its way is told
   pub tells-climb :
       (levels : ℕ) (make : Way → Does) (foot : Foot) (k : ℕ) → IsNear w.held.tree levels k
-      → ((way : Way) → IsWay w k way → Tells w foot (make way))
-      → Tells w (both (reading (upwards w.held.tree k)) foot) (climb levels make (w.nodes.name_of k))
+      → ((way : Way) → IsWay w k way → Tells w l foot (make way))
+      → Tells w l (both (reading (upwards w.held.tree k)) foot) (climb levels make (w.nodes.name_of k))
   tells-climb zero make foot k near h = go (k == top_at) refl
     where
-      go : (b : Bool) → (k == top_at) ≡ b → Tells w (both (reading (upwards w.held.tree k)) foot) (climb zero make (w.nodes.name_of k))
-      go true e = tells-more w (upwards w.held.tree k) foot (make []) (h [] (eqb-true k top_at e))
+      go : (b : Bool) → (k == top_at) ≡ b → Tells w l (both (reading (upwards w.held.tree k)) foot) (climb zero make (w.nodes.name_of k))
+      go true e = tells-more w l (upwards w.held.tree k) foot (make []) (h [] (eqb-true k top_at e))
       go false e =
           let s = stands-in w k (λ same. clash (k == top_at) (eq-eqb k top_at same) e) near.stands.0 near.stands.1 in
           absurd (lowest w (depth_at (path_of w.held.tree k)) near.near (depth_at (path_of w.held.tree s.0.0)) (up_higher w.held.tree k s.0.0 s.0.1 s.2))
   tells-climb (suc levels) make foot k near h = go (λ make j near h. tells-climb levels make foot j near h) (k == top_at) refl
     where
-      go : ((make : Way → Does) (j : ℕ) → IsNear w.held.tree levels j → ((way : Way) → IsWay w j way → Tells w foot (make way))
-          → Tells w (both (reading (upwards w.held.tree j)) foot) (climb levels make (w.nodes.name_of j)))
+      go : ((make : Way → Does) (j : ℕ) → IsNear w.held.tree levels j → ((way : Way) → IsWay w j way → Tells w l foot (make way))
+          → Tells w l (both (reading (upwards w.held.tree j)) foot) (climb levels make (w.nodes.name_of j)))
           → (b : Bool) → (k == top_at) ≡ b
-          → Tells w (both (reading (upwards w.held.tree k)) foot) (if is_top (w.nodes.name_of k) then make [] else Reads (One (AboveOf (w.nodes.name_of k)))
+          → Tells w l (both (reading (upwards w.held.tree k)) foot) (if is_top (w.nodes.name_of k) then make [] else Reads (One (AboveOf (w.nodes.name_of k)))
           (λ u. climb_from (λ up. climb levels (λ way. make ((w.nodes.name_of k, up.1) ∷ way)) up.0) (above u)))
       go again true e =
-          subst (λ b. Tells w (both (reading (upwards w.held.tree k)) foot) (if b then make [] else Reads (One (AboveOf (w.nodes.name_of k)))
+          subst (λ b. Tells w l (both (reading (upwards w.held.tree k)) foot) (if b then make [] else Reads (One (AboveOf (w.nodes.name_of k)))
           (λ u. climb_from (λ up. climb levels (λ way. make ((w.nodes.name_of k, up.1) ∷ way)) up.0) (above u))))
           (sym ((shows w).tops k near.stands.0 ∙ e))
-          (tells-more w (upwards w.held.tree k) foot (make []) (h [] (eqb-true k top_at e)))
+          (tells-more w l (upwards w.held.tree k) foot (make []) (h [] (eqb-true k top_at e)))
       go again false e =
           let s = stands-in w k (λ same. clash (k == top_at) (eq-eqb k top_at same) e) near.stands.0 near.stands.1 in
           let up_near : IsNear w.held.tree levels s.0.0 = record {
             stands = (s.2.in_dir, ap is_there s.2.up_at);
             near = lower w (depth_at (path_of w.held.tree s.0.0)) (depth_at (path_of w.held.tree k)) levels (up_higher w.held.tree k s.0.0 s.0.1 s.2) near.near;
           } in
-          subst (λ b. Tells w (both (reading (upwards w.held.tree k)) foot) (if b then make [] else Reads (One (AboveOf (w.nodes.name_of k)))
+          subst (λ b. Tells w l (both (reading (upwards w.held.tree k)) foot) (if b then make [] else Reads (One (AboveOf (w.nodes.name_of k)))
           (λ u. climb_from (λ up. climb levels (λ way. make ((w.nodes.name_of k, up.1) ∷ way)) up.0) (above u))))
           (sym ((shows w).tops k near.stands.0 ∙ e))
-          (subst (λ cells. Tells w (both (reading cells) foot) (Reads (One (AboveOf (w.nodes.name_of k)))
+          (subst (λ cells. Tells w l (both (reading cells) foot) (Reads (One (AboveOf (w.nodes.name_of k)))
           (λ u. climb_from (λ up. climb levels (λ way. make ((w.nodes.name_of k, up.1) ∷ way)) up.0) (above u))))
           (sym (upwards-step w.held.tree k s.0.0 s.0.1 (whole w) s.2))
-          (tells-reads w (One (AboveOf (w.nodes.name_of k))) (told.Above k) (Above (Some (w.nodes.name_of s.0.0, s.0.1)))
+          (tells-reads w l (One (AboveOf (w.nodes.name_of k))) (told.Above k) (Above (Some (w.nodes.name_of s.0.0, s.0.1)))
           (λ u. climb_from (λ up. climb levels (λ way. make ((w.nodes.name_of k, up.1) ∷ way)) up.0) (above u))
           (both (reading (upwards w.held.tree s.0.0)) foot)
-          (ap (λ m. Some (told.Above m)) (dir-number w k near.stands.0)) (above-read w k e near.stands.0 s.0 s.1)
+          (ap (λ m. By (told.Above m)) (dir-number w l k near.stands.0)) (above-read w k e near.stands.0 s.0 s.1)
           (again (λ way. make ((w.nodes.name_of k, s.0.1) ∷ way)) s.0.0 up_near
           (λ way is. h ((w.nodes.name_of k, s.0.1) ∷ way) (refl, near.stands.0, s.0.0, s.2, is)))))

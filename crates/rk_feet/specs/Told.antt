@@ -5,6 +5,8 @@ use Rattle.rk_calls.specs.Keys.{KeyValue}
 use Rattle.rk_calls.specs.Refs.{RefsHeld, ref_at}
 use Rattle.rk_calls.specs.declared.call.Call.{Call}
 use Rattle.rk_calls.specs.declared.call.Call.TheVariants as call
+use Rattle.rk_calls.specs.declared.answer.Answer.{Answer}
+use Rattle.rk_calls.specs.declared.answer.Answer.TheVariants as answer
 use Rattle.rk_calls.specs.declared.call.How.{How}
 use Rattle.rk_kernel.specs.Feet.{foot_by}
 use Rattle.rk_kernel.specs.declared.cell.Cell.{Cell as Numbered}
@@ -15,51 +17,58 @@ use Rattle.rk_waves.specs.Waves.{Each}
 use Rattle.rk_feet.specs.Asking.{does_walk, does_stat, does_list, does_read_link, does_same}
 use Rattle.rk_feet.specs.CellLemmas.{cells}
 use Rattle.rk_feet.specs.Changing.{does_chmod, does_mkdir, does_symlink, does_unlink, does_rmdir, does_link}
-use Rattle.rk_feet.specs.Named.{Name, Start, Given, Made, Plain, EntryOf, AboveOf, ModeOf, BytesOf, OpenOf, PipeOf, OutputText, ErrorText, Used, Does}
+use Rattle.rk_feet.specs.Named.{Name, Made, Plain, EntryOf, AboveOf, ModeOf, BytesOf, OpenOf, PipeOf, OutputText, ErrorText, Used, Does}
 use Rattle.rk_feet.specs.Naming.{Naming}
 use Rattle.rk_feet.specs.Opening.{does_pipe, does_open}
 use Rattle.rk_feet.specs.Renaming.{does_rename}
 use Rattle.rk_feet.specs.Steps.{Ask, Open, Read, ReadLine, Write, Stat, List as ListOf, ReadLink, Walk, Same, Mkdir, Rmdir, Unlink, Rename, Symlink, Link}
-use Rattle.rk_feet.specs.Steps.{Chmod, Pipe, Launch, Step, program}
+use Rattle.rk_feet.specs.Steps.{Chmod, Pipe, Launch, asks}
 use Rattle.rk_feet.specs.Transfers.{does_read, does_read_line, does_write}
+use Rattle.rk_feet.specs.Simulates.{Lasts, ends_in}
 use Rattle.rk_feet.specs.World.{World, at}
 
--- Cells by numbers. What a step makes has no number before; it gets the next one, and the second of its kind the one behind it.
+-- What has a number keeps it, so a cell has one number in all worlds that come after: it is told by that one.
 
-abbrev pub part_of : Name → ℕ
-part_of (Start path) = 0
-part_of (Given number) = 0
-part_of (Made command step part mode) = part
+-- a step of a command in a world, and a world that comes after that step
+pub record Later (w : World) : Type 0 where
+  pub command : ℕ
+  pub number : ℕ
+  pub world : World
+  pub lasts : Lasts w world
 
-abbrev pub or_next : Option ℕ → ℕ → ℕ
-or_next None next = next
-or_next (Some n) next = n
+abbrev pub or_zero : Option ℕ → ℕ
+or_zero None = 0
+or_zero (Some n) = n
 
-abbrev pub number_in : Naming → ℕ → Name → ℕ
-number_in it count name = or_next (it.number_of name) (count + part_of name)
+abbrev pub number_in : Naming → Name → ℕ
+number_in it name = or_zero (it.number_of name)
 
-module _ (w : World) where
+-- how a cell is told: by numbers; or, where it says whether a step has made something, by none: that step alone touches it
+pub data Telling : Type 0 where
+  By : (cell : Numbered) → Telling
+  Its : (command number : ℕ) → Telling
+
+module _ (later : World) where
   abbrev pub node_in : Name → ℕ
-  node_in = number_in w.nodes (length w.held.tree.nodes)
+  node_in = number_in later.nodes
 
   abbrev pub open_in : Name → ℕ
-  open_in = number_in w.opens (length w.held.opens)
+  open_in = number_in later.opens
 
   abbrev pub pipe_in : Name → ℕ
-  pipe_in = number_in w.pipes (length w.held.pipes)
+  pipe_in = number_in later.pipes
 
-  -- whether a step has made something is no cell of the kernel's world: the step alone touches it
-  abbrev pub numbered : Cell Plain Name → Option Numbered
-  numbered (One (EntryOf dir name)) = Some (told.Entry (node_in dir) name)
-  numbered (One (AboveOf dir)) = Some (told.Above (node_in dir))
-  numbered (One (ModeOf n)) = Some (told.Mode (node_in n))
-  numbered (One (BytesOf file)) = Some (told.Bytes (node_in file))
-  numbered (One (OpenOf k)) = Some (told.Opened (open_in k))
-  numbered (One (PipeOf p)) = Some (told.Pipe (pipe_in p))
-  numbered (One OutputText) = Some told.Output
-  numbered (One ErrorText) = Some told.ErrorText
-  numbered (One (Used r s)) = None
-  numbered (All dir) = Some (told.Names (node_in dir))
+  abbrev pub numbered : Cell Plain Name → Telling
+  numbered (One (EntryOf dir name)) = By (told.Entry (node_in dir) name)
+  numbered (One (AboveOf dir)) = By (told.Above (node_in dir))
+  numbered (One (ModeOf n)) = By (told.Mode (node_in n))
+  numbered (One (BytesOf file)) = By (told.Bytes (node_in file))
+  numbered (One (OpenOf k)) = By (told.Opened (open_in k))
+  numbered (One (PipeOf p)) = By (told.Pipe (pipe_in p))
+  numbered (One OutputText) = By told.Output
+  numbered (One ErrorText) = By told.ErrorText
+  numbered (One (Used r s)) = Its r s
+  numbered (All dir) = By (told.Names (node_in dir))
 
 -- What is told.
 
@@ -67,21 +76,38 @@ abbrev pub Among : List Numbered → Numbered → Type 0
 Among [] c = ⊥
 Among (d ∷ ds) c = (d ≡ c) ⊎ Among ds c
 
-abbrev pub IsTold : List Numbered → Option Numbered → Type 0
-IsTold cells None = Unit {0}
-IsTold cells (Some c) = Among cells c
+module _ (w : World) (later : Later w) where
+  -- a cell is told, or the step's own
+  abbrev pub IsTold : List Numbered → Telling → Type 0
+  IsTold all (By c) = Among all c
+  IsTold all (Its r s) = (r ≡ later.command) × (s ≡ later.number)
 
-abbrev pub AreTold : (w : World) → List Numbered → List (Cell Plain Name) → Type 0
-AreTold w told = Each (λ c. IsTold told (numbered w c))
+  abbrev pub AreTold : List Numbered → List (Cell Plain Name) → Type 0
+  AreTold all = Each (λ c. IsTold all (numbered later.world c))
 
--- all that a program reads and writes in a world is told
-pub record Tells (w : World) (foot : Foot) (x : Does) : Type 0 where
-  pub reads : AreTold w foot.reads (reads_of (at w) x)
-  pub writes : AreTold w foot.writes (written_cells cells (end_of (at w) x).1)
+  -- all that a program reads and writes in the world is told
+  pub record Tells (foot : Foot) (x : Does) : Type 0 where
+    pub reads : AreTold foot.reads (reads_of (at w) x)
+    pub writes : AreTold foot.writes (written_cells cells (end_of (at w) x).1)
 
--- what is told of a call in a named world tells the program
-abbrev pub TellsCall : World → RefsHeld → Call → Does → Type 0
-TellsCall w refs c x = Tells w (foot_by w.held refs c) x
+  -- what is told of a call tells the program
+  abbrev pub TellsCall : RefsHeld → Call → Does → Type 0
+  TellsCall refs c x = Tells (foot_by w.held refs c) x
+
+  -- what the step makes, by the answer that it has: it gets the next number, and the second of its kind the one behind it
+  abbrev pub GetsNumbers : Ask → Answer → Type 0
+  GetsNumbers (Open path h) it = it ≡ answer.Opened → later.world.opens.number_of (Made later.command later.number 0 420) ≡ Some (length w.held.opens)
+  GetsNumbers (Mkdir path mode) it =
+      it ≡ answer.Done → later.world.nodes.number_of (Made later.command later.number 0 mode) ≡ Some (length w.held.tree.nodes)
+  GetsNumbers Pipe it =
+      it ≡ answer.Piped
+      → (later.world.opens.number_of (Made later.command later.number 0 0) ≡ Some (length w.held.opens))
+      × (later.world.opens.number_of (Made later.command later.number 1 0) ≡ Some (length w.held.opens + 1))
+  GetsNumbers _ it = Unit {0}
+
+  -- the same of the answer of a program
+  abbrev pub GetsNumbersOf : Ask → Does → Type 0
+  GetsNumbersOf ask x = GetsNumbers ask (ends_in w x).0
 
 -- a number of the command stands for the description of this name
 abbrev pub StandsFor : World → RefsHeld → ℕ → Option Name → Type 0
@@ -90,30 +116,36 @@ StandsFor w refs r (Some k) = (n : ℕ) × (ref_at refs r ≡ Some n) × (w.open
 
 -- Of each call, and its program: the calls that change nothing ..
 pub record TellsQuestions : Type 0 where
-  pub stats : (w : World) (refs : RefsHeld) (path : Text) (follow : Bool) → TellsCall w refs (call.Stat path follow) (does_stat path follow)
-  pub lists : (w : World) (refs : RefsHeld) (path : Text) → TellsCall w refs (call.List path) (does_list path)
-  pub links : (w : World) (refs : RefsHeld) (path : Text) → TellsCall w refs (call.ReadLink path) (does_read_link path)
-  pub walks : (w : World) (refs : RefsHeld) (path : Text) → TellsCall w refs (call.Walk path) (does_walk path)
-  pub compares : (w : World) (refs : RefsHeld) (a b : Text) → TellsCall w refs (call.Same a b) (does_same a b)
+  pub stats : (w : World) (later : Later w) (refs : RefsHeld) (path : Text) (follow : Bool) → TellsCall w later refs (call.Stat path follow) (does_stat path follow)
+  pub lists : (w : World) (later : Later w) (refs : RefsHeld) (path : Text) → TellsCall w later refs (call.List path) (does_list path)
+  pub links : (w : World) (later : Later w) (refs : RefsHeld) (path : Text) → TellsCall w later refs (call.ReadLink path) (does_read_link path)
+  pub walks : (w : World) (later : Later w) (refs : RefsHeld) (path : Text) → TellsCall w later refs (call.Walk path) (does_walk path)
+  pub compares : (w : World) (later : Later w) (refs : RefsHeld) (a b : Text) → TellsCall w later refs (call.Same a b) (does_same a b)
 
 -- .. those of descriptions ..
 pub record TellsDescriptions : Type 0 where
-  pub reads : (w : World) (refs : RefsHeld) (r : ℕ) (on : Option Name) → StandsFor w refs r on → TellsCall w refs (call.Read r) (does_read on)
-  pub lines : (w : World) (refs : RefsHeld) (r : ℕ) (on : Option Name) → StandsFor w refs r on → TellsCall w refs (call.ReadLine r) (does_read_line on)
-  pub writes : (w : World) (refs : RefsHeld) (r : ℕ) (text : Text) (on : Option Name) → StandsFor w refs r on
-      → TellsCall w refs (call.Write r text) (does_write on text)
-  pub pipes : (w : World) (refs : RefsHeld) (r s : ℕ) → TellsCall w refs call.Pipe (does_pipe r s)
-  pub opens : (w : World) (refs : RefsHeld) (r s : ℕ) (path : Text) (h : How) → TellsCall w refs (call.Open path h) (does_open r s path h)
+  pub reads : (w : World) (later : Later w) (refs : RefsHeld) (r : ℕ) (on : Option Name) → StandsFor w refs r on → TellsCall w later refs (call.Read r) (does_read on)
+  pub lines : (w : World) (later : Later w) (refs : RefsHeld) (r : ℕ) (on : Option Name) → StandsFor w refs r on → TellsCall w later refs (call.ReadLine r) (does_read_line on)
+  pub writes : (w : World) (later : Later w) (refs : RefsHeld) (r : ℕ) (text : Text) (on : Option Name) → StandsFor w refs r on
+      → TellsCall w later refs (call.Write r text) (does_write on text)
+  pub pipes : (w : World) (later : Later w) (refs : RefsHeld) → GetsNumbersOf w later Pipe (does_pipe later.command later.number)
+      → TellsCall w later refs call.Pipe (does_pipe later.command later.number)
+  pub opens : (w : World) (later : Later w) (refs : RefsHeld) (path : Text) (h : How)
+      → GetsNumbersOf w later (Open path h) (does_open later.command later.number path h)
+      → TellsCall w later refs (call.Open path h) (does_open later.command later.number path h)
 
 -- .. and those that change the tree
 pub record TellsChanges : Type 0 where
-  pub dirs : (w : World) (refs : RefsHeld) (r s : ℕ) (path : Text) (m : ℕ) → TellsCall w refs (call.Mkdir path m) (does_mkdir r s path m)
-  pub links : (w : World) (refs : RefsHeld) (r s : ℕ) (text path : Text) → TellsCall w refs (call.Symlink text path) (does_symlink r s text path)
-  pub names : (w : World) (refs : RefsHeld) (a b : Text) → TellsCall w refs (call.Link a b) (does_link a b)
-  pub unlinks : (w : World) (refs : RefsHeld) (path : Text) → TellsCall w refs (call.Unlink path) (does_unlink path)
-  pub removes : (w : World) (refs : RefsHeld) (path : Text) → TellsCall w refs (call.Rmdir path) (does_rmdir path)
-  pub renames : (w : World) (refs : RefsHeld) (a b : Text) → TellsCall w refs (call.Rename a b) (does_rename a b)
-  pub modes : (w : World) (refs : RefsHeld) (path : Text) (m : ℕ) → TellsCall w refs (call.Chmod path m) (does_chmod path m)
+  pub dirs : (w : World) (later : Later w) (refs : RefsHeld) (path : Text) (m : ℕ)
+      → GetsNumbersOf w later (Mkdir path m) (does_mkdir later.command later.number path m)
+      → TellsCall w later refs (call.Mkdir path m) (does_mkdir later.command later.number path m)
+  pub links : (w : World) (later : Later w) (refs : RefsHeld) (text path : Text)
+      → TellsCall w later refs (call.Symlink text path) (does_symlink later.command later.number text path)
+  pub names : (w : World) (later : Later w) (refs : RefsHeld) (a b : Text) → TellsCall w later refs (call.Link a b) (does_link a b)
+  pub unlinks : (w : World) (later : Later w) (refs : RefsHeld) (path : Text) → TellsCall w later refs (call.Unlink path) (does_unlink path)
+  pub removes : (w : World) (later : Later w) (refs : RefsHeld) (path : Text) → TellsCall w later refs (call.Rmdir path) (does_rmdir path)
+  pub renames : (w : World) (later : Later w) (refs : RefsHeld) (a b : Text) → TellsCall w later refs (call.Rename a b) (does_rename a b)
+  pub modes : (w : World) (later : Later w) (refs : RefsHeld) (path : Text) (m : ℕ) → TellsCall w later refs (call.Chmod path m) (does_chmod path m)
 
 -- Of each step, and a call that it may be.
 
@@ -140,4 +172,7 @@ IsCall w refs (Launch answer) c = (key : KeyValue) × (map : List (ℕ × ℕ)) 
 
 -- what is told of the call has all that the step reads and writes
 abbrev pub TellsFeet : Type 0
-TellsFeet = (w : World) (refs : RefsHeld) (s : Step) (c : Call) → IsCall w refs s.ask c → Tells w (foot_by w.held refs c) (program s)
+TellsFeet =
+    (w : World) (later : Later w) (refs : RefsHeld) (ask : Ask) (c : Call) → IsCall w refs ask c
+    → GetsNumbersOf w later ask (asks later.command later.number ask)
+    → Tells w later (foot_by w.held refs c) (asks later.command later.number ask)
