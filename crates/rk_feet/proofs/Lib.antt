@@ -33,3 +33,4 @@ pub mod ToldDescriptions
 pub mod ToldRename
 pub mod ToldChanges
 pub mod ToldSteps
+pub mod NextLemmas

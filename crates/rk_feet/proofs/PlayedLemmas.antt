@@ -1,5 +1,5 @@
 -- The kernel's calls as a world that is programmed.
-use Rattle.std.proofs.Common.{◌≡◌, ℕ, List, [], ◌∷◌, Bool, true, false, Option, None, refl, ap}
+use Rattle.std.proofs.Common.{◌≡◌, ℕ, suc, ◌≤◌, List, [], ◌∷◌, length, Bool, true, false, Option, None, refl, sym, ◌∙◌, ap, subst}
 use Rattle.rk_calls.specs.Given.{Given}
 use Rattle.rk_calls.specs.Refs.{ref_at}
 use Rattle.rk_calls.specs.declared.answer.Answer.{Answer}
@@ -38,6 +38,10 @@ use Rattle.rk_feet.proofs.RenamingLemmas.{renames-names}
 use Rattle.rk_feet.proofs.GroupLemmas.{groups}
 use Rattle.rk_feet.proofs.SnapshotLemmas.{alike-seen}
 use Rattle.rk_waves.specs.Programs.{Ends}
+use Rattle.rk_feet.specs.Told.{GetsNumbers, Later}
+use Rattle.rk_feet.specs.Opening.{does_open}
+use Rattle.rk_feet.specs.Changing.{does_mkdir}
+use Rattle.rk_feet.proofs.NextLemmas.{opens-few, dirs-few, opens-so, dirs-so, next-open, next-dir, pipe-numbers}
 
 ref-on : (o : Option ℕ) → ref_at (refs_on o) 0 ≡ o
 unfolding ref_at
@@ -76,6 +80,52 @@ simulated w r s (Chmod path mode) = changes-modes w (refs_on None) path mode
 simulated w r s Pipe = making w r s (answered w.held (refs_on None) call.Pipe) (Ends answer.Piped (makes_pipe r s)) (pipes w (refs_on None) r s)
 simulated w r s (Launch told) = simulates-answer w (refs_on None) told
 
+-- what a step makes gets the next numbers
+
+abbrev after_of : (w : World) (r s : ℕ) (a : Ask) → Later w
+after_of w r s a = record { command = r; number = s; world = (simulated w r s a).after.next; lasts = (simulated w r s a).after.lasts }
+
+unused-of : (w : World) (r s : ℕ) (given : Given kernel.World) (it : Answer) → (once_given w r s given).answer ≡ it → (answer.Go ≡ it → ⊥) → w.used r s ≡ false
+unused-of w r s given it is not = go (w.used r s) refl is
+  where
+    go : (b : Bool) → w.used r s ≡ b → (if b then giving w.held (refs_on None) answer.Go else given).answer ≡ it → b ≡ false
+    go false e is = refl
+    go true e is = absurd (not is)
+
+gets-numbers : (w : World) (r s : ℕ) (a : Ask) → GetsNumbers w (after_of w r s a) a (given_to w r s a).answer
+gets-numbers w r s (Open path h) = λ so.
+    let it = simulated w r s (Open path h) in
+    let unused = unused-of w r s (answered w.held (refs_on None) (call.Open path h)) answer.Opened so (λ e. cc) in
+    next-open w it.after.next it.after.lasts r s (ends_in w (does_open r s path h)).1 it.after.holds
+    (subst (λ (held : kernel.World). length held.opens ≤ suc (length w.held.opens)) (sym it.after.is) (opens-few w r s path h))
+    (w.unused r s 0 420 unused).1 (opens-so w r s path h (sym it.answer ∙ so) _)
+gets-numbers w r s (Mkdir path m) = λ so.
+    let it = simulated w r s (Mkdir path m) in
+    let unused = unused-of w r s (answered w.held (refs_on None) (call.Mkdir path m)) answer.Done so (λ e. cc) in
+    next-dir w it.after.next it.after.lasts r s m (ends_in w (does_mkdir r s path m)).1 it.after.holds
+    (subst (λ (held : kernel.World). length held.tree.nodes ≤ suc (length w.held.tree.nodes)) (sym it.after.is) (dirs-few w r s path m))
+    (w.unused r s 0 m unused).0 (dirs-so w r s m path (sym it.answer ∙ so) _)
+gets-numbers w r s Pipe = λ so.
+    let it = simulated w r s Pipe in
+    let unused = unused-of w r s (answered w.held (refs_on None) call.Pipe) answer.Piped so (λ e. cc) in
+    pipe-numbers w it.after.next it.after.lasts r s unused
+    (it.after.is ∙ ap (λ b. (if b then giving w.held (refs_on None) answer.Go else answered w.held (refs_on None) call.Pipe).world) unused) it.after.holds
+gets-numbers w r s (Read on) = tt
+gets-numbers w r s (ReadLine on) = tt
+gets-numbers w r s (Write on text) = tt
+gets-numbers w r s (Stat path follow) = tt
+gets-numbers w r s (ListOf path) = tt
+gets-numbers w r s (ReadLink path) = tt
+gets-numbers w r s (Walk path) = tt
+gets-numbers w r s (Same a b) = tt
+gets-numbers w r s (Rmdir path) = tt
+gets-numbers w r s (Unlink path) = tt
+gets-numbers w r s (Rename a b) = tt
+gets-numbers w r s (Symlink text path) = tt
+gets-numbers w r s (Link a b) = tt
+gets-numbers w r s (Chmod path mode) = tt
+gets-numbers w r s (Launch told) = tt
+
 kernel_steps : Programmed World Step Plain Name Value Answer
 kernel_steps = record {
   cells = cells;
@@ -99,11 +149,13 @@ pub plays : PlaysKernel
 unfolding kernel_steps
 plays = record {
   it = kernel_steps;
+  names = refl;
   sees = λ w c. refl;
   says = λ s. refl;
   answers = λ s w. refl;
   becomes = λ s w. (simulated w s.command s.number s.ask).after.is;
   lasts = λ s w. (simulated w s.command s.number s.ask).after.lasts;
+  gets = λ s w. gets-numbers w s.command s.number s.ask;
   lawful = programmed-lawful kernel_steps;
   waves = in-waves (by_cells kernel_steps) (programmed-lawful kernel_steps);
   least = wave_of-is (by_cells kernel_steps);

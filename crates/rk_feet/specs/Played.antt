@@ -17,7 +17,9 @@ use Rattle.rk_feet.specs.Simulates.{Lasts, number_on}
 use Rattle.rk_feet.specs.Steps.{Ask, Open, Read, ReadLine, Write, Stat, List as ListOf, ReadLink, Walk, Same, Mkdir, Rmdir, Unlink, Rename, Symlink, Link}
 use Rattle.rk_feet.specs.Steps.{Chmod, Pipe, Launch, Step, program}
 use Rattle.rk_feet.specs.Snapshots.{IsSeenAs}
+use Rattle.rk_feet.specs.Told.{GetsNumbers, Later}
 use Rattle.rk_feet.specs.World.{World, at}
+use Rattle.rk_feet.specs.CellLemmas.{cells}
 
 -- descriptors of which the first is this description
 abbrev pub refs_on : Option ℕ → RefsHeld
@@ -48,14 +50,20 @@ given_to w r s (Chmod path mode) = answered w.held (refs_on None) (call.Chmod pa
 given_to w r s Pipe = once_given w r s (answered w.held (refs_on None) call.Pipe)
 given_to w r s (Launch told) = giving w.held (refs_on None) told
 
+-- a step, and a world that comes after it
+abbrev pub after_step : (s : Step) (w after : World) → Lasts w after → Later w
+after_step s w after lasts = record { command = s.command; number = s.number; world = after; lasts = lasts }
+
 -- a world whose steps are these programs over these cells, and that is the kernel; in waves without conflict every order gives its answers
 pub record PlaysKernel : Type 0 where
   pub it : Programmed World Step Plain Name Value Answer
+  pub names : it.cells ≡ cells
   pub sees : (w : World) (c : Cell Plain Name) → it.at w c ≡ at w c
   pub says : (s : Step) → it.program s ≡ program s
   pub answers : (s : Step) (w : World) → it.answer s w ≡ (given_to w s.command s.number s.ask).answer
   pub becomes : (s : Step) (w : World) → (it.after s w).held ≡ (given_to w s.command s.number s.ask).world
   pub lasts : (s : Step) (w : World) → Lasts w (it.after s w)
+  pub gets : (s : Step) (w : World) → GetsNumbers w (after_step s w (it.after s w) (lasts s w)) s.ask (it.answer s w)
   pub lawful : IsLawful (by_cells it)
   pub waves : InWaves (by_cells it)
   pub least : AreLeast (by_cells it)
