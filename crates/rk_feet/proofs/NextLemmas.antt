@@ -1,6 +1,6 @@
 -- What a step makes gets the next number.
-use Rattle.std.proofs.Common.{◌≡◌, ℕ, suc, ◌+◌, ◌≤◌, ◌<◌, List, [], ◌∷◌, ◌++◌, length, Bool, true, false, not, ◌&&◌, Option, Some, None, refl, sym, ◌∙◌, ap, ap₂, subst}
-use Rattle.std.proofs.Common.{arith, inl, inr, Ok, Err}
+use Rattle.std.proofs.Common.{◌≡◌, ℕ, suc, ◌+◌, ◌≤◌, ◌<◌, List, [], ◌∷◌, ◌++◌, length, Bool, true, false, not, ◌&&◌, Option, Some, None}
+use Rattle.std.proofs.Common.{refl, sym, ◌∙◌, ap, ap₂, subst, arith, inl, inr, Ok, Err}
 use Rattle.std.specs.Prelude.{◌⊎◌, ◌==◌}
 use Rattle.std.specs.Prelude.{if◌then◌else◌, nat_lt, slice_get}
 use Rattle.rk_base.specs.Text.{Text}
@@ -37,8 +37,8 @@ use Rattle.rk_feet.specs.Course.{what_of}
 use Rattle.rk_feet.specs.Named.{Name, Made, What, File, Dir, Link, Description, Plain, AboveOf, ModeOf, OpenOf, Value, Above, Opened, Flag, Writes, Does, mode}
 use Rattle.rk_feet.specs.Naming.{Naming, AreNamed, same_name}
 use Rattle.rk_feet.specs.NamingLemmas.{clash, equal, name-self, one-name}
-use Rattle.rk_feet.specs.Opening.{description, does_open, does_pipe, empties, makes_file, makes_pipe, once, once_by, open_at, open_mode, open_path, open_what, opens, uses}
-use Rattle.rk_feet.specs.Opening.{pipe_read, pipe_write}
+use Rattle.rk_feet.specs.Opening.{description, does_open, does_pipe, empties, makes_file, makes_pipe, once, once_by, open_at, open_mode}
+use Rattle.rk_feet.specs.Opening.{open_path, open_what, opens, pipe_read, pipe_write, uses}
 use Rattle.rk_feet.specs.Simulates.{Lasts, ends_in}
 use Rattle.rk_feet.specs.World.{World, at, opened_in, opened_named, description_named, above_in}
 use Rattle.rk_feet.specs.Ways.{Absent}
@@ -266,7 +266,9 @@ dirs-few w r s path m =
         same-few (length (added w.held.tree up.0 up.1 (ADir m)).nodes) (length w.held.tree.nodes) (nodes-more w.held.tree up.0 up.1 (ADir m))
 
     at : (p : ToPlace) → Few (kernel_mkdir_at w.held (refs_on None) m p).world
-    at p = unless-few Few w.held (refs_on None) (mkdir_refusals w.held m p) (done w.held (refs_on None) (added_at w.held.tree (name_at p) (ADir m))) (more-one (length w.held.tree.nodes)) (put (name_at p))
+    at p =
+        unless-few Few w.held (refs_on None) (mkdir_refusals w.held m p)
+        (done w.held (refs_on None) (added_at w.held.tree (name_at p) (ADir m))) (more-one (length w.held.tree.nodes)) (put (name_at p))
 
 -- The step, and a world that has what it writes.
 module _ (w v : World) (lasts : Lasts w v) (r s : ℕ) where

@@ -114,7 +114,12 @@ module _ (w : World) (k : Name) (n : ℕ) (text : Text) (u : Update Value) (at_n
 
 abbrev pub set-out : (w : World) (text : Text) (u : Update Value) → Bytes text ≡ updated u (Bytes w.held.out)
     → Becomes w (record w.held { out = text }) ((OutputText, u) ∷ [])
-set-out w text u says = record { next = record w { held = record w.held { out = text } }; is = refl; holds = holds; lasts = record { nodes = λ x n e. e; opens = λ x n e. e; pipes = λ x n e. e } }
+set-out w text u says = record {
+  next = record w { held = record w.held { out = text } };
+  is = refl;
+  holds = holds;
+  lasts = record { nodes = λ x n e. e; opens = λ x n e. e; pipes = λ x n e. e };
+}
   where
     holds : (p : Plain) → at (record w { held = record w.held { out = text } }) (One p) ≡ written cells ((OutputText, u) ∷ []) p (at w (One p))
     holds (EntryOf x y) = refl
@@ -129,7 +134,12 @@ set-out w text u says = record { next = record w { held = record w.held { out = 
 
 abbrev pub set-err : (w : World) (text : Text) (u : Update Value) → Bytes text ≡ updated u (Bytes w.held.err)
     → Becomes w (record w.held { err = text }) ((ErrorText, u) ∷ [])
-set-err w text u says = record { next = record w { held = record w.held { err = text } }; is = refl; holds = holds; lasts = record { nodes = λ x n e. e; opens = λ x n e. e; pipes = λ x n e. e } }
+set-err w text u says = record {
+  next = record w { held = record w.held { err = text } };
+  is = refl;
+  holds = holds;
+  lasts = record { nodes = λ x n e. e; opens = λ x n e. e; pipes = λ x n e. e };
+}
   where
     holds : (p : Plain) → at (record w { held = record w.held { err = text } }) (One p) ≡ written cells ((ErrorText, u) ∷ []) p (at w (One p))
     holds (EntryOf x y) = refl

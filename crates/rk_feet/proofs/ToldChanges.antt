@@ -112,7 +112,8 @@ module _ (w : World) (l : Later w) where
 
   -- Mkdir, Symlink
 
-  pub dirs : (refs : RefsHeld) (path : Text) (m : ℕ) → TellsIf w l (Makes w l m) (foot_by w.held refs (call.Mkdir path m)) (mkdir_path l.command l.number path m)
+  pub dirs : (refs : RefsHeld) (path : Text) (m : ℕ)
+      → TellsIf w l (Makes w l m) (foot_by w.held refs (call.Mkdir path m)) (mkdir_path l.command l.number path m)
   dirs refs path m = if-by-way w l (Makes w l m) (row (mkdir_at l.command l.number m)) (λ spot. at_spot spot (mkdir_foot w.held m)) false
       (λ e so. tells-no w l nothing e)
       (λ passed here is reached so. tells-unless w l (nat_lt 511 m) Invalid nothing _ (tells-no w l nothing Exists))

@@ -15,7 +15,8 @@ use Rattle.rk_tree.specs.Hierarchy.{node as node_at, mode_of}
 use Rattle.rk_tree.specs.Node.{Node as TreeNode, File as AFile, Dir as ADir, Link as ALink}
 use Rattle.rk_tree.specs.Refusals.{is_there}
 use Rattle.rk_walk.specs.declared.place.Place.TheVariants as place
-use Rattle.rk_kernel.specs.Feet.{foot_by, emptied_cells, open_foot, read_by_foot, read_foot, source_cells, taken_cells, put_cells, write_by_foot, write_foot, pipe_foot}
+use Rattle.rk_kernel.specs.Feet.{foot_by, emptied_cells, open_foot, read_by_foot, read_foot, source_cells, taken_cells, put_cells}
+use Rattle.rk_kernel.specs.Feet.{write_by_foot, write_foot, pipe_foot}
 use Rattle.rk_kernel.specs.Foot.{nothing, reading, writing as told_writing, both, checked, at_spot}
 use Rattle.rk_kernel.specs.Opening.{is_read, lacks}
 use Rattle.rk_kernel.specs.Rows.{strict as kernel_strict}
@@ -37,8 +38,8 @@ use Rattle.rk_feet.specs.Ways.{Absent}
 use Rattle.rk_feet.specs.World.{World, at, IsSource, source_named, description_named, opened_named, opened_in}
 use Rattle.rk_feet.proofs.PlaceLemmas.{found-node, mode-read}
 use Rattle.rk_feet.proofs.ReadLemmas.{file-below}
-use Rattle.rk_feet.proofs.ToldLemmas.{node-number, dir-number, tells-no, tells-unless, tells-either, tells-reads, if-unless, if-reads, if-writing, if-once, if-by-way, TellsIf}
-use Rattle.rk_feet.proofs.ToldLemmas.{if-strict-absent}
+use Rattle.rk_feet.proofs.ToldLemmas.{node-number, dir-number, tells-no, tells-unless, tells-either, tells-reads}
+use Rattle.rk_feet.proofs.ToldLemmas.{if-unless, if-reads, if-writing, if-once, if-by-way, TellsIf, if-strict-absent}
 
 -- what is there is opened in the end
 abbrev open_ends : ℕ → ℕ → How → Name → Does
@@ -161,7 +162,8 @@ module _ (w : World) (l : Later w) where
 
     -- what is there is opened
     opens-node : (n : ℕ) → is_there (node_at w.held.tree n) ≡ true → (how_it : How)
-        → TellsIf w l Opens (told_writing (told.Opened (length w.held.opens) ∷ emptied_cells how_it n)) (open_ends l.command l.number how_it (w.nodes.name_of n))
+        → TellsIf w l Opens (told_writing (told.Opened (length w.held.opens) ∷ emptied_cells how_it n))
+        (open_ends l.command l.number how_it (w.nodes.name_of n))
     opens-node n there how.Read so = record { reads = tt; writes = ((refl, refl), (inl (first-open so), tt)) }
     opens-node n there how.Make so =
         record { reads = tt; writes = ((refl, refl), (inr (inl (ap told.Bytes (sym (node-number w l n there)))), (inl (first-open so), tt))) }
@@ -257,7 +259,8 @@ descriptions = record {
       (subst (λ foot. Tells w l foot (does_read (Some k))) (whole-read w l k is.0 is.2 (slice_get w.held.opens is.0))
       (by-open w l k is.0 is.2 (read_by k) (rest_read w l k is.0 is.2) (read-open w l k is.0 is.2)))
 
-  lines : (w : World) (l : Later w) (refs : RefsHeld) (r : ℕ) (on : Option Name) → StandsFor w refs r on → TellsCall w l refs (call.ReadLine r) (does_read_line on)
+  lines : (w : World) (l : Later w) (refs : RefsHeld) (r : ℕ) (on : Option Name) → StandsFor w refs r on
+      → TellsCall w l refs (call.ReadLine r) (does_read_line on)
   lines w l refs r None is = tells-no w l _ BadRef
   lines w l refs r (Some k) is =
       subst (λ o. Tells w l (read_foot w.held o) (does_read_line (Some k))) (sym is.1)

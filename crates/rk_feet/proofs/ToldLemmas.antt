@@ -68,7 +68,8 @@ module _ (w : World) (l : Later w) where
   pub tells-no : (foot : Foot) (e : Errno) → Tells w l foot (no e)
   tells-no foot e = record { reads = tt; writes = tt }
 
-  pub tells-ends : (foot : Foot) (answer : Answer) (writes : Writes) → AreTold w l foot.writes (written_cells cells writes) → Tells w l foot (Ends answer writes)
+  pub tells-ends : (foot : Foot) (answer : Answer) (writes : Writes) → AreTold w l foot.writes (written_cells cells writes)
+      → Tells w l foot (Ends answer writes)
   tells-ends foot answer writes h = record { reads = tt; writes = h }
 
   -- a check, of the call and of the program

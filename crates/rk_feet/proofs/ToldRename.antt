@@ -59,7 +59,8 @@ told-none w l false true foot x h = tells-no w l nothing NotDir
 told-none w l false false foot x h = h
 
 -- a node under a name, and the place that it goes to
-module _ (w : World) (l : Later w) (n dir to : ℕ) (name new : Text) (from : IsNameOf w.held.tree n dir name) (passed : ℕ) (near : IsNear w.held.tree passed to) where
+module _ (w : World) (l : Later w) (n dir to : ℕ) (name new : Text) (from : IsNameOf w.held.tree n dir name) (passed : ℕ)
+    (near : IsNear w.held.tree passed to) where
   abbrev move : Option ℕ → Move
   move over = record { node = node_named w n; from = (w.nodes.name_of dir, name); onto = (w.nodes.name_of to, new); over = entry_named w over }
 
@@ -253,7 +254,8 @@ module _ (w : World) (l : Later w) (n dir to : ℕ) (name new : Text) (from : Is
       (tells-writing w l to _ _ near.stands.0
       (subst (λ a. Tells w l core (if a && not (is_dir_what (what_of (node_at w.held.tree k))) then no NotDir
       else if not a && is_dir_what (what_of (node_at w.held.tree k)) then no IsDir else up)) (sym (dirs-agree (node_at w.held.tree n) from.there))
-      (subst (λ b. Tells w l core (if goes && not b then no NotDir else if not goes && b then no IsDir else up)) (sym (dirs-agree (node_at w.held.tree k) there))
+      (subst (λ b. Tells w l core (if goes && not b then no NotDir else if not goes && b then no IsDir else up))
+      (sym (dirs-agree (node_at w.held.tree k) there))
       (told-found w l goes (is_dir (node_at w.held.tree k)) last up
       (into-itself (Some k) (emptied k (is_dir (node_at w.held.tree k))) (over-told k there))))))
     where
@@ -310,8 +312,10 @@ module _ (w : World) (l : Later w) where
       (λ passed dir name slash free near. second-absent w l from.node from.slash passed from.up is dir name slash near) b
 
   rename-absent : (b : Text) (d : ℕ) (n : Text) (s : Bool)
-      → Tells w l (along w.held b false (leads_to w.held.tree b false) (rename_foot w.held (place.Absent d n s))) (rename_from b (Absent (w.nodes.name_of d) n s))
-  rename-absent b d n s = by-way w l (row (λ to. no NoEntry)) (λ spot. at_spot spot (rename_foot w.held (place.Absent d n s))) false (λ e. tells-no w l nothing e)
+      → Tells w l (along w.held b false (leads_to w.held.tree b false) (rename_foot w.held (place.Absent d n s)))
+      (rename_from b (Absent (w.nodes.name_of d) n s))
+  rename-absent b d n s = by-way w l (row (λ to. no NoEntry)) (λ spot. at_spot spot (rename_foot w.held (place.Absent d n s))) false
+      (λ e. tells-no w l nothing e)
       (λ passed to is reached. tells-no w l nothing NoEntry) (λ passed dir name slash free near. tells-no w l nothing NoEntry) b
 
   pub renames-told : (refs : RefsHeld) (a b : Text) → TellsCall w l refs (call.Rename a b) (does_rename a b)

@@ -116,7 +116,8 @@ StandsFor w refs r (Some k) = (n : ℕ) × (ref_at refs r ≡ Some n) × (w.open
 
 -- Of each call, and its program: the calls that change nothing ..
 pub record TellsQuestions : Type 0 where
-  pub stats : (w : World) (later : Later w) (refs : RefsHeld) (path : Text) (follow : Bool) → TellsCall w later refs (call.Stat path follow) (does_stat path follow)
+  pub stats : (w : World) (later : Later w) (refs : RefsHeld) (path : Text) (follow : Bool)
+      → TellsCall w later refs (call.Stat path follow) (does_stat path follow)
   pub lists : (w : World) (later : Later w) (refs : RefsHeld) (path : Text) → TellsCall w later refs (call.List path) (does_list path)
   pub links : (w : World) (later : Later w) (refs : RefsHeld) (path : Text) → TellsCall w later refs (call.ReadLink path) (does_read_link path)
   pub walks : (w : World) (later : Later w) (refs : RefsHeld) (path : Text) → TellsCall w later refs (call.Walk path) (does_walk path)
@@ -124,8 +125,10 @@ pub record TellsQuestions : Type 0 where
 
 -- .. those of descriptions ..
 pub record TellsDescriptions : Type 0 where
-  pub reads : (w : World) (later : Later w) (refs : RefsHeld) (r : ℕ) (on : Option Name) → StandsFor w refs r on → TellsCall w later refs (call.Read r) (does_read on)
-  pub lines : (w : World) (later : Later w) (refs : RefsHeld) (r : ℕ) (on : Option Name) → StandsFor w refs r on → TellsCall w later refs (call.ReadLine r) (does_read_line on)
+  pub reads : (w : World) (later : Later w) (refs : RefsHeld) (r : ℕ) (on : Option Name) → StandsFor w refs r on
+      → TellsCall w later refs (call.Read r) (does_read on)
+  pub lines : (w : World) (later : Later w) (refs : RefsHeld) (r : ℕ) (on : Option Name) → StandsFor w refs r on
+      → TellsCall w later refs (call.ReadLine r) (does_read_line on)
   pub writes : (w : World) (later : Later w) (refs : RefsHeld) (r : ℕ) (text : Text) (on : Option Name) → StandsFor w refs r on
       → TellsCall w later refs (call.Write r text) (does_write on text)
   pub pipes : (w : World) (later : Later w) (refs : RefsHeld) → GetsNumbersOf w later Pipe (does_pipe later.command later.number)

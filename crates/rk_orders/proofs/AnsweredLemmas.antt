@@ -44,7 +44,8 @@ module _ (Refs : Answer → RefsHeld → Type 0) (world : kernel.World) (mine it
   like-no : (e : Errno) → IsLike Refs (refused world mine e) (refused world its e)
   like-no e = record { answer = refl; world = refl; refs = kept e }
 
-  pub like-unless : (checks : List (Bool × Errno)) (a b : Given kernel.World) → IsLike Refs a b → IsLike Refs (unless world mine checks a) (unless world its checks b)
+  pub like-unless : (checks : List (Bool × Errno)) (a b : Given kernel.World) → IsLike Refs a b
+      → IsLike Refs (unless world mine checks a) (unless world its checks b)
   like-unless [] a b h = h
   like-unless (c ∷ cs) a b h = go (like-unless cs a b h) c.0
     where

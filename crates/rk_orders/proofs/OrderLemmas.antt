@@ -57,15 +57,15 @@ steps-map [] = refl
 steps-map (None ∷ ts) = steps-map ts
 steps-map (Some t ∷ ts) = ap (λ l. as_answered t ∷ l) (steps-map ts)
 
-module _ (k : PlaysKernel) (table : List Record) (end : numbers.Course) (done : end.under_way ≡ []) (w : World)
+module _ (k : PlaysKernel) (table : List Record) (end : numbers.Course) (done : end.under_way ≡ []) (all_begun : end.begun ≡ length table) (w : World)
     (given : (n : ℕ) → n < 3 → w.opens.number_of (Given n) ≡ Some n)
     (nothing : (r s : ℕ) → w.used r s ≡ false) (es : List Event) where
   -- from the start on
   from-start : (o : Option Record) → Retraces table (numbers.started w.held o) es end
-      → IsGone k table end done w (started o).under_way (started o).begun None es
-  from-start None r = gone k table end done es w [] 0 [] None (λ a b from. nothing a b) tt tt r
+      → IsGone k table end done all_begun w (started o).under_way (started o).begun None es
+  from-start None r = gone k table end done all_begun es w [] 0 [] None (λ a b from. nothing a b) tt tt r
   from-start (Some rec) r =
-      gone k table end done es w ((started (Some rec)).under_way) 1 (top_refs ∷ []) None (λ a b from. nothing a b)
+      gone k table end done all_begun es w ((started (Some rec)).under_way) 1 (top_refs ∷ []) None (λ a b from. nothing a b)
       (record { below = omega arith; held = held-first w given; unused = λ b from. nothing 0 b }, tt) tt r
 
 -- The run in waves.
@@ -114,7 +114,7 @@ in-any-order k snapshot whole first purse key after status left table e lists pl
     let w : World = begun.0 in
     let start : IsStart snapshot w = begun.1 in
     let traced : IsRetraced table (fresh_world snapshot) after = retraced-so first purse key (fresh_world snapshot) after status left table e in
-    let it = from-start k table traced.end traced.done w start.given start.nothing_made traced.events (slice_get table 0)
+    let it = from-start k table traced.end traced.done traced.all_begun w start.given start.nothing_made traced.events (slice_get table 0)
     (subst (λ h. Retraces table (numbers.start h table) traced.events traced.end) (sym start.fresh) traced.retraces) in
     let same = same-events table plan.events traced.events (numbers.start (fresh_world snapshot) table) plan.end traced.end plan.are.leads plan.are.done
     traced.retraces traced.done in

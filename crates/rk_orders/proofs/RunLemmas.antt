@@ -1,5 +1,5 @@
 -- A recorded run, gone through by names.
-use Rattle.std.proofs.Common.{◌≡◌, ℕ, suc, ◌≤◌, ◌<◌, List, [], ◌∷◌, map, true, false, Option, Some, None, refl, sym, ◌∙◌, ap, subst, arith}
+use Rattle.std.proofs.Common.{◌≡◌, ℕ, suc, ◌≤◌, ◌<◌, List, [], ◌∷◌, map, true, false, Option, Some, None, refl, sym, ◌∙◌, ap, subst, arith, length}
 use Rattle.std.specs.Prelude.{slice_get}
 use Rattle.rk_calls.specs.Fits.{is_launch}
 use Rattle.rk_calls.specs.Given.{Given}
@@ -125,7 +125,7 @@ abbrev pub as_turn : Option Taken → Option Answered
 as_turn None = None
 as_turn (Some t) = Some (as_answered t)
 
-module _ (k : PlaysKernel) (table : List Record) (end : numbers.Course) (done : end.under_way ≡ []) where
+module _ (k : PlaysKernel) (table : List Record) (end : numbers.Course) (done : end.under_way ≡ []) (all_begun : end.begun ≡ length table) where
   pub record IsGone (w : World) (ns : List Command) (begun : ℕ) (o : Option ℕ) (es : List Event) : Type 0 where
     pub turns : List (Option Taken)
     pub are : AreTurns table (course_named ns begun) (map as_turn turns)
@@ -143,7 +143,7 @@ module _ (k : PlaysKernel) (table : List Record) (end : numbers.Course) (done : 
   finished : AllGo []
   finished w [] begun [] o fresh are next same = record {
     turns = [];
-    are = refl;
+    are = (refl, ap (λ (c : numbers.Course). c.begun) same ∙ all_begun);
     last = w;
     held = ap (λ (c : numbers.Course). c.world) same;
     goes = λ c. refl;

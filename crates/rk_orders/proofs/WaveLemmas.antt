@@ -10,7 +10,8 @@ use Rattle.rk_waves.specs.Listed.{Member, members, wave_count}
 use Rattle.rk_waves.specs.Programs.{Cell, by_cells}
 use Rattle.rk_waves.specs.System.{Foot, conflict}
 use Rattle.rk_waves.specs.Tests.{or-left}
-use Rattle.rk_waves.specs.Waves.{Apart, AreApart, Each, Follows, Move, Piece, Placed, moves_in, moves_of, placed_after, steps_conflict, steps_of, tolds, wave_of}
+use Rattle.rk_waves.specs.Waves.{Apart, AreApart, Each, Follows, Move, Piece, Placed, moves_in, moves_of, placed_after, steps_conflict}
+use Rattle.rk_waves.specs.Waves.{steps_of, tolds, wave_of}
 use Rattle.rk_waves.proofs.Listing.{each-join}
 use Rattle.rk_feet.specs.Named.{Name, Plain}
 use Rattle.rk_feet.specs.Played.{PlaysKernel}

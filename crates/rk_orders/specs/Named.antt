@@ -1,5 +1,5 @@
 -- A recorded run by names: the steps of its commands, as their records have them, in the order of the run.
-use Rattle.std.specs.Prelude.{◌≡◌, ℕ, suc, List, [], ◌∷◌, Option, Some, None, slice_get}
+use Rattle.std.specs.Prelude.{◌≡◌, ℕ, suc, List, [], ◌∷◌, length, Option, Some, None, slice_get}
 use Rattle.rk_calls.specs.declared.answer.Answer.{Answer}
 use Rattle.rk_calls.specs.declared.call.Call.{Call}
 use Rattle.rk_calls.specs.declared.call.Call.TheVariants.{Launch}
@@ -58,9 +58,9 @@ module _ (table : List Record) where
   abbrev pub turn : Course → Option (Option Answered × Course)
   turn c = turned c c.under_way
 
-  -- these are the turns from here on: in each a command takes a step, or ends; in the end none is under way
+  -- these are the turns from here on: in each a command takes a step, or ends; in the end each record's was launched and none is under way
   abbrev pub AreTurns : Course → List (Option Answered) → Type 0
-  AreTurns c [] = c.under_way ≡ []
+  AreTurns c [] = (c.under_way ≡ []) × (c.begun ≡ length table)
   AreTurns c (o ∷ os) = (next : Course) × (turn c ≡ Some (o, next)) × AreTurns next os
 
 -- the first command, of the first record
