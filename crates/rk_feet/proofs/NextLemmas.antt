@@ -81,8 +81,8 @@ only-new count more a b old now keeps few x none n is =
 -- What is written of it.
 
 -- a description is written under this name, or a directory stands, where the answer is so
-abbrev Writes-so : Answer → Plain → (Value → Type 0) → Answer × Writes → Type 0
-Writes-so so c Is e = e.0 ≡ so → (old : Value) → Is (written cells e.1 c old)
+abbrev WritesSo : Answer → Plain → (Value → Type 0) → Answer × Writes → Type 0
+WritesSo so c Is e = e.0 ≡ so → (old : Value) → Is (written cells e.1 c old)
 
 abbrev IsOpened : Value → Type 0
 IsOpened v = (d : Description) × (v ≡ Opened (Some d))
@@ -93,10 +93,10 @@ IsAbove v = (up : Name × Text) × (v ≡ Above (Some up))
 module _ (w : World) (r s : ℕ) where
   -- of what makes something once
   once-writes : (so : Answer) → (answer.Go ≡ so → ⊥) → (c : Plain) (Is : Value → Type 0) (x : Does)
-      → (w.used r s ≡ false → Writes-so so c Is (ends_in w x)) → Writes-so so c Is (ends_in w (once r s x))
+      → (w.used r s ≡ false → WritesSo so c Is (ends_in w x)) → WritesSo so c Is (ends_in w (once r s x))
   once-writes so never c Is x h = go (w.used r s) refl
     where
-      go : (b : Bool) → w.used r s ≡ b → Writes-so so c Is (ends_in w (if b then Ends answer.Go [] else x))
+      go : (b : Bool) → w.used r s ≡ b → WritesSo so c Is (ends_in w (if b then Ends answer.Go [] else x))
       go true e is = absurd (never is)
       go false e is = h e is
 
@@ -109,7 +109,7 @@ module _ (w : World) (r s : ℕ) where
   self = name-self me
 
   abbrev Opens : Answer × Writes → Type 0
-  Opens = Writes-so answer.Opened (OpenOf me) IsOpened
+  Opens = WritesSo answer.Opened (OpenOf me) IsOpened
 
   no-opens : (e : Errno) → Opens (answer.No e, [])
   no-opens e is = absurd (let h : answer.No e ≡ answer.Opened = is in cc)
@@ -137,10 +137,10 @@ module _ (w : World) (r s : ℕ) where
 
   -- of a directory that gains a name
   writing-so : (so : Answer) → ((e : Errno) → answer.No e ≡ so → ⊥) → (c : Plain) (Is : Value → Type 0) (dir : Name) (x : Does)
-      → Writes-so so c Is (ends_in w x) → Writes-so so c Is (ends_in w (writing dir x))
+      → WritesSo so c Is (ends_in w x) → WritesSo so c Is (ends_in w (writing dir x))
   writing-so so never c Is dir x h = go (has_w (mode (at w (One (ModeOf dir)))))
     where
-      go : (b : Bool) → Writes-so so c Is (ends_in w (if not b then no Denied else x))
+      go : (b : Bool) → WritesSo so c Is (ends_in w (if not b then no Denied else x))
       go true = h
       go false = λ is. absurd (never Denied is)
 
@@ -169,7 +169,7 @@ module _ (w : World) (r s : ℕ) where
 
   module _ (m : ℕ) where
     abbrev Stands : Answer × Writes → Type 0
-    Stands = Writes-so answer.Done (AboveOf (Made r s 0 m)) IsAbove
+    Stands = WritesSo answer.Done (AboveOf (Made r s 0 m)) IsAbove
 
     no-dir : (e : Errno) → Stands (answer.No e, [])
     no-dir e is = absurd (not-done e is)
